@@ -268,15 +268,8 @@ begun_kept w t work from kept is idle valid label there =
     refl refl tt
   where
     idle_here : (phase : phases.Phase) → is_busy_at phase ≡ false → is_giving phase ≡ false
-    idle_here at.Idle is = refl
-    idle_here (at.Begun work) is = refl
-    idle_here (at.Scanning reg label leaf before probed) is = refl
-    idle_here (at.Scanned reg label leaf before) is = refl
-    idle_here (at.Storing src f val slot) is = refl
-    idle_here at.Crossing is = refl
-    idle_here at.Swapping is = refl
     idle_here at.Giving is = absurd (false≢true (sym is))
-    idle_here (at.Finished work made) is = refl
+    idle_here _ is = refl
 
 -- the words of a heap fit its mutators
 fitting : (w : Core) (t : ℕ) → IsKept w → IsMutator w.config t → IsFitting (mutator w t) (cell (cells_of w))

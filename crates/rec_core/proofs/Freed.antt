@@ -124,9 +124,7 @@ frees_none fields slot (Some a) e = cc
 
 tries_none : (m : Trial) (slot : ℕ) (phase : trial_phases.Phase) → ◌≡◌ {A = Option Op} (trial_op_at phase m) (Some (ops.FreeHeader slot)) → ⊥
 tries_none m slot trial_at.Idle e = cc
-tries_none m slot trial_at.Marking e = cc
-tries_none m slot trial_at.Scanning e = cc
-tries_none m slot trial_at.Collecting e = cc
+tries_none m slot _ e = cc
 
 prepares_none : (fields slot : ℕ) (at : Option loads.At) → ◌≡◌ {A = Option Op} (prep_op_at fields at) (Some (ops.FreeHeader slot)) → ⊥
 prepares_none fields slot None e = cc
@@ -143,13 +141,9 @@ freed_is_forgotten w slot kept named = go w.collector.phase refl named
   where
     go : (phase : Phase) → w.collector.phase ≡ phase → ◌≡◌ {A = Option Op} (next_at w.collector phase) (Some (ops.FreeHeader slot)) → IsForgotten w slot
     go Idle is e = absurd (stores_none (is_spent w.collector) (w.collector.epoch + 1) slot e)
-    go (Looking n) is e = absurd (cc)
-    go (Swapping n) is e = absurd (cc)
-    go (Returning n) is e = absurd (cc)
     go (Releasing m) is e = absurd (releases_none m.fields slot m.at e)
     go (Freeing m) is e = absurd (frees_none m.fields slot m.at e)
     go (Trying m) is e = absurd (tries_none m slot m.phase e)
     go (Preparing m) is e = absurd (prepares_none m.fields slot m.at e)
-    go Opening is e = absurd (cc)
     go (Sweeping due n) is e = swept_is_forgotten w n slot kept (is ∙ ap (λ (o : Option ℕ). Sweeping o n) (sweeps_it slot due e))
-    go (Closing n) is e = absurd (cc)
+    go _ is e = absurd (cc)

@@ -41,21 +41,21 @@ use Rattle.rec_collector.specs.Touched.{tried_at}
 use Rattle.rec_collector.specs.declared.phase.Phase.{Phase}
 use Rattle.rec_collector.specs.declared.phase.Phase.TheVariants.{Idle, Looking, Swapping, Returning}
 use Rattle.rec_collector.specs.declared.turn.Turn.{Turn}
-use Rattle.rec_collector.proofs.Steps as collectors_made
 use Rattle.rec_collector.proofs.Always.{names_word}
 use Rattle.rec_core.specs.Cells.{Cells, cell, with_cell}
 use Rattle.rec_core.specs.Config.{IsMutator}
 use Rattle.rec_core.specs.Core.{Core, cells_of, mutator, box, nobody, crossing_of}
 use Rattle.rec_core.specs.Kept.{IsBufferOf, IsHandshake, IsKept, Stand, stand_at}
 use Rattle.rec_core.specs.Loads.{cleared_by, cleared_in, IsKnown, Loaded, tried_in}
-use Rattle.rec_core.specs.Moves.{Fits, Move, after_move, begun_from, found_by, left_by, looked_at, offering, stepped, turned, turned_at, turned_by}
+use Rattle.rec_core.specs.Moves.{Fits, Move, after_move, begun_from, found_by, left_by, looked_at, offering, stepped, turned, turned_by}
 use Rattle.rec_core.specs.Pending.{older_at, writes_in, writes_of}
 use Rattle.rec_core.specs.declared.config.Config.{Config}
 use Rattle.rec_core.proofs.Batches.{none_of}
 use Rattle.rec_core.proofs.Landings.{early_writes}
 use Rattle.rec_mutator.proofs.LogStamps.{word_stamp}
 use Rattle.rec_core.proofs.Rules.{epoch_of_stamp}
-use Rattle.rec_core.proofs.Runs.{given_is}
+use Rattle.rec_core.proofs.Runs.{rule_of}
+use Rattle.rec_core.proofs.Turning.{turn_case}
 use Rattle.rec_core.proofs.Steps.{actor_of, in_list}
 use Rattle.rec_core.proofs.Sums.{buffers_sum, writes_more, writes_same}
 use Rattle.rec_core.proofs.Turns.{now_at}
@@ -410,11 +410,10 @@ module _ (w : Core) (op : Op) (kept : IsKept w) (named : ◌≡◌ {A = Option O
 
   op_keeps : Keeps w v (cleared_by w (Some op)) (tried_in w)
   op_keeps =
-      let made = collectors_made.step_made c found its_box kept.collector.machine kept.collector.between (given_is w op kept named) in
       let names : collectors_step.NamesWord (length c.counts.slots) c.fields (length c.newer) op = subst (λ (o : Option Op). IfSome o (collectors_step.NamesWord (length c.counts.slots) c.fields (length c.newer))) named (names_word c kept.collector.machine) in
       record {
         words = λ place. op_goes w v op (tried_in w) place (length c.counts.slots) c.fields (length c.newer) refl names;
-        writes = writes_keep (subst (λ (o : Option Op). collectors_step.Step c found its_box o q (collectors_took.turn_of c found)) named made);
+        writes = writes_keep (rule_of w op kept named);
       }
 
 -- what changes nothing that is loaded
@@ -422,11 +421,7 @@ same_keeps : (w v : Core) (epoch : ℕ) → v.words ≡ w.words → ((g : Write 
 same_keeps w v epoch words writes = record { words = λ place. Goes.stays (ap (λ ws. slice_index_or ws place 0) words); writes = λ g _. writes g }
 
 turn_keeps : (w : Core) → IsKept w → Keeps w (turned w) (cleared_in w Move.Turns) (tried_in w)
-turn_keeps w kept = go (collectors_next.next_of w.collector) refl
-  where
-    go : (x : Option Op) → collectors_next.next_of w.collector ≡ x → Keeps w (turned_at w x) (cleared_by w x) (tried_in w)
-    go None none = same_keeps w w (tried_in w) refl (λ g. omega arith)
-    go (Some op) named = op_keeps w op kept named
+turn_keeps w kept = turn_case w (λ o v. Keeps w v (cleared_by w o) (tried_in w)) (λ none. same_keeps w w (tried_in w) refl (λ g. omega arith)) (λ op named. op_keeps w op kept named)
 
 begun_keeps : (w : Core) (t : ℕ) (work : Work) (from : ℕ) → IsKept w → IsMutator w.config t → Keeps w (begun_from w t work from) [] (tried_in w)
 unfolding begun_of

@@ -79,9 +79,6 @@ record IsFresh (w : Core) (l : Loaded) : Type 0 where
 
 loaded_fresh : (w : Core) (m : Move) (l : Loaded) → IsKept w → Contains (loaded_in w m) l → IsFresh w l
 unfolding collectors_next.next_of
-loaded_fresh w (Move.Begins t work from) l kept (k, below, is) = absurd (omega (arith, below))
-loaded_fresh w (Move.Steps t) l kept (k, below, is) = absurd (omega (arith, below))
-loaded_fresh w Move.Offers l kept (k, below, is) = absurd (omega (arith, below))
 loaded_fresh w Move.Turns l kept held = go (collectors_next.next_of w.collector) refl held
   where
     one : (place : ℕ) → ◌≡◌ {A = Option Op} (collectors_next.next_of w.collector) (Some (ops.LoadChild place)) → IsFresh w (record { place = place; word = slice_index_or w.words place 0; epoch = w.epoch })
@@ -95,6 +92,7 @@ loaded_fresh w Move.Turns l kept held = go (collectors_next.next_of w.collector)
     go None named (k, below, is) = absurd (omega (arith, below))
     go (Some (ops.LoadChild place)) named c = subst (IsFresh w) (only _ c) (one place named)
     go (Some _) named (k, below, is) = absurd (omega (arith, below))
+loaded_fresh w _ l kept (k, below, is) = absurd (omega (arith, below))
 
 -- so is every word that is loaded over the moves
 pub all_known : (w : Core) (ms : List Move) (l : Loaded) → IsKept w → AllFit w ms → BeginsNoTrial w ms → Contains (loaded_over w ms) l → IsReferenceStill (after_moves w ms) (cleared_over w ms) l

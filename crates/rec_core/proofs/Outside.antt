@@ -46,12 +46,15 @@ use Rattle.rec_core.specs.Freed.{Passes}
 use Rattle.rec_core.specs.Kept.{IsKept}
 use Rattle.rec_core.specs.Loads.{BeginsPreparing, fields_loaded, IsPreparing, IsTrying, load_of, Loaded, loaded_by, loaded_in, loaded_over, named_by_op, named_in, named_over, tried_in}
 use Rattle.rec_core.specs.Moves.{AllFit, Fits, Move, after_move, after_moves, looked_at, turned, turned_at, turned_by}
+use Rattle.rec_core.specs.Run.{Step, steps_of}
 use Rattle.rec_core.specs.declared.config.Config.{Config}
 use Rattle.rec_core.proofs.CyclesTest.{none_of}
 use Rattle.rec_core.proofs.Landed.{HasLanded}
 use Rattle.rec_core.proofs.Trials.{BeginsNoTrial, tried_of}
 use Rattle.rec_core.proofs.Preparing.{loads_due}
 use Rattle.rec_core.proofs.Runs.{given_is, move_kept, move_stays, moves_kept}
+use Rattle.rec_core.proofs.Turning.{turn_case}
+use Rattle.std.proofs.lemmas.List.Sums.{sum_by-cons}
 use Rattle.rec_core.proofs.Trying.{loads_child, trying_lands}
 use Rattle.rec_core.proofs.Turns.{now_at}
 use Rattle.rec_trial.specs.Rules.{visible}
@@ -83,38 +86,29 @@ module _ (w : Core) (op : Op) (kept : IsKept w) (later : IsKept (turned_by w op 
 
 -- each turn
 turn_untouched : (w : Core) (number x : ℕ) → IsKept w → IsKept (turned w) → HasSets w.collector.phase → tried_in (turned w) ≡ tried_in w → IsOrangeIn (turned w).collector.counts number x → WasUntouched w.collector.counts (turned w).collector.counts number x (named_by_op w (next_of w.collector) x)
-turn_untouched w number x kept later has same o = go (next_of w.collector) refl later same o
-  where
-    go : (y : Option Op) → next_of w.collector ≡ y → IsKept (turned_at w y) → tried_in (turned_at w y) ≡ tried_in w → IsOrangeIn (turned_at w y).collector.counts number x → WasUntouched w.collector.counts (turned_at w y).collector.counts number x (named_by_op w y x)
-    go None e later same o = untouched_same o
-    go (Some op) e later same o = op_untouched w op kept later e number x has same o
+turn_untouched w number x kept later has same o =
+    turn_case w (λ y v. IsKept v → tried_in v ≡ tried_in w → IsOrangeIn v.collector.counts number x → WasUntouched w.collector.counts v.collector.counts number x (named_by_op w y x)) (λ none later same o. untouched_same o)
+    (λ op named later same o. op_untouched w op kept later named number x has same o) later same o
 
 turn_has : (w : Core) → IsKept w → IsKept (turned w) → HasSets w.collector.phase → tried_in (turned w) ≡ tried_in w → HasSets (turned w).collector.phase
-turn_has w kept later has same = go (next_of w.collector) refl later same
-  where
-    go : (y : Option Op) → next_of w.collector ≡ y → IsKept (turned_at w y) → tried_in (turned_at w y) ≡ tried_in w → HasSets (turned_at w y).collector.phase
-    go None e later same = has
-    go (Some op) e later same = op_has w op kept later e has same
+turn_has w kept later has same = turn_case w (λ o v. IsKept v → tried_in v ≡ tried_in w → HasSets v.collector.phase) (λ none later same. has) (λ op named later same. op_has w op kept later named has same) later same
 
 -- each move
 move_untouched : (w : Core) (m : Move) (number x : ℕ) → IsKept w → Fits w m → HasSets w.collector.phase → tried_in (after_move w m) ≡ tried_in w → IsOrangeIn (after_move w m).collector.counts number x → WasUntouched w.collector.counts (after_move w m).collector.counts number x (named_in w m x)
-move_untouched w (Move.Begins t work from) number x kept fits has same o = untouched_same o
-move_untouched w (Move.Steps t) number x kept fits has same o = untouched_same o
 move_untouched w Move.Turns number x kept fits has same o = turn_untouched w number x kept (move_kept w Move.Turns kept fits) has same o
-move_untouched w Move.Offers number x kept fits has same o = untouched_same o
+move_untouched w _ number x kept fits has same o = untouched_same o
 
 move_has : (w : Core) (m : Move) → IsKept w → Fits w m → HasSets w.collector.phase → tried_in (after_move w m) ≡ tried_in w → HasSets (after_move w m).collector.phase
-move_has w (Move.Begins t work from) kept fits has same = has
-move_has w (Move.Steps t) kept fits has same = has
 move_has w Move.Turns kept fits has same = turn_has w kept (move_kept w Move.Turns kept fits) has same
-move_has w Move.Offers kept fits has same = has
+move_has w _ kept fits has same = has
 
 -- all moves
 pub all_untouched : (w : Core) (ms : List Move) (number x : ℕ) → IsKept w → HasSets w.collector.phase → AllFit w ms → BeginsNoTrial w ms → IsOrangeIn (after_moves w ms).collector.counts number x → WasUntouched w.collector.counts (after_moves w ms).collector.counts number x (named_over w ms x)
 all_untouched w [] number x kept has fit within o = untouched_same o
 all_untouched w (m ∷ ms) number x kept has fit within o =
     let rest = all_untouched (after_move w m) ms number x (move_kept w m kept fit.0) (move_has w m kept fit.0 has within.0) fit.1 within.1 o in
-    untouched_on (named_over w (m ∷ ms) x) (move_untouched w m number x kept fit.0 has within.0 rest.orange) rest refl
+    let named : Step → ℕ = λ s. named_in s.before s.move x in
+    untouched_on (named_over w (m ∷ ms) x) (move_untouched w m number x kept fit.0 has within.0 rest.orange) rest (sum_by-cons named (record { before = w; move = m }) (steps_of (after_move w m) ms))
 
 -- what the run has loaded since the preparation of these sets began: the preparation goes on, or is done
 data Stage (fields : ℕ) (before : State) (w : Core) (loads : List Load) : Type 0 where
@@ -203,22 +197,18 @@ module _ (w : Core) (before : State) (loads : List Load) (tells : IsKeptCounts b
 
   loading_on : (m : preps.Machine) → w.collector.phase ≡ Preparing m → Came fields before (record { machine = m; counts = w.collector.counts }) loads → Stage fields before (turned w) more
   unfolding next_of next_at
-  loading_on m at came = go (next_of w.collector) refl
-    where
-      go : (y : Option Op) → next_of w.collector ≡ y → Stage fields before (turned_at w y) (loads ++ fields_loaded fields (loaded_by w y))
-      go None none = subst (Stage fields before w) (sym (append-nil loads)) (Stage.loading m at came)
-      go (Some op) named =
-          let c : collectors.Private = w.collector in
-          let word : ℕ = cell (cells_of w) op in
-          let u : preps.Work = preps.took_of (record { machine = m; counts = c.counts }) word in
-          let on : LoadsOn u (step_of c word (box w (looked_at c.phase))) = loads_on c m word (box w (looked_at c.phase)) kept.collector.machine kept.collector.between (given_is w op kept named) at in
-          let (a, due, its) = loads_due m op (ap (next_at c) (sym at) ∙ named) in
-          let its_fields : m.fields ≡ fields = came.fields_kept in
-          let below : a.member.field < fields = subst (λ n. a.member.field < n) its_fields (subst (λ (o : Option At). IfSome o (λ (b : At). b.member.field < m.fields)) due (now_at w (Preparing m) kept at).kept.field) in
-          let further : List Load = loads ++ loaded_at m.at word in
-          let whole : further ≡ loads ++ fields_loaded fields (loaded_by w (Some op)) = ap (λ o. loads ++ loaded_at o word) due ∙ ap (λ ls. loads ++ ls) (load_same w op a fields (its ∙ ap (λ n. ops.LoadChild (place_of a.member.slot a.member.field n)) its_fields) below) in
-          let took : Came fields before u further = came_on fields before (record { machine = m; counts = c.counts }) loads word tells.numbers came in
-          subst (Stage fields before (turned_by w op word)) whole (stage_of fields before (turned_by w op word) further u tells on took)
+  loading_on m at came = turn_case w (λ y v. Stage fields before v (loads ++ fields_loaded fields (loaded_by w y))) (λ none. subst (Stage fields before w) (sym (append-nil loads)) (Stage.loading m at came)) (λ op named.
+      let c : collectors.Private = w.collector in
+      let word : ℕ = cell (cells_of w) op in
+      let u : preps.Work = preps.took_of (record { machine = m; counts = c.counts }) word in
+      let on : LoadsOn u (step_of c word (box w (looked_at c.phase))) = loads_on c m word (box w (looked_at c.phase)) kept.collector.machine kept.collector.between (given_is w op kept named) at in
+      let (a, due, its) = loads_due m op (ap (next_at c) (sym at) ∙ named) in
+      let its_fields : m.fields ≡ fields = came.fields_kept in
+      let below : a.member.field < fields = subst (λ n. a.member.field < n) its_fields (subst (λ (o : Option At). IfSome o (λ (b : At). b.member.field < m.fields)) due (now_at w (Preparing m) kept at).kept.field) in
+      let further : List Load = loads ++ loaded_at m.at word in
+      let whole : further ≡ loads ++ fields_loaded fields (loaded_by w (Some op)) = ap (λ o. loads ++ loaded_at o word) due ∙ ap (λ ls. loads ++ ls) (load_same w op a fields (its ∙ ap (λ n. ops.LoadChild (place_of a.member.slot a.member.field n)) its_fields) below) in
+      let took : Came fields before u further = came_on fields before (record { machine = m; counts = c.counts }) loads word tells.numbers came in
+      subst (Stage fields before (turned_by w op word)) whole (stage_of fields before (turned_by w op word) further u tells on took))
 
   turn_stage : Stage fields before w loads → Stage fields before (turned w) more
   turn_stage (Stage.loading m at came) = loading_on m at came
@@ -236,10 +226,8 @@ alike_stage {fields} {before} {w} {v} {loads} phase counts (Stage.done has place
     Stage.done (subst HasSets (sym phase) has) places (subst (λ s. (number x : ℕ) → IsOrangeIn s number x → IsOutside before s loads number x) (sym counts) members)
 
 move_stage : (w : Core) (m : Move) (before : State) (loads : List Load) → IsKeptCounts before → IsKept w → Fits w m → tried_in (after_move w m) ≡ tried_in w → Stage w.config.fields before w loads → Stage w.config.fields before (after_move w m) (loads ++ fields_loaded w.config.fields (loaded_in w m))
-move_stage w (Move.Begins t work from) before loads tells kept fits same s = still_stage w.config.fields before (after_move w (Move.Begins t work from)) loads (alike_stage refl refl s)
-move_stage w (Move.Steps t) before loads tells kept fits same s = still_stage w.config.fields before (after_move w (Move.Steps t)) loads (alike_stage refl refl s)
 move_stage w Move.Turns before loads tells kept fits same s = turn_stage w before loads tells kept (move_kept w Move.Turns kept fits) same s
-move_stage w Move.Offers before loads tells kept fits same s = still_stage w.config.fields before (after_move w Move.Offers) loads (alike_stage refl refl s)
+move_stage w m before loads tells kept fits same s = still_stage w.config.fields before (after_move w m) loads (alike_stage refl refl s)
 
 -- all moves
 moves_stage : (w : Core) (ms : List Move) (before : State) (loads : List Load) → IsKeptCounts before → IsKept w → AllFit w ms → BeginsNoTrial w ms → Stage w.config.fields before w loads → Stage w.config.fields before (after_moves w ms) (loads ++ fields_loaded w.config.fields (loaded_over w ms))

@@ -49,7 +49,7 @@ use Rattle.rec_core.proofs.Steps.{slot_there}
 use Rattle.rec_core.proofs.Sweeping.{root_named, due_released}
 use Rattle.rec_core.proofs.Trying.{loads_child}
 use Rattle.rec_core.proofs.Turns.{now_at}
-use Rattle.rec_core.proofs.Turning.{some_op}
+use Rattle.rec_core.proofs.Turning.{some_op, turn_case}
 use Rattle.rec_core.proofs.Words.{IsOwnOp, own_next}
 use Rattle.rec_word.specs.Header.{IsHeaderOf}
 
@@ -172,11 +172,7 @@ turned_at_keeps w op (Closing n) kept is named = subst (λ o. KeepsReached (sigh
 -- A turn of the collector keeps what registers reach.
 pub turned_keeps : (w : Core) → IsKept w → KeepsReached (sight w) (sight (turned w))
 unfolding next_of
-turned_keeps w kept = go (next_of w.collector) refl
-  where
-    go : (x : Option Op) → next_of w.collector ≡ x → KeepsReached (sight w) (sight (turned_at w x))
-    go None none = keeps_all (sight w)
-    go (Some op) named = turned_at_keeps w op w.collector.phase kept refl named
+turned_keeps w kept = turn_case w (λ o v. KeepsReached (sight w) (sight v)) (λ none. keeps_all (sight w)) (λ op named. turned_at_keeps w op w.collector.phase kept refl named)
 
 -- nothing more is reached
 reached_before : (v w : Sight) → KeepsReached w v → (s : ℕ) → Reaches v s → Reaches w s

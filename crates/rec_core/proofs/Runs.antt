@@ -1,5 +1,8 @@
 -- Every move of a heap with its collector keeps what every such heap keeps, and so does every run.
-use Rattle.std.proofs.Common.{◌≡◌, ℕ, ◌<◌, Option, None, Some, IfSome, List, [], ◌∷◌, ◌++◌, length, slice_index_or, refl, sym, ap, subst, ◌∙◌, arith}
+use Rattle.std.proofs.Common.{◌≡◌, ◌≢◌, ℕ, ◌-◌, ◌<◌, ◌==◌, Option, None, Some, IfSome, List, [], ◌∷◌, ◌++◌, flat_map, length, slice_index_or, refl, sym, ap, subst, ◌∙◌, arith}
+use Rattle.std.proofs.lemmas.Bool.{cond-true, cond-false, eq-eqb, ne_eqb}
+use Rattle.std.proofs.lemmas.Grind.{flat_map-append}
+use Rattle.std.proofs.lemmas.List.{get_or-set_other}
 use Rattle.rec_word.specs.Place.{place_of}
 use Rattle.rec_word.specs.Word.{target_of}
 use Rattle.rec_word.specs.declared.op.Op.{Op}
@@ -11,6 +14,8 @@ use Rattle.rec_release.specs.Release.{op_at as release_op_at, next_of as release
 use Rattle.rec_release.specs.declared.at.At.{At}
 use Rattle.rec_walk.specs.declared.member.Member.{Member}
 use Rattle.rec_trial.specs.Rules.{LeadsToUnreleased}
+use Rattle.rec_mutator.specs.Took.{begun_of}
+use Rattle.rec_mutator.specs.Took as mutators_took
 use Rattle.rec_collector.specs.Given.{IsGivenAt, IsGiven, IsSized}
 use Rattle.rec_collector.specs.Kept as collector_kept
 use Rattle.rec_collector.specs.Next.{next_of, next_at}
@@ -22,9 +27,11 @@ use Rattle.rec_collector.proofs.Keeping.{machine_kept}
 use Rattle.rec_collector.proofs.Steps.{step_made}
 use Rattle.rec_core.specs.Cells.{cell}
 use Rattle.rec_core.specs.Config.{IsConfig, IsMutator}
-use Rattle.rec_core.specs.Core.{Core, cells_of, box, opened}
+use Rattle.rec_core.specs.Core.{Core, cells_of, box, mutator, nobody, opened}
 use Rattle.rec_core.specs.Kept.{IsKept}
-use Rattle.rec_core.specs.Moves.{looked_at, turned, turned_at, Move, after_move, after_moves, Fits, AllFit, IsRun, EndsRun}
+use Rattle.rec_core.specs.Moves.{looked_at, found_by, turned, Move, after_move, after_moves, Fits, AllFit, IsStart, IsRun, EndsRun}
+use Rattle.rec_core.specs.Run.{by_actor, Every, maker, over, steps_of}
+use Rattle.rec_core.specs.Run as step
 use Rattle.rec_core.specs.declared.config.Config.{Config}
 use Rattle.rec_core.proofs.Applying.{covered}
 use Rattle.rec_core.proofs.Crossings.{step_kept, begun_kept}
@@ -35,7 +42,7 @@ use Rattle.rec_core.proofs.Preparing.{loads_due, seen_there}
 use Rattle.rec_core.proofs.Releasing as releasing
 use Rattle.rec_core.proofs.Trying.{loads_child, loaded_leads}
 use Rattle.rec_core.proofs.Taken as taken
-use Rattle.rec_core.proofs.Turning.{mutator_at, some_op, rule_kept}
+use Rattle.rec_core.proofs.Turning.{mutator_at, some_op, rule_kept, turn_case, turned_mutators}
 use Rattle.rec_core.proofs.Turns.{now_at}
 
 -- the mailbox that the collector looks at next is that of a mutator
@@ -90,20 +97,21 @@ pub given_is : (w : Core) (op : Op) → IsKept w → ◌≡◌ {A = Option Op} (
 unfolding IsGiven next_of
 given_is w op kept named = given_at w op w.collector.phase kept refl named
 
+-- an operation of the collector is carried out by the rules of its step
+pub rule_of : (w : Core) (op : Op) → IsKept w → ◌≡◌ {A = Option Op} (next_of w.collector) (Some op)
+    → Step w.collector (cell (cells_of w) op) (box w (looked_at w.collector.phase)) (Some op) (step_of w.collector (cell (cells_of w) op) (box w (looked_at w.collector.phase))) (turn_of w.collector (cell (cells_of w) op))
+rule_of w op kept named =
+    let word : ℕ = cell (cells_of w) op in
+    let b : Contents = box w (looked_at w.collector.phase) in
+    subst (λ (x : Option Op). Step w.collector word b x (step_of w.collector word b) (turn_of w.collector word)) named (step_made w.collector word b kept.collector.machine kept.collector.between (given_is w op kept named))
+
 -- the collector's turn
 pub turned_kept : (w : Core) → IsKept w → IsKept (turned w)
-turned_kept w kept = go (next_of w.collector) refl
-  where
-    go : (x : Option Op) → next_of w.collector ≡ x → IsKept (turned_at w x)
-    go None none = kept
-    go (Some op) named =
-        let word : ℕ = cell (cells_of w) op in
-        let b : Contents = box w (looked_at w.collector.phase) in
-        let given : IsGiven w.collector word = given_is w op kept named in
-        let machine : collector_kept.IsMachine (step_of w.collector word b) = machine_kept w.collector word b kept.collector.machine kept.collector.between given (sized_is w kept) in
-        let step : Step w.collector word b (Some op) (step_of w.collector word b) (turn_of w.collector word)
-        = subst (λ (x : Option Op). Step w.collector word b x (step_of w.collector word b) (turn_of w.collector word)) named (step_made w.collector word b kept.collector.machine kept.collector.between given) in
-        rule_kept w op word (step_of w.collector word b) (turn_of w.collector word) (record { kept = kept; found = refl; machine = machine }) step
+turned_kept w kept = turn_case w (λ o v. IsKept v) (λ none. kept) (λ op named.
+    let word : ℕ = cell (cells_of w) op in
+    let b : Contents = box w (looked_at w.collector.phase) in
+    let machine : collector_kept.IsMachine (step_of w.collector word b) = machine_kept w.collector word b kept.collector.machine kept.collector.between (given_is w op kept named) (sized_is w kept) in
+    rule_kept w op word (step_of w.collector word b) (turn_of w.collector word) (record { kept = kept; found = refl; machine = machine }) (rule_of w op kept named))
 
 -- a move
 pub move_kept : (w : Core) (m : Move) → IsKept w → Fits w m → IsKept (after_move w m)
@@ -117,47 +125,94 @@ pub moves_kept : (w : Core) (ms : List Move) → IsKept w → AllFit w ms → Is
 moves_kept w [] kept fit = kept
 moves_kept w (m ∷ ms) kept fit = moves_kept (after_move w m) ms (move_kept w m kept fit.0) fit.1
 
--- the end of a run keeps it
-pub run_kept : (config : Config) (moves : List Move) (end : Core) → IsConfig config → IsRun config moves end → IsKept end
-run_kept config moves end is run = subst IsKept run.ends (moves_kept (opened config) moves (opened_kept config is) run.fit)
+-- so does every start
+start_kept : (start : Core) → IsConfig start.config → IsStart start → IsKept start
+start_kept start is (IsStart.opens opens) = subst IsKept (sym opens) (opened_kept start.config is)
 
--- so does a state that some run ends in
-pub end_kept : (w : Core) → IsConfig w.config → EndsRun w → IsKept w
-end_kept w is (moves, run) = run_kept w.config moves w is run
+-- and the end of every run
+pub run_kept : (start : Core) (moves : List Move) (end : Core) → IsConfig start.config → IsRun start moves end → IsKept end
+run_kept start moves end is run = subst IsKept run.ends (moves_kept start moves (start_kept start is run.starts) run.fit)
 
--- one move more
-after_more : (w : Core) (ms : List Move) (m : Move) → after_moves w (ms ++ m ∷ []) ≡ after_move (after_moves w ms) m
-after_more w [] m = refl
-after_more w (n ∷ ms) m = after_more (after_move w n) ms m
+-- where the moves of two lists lead, one after the other
+pub after_both : (w : Core) (ms ns : List Move) → after_moves w (ms ++ ns) ≡ after_moves (after_moves w ms) ns
+after_both w [] ns = refl
+after_both w (m ∷ ms) ns = after_both (after_move w m) ms ns
 
-fit_more : (w : Core) (ms : List Move) (m : Move) → AllFit w ms → Fits (after_moves w ms) m → AllFit w (ms ++ m ∷ [])
-fit_more w [] m fit fits = (fits, tt)
-fit_more w (n ∷ ms) m fit fits = (fit.0, fit_more (after_move w n) ms m fit.1 fits)
+-- they fit so
+pub fit_both : (w : Core) (ms ns : List Move) → AllFit w ms → AllFit (after_moves w ms) ns → AllFit w (ms ++ ns)
+fit_both w [] ns fit more = more
+fit_both w (m ∷ ms) ns fit more = (fit.0, fit_both (after_move w m) ms ns fit.1 more)
 
--- a turn keeps the numbers of the heap, with or without an operation
-turned_stays : (w : Core) → (turned w).config ≡ w.config
-turned_stays w = go (next_of w.collector)
-  where
-    go : (x : Option Op) → (turned_at w x).config ≡ w.config
-    go None = refl
-    go (Some op) = refl
+-- and the first of them do
+pub fit_first : (w : Core) (ms ns : List Move) → AllFit w (ms ++ ns) → AllFit w ms
+fit_first w [] ns fit = tt
+fit_first w (m ∷ ms) ns fit = (fit.0, fit_first (after_move w m) ms ns fit.1)
 
--- so does every move
+-- so are all of both, where all of each are
+pub every_both : (P : Move → Type 0) (ms ns : List Move) → Every P ms → Every P ns → Every P (ms ++ ns)
+every_both P [] ns all more = more
+every_both P (m ∷ ms) ns all more = (all.0, every_both P ms ns all.1 more)
+
+-- their steps
+steps_both : (w : Core) (ms ns : List Move) → steps_of w (ms ++ ns) ≡ steps_of w ms ++ steps_of (after_moves w ms) ns
+steps_both w [] ns = refl
+steps_both w (m ∷ ms) ns = let s : step.Step = record { before = w; move = m } in ap (λ (ss : List step.Step). s ∷ ss) (steps_both (after_move w m) ms ns)
+
+-- and what a function of one step comes to over them
+pub over_both : {A : Type 0} (f : Core → Move → List A) (w : Core) (ms ns : List Move) → over f w (ms ++ ns) ≡ over f w ms ++ over f (after_moves w ms) ns
+over_both {A = A} f w ms ns =
+    let of_step : step.Step → List A = λ s. f s.before s.move in
+    ap (flat_map of_step) (steps_both w ms ns) ∙ flat_map-append of_step (steps_of w ms) (steps_of (after_moves w ms) ns)
+
+-- what an actor's own move gives, and another's
+pub own_gives : {A : Type 0} (x : ℕ) (f : Core → Move → List A) (w : Core) (m : Move) → maker m ≡ x → by_actor x f w m ≡ f w m
+own_gives x f w m own = cond-true (maker m == x) (f w m) [] (eq-eqb (maker m) x own)
+
+pub other_gives : {A : Type 0} (x : ℕ) (f : Core → Move → List A) (w : Core) (m : Move) → maker m ≢ x → by_actor x f w m ≡ []
+other_gives x f w m other = cond-false (maker m == x) (f w m) [] (ne_eqb (maker m) x other)
+
+-- every move keeps the numbers of the heap
 pub move_stays : (w : Core) (m : Move) → (after_move w m).config ≡ w.config
-move_stays w (Move.Begins t work from) = refl
-move_stays w (Move.Steps t) = refl
-move_stays w Move.Turns = turned_stays w
-move_stays w Move.Offers = refl
+move_stays w Move.Turns = turn_case w (λ o v. v.config ≡ w.config) (λ none. refl) (λ op named. refl)
+move_stays w _ = refl
+
+-- so do all
+pub config_after : (w : Core) (ms : List Move) → (after_moves w ms).config ≡ w.config
+config_after w [] = refl
+config_after w (m ∷ ms) = config_after (after_move w m) ms ∙ move_stays w m
+
+-- a move of another leaves a mutator
+pub mutator_stays : (w : Core) (m : Move) (x : ℕ) → Fits w m → IsMutator w.config x → maker m ≢ x → mutator (after_move w m) x ≡ mutator w x
+mutator_stays w (Move.Begins t work from) x fits is other = get_or-set_other w.mutators (t - 1) (x - 1) (begun_of (mutator w t) work from) nobody (λ e. other (omega (arith, e, fits.0.0, is.0)))
+mutator_stays w (Move.Steps t) x fits is other = get_or-set_other w.mutators (t - 1) (x - 1) (mutators_took.step_of (mutator w t) (found_by w t) (box w t)) nobody (λ e. other (omega (arith, e, fits.0.0, is.0)))
+mutator_stays w Move.Turns x fits is other = ap (λ ps. slice_index_or ps (x - 1) nobody) (turned_mutators w)
+mutator_stays w Move.Offers x fits is other = refl
+
+-- a state that some run ends in keeps it, which has the numbers of its start
+pub end_kept : (w : Core) → IsConfig w.config → EndsRun w → IsKept w
+end_kept w is (start, moves, run) = run_kept start moves w (subst IsConfig (ap (λ (v : Core). v.config) (sym run.ends) ∙ config_after start moves) is) run
 
 -- a run that ends there goes on with a move that fits
 pub run_more : (w : Core) (m : Move) → EndsRun w → Fits w m → EndsRun (after_move w m)
-run_more w m (moves, run) fits =
-    let longer : IsRun w.config (moves ++ m ∷ []) (after_move w m) = record {
-      fit = fit_more (opened w.config) moves m run.fit (subst (λ v. Fits v m) (sym run.ends) fits);
-      ends = after_more (opened w.config) moves m ∙ ap (λ v. after_move v m) run.ends;
-    } in
-    (moves ++ m ∷ [], subst (λ c. IsRun c (moves ++ m ∷ []) (after_move w m)) (sym (move_stays w m)) longer)
+run_more w m (start, moves, run) fits = (
+  start,
+  moves ++ m ∷ [],
+  record {
+    starts = run.starts;
+    fit = fit_both start moves (m ∷ []) run.fit (subst (λ v. Fits v m) (sym run.ends) fits, tt);
+    ends = after_both start moves (m ∷ []) ∙ ap (λ v. after_move v m) run.ends;
+  },
+)
 
 -- the opening is the end of the run without moves
 pub run_opened : (config : Config) → EndsRun (opened config)
-run_opened config = ([], record { fit = tt; ends = refl })
+run_opened config = (opened config, [], record { starts = IsStart.opens refl; fit = tt; ends = refl })
+
+-- a run began as a heap is opened with the numbers of its end
+pub run_opens : (w : Core) → EndsRun w → (moves : List Move) × AllFit (opened w.config) moves × (after_moves (opened w.config) moves ≡ w)
+run_opens w (start, moves, run) = by run.starts
+  where
+    by : IsStart start → (moves : List Move) × AllFit (opened w.config) moves × (after_moves (opened w.config) moves ≡ w)
+    by (IsStart.opens opens) =
+        let same : start ≡ opened w.config = opens ∙ ap opened (sym (config_after start moves) ∙ ap (λ (v : Core). v.config) run.ends) in
+        (moves, subst (λ v. AllFit v moves) same run.fit, ap (λ v. after_moves v moves) (sym same) ∙ run.ends)

@@ -1,28 +1,27 @@
 -- An allocation that is answered Full or Busy has claimed each header, and found each taken.
-use Rattle.std.proofs.Common.{◌≡◌, ◌≢◌, inl, inr, ℕ, ◌-◌, ◌==◌, true, Option, None, Some, List, [], ◌∷◌, ◌++◌, fold, slice_index_or, slice_set, refl, arith, sym, ◌∙◌, ap, subst, Bool}
-use Rattle.std.proofs.lemmas.Bool.{cases_eq, cond-true, cond-false, eq-eqb, ne_eqb}
-use Rattle.std.proofs.lemmas.List.{get_or-set_other}
+use Rattle.std.proofs.Common.{◌≡◌, inl, inr, ℕ, true, Option, Some, List, [], ◌∷◌, ◌++◌, fold, refl, arith, sym, ◌∙◌, ap, subst, Bool}
+use Rattle.std.proofs.lemmas.Bool.{cases_eq}
 use Rattle.rec_word.specs.declared.op.Op.{Op}
 use Rattle.rec_model.specs.Asking.{allocation}
 use Rattle.rec_model.specs.declared.told.Told.{Told}
 use Rattle.rec_mutator.specs.Causes.{FoundNone, HasCause}
 use Rattle.rec_mutator.specs.Next.{next_of}
-use Rattle.rec_mutator.specs.Private.{answer_of, is_busy, work_at, work_of, Private}
+use Rattle.rec_mutator.specs.Private.{answer_of, is_busy, work_at, work_of}
 use Rattle.rec_mutator.specs.Scans.{ops_along, FailsScan}
 use Rattle.rec_mutator.specs.Step.{IsStill}
-use Rattle.rec_mutator.specs.Took.{begun_of, step_of, took_of}
+use Rattle.rec_mutator.specs.Took.{took_of}
 use Rattle.rec_mutator.specs.declared.made.Made.TheVariants as makes
 use Rattle.rec_mutator.specs.declared.phase.Phase.{Phase}
 use Rattle.rec_mutator.specs.declared.phase.Phase.TheVariants.{Begun, Crossing, Swapping}
 use Rattle.rec_mutator.specs.declared.work.Work.TheVariants as works
 use Rattle.rec_mutator.proofs.Steps.{here_same, TakesNone}
-use Rattle.rec_collector.specs.Next.{next_of as collector_next}
 use Rattle.rec_core.specs.Config.{IsMutator}
-use Rattle.rec_core.specs.Core.{box, mutator, nobody, Core}
+use Rattle.rec_core.specs.Core.{box, mutator, Core}
 use Rattle.rec_core.specs.Kept.{IsKept}
-use Rattle.rec_core.specs.Moves.{after_move, after_moves, begun_from, found_by, stepped, turned, turned_at, AllFit, Move}
-use Rattle.rec_core.specs.Scans.{ops_over, words_over, BeginsNone, FailsByProbes}
-use Rattle.rec_core.proofs.Runs.{move_kept}
+use Rattle.rec_core.specs.Moves.{after_move, after_moves, found_by, stepped, AllFit, Fits, Move}
+use Rattle.rec_core.specs.Run.{maker}
+use Rattle.rec_core.specs.Scans.{op_of, ops_over, word_of, words_over, BeginsNone, BeginsNot, FailsByProbes}
+use Rattle.rec_core.proofs.Runs.{move_kept, move_stays, mutator_stays, other_gives, own_gives}
 use Rattle.rec_core.proofs.Showing.{step_caused, stepped_mutator}
 use Rattle.rec_core.proofs.Steps.{actor_of}
 use Rattle.rec_core.proofs.Unfinished.{work_stays}
@@ -33,18 +32,6 @@ command_none : (reg label : ℕ) (leaf : Bool) (phase : Phase) → work_at phase
 command_none reg label leaf Crossing e = cc
 command_none reg label leaf Swapping e = cc
 command_none reg label leaf _ e = tt
-
--- another mutator stays
-other_stays : (w : Core) (s t : ℕ) (p : Private) → IsMutator w.config s → IsMutator w.config t → s ≢ t → mutator (record w { mutators = slice_set w.mutators (s - 1) p }) t ≡ mutator w t
-other_stays w s t p is there other = get_or-set_other w.mutators (s - 1) (t - 1) p nobody (λ e. other (omega (arith, e, is.0, there.0)))
-
--- the collector's turn leaves the mutators
-turn_leaves : (w : Core) → ((turned w).mutators ≡ w.mutators) × ((turned w).config ≡ w.config)
-turn_leaves w = go (collector_next w.collector)
-  where
-    go : (x : Option Op) → ((turned_at w x).mutators ≡ w.mutators) × ((turned_at w x).config ≡ w.config)
-    go None = (refl, refl)
-    go (Some op) = (refl, refl)
 
 -- what a mutator that works on an allocation has become over some moves: its steps alone have changed it
 record HasCome (w v : Core) (t reg label : ℕ) (leaf : Bool) (made : List Op) (words : List ℕ) : Type 0 where
@@ -66,45 +53,44 @@ come_by w v t reg label leaf {made = made} {its = its} {words = words} ops are h
 come : (ms : List Move) (w : Core) (t reg label : ℕ) (leaf : Bool) → IsKept w → IsMutator w.config t → work_of (mutator w t) ≡ Some (works.Command (allocation leaf reg label)) → AllFit w ms → BeginsNone t ms
     → HasCome w (after_moves w ms) t reg label leaf (ops_over w t ms) (words_over w t ms)
 come [] w t reg label leaf kept is work fit none = record { kept = kept; config = refl; came = refl; along = refl; work = work }
-come (Move.Begins s its from ∷ ms) w t reg label leaf kept is work fit none =
-    let v : Core = begun_from w s its from in
-    let same : mutator v t ≡ mutator w t = other_stays w s t (begun_of (mutator w s) its from) fit.0.0 is none.0 in
-    same_come w v (after_moves v ms) t reg label leaf (ops_over v t ms) (words_over v t ms) same refl (come ms v t reg label leaf (move_kept w (Move.Begins s its from) kept fit.0) is (ap work_of same ∙ work) fit.1 none.1)
-come (Move.Steps s ∷ ms) w t reg label leaf kept is work fit none = elim (cases_eq s t) [
-  | inl e ↦
-      let v : Core = stepped w s in
-      let busy : is_busy (mutator w t) ≡ true = subst (λ u. is_busy (mutator w u) ≡ true) e fit.0.1 in
-      let takes : TakesNone (mutator w t).phase = command_none reg label leaf (mutator w t).phase work in
-      let here : mutator v t ≡ took_of (mutator w t) (found_by w t) =
-      subst (λ u. mutator (stepped w u) t ≡ took_of (mutator w t) (found_by w t)) (sym e) (stepped_mutator w t kept is ∙ here_same (mutator w t) (found_by w t) (box w t) busy takes) in
-      let stays : work_of (mutator v t) ≡ work_of (mutator w t) = subst (λ u. work_of (mutator (stepped w u) t) ≡ work_of (mutator w t)) (sym e) (work_stays w t kept is busy) in
-      let rest : HasCome v (after_moves v ms) t reg label leaf (ops_over v t ms) (words_over v t ms) = come ms v t reg label leaf (move_kept w (Move.Steps s) kept fit.0) is (stays ∙ work) fit.1 none in
-      let words : words_over w t (Move.Steps s ∷ ms) ≡ found_by w t ∷ words_over v t ms = ap (λ xs. xs ++ words_over v t ms) (cond-true (s == t) (found_by w t ∷ []) [] (eq-eqb s t e)) in
-      let ops : ops_over w t (Move.Steps s ∷ ms) ≡ next_of (mutator w t) ∷ ops_over v t ms = ap (λ xs. xs ++ ops_over v t ms) (cond-true (s == t) (next_of (mutator w t) ∷ []) [] (eq-eqb s t e)) in
-      come_by w (after_moves v ms) t reg label leaf (sym ops) (sym words)
-      (record {
-        kept = rest.kept;
-        config = rest.config;
-        came = rest.came ∙ ap (λ p. fold took_of p (words_over v t ms)) here;
-        along = ap (λ xs. next_of (mutator w t) ∷ xs) (rest.along ∙ ap (λ p. ops_along p (words_over v t ms)) here);
-        work = rest.work;
-      })
-  | inr e ↦
-      let v : Core = stepped w s in
-      let same : mutator v t ≡ mutator w t = other_stays w s t (step_of (mutator w s) (found_by w s) (box w s)) fit.0.0 is e in
-      let words : words_over w t (Move.Steps s ∷ ms) ≡ words_over v t ms = ap (λ xs. xs ++ words_over v t ms) (cond-false (s == t) (found_by w t ∷ []) [] (ne_eqb s t e)) in
-      let ops : ops_over w t (Move.Steps s ∷ ms) ≡ ops_over v t ms = ap (λ xs. xs ++ ops_over v t ms) (cond-false (s == t) (next_of (mutator w t) ∷ []) [] (ne_eqb s t e)) in
-      come_by w (after_moves v ms) t reg label leaf (sym ops) (sym words)
-      (same_come w v (after_moves v ms) t reg label leaf (ops_over v t ms) (words_over v t ms) same refl (come ms v t reg label leaf (move_kept w (Move.Steps s) kept fit.0) is (ap work_of same ∙ work) fit.1 none))
-]
-come (Move.Turns ∷ ms) w t reg label leaf kept is work fit none =
-    let v : Core = turned w in
-    let same : mutator v t ≡ mutator w t = ap (λ ps. slice_index_or ps (t - 1) nobody) (turn_leaves w).0 in
-    same_come w v (after_moves v ms) t reg label leaf (ops_over v t ms) (words_over v t ms) same (turn_leaves w).1
-    (come ms v t reg label leaf (move_kept w Move.Turns kept fit.0) (subst (λ c. IsMutator c t) (sym (turn_leaves w).1) is) (ap work_of same ∙ work) fit.1 none)
-come (Move.Offers ∷ ms) w t reg label leaf kept is work fit none =
-    let v : Core = after_move w Move.Offers in
-    same_come w v (after_moves v ms) t reg label leaf (ops_over v t ms) (words_over v t ms) refl refl (come ms v t reg label leaf (move_kept w Move.Offers kept fit.0) is work fit.1 none)
+come (m ∷ ms) w t reg label leaf kept is work fit none =
+    let v : Core = after_move w m in
+    let rest : work_of (mutator v t) ≡ Some (works.Command (allocation leaf reg label)) → HasCome v (after_moves v ms) t reg label leaf (ops_over v t ms) (words_over v t ms)
+    = λ its. come ms v t reg label leaf (move_kept w m kept fit.0) (subst (λ c. IsMutator c t) (sym (move_stays w m)) is) its fit.1 none.1 in
+    elim (cases_eq (maker m) t) [
+      | inl e ↦
+          come_by w (after_moves v ms) t reg label leaf (sym (ap (λ xs. xs ++ ops_over v t ms) (own_gives t op_of w m e))) (sym (ap (λ xs. xs ++ words_over v t ms) (own_gives t word_of w m e)))
+          (own m fit.0 none.0 e rest)
+      | inr e ↦
+          let same : mutator v t ≡ mutator w t = mutator_stays w m t fit.0 is e in
+          come_by w (after_moves v ms) t reg label leaf (sym (ap (λ xs. xs ++ ops_over v t ms) (other_gives t op_of w m e))) (sym (ap (λ xs. xs ++ words_over v t ms) (other_gives t word_of w m e)))
+          (same_come w v (after_moves v ms) t reg label leaf (ops_over v t ms) (words_over v t ms) same (move_stays w m) (rest (ap work_of same ∙ work)))
+    ]
+  where
+    Rest : Core → Type 0
+    Rest v = work_of (mutator v t) ≡ Some (works.Command (allocation leaf reg label)) → HasCome v (after_moves v ms) t reg label leaf (ops_over v t ms) (words_over v t ms)
+
+    own : (m : Move) → Fits w m → BeginsNot t m → maker m ≡ t → Rest (after_move w m) → HasCome w (after_moves (after_move w m) ms) t reg label leaf (op_of w m ++ ops_over (after_move w m) t ms) (word_of w m ++ words_over (after_move w m) t ms)
+    own (Move.Begins s its from) fits not e rest = absurd (not e)
+    own (Move.Steps s) fits not e rest =
+        let v : Core = stepped w s in
+        let busy : is_busy (mutator w t) ≡ true = subst (λ u. is_busy (mutator w u) ≡ true) e fits.1 in
+        let takes : TakesNone (mutator w t).phase = command_none reg label leaf (mutator w t).phase work in
+        let mine : found_by w s ≡ found_by w t = ap (found_by w) e in
+        let here : mutator v t ≡ took_of (mutator w t) (found_by w t) =
+        subst (λ u. mutator (stepped w u) t ≡ took_of (mutator w t) (found_by w t)) (sym e) (stepped_mutator w t kept is ∙ here_same (mutator w t) (found_by w t) (box w t) busy takes) in
+        let stays : work_of (mutator v t) ≡ work_of (mutator w t) = subst (λ u. work_of (mutator (stepped w u) t) ≡ work_of (mutator w t)) (sym e) (work_stays w t kept is busy) in
+        let so : HasCome v (after_moves v ms) t reg label leaf (ops_over v t ms) (words_over v t ms) = rest (stays ∙ work) in
+        come_by w (after_moves v ms) t reg label leaf (ap (λ u. next_of (mutator w u) ∷ ops_over v t ms) (sym e)) (ap (λ u. u ∷ words_over v t ms) (sym mine))
+        (record {
+          kept = so.kept;
+          config = so.config;
+          came = so.came ∙ ap (λ p. fold took_of p (words_over v t ms)) here;
+          along = ap (λ xs. next_of (mutator w t) ∷ xs) (so.along ∙ ap (λ p. ops_along p (words_over v t ms)) here);
+          work = so.work;
+        })
+    own Move.Turns fits not e rest = absurd (omega (arith, e, is.0))
+    own Move.Offers fits not e rest = absurd (omega (arith, e, is.0))
 
 pub fails_by_probes : (w : Core) (moves : List Move) (t reg label : ℕ) (leaf : Bool) (told : Told) → IsKept w → IsMutator w.config t → (mutator w t).phase ≡ Begun (works.Command (allocation leaf reg label)) → AllFit w moves → BeginsNone t moves
     → is_busy (mutator (after_moves w moves) t) ≡ true → answer_of (mutator (stepped (after_moves w moves) t) t) ≡ Some (makes.Answered told) → FailsByProbes w t (header_word leaf label) moves (after_moves w moves) told.answer

@@ -169,17 +169,12 @@ learnt_stays w t q headers kept is learnt still s there = elim (cases_eq s t) [
     more z some = omega (arith, some, still z some)
 
     grown : (from : ℕ) (phase : phases.Phase) → (mutator w s).phase ≡ phase → HasLearnt w.config.slots w.headers w.freed from phase → HasLearnt w.config.slots headers w.freed from phase
-    grown from at.Idle here is = tt
-    grown from (at.Begun work) here is = tt
     grown from (at.Scanning reg label leaf before probed) here is = (is.0, λ same even count below. more (slot_behind w.config.slots from count) (is.1 same even count below))
     grown from (at.Scanned reg label leaf before) here is = (is.0, λ same even count below. more (slot_behind w.config.slots from count) (is.1 same even count below))
     grown from (at.Storing src f val slot) here is =
         let store : IsStore (mutator w s) src f val slot = (at_phase (mutator w s) (at.Storing src f val slot) (actor_of w s kept there).own.machine here).0 in
         ap is_leaf (still slot (register_taken w kept s src slot store.source)) ∙ is
-    grown from at.Crossing here is = tt
-    grown from at.Swapping here is = tt
-    grown from at.Giving here is = tt
-    grown from (at.Finished work made) here is = tt
+    grown from _ here is = tt
 
 -- what the entries that were made come to, where one mutator goes on
 pub entries_stay : (w : Core) (t births : ℕ) (q : Private) → IsKept w → IsMutator w.config t → entries_made w.config (mutator w t) + births ≤ entries_made w.config q → w.made + births ≤ 1 + sum_by (entries_made w.config) (slice_set w.mutators (t - 1) q)

@@ -60,15 +60,10 @@ learnt_change : (config : Config) (headers later : List ℕ) (freed next : ℕ) 
 learnt_change config headers later freed next mutators change unmarked learnt t is = go (slice_index_or mutators (t - 1) nobody).from (slice_index_or mutators (t - 1) nobody).phase (learnt t is)
   where
     go : (from : ℕ) (phase : phases.Phase) → HasLearnt config.slots headers freed from phase → HasLearnt config.slots later next from phase
-    go from at.Idle s = tt
-    go from (at.Begun work) s = tt
     go from (at.Scanning reg label leaf before probed) s = change from before probed s
     go from (at.Scanned reg label leaf before) s = change from before config.slots s
     go from (at.Storing src f val slot) s = unmarked slot s
-    go from at.Crossing s = tt
-    go from at.Swapping s = tt
-    go from at.Giving s = tt
-    go from (at.Finished work made) s = tt
+    go from _ s = tt
 
 -- a swept header is that of no leaf
 pub swept_unmarked : (headers : List ℕ) (x : ℕ) → x < length headers → (slot : ℕ) → is_leaf (slice_index_or headers slot 0) ≡ false → is_leaf (slice_index_or (slice_set headers x 0) slot 0) ≡ false

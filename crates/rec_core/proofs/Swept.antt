@@ -27,20 +27,19 @@ use Rattle.rec_collector.specs.Testing.{Begun, freeing_at, releasing_at}
 use Rattle.rec_collector.specs.Took.{batched, step_of, turn_of}
 use Rattle.rec_collector.specs.declared.phase.Phase.{Phase}
 use Rattle.rec_collector.specs.declared.turn.Turn.{Turn}
-use Rattle.rec_collector.proofs.Steps.{step_made}
 use Rattle.rec_core.specs.Cells.{cell, with_cell}
 use Rattle.rec_core.specs.Core.{Core, cells_of, sight, box}
 use Rattle.rec_core.specs.Kept.{one_if_sweeping, IsSomeSwept, IsKept}
-use Rattle.rec_core.specs.Moves.{looked_at, collected, turned, turned_at}
+use Rattle.rec_core.specs.Moves.{looked_at, collected, turned}
 use Rattle.rec_core.specs.Pending.{pending}
 use Rattle.rec_core.specs.Swept.{SweepsNothing, IsSweep}
 use Rattle.rec_core.proofs.Preparing.{loads_due}
 use Rattle.rec_core.proofs.Reach.{released_unreached}
-use Rattle.rec_core.proofs.Runs.{given_is}
+use Rattle.rec_core.proofs.Runs.{rule_of}
 use Rattle.rec_core.proofs.Steps.{slot_there}
 use Rattle.rec_core.proofs.Sweeping.{swept_below, due_released}
 use Rattle.rec_core.proofs.Trying.{loads_child}
-use Rattle.rec_core.proofs.Turning.{some_op, freed_more}
+use Rattle.rec_core.proofs.Turning.{some_op, freed_more, turn_case}
 
 -- a slot that was given up holds an object
 released_taken : (w : Core) (x : ℕ) → IsKept w → x < w.config.slots → (slot_at w.collector.counts x).released ≡ true → IsTaken (sight w) x
@@ -189,13 +188,6 @@ rule_sweeps w op word q turn left kept names found (Step.end_sweep swept closing
 
 -- A turn frees nothing, or begins or ends a sweep, or frees a slot.
 pub turned_sweeps : (w : Core) → IsKept w → IsSweep w (turned w)
-turned_sweeps w kept = go (next_of w.collector) refl
-  where
-    go : (x : Option Op) → next_of w.collector ≡ x → IsSweep w (turned_at w x)
-    go None none = IsSweep.rests (subst SweepsNothing (sym none) tt) refl refl (λ more. more)
-    go (Some op) named =
-        let word : ℕ = cell (cells_of w) op in
-        let b : Contents = box w (looked_at w.collector.phase) in
-        let step : Step w.collector word b (Some op) (step_of w.collector word b) (turn_of w.collector word)
-        = subst (λ (x : Option Op). Step w.collector word b x (step_of w.collector word b) (turn_of w.collector word)) named (step_made w.collector word b kept.collector.machine kept.collector.between (given_is w op kept named)) in
-        rule_sweeps w op word (step_of w.collector word b) (turn_of w.collector word) _ kept named refl step
+turned_sweeps w kept = turn_case w (λ o v. IsSweep w v) (λ none. IsSweep.rests (subst SweepsNothing (sym none) tt) refl refl (λ more. more)) (λ op named.
+    let word : ℕ = cell (cells_of w) op in
+    rule_sweeps w op word (step_of w.collector word (box w (looked_at w.collector.phase))) (turn_of w.collector word) _ kept named refl (rule_of w op kept named))

@@ -4,7 +4,6 @@ use Rattle.rec_word.specs.declared.op.Op.{Op}
 use Rattle.rec_log.specs.declared.contents.Contents.{Contents}
 use Rattle.rec_mutator.specs.Private.{is_busy}
 use Rattle.rec_release.specs.Sweep as sweeps
-use Rattle.rec_collector.specs.Next as collectors_next
 use Rattle.rec_collector.specs.Private as collectors
 use Rattle.rec_collector.specs.Step as collectors_step
 use Rattle.rec_collector.specs.Testing.{Begun}
@@ -12,15 +11,15 @@ use Rattle.rec_collector.specs.Touched.{tried_at}
 use Rattle.rec_collector.specs.declared.phase.Phase.{Phase}
 use Rattle.rec_collector.specs.declared.phase.Phase.TheVariants.{Idle}
 use Rattle.rec_collector.specs.declared.turn.Turn.{Turn}
-use Rattle.rec_collector.proofs.Steps as collectors_made
 use Rattle.rec_collector.proofs.Touched.{prepares_late, tries_late}
 use Rattle.rec_core.specs.Cells.{cell}
 use Rattle.rec_core.specs.Config.{IsMutator}
-use Rattle.rec_core.specs.Core.{Core, cells_of, mutator, box}
+use Rattle.rec_core.specs.Core.{Core, cells_of, mutator}
 use Rattle.rec_core.specs.Kept.{IsKept}
 use Rattle.rec_core.specs.Loads.{IsSameTrial, tried_in}
-use Rattle.rec_core.specs.Moves.{AllFit, Fits, Move, after_move, after_moves, looked_at, stepped, turned, turned_at, turned_by}
-use Rattle.rec_core.proofs.Runs.{given_is, move_kept}
+use Rattle.rec_core.specs.Moves.{AllFit, Fits, Move, after_move, after_moves, stepped, turned, turned_by}
+use Rattle.rec_core.proofs.Runs.{move_kept, rule_of}
+use Rattle.rec_core.proofs.Turning.{turn_case}
 
 -- no other trial begins over these moves
 abbrev pub BeginsNoTrial : Core → List Move → Type 0
@@ -73,21 +72,13 @@ step_rises {p} (collectors_step.Step.sweep due swept u next at is took follows g
 step_rises {p} (collectors_step.Step.end_sweep swept at is e) = omega (arith, ap (tried_at p.epoch) at, ends_tried e)
 
 turn_rises : (w : Core) → IsKept w → IsKept (turned w) → tried_in w ≤ tried_in (turned w)
-turn_rises w kept later = go (collectors_next.next_of w.collector) refl later
-  where
-    go : (x : Option Op) → collectors_next.next_of w.collector ≡ x → IsKept (turned_at w x) → tried_in w ≤ tried_in (turned_at w x)
-    go None none later = omega arith
-    go (Some op) named later =
-        let c : collectors.Private = w.collector in
-        let made = collectors_made.step_made c (cell (cells_of w) op) (box w (looked_at c.phase)) kept.collector.machine kept.collector.between (given_is w op kept named) in
-        let rises : tried_at c.epoch c.phase ≤ tried_at (turned_by w op (cell (cells_of w) op)).collector.epoch (turned_by w op (cell (cells_of w) op)).collector.phase = step_rises made in
-        omega (arith, rises, tried_of w kept, tried_of (turned_by w op (cell (cells_of w) op)) later)
+turn_rises w kept later = turn_case w (λ o v. IsKept v → tried_in w ≤ tried_in v) (λ none later. omega arith)
+    (λ op named later. omega (arith, step_rises (rule_of w op kept named), tried_of w kept, tried_of (turned_by w op (cell (cells_of w) op)) later)) later
 
 move_rises : (w : Core) (m : Move) → IsKept w → Fits w m → tried_in w ≤ tried_in (after_move w m)
-move_rises w (Move.Begins t work from) kept fits = omega arith
 move_rises w (Move.Steps t) kept fits = omega (arith, step_tried w t kept fits.0 fits.1)
 move_rises w Move.Turns kept fits = turn_rises w kept (move_kept w Move.Turns kept fits)
-move_rises w Move.Offers kept fits = omega arith
+move_rises w _ kept fits = omega arith
 
 moves_rise : (w : Core) (ms : List Move) → IsKept w → AllFit w ms → tried_in w ≤ tried_in (after_moves w ms)
 moves_rise w [] kept fit = omega arith

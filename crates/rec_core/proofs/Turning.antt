@@ -29,7 +29,7 @@ use Rattle.rec_core.specs.Cells.{cell}
 use Rattle.rec_core.specs.Config.{IsMutator}
 use Rattle.rec_core.specs.Core.{Core, cells_of, box, crossing_of}
 use Rattle.rec_core.specs.Kept.{one_if_sweeping, IsKept}
-use Rattle.rec_core.specs.Moves.{looked_at, left_by, collected, turned, turned_at}
+use Rattle.rec_core.specs.Moves.{looked_at, left_by, collected, turned, turned_at, turned_by}
 use Rattle.rec_core.proofs.Begun.{applied_lands}
 use Rattle.rec_core.proofs.Freeing.{freed_lands}
 use Rattle.rec_core.proofs.Preparing.{loads_due, preparing_kept}
@@ -209,10 +209,15 @@ rule_kept w op word q turn m (Step.end_sweep swept closing named e) =
     (subst (λ o. IsKept (record (collected w o word q (box w 1)) { boxes = w.boxes })) (sym its)
     (subst (λ n. IsKept (record w { freed = n; collector = q })) (sym more) (subst (λ x. IsKept (record w { freed = w.freed + 1; collector = x })) (sym e.after) whole)))
 
+-- what holds of a turn without an operation, and of each with one, holds of the turn that comes next
+pub turn_case : (w : Core) (P : Option Op → Core → Type 0) → (collector_next.next_of w.collector ≡ None → P None w) → ((op : Op) → ◌≡◌ {A = Option Op} (collector_next.next_of w.collector) (Some op) → P (Some op) (turned_by w op (cell (cells_of w) op)))
+    → P (collector_next.next_of w.collector) (turned w)
+turn_case w P none some = go (collector_next.next_of w.collector) refl
+  where
+    go : (x : Option Op) → collector_next.next_of w.collector ≡ x → P x (turned_at w x)
+    go None named = none named
+    go (Some op) named = some op named
+
 -- a turn leaves the mutators
 pub turned_mutators : (w : Core) → (turned w).mutators ≡ w.mutators
-turned_mutators w = go (collector_next.next_of w.collector)
-  where
-    go : (x : Option Op) → (turned_at w x).mutators ≡ w.mutators
-    go None = refl
-    go (Some op) = refl
+turned_mutators w = turn_case w (λ o v. v.mutators ≡ w.mutators) (λ none. refl) (λ op named. refl)

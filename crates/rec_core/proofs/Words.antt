@@ -26,6 +26,7 @@ use Rattle.rec_core.specs.Met.{MayStep, MayTurn}
 use Rattle.rec_core.specs.Moves.{found_by}
 use Rattle.rec_core.proofs.Crossings.{behind_of, next_found}
 use Rattle.rec_core.proofs.Runs.{given_is, sized_is}
+use Rattle.rec_core.proofs.Turning.{turn_case}
 use Rattle.rec_core.proofs.Steps.{actor_of, fields_many, register_taken, taken_slot}
 
 -- An operation of this mutator: if of a crossing word, of its own; and none of the collector's.
@@ -154,8 +155,5 @@ collector_within w _ kept names = absurd names
 
 -- The collector may make its next turn.
 pub may_turn : (w : Core) → IsKept w → IfSome (collector_next.next_of w.collector) (MayTurn w)
-may_turn w kept = go (collector_next.next_of w.collector) refl (collector_words.names_word w.collector kept.collector.machine)
-  where
-    go : (x : Option Op) → collector_next.next_of w.collector ≡ x → IfSome x (collector_step.NamesWord (length w.collector.counts.slots) w.collector.fields (length w.collector.newer)) → IfSome x (MayTurn w)
-    go None none names = tt
-    go (Some op) named names = record { within = collector_within w op kept names; given = given_is w op kept named; sized = sized_is w kept }
+may_turn w kept = turn_case w (λ o v. IfSome o (collector_step.NamesWord (length w.collector.counts.slots) w.collector.fields (length w.collector.newer)) → IfSome o (MayTurn w)) (λ none names. tt)
+    (λ op named names. record { within = collector_within w op kept names; given = given_is w op kept named; sized = sized_is w kept }) (collector_words.names_word w.collector kept.collector.machine)

@@ -1,5 +1,5 @@
 -- What the moves of a run tell of its commands.
-use Rattle.std.specs.Prelude.{ℕ, Option, Some, List, [], ◌∷◌, ◌++◌}
+use Rattle.std.specs.Prelude.{ℕ, Option, Some, List, [], ◌∷◌}
 use Rattle.rec_model.specs.LegalOrder.{Event}
 use Rattle.rec_mutator.specs.Private.{work_of, answer_of}
 use Rattle.rec_mutator.specs.declared.made.Made.{Made}
@@ -7,7 +7,8 @@ use Rattle.rec_mutator.specs.declared.made.Made.TheVariants as makes
 use Rattle.rec_mutator.specs.declared.work.Work.{Work}
 use Rattle.rec_mutator.specs.declared.work.Work.TheVariants as works
 use Rattle.rec_core.specs.Core.{Core, mutator}
-use Rattle.rec_core.specs.Moves.{Move, stepped, after_move}
+use Rattle.rec_core.specs.Moves.{Move, stepped}
+use Rattle.rec_core.specs.Run.{over}
 
 -- the line that a step of mutator `t` told, by its work and what came of it: none where it answers no command
 abbrev pub told_by : (t : ℕ) → Option Work → Option Made → List Event
@@ -21,5 +22,4 @@ told_in w _ = []
 
 -- the lines that some moves told, in the order of the steps that answered
 abbrev pub told_in_all : Core → List Move → List Event
-told_in_all w [] = []
-told_in_all w (m ∷ ms) = told_in w m ++ told_in_all (after_move w m) ms
+told_in_all w ms = over told_in w ms

@@ -14,6 +14,7 @@ pub mod Quiet
 pub mod Reach
 pub mod Resting
 pub mod Row
+pub mod Run
 pub mod Scans
 pub mod Settled
 pub mod Settling

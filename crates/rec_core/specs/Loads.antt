@@ -1,5 +1,5 @@
 -- What the collector loads from fields over the moves of a run, and what becomes of it.
-use Rattle.std.specs.Prelude.{◌≡◌, ℕ, ◌+◌, ◌/◌, ◌%◌, ◌≤◌, Option, None, Some, List, [], ◌∷◌, ◌++◌, map, slice_index_or}
+use Rattle.std.specs.Prelude.{◌≡◌, ℕ, ◌/◌, ◌%◌, ◌≤◌, Option, None, Some, List, [], ◌∷◌, map, sum_by, slice_index_or}
 use Rattle.std.specs.List.{Contains}
 use Rattle.rec_word.specs.declared.op.Op.{Op}
 use Rattle.rec_word.specs.declared.op.Op.TheVariants.{LoadChild, ClearField}
@@ -12,8 +12,9 @@ use Rattle.rec_collector.specs.declared.phase.Phase.{Phase}
 use Rattle.rec_collector.specs.declared.phase.Phase.TheVariants.{Trying, Preparing}
 use Rattle.rec_core.specs.Cells.{cell}
 use Rattle.rec_core.specs.Core.{Core, cells_of}
-use Rattle.rec_core.specs.Moves.{Move, after_move, turned}
+use Rattle.rec_core.specs.Moves.{Move, turned}
 use Rattle.rec_core.specs.Pending.{writes_of}
+use Rattle.rec_core.specs.Run.{Step, over, steps_of}
 
 -- a word that the collector loaded from a field, and the epoch that was requested then
 pub record Loaded : Type 0 where
@@ -32,8 +33,7 @@ loaded_in w _ = []
 
 -- the words that the collector loads over these moves, in order
 abbrev pub loaded_over : Core → List Move → List Loaded
-loaded_over w [] = []
-loaded_over w (m ∷ ms) = loaded_in w m ++ loaded_over (after_move w m) ms
+loaded_over w ms = over loaded_in w ms
 
 -- what an operation of the collector takes out of a field
 abbrev pub cleared_by : Core → Option Op → List Cleared
@@ -46,8 +46,7 @@ cleared_in w _ = []
 
 -- the words that the collector takes out of fields over these moves, in order
 abbrev pub cleared_over : Core → List Move → List Cleared
-cleared_over w [] = []
-cleared_over w (m ∷ ms) = cleared_in w m ++ cleared_over (after_move w m) ms
+cleared_over w ms = over cleared_in w ms
 
 -- the epoch that was requested when the last trial was made
 abbrev pub tried_in : Core → ℕ
@@ -80,8 +79,7 @@ named_in w _ x = 0
 
 -- how often these moves name the slot
 abbrev pub named_over : Core → List Move → (x : ℕ) → ℕ
-named_over w [] x = 0
-named_over w (m ∷ ms) x = named_in w m x + named_over (after_move w m) ms x
+named_over w ms x = sum_by (λ (s : Step). named_in s.before s.move x) (steps_of w ms)
 
 -- a trial is at work, and a preparation is
 abbrev pub IsTrying : Phase → Type 0

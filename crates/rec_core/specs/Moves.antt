@@ -17,7 +17,6 @@ use Rattle.rec_collector.specs.declared.phase.Phase.TheVariants.{Looking}
 use Rattle.rec_core.specs.Cells.{cell, with_cell, births_of}
 use Rattle.rec_core.specs.Config.{IsMutator, HasLabel}
 use Rattle.rec_core.specs.Core.{Core, cells_of, with_cells, mutator, box, opened}
-use Rattle.rec_core.specs.declared.config.Config.{Config}
 
 -- An operation of a mutator was carried out: its word was found, what it leaves stands there, the mutator is this now, this is
 -- in its mailbox, and a birth is counted where a claim succeeded.
@@ -114,11 +113,16 @@ abbrev pub AllFit : Core → List Move → Type 0
 AllFit w [] = Unit {0}
 AllFit w (m ∷ ms) = Fits w m × AllFit (after_move w m) ms
 
--- a run from the opening, and the state at its end
-pub record IsRun (config : Config) (moves : List Move) (end : Core) : Type 0 where
-  pub fit : AllFit (opened config) moves
-  pub ends : after_moves (opened config) moves ≡ end
+-- where a run may begin: a heap as it is opened with its numbers
+pub data IsStart (start : Core) : Type 0 where
+  opens : start ≡ opened start.config → IsStart start
 
--- some run from its opening ends there
+-- a run from a start, and the state at its end
+pub record IsRun (start : Core) (moves : List Move) (end : Core) : Type 0 where
+  pub starts : IsStart start
+  pub fit : AllFit start moves
+  pub ends : after_moves start moves ≡ end
+
+-- some run from some start ends there
 abbrev pub EndsRun : Core → Type 0
-EndsRun w = (moves : List Move) × IsRun w.config moves w
+EndsRun w = (start : Core) × (moves : List Move) × IsRun start moves w

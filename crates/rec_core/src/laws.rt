@@ -7,7 +7,6 @@ ghost use Rattle.rec_model.specs.Heap.{Heap};
 ghost use Rattle.rec_model.specs.References.{count_formula};
 ghost use Rattle.rec_model.specs.Sight.{IsTaken, Reaches, StandsBy};
 ghost use Rattle.rec_counts.specs.Counts.{slot_at};
-ghost use Rattle.rec_core.specs.declared.config.Config.{Config as Numbers};
 ghost use Rattle.rec_model.specs.declared.told.Told.{Told};
 ghost use Rattle.rec_mutator.specs.Private.{is_busy, answer_of};
 ghost use Rattle.rec_mutator.specs.declared.made.Made.TheVariants as makes;
@@ -19,7 +18,7 @@ ghost use Rattle.rec_collector.specs.Touched.{IsOrangeIn, WasUntouched};
 ghost use Rattle.rec_collector.specs.Zeros.{AreTheZeros};
 ghost use Rattle.rec_sigma.specs.Prepared.{seen};
 ghost use Rattle.rec_core.specs.Config.{IsConfig, IsMutator};
-ghost use Rattle.rec_core.specs.Core.{Core, sight, mutator};
+ghost use Rattle.rec_core.specs.Core.{Core, sight, mutator, opened};
 ghost use Rattle.rec_word.specs.declared.op.Op.TheVariants.{FreeHeader};
 ghost use Rattle.rec_word.specs.Header.{header_word};
 ghost use Rattle.rec_word.specs.Place.{places_of};
@@ -35,7 +34,12 @@ ghost use Rattle.rec_core.specs.Shown.{IsShown};
 
 /// What every heap keeps holds at the end of every run.
 pub fn runs_keep()
-    ensures { (config : Numbers) (moves : List Move) (end : Core) → IsConfig config → IsRun config moves end → IsKept end }
+    ensures { (start : Core) (moves : List Move) (end : Core) → IsConfig start.config → IsRun start moves end → IsKept end }
+{}
+
+/// Where a run ends, one from the opening with its numbers ends too.
+pub fn runs_begin_with_an_opening()
+    ensures { (w : Core) → EndsRun w → (moves : List Move) × AllFit (opened w.config) moves × (after_moves (opened w.config) moves ≡ w) }
 {}
 
 /// A run goes on with every move that fits its end.

@@ -3,7 +3,7 @@
 //! A `Core` is the shared words, what each mailbox holds, the private record of each mutator and of the collector, and the
 //! number of births. A move begins a work of a mutator, or makes one step of it, or one turn of the collector, or has all
 //! slots offered to the next trial. A step finds the word that its machine names, puts there what the operation leaves, and
-//! gives the machine the word found; one that takes a mailbox swaps the buffer in it. A run is a list of moves from an opening.
+//! gives the machine the word found; one that takes a mailbox swaps the buffer in it. A run is a list of moves from a start, as an opening is.
 //! The rule that it keeps: what is said of every heap (`specs/Kept`) holds at the end of every run, whoever made which move
 //! when. From it follow the laws: nothing in reach is freed, true counts are the count formula, sets that pass both tests are
 //! garbage, and a command is answered as asking a heap that never frees gives it.
@@ -26,8 +26,9 @@ pub use config::Config;
 pub use laws::{
     answers_are_explained, conditions_are_met, failed_allocations_probed_every_slot,
     freed_slots_are_forgotten, loaded_words_stay_references, nothing_reached_is_freed,
-    orange_members_stay_untouched, outside_counts_are_of_the_run, runs_go_on, runs_keep,
-    sets_that_pass_are_garbage, true_counts_are_the_formula, zeros_are_exact,
+    orange_members_stay_untouched, outside_counts_are_of_the_run, runs_begin_with_an_opening,
+    runs_go_on, runs_keep, sets_that_pass_are_garbage, true_counts_are_the_formula,
+    zeros_are_exact,
 };
 pub use layout::Layout;
 pub use part::Part;

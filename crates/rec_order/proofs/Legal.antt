@@ -29,7 +29,7 @@ use Rattle.rec_order.proofs.Orders.{HasOrder, moves_order}
 use Rattle.rec_model.proofs.Standing.{with_number-same, with_number-other}
 use Rattle.rec_order.proofs.Steps.{Meets}
 use Rattle.rec_core.specs.declared.config.Config.{Config}
-use Rattle.rec_core.proofs.Runs.{move_stays}
+use Rattle.rec_core.proofs.Runs.{config_after}
 
 -- Each object in one of the first slots has that slot as its home.
 has_homes : (w : Sight) (number : ℕ → ℕ) → ((s t : ℕ) → IsTaken w s → IsTaken w t → number s ≡ number t → s ≡ t) → (bound : ℕ) → (home : ℕ → ℕ) × ((s : ℕ) → s < bound → IsTaken w s → home (number s) ≡ s)
@@ -100,18 +100,15 @@ swept_lines t n _ = refl
 
 -- the lines of a mutator are those of the answers of one move
 lines_in : (t : ℕ) (n : Naming) (w : Core) (m : Move) → filter_map (line_by t) (events_in n w m) ≡ filter_map (line_by t) (told_in w m)
-lines_in t n w (Move.Begins u work from) = refl
-lines_in t n w (Move.Steps u) = refl
 lines_in t n w Move.Turns = swept_lines t n (next_of w.collector)
-lines_in t n w Move.Offers = refl
+lines_in t n w _ = refl
 
 -- and of all moves
 pub lines_of : (t : ℕ) (n : Naming) (w : Core) (ms : List Move) → filter_map (line_by t) (events_of n w ms) ≡ filter_map (line_by t) (told_in_all w ms)
 lines_of t n w [] = refl
 lines_of t n w (m ∷ ms) =
     filter_map-append (line_by t) (events_in n w m) (events_of (named_after n w m) (after_move w m) ms)
-    ∙ ap (λ (xs : List Line). xs ++ filter_map (line_by t) (events_of (named_after n w m) (after_move w m) ms)) (lines_in t n w m)
-    ∙ ap (λ (xs : List Line). filter_map (line_by t) (told_in w m) ++ xs) (lines_of t (named_after n w m) (after_move w m) ms)
+    ∙ (λ i. lines_in t n w m i ++ lines_of t (named_after n w m) (after_move w m) ms i)
     ∙ sym (filter_map-append (line_by t) (told_in w m) (told_in_all (after_move w m) ms))
 
 -- a legal order of some journals is one of all that have the same lines
@@ -137,13 +134,9 @@ run_legal w heap number unfreed moves journals kept idle stands are fit told =
     let start : Moment = moment_of w heap unfreed in
     let n : Naming = naming_of heap number in
     let (lines, home, so) = moves_order limits start [] w n moves refl kept fit (starts w heap number unfreed kept idle stands are) in
-    let config : (after_moves w moves).config ≡ w.config = config_stays w moves in
+    let config : (after_moves w moves).config ≡ w.config = config_after w moves in
     record {
       legal = same_journals limits start (events_of n w moves) lines journals w.config.mutators (so.journals ∙ ap (λ (c : Config). c.mutators) config) told.one_each
           (λ t some most. told.lines t (some, most) ∙ sym (lines_of t n w moves)) so.legal;
       ends = record { stands = so.stands.stands; next = so.stands.next; unfreed = so.stands.unfreed; marks = so.stands.marks };
     }
-  where
-    config_stays : (v : Core) (ms : List Move) → (after_moves v ms).config ≡ v.config
-    config_stays v [] = refl
-    config_stays v (m ∷ ms) = config_stays (after_move v m) ms ∙ move_stays v m

@@ -14,35 +14,25 @@ use Rattle.rec_mutator.specs.declared.made.Made.{Made}
 use Rattle.rec_mutator.specs.declared.made.Made.TheVariants as makes
 use Rattle.rec_mutator.specs.declared.work.Work.{Work}
 use Rattle.rec_mutator.specs.declared.work.Work.TheVariants as works
-use Rattle.rec_collector.specs.Next.{next_of}
 use Rattle.rec_mutator.proofs.Polls.{busy_none}
 use Rattle.rec_core.specs.Asked.{told_by}
 use Rattle.rec_core.specs.Cells.{births_of}
 use Rattle.rec_core.specs.Config.{IsMutator, HasLabel}
 use Rattle.rec_core.specs.Core.{Core, sight, mutator}
 use Rattle.rec_core.specs.Kept.{IsKept}
-use Rattle.rec_core.specs.Moves.{Move, Fits, AllFit, after_move, after_moves, begun, stepped, turned, turned_at, found_by}
+use Rattle.rec_core.specs.Moves.{Move, Fits, AllFit, after_move, after_moves, begun, stepped, turned, found_by}
 use Rattle.rec_core.specs.Shown.{IsDecided}
 use Rattle.rec_core.specs.Worked.{StepsTo, IsWorked}
 use Rattle.rec_core.proofs.Asked.{begun_sight}
-use Rattle.rec_core.proofs.Runs.{move_kept}
+use Rattle.rec_core.proofs.Runs.{after_both, fit_both, move_kept}
 use Rattle.rec_core.proofs.Showing.{Says, step_says, mutator_left}
+use Rattle.rec_core.proofs.Turning.{turn_case}
 use Rattle.rec_core.proofs.Unfinished.{work_stays}
 use Rattle.rec_order.specs.Naming.{Naming, NamesGoOn, born_in, named_by, named_after, named_after_all}
 use Rattle.rec_order.specs.Events.{events_in, events_of}
 use Rattle.rec_order.proofs.Stamps.{IsSilent, going_silent, holding_silent, stayed_silent, crossed_silent}
 use Rattle.rec_order.proofs.Stands.{NamesOn, born_taken}
 use Rattle.rec_order.proofs.Steps.{same_names, step_names}
-
--- where the moves of two lists lead
-pub after_both : (w : Core) (ms ns : List Move) → after_moves w (ms ++ ns) ≡ after_moves (after_moves w ms) ns
-after_both w [] ns = refl
-after_both w (m ∷ ms) ns = after_both (after_move w m) ms ns
-
--- two lists of moves fit one after the other
-pub fit_both : (w : Core) (ms ns : List Move) → AllFit w ms → AllFit (after_moves w ms) ns → AllFit w (ms ++ ns)
-fit_both w [] ns fit more = more
-fit_both w (m ∷ ms) ns fit more = (fit.0, fit_both (after_move w m) ms ns fit.1 more)
 
 -- the naming after two lists
 names_both : (n : Naming) (w : Core) (ms ns : List Move) → named_after_all n w (ms ++ ns) ≡ named_after_all (named_after_all n w ms) (after_moves w ms) ns
@@ -66,12 +56,8 @@ named_next n (ops.ClaimHeader slot label) found = go (found == 0)
 named_next n _ found = omega arith
 
 -- a turn of the collector counts no birth
-turned_made : (w : Core) → (turned w).made ≡ w.made
-turned_made w = go (next_of w.collector)
-  where
-    go : (x : Option Op) → (turned_at w x).made ≡ w.made
-    go None = refl
-    go (Some op) = refl
+pub turned_made : (w : Core) → (turned w).made ≡ w.made
+turned_made w = turn_case w (λ o v. v.made ≡ w.made) (λ none. refl) (λ op named. refl)
 
 -- a move counts as many births as it names
 move_made : (n : Naming) (w : Core) (m : Move) → (named_after n w m).next + w.made ≡ n.next + (after_move w m).made

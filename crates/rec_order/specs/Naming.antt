@@ -1,5 +1,5 @@
 -- Which object each slot holds, along a run.
-use Rattle.std.specs.Prelude.{◌≡◌, ℕ, ◌+◌, ◌==◌, if◌then◌else◌, true, false, List, [], ◌∷◌, length}
+use Rattle.std.specs.Prelude.{◌≡◌, ℕ, ◌+◌, ◌==◌, if◌then◌else◌, true, false, List, fold, length}
 use Rattle.rec_word.specs.declared.op.Op.{Op}
 use Rattle.rec_word.specs.declared.op.Op.TheVariants.{ClaimHeader}
 use Rattle.rec_model.specs.Heap.{Heap}
@@ -8,7 +8,8 @@ use Rattle.rec_model.specs.Sight.{IsTaken}
 use Rattle.rec_model.specs.Explained.{with_number}
 use Rattle.rec_mutator.specs.Next.{next_of}
 use Rattle.rec_core.specs.Core.{Core, sight, mutator}
-use Rattle.rec_core.specs.Moves.{Move, after_move, found_by}
+use Rattle.rec_core.specs.Moves.{Move, found_by}
+use Rattle.rec_core.specs.Run.{Step, steps_of}
 
 -- which object each slot holds, and the number of the object that is born next
 pub record Naming : Type 0 where
@@ -39,8 +40,7 @@ named_after n w _ = n
 
 -- after some moves
 abbrev pub named_after_all : Naming → Core → List Move → Naming
-named_after_all n w [] = n
-named_after_all n w (m ∷ ms) = named_after_all (named_after n w m) (after_move w m) ms
+named_after_all n w ms = fold (λ k (s : Step). named_after k s.before s.move) n (steps_of w ms)
 
 -- How the naming goes on over a command that was answered so: a birth puts the next object into the slot that was free before and
 -- is taken now; any other answer leaves the naming.

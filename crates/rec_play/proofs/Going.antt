@@ -21,7 +21,7 @@ use Rattle.rec_collector.specs.Next.{next_of}
 use Rattle.rec_core.specs.Config.{IsMutator, HasLabel}
 use Rattle.rec_core.specs.Core.{opened, Core, sight, mutator}
 use Rattle.rec_core.specs.Kept.{IsKept}
-use Rattle.rec_core.specs.Moves.{Move, AllFit, after_moves}
+use Rattle.rec_core.specs.Moves.{Move, AllFit, IsStart, after_moves}
 use Rattle.rec_core.specs.declared.config.Config.{Config}
 use Rattle.rec_core.proofs.OpenedMutators.{mutator_opened}
 use Rattle.rec_core.proofs.Runs.{run_kept}
@@ -109,7 +109,7 @@ commands_more script lines t cmd told one_each next so i = elim (cases_eq (t - 1
 
 -- what every heap keeps holds of the world
 pub world_kept : (script : Contents) (world : Core) (lines : List (List Line)) (order : List ℕ) (events : List Event) (n : Naming) → PlayedSo script world lines order events n → IsKept world
-world_kept script world lines order events n so = run_kept (config_of script) so.moves world (script_config script so.valid) (record { fit = so.fit; ends = so.ends })
+world_kept script world lines order events n so = run_kept (opened (config_of script)) so.moves world (script_config script so.valid) (record { starts = IsStart.opens refl; fit = so.fit; ends = so.ends })
 
 -- operands in range are those of a mutator
 operands : (script : Contents) (p : Private) (cmd : Cmd) → length p.registers ≡ script.registers → p.fields ≡ script.fields → IsCommand script.registers script.fields cmd → HasOperands p cmd × HasLabel (works.Command cmd)

@@ -24,13 +24,7 @@ limits_by_word registers fields word =
 
 by_word : (registers fields : ℕ) (cmd : Cmd) → limits_by_word registers fields (word_of cmd) ≡ limits_of registers fields cmd
 by_word registers fields (New reg label) = refl
-by_word registers fields (Leaf reg label) = refl
-by_word registers fields (Null reg) = refl
-by_word registers fields (Copy dst src) = refl
-by_word registers fields (Get dst src field) = refl
-by_word registers fields (Put src field val) = refl
-by_word registers fields (Value reg) = refl
-by_word registers fields (Same a b) = refl
+by_word registers fields _ = refl
 
 -- commands of one word have the same limits
 pub same_limits : (registers fields : ℕ) (a b : Cmd) → word_of a ≡ word_of b → limits_of registers fields a ≡ limits_of registers fields b
@@ -38,13 +32,7 @@ same_limits registers fields a b e = sym (by_word registers fields a) ∙ ap (li
 
 since_by_word : (cmd : Cmd) → choose (word_of cmd) 1 2 1 1 1 1 1 1 ≡ since cmd
 since_by_word (New reg label) = refl
-since_by_word (Leaf reg label) = refl
-since_by_word (Null reg) = refl
-since_by_word (Copy dst src) = refl
-since_by_word (Get dst src field) = refl
-since_by_word (Put src field val) = refl
-since_by_word (Value reg) = refl
-since_by_word (Same a b) = refl
+since_by_word _ = refl
 
 -- and a version has all of them or none
 pub same_allowed : (version : ℕ) (a b : Cmd) → word_of a ≡ word_of b → Allows version a → Allows version b
@@ -53,13 +41,7 @@ same_allowed version a b e allowed = subst (λ (n : ℕ). n ≤ version) (sym (s
 -- there is a limit for each operand
 pub limits_length : (registers fields : ℕ) (cmd : Cmd) → length (limits_of registers fields cmd) ≡ length (map decimal (operands_of cmd))
 limits_length registers fields (New reg label) = refl
-limits_length registers fields (Leaf reg label) = refl
-limits_length registers fields (Null reg) = refl
-limits_length registers fields (Copy dst src) = refl
-limits_length registers fields (Get dst src field) = refl
-limits_length registers fields (Put src field val) = refl
-limits_length registers fields (Value reg) = refl
-limits_length registers fields (Same a b) = refl
+limits_length registers fields _ = refl
 
 suc_injective : (m n : ℕ) → suc m ≡ suc n → m ≡ n
 suc_injective m n e = omega arith

@@ -62,13 +62,7 @@ is_mutator line = letters (get_or line 0 []) == 28021
 
 pub no_mutator_word : (cmd : Cmd) → letters (word_of cmd) == 28021 ≡ false
 no_mutator_word (New reg label) = refl
-no_mutator_word (Leaf reg label) = refl
-no_mutator_word (Null reg) = refl
-no_mutator_word (Copy dst src) = refl
-no_mutator_word (Get dst src field) = refl
-no_mutator_word (Put src field val) = refl
-no_mutator_word (Value reg) = refl
-no_mutator_word (Same a b) = refl
+no_mutator_word _ = refl
 
 -- a command's shape is no mutator's line
 pub no_mutator_shape : (line : List (List ℕ)) (cmd : Cmd) → IsShaped line cmd → is_mutator line ≡ false

@@ -159,13 +159,7 @@ command_words registers fields (Same a b) h is = ((omega arith, (omega arith, (o
 -- the line of a command counts
 counts : (cmd : Cmd) → cond (is_counted (command_line cmd)) (command_line cmd ∷ []) [] ≡ command_line cmd ∷ []
 counts (New reg label) = refl
-counts (Leaf reg label) = refl
-counts (Null reg) = refl
-counts (Copy dst src) = refl
-counts (Get dst src field) = refl
-counts (Put src field val) = refl
-counts (Value reg) = refl
-counts (Same a b) = refl
+counts _ = refl
 
 -- where a spaced command was added, the first line was taken
 pub taken : (registers fields : ℕ) (cmd : Cmd) (bytes rest : List ℕ) (before after : List (List (List ℕ))) → AreSmall registers fields → IsCommand registers fields cmd → bytes ≡ spaced (command_line cmd) rest → after ≡ before ++ command_line cmd ∷ [] → IsTaken bytes rest before after

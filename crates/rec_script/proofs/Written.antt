@@ -32,13 +32,7 @@ mutator_is = (((omega arith, (omega arith, (omega arith, (omega arith, (omega ar
 
 command_counts : (cmd : Cmd) → is_counted (command_line cmd) ≡ true
 command_counts (New reg label) = refl
-command_counts (Leaf reg label) = refl
-command_counts (Null reg) = refl
-command_counts (Copy dst src) = refl
-command_counts (Get dst src field) = refl
-command_counts (Put src field val) = refl
-command_counts (Value reg) = refl
-command_counts (Same a b) = refl
+command_counts _ = refl
 
 body_is : (version registers fields : ℕ) → AreSmall registers fields → (line : List (List ℕ)) → IsBodyLine version registers fields line → IsLine line
 body_is version registers fields h line (inl e) = subst IsLine (sym e) mutator_is

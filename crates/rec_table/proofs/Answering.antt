@@ -154,15 +154,8 @@ unfolding cmd_of
 scanned_at q cmd before work found = by q.phase refl found
   where
     by : (phase : phases.Phase) → q.phase ≡ phase → FoundNoneAt phase before → (reg : ℕ) × (label : ℕ) × (leaf : Bool) × (cmd ≡ allocation leaf reg label)
-    by at.Idle e f = absurd f
-    by (at.Begun w) e f = absurd f
-    by (at.Scanning reg label leaf b slot) e f = absurd f
     by (at.Scanned reg label leaf b) e f = (reg, label, leaf, ap (cmd_of cmd) (sym work ∙ ap work_at e))
-    by (at.Storing src field val slot) e f = absurd f
-    by at.Crossing e f = absurd f
-    by at.Swapping e f = absurd f
-    by at.Giving e f = absurd f
-    by (at.Finished w made) e f = absurd f
+    by _ e f = absurd f
 
 fails_probes : (p q : Private) (cmd : Cmd) (from before : ℕ) (words : List ℕ) → q ≡ fold took_of (begun_of p (works.Command cmd) from) words → q.slots ≡ p.slots → work_of q ≡ Some (works.Command cmd) → FoundNone q before → FailsProbes p cmd from before words
 unfolding begun_of
@@ -187,13 +180,7 @@ steps_left p cmd machine busy work = by p.phase refl machine.now
 
     some : (cmd : Cmd) → 0 < limit_of p.slots (works.Command cmd)
     some (commands.New reg label) = omega arith
-    some (commands.Leaf reg label) = omega arith
-    some (commands.Null reg) = omega arith
-    some (commands.Copy dst src) = omega arith
-    some (commands.Get dst src f) = omega arith
-    some (commands.Put src f val) = omega arith
-    some (commands.Value reg) = omega arith
-    some (commands.Same a b) = omega arith
+    some _ = omega arith
 
     -- a work that goes on is this command
     goes_on : (c : Cmd) (steps : ℕ) (phase : phases.Phase) → p.phase ≡ phase → work_at phase ≡ Some (works.Command c) → steps < limit_of p.slots (works.Command c) → steps < limit_of p.slots (works.Command cmd)

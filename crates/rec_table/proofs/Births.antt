@@ -1,97 +1,73 @@
 -- The births of a run are those of the mutators' lists, added up.
-use Rattle.std.proofs.Common.{◌≡◌, ◌≢◌, ℕ, zero, suc, ◌+◌, ◌<◌, ◌≤◌, arith, Bool, cond, eq-eqb, ne_eqb, List, [], ◌∷◌, Option, Some, None, refl, sym, ap}
-use mathlib.Core.Logic.{dite}
-use native.Mathlib.Decide.{ℕ_discrete}
-use Rattle.rec_mutator.specs.Next.{next_of}
-use Rattle.rec_mutator.specs.Private.{Private}
-use Rattle.rec_mutator.specs.declared.work.Work.{Work}
-use Rattle.rec_word.specs.declared.op.Op.{Op}
-use Rattle.rec_collector.specs.Next as collector_next
+use Rattle.std.proofs.Common.{◌≡◌, ◌≢◌, inl, inr, ℕ, zero, suc, ◌+◌, ◌<◌, ◌≤◌, arith, List, [], ◌∷◌, refl, sym, ap, ◌∙◌}
+use Rattle.std.proofs.lemmas.Bool.{cases_eq}
 use Rattle.rec_core.specs.Core.{Core, mutator}
-use Rattle.rec_core.specs.Moves.{Move, AllFit, Fits, after_move, after_moves, found_by, turned_at}
-use Rattle.rec_core.specs.Cells.{births_of}
+use Rattle.rec_core.specs.Moves.{Move, AllFit, Fits, after_move, after_moves}
+use Rattle.rec_core.specs.Run.{by_actor, maker}
+use Rattle.rec_mutator.specs.Private.{Private}
 use Rattle.rec_world.specs.World.{IsWorld}
 use Rattle.rec_core.specs.declared.config.Config.{Config}
 use Rattle.rec_world.proofs.Calls.{world_kept, moved_world}
-use Rattle.rec_core.proofs.Runs.{move_stays}
-use Rattle.rec_table.specs.Beats.{beats_in, beats_of, births_told, told, turn_at}
-use Rattle.rec_table.specs.Ends.{births_all}
-use Rattle.rec_table.specs.declared.views.Beat.TheVariants.{Begins, Saw}
+use Rattle.rec_core.proofs.Runs.{move_stays, other_gives, own_gives}
+use Rattle.rec_order.proofs.Runs.{turned_made}
+use Rattle.rec_table.specs.Beats.{beats_in, beats_of, births_told, told}
+use Rattle.rec_table.specs.declared.views.Beat.{Beat}
 use Rattle.rec_table.proofs.Beats.{told_in}
 use Rattle.rec_table.proofs.Making.{births_both}
 
--- of one move
-moved_births : Core → Move → ℕ → ℕ
-moved_births w m zero = 0
-moved_births w m (suc n) = moved_births w m n + births_told (mutator w (n + 1)) (beats_in (n + 1) w m)
+-- the births in such lists of the first so many mutators, added up
+abbrev pub all_births : Core → (ℕ → List Beat) → ℕ → ℕ
+all_births w lists zero = 0
+all_births w lists (suc n) = all_births w lists n + births_told (mutator w (n + 1)) (lists (n + 1))
 
-splits_first : (w : Core) (m : Move) (ms : List Move) (n : ℕ) → IsWorld w → Fits w m → n ≤ w.config.mutators → births_all w (m ∷ ms) n ≡ moved_births w m n + births_all (after_move w m) ms n
-unfolding moved_births
+abbrev pub births_all : Core → List Move → ℕ → ℕ
+births_all w ms n = all_births w (λ x. beats_of x w ms) n
+
+-- where no list but that of t tells anything
+module _ (w : Core) (lists : ℕ → List Beat) (t : ℕ) (none : (x : ℕ) → 1 ≤ x → t ≢ x → lists x ≡ []) where
+  none_before : (n : ℕ) → n < t → all_births w lists n ≡ 0
+  none_before zero lt = refl
+  none_before (suc n) lt =
+      let here : births_told (mutator w (n + 1)) (lists (n + 1)) ≡ 0 = ap (births_told (mutator w (n + 1))) (none (n + 1) (omega arith) (λ e. omega (arith, e, lt))) in
+      omega (arith, none_before n (omega (arith, lt)), here)
+
+  one_alone : (n : ℕ) → 1 ≤ t → t ≤ n → all_births w lists n ≡ births_told (mutator w t) (lists t)
+  one_alone zero low le = absurd (omega (arith, low, le))
+  one_alone (suc n) low le = elim (cases_eq t (n + 1)) [
+    | inl e ↦
+        let here : births_told (mutator w (n + 1)) (lists (n + 1)) ≡ births_told (mutator w t) (lists t) = ap (λ x. births_told (mutator w x) (lists x)) (sym e) in
+        omega (arith, none_before n (omega (arith, e)), here)
+    | inr ne ↦
+        let here : births_told (mutator w (n + 1)) (lists (n + 1)) ≡ 0 = ap (births_told (mutator w (n + 1))) (none (n + 1) (omega arith) ne) in
+        omega (arith, one_alone n low (omega (arith, le, ne)), here)
+  ]
+
+splits_first : (w : Core) (m : Move) (ms : List Move) (n : ℕ) → IsWorld w → Fits w m → n ≤ w.config.mutators → births_all w (m ∷ ms) n ≡ all_births w (λ x. by_actor x beats_in w m) n + births_all (after_move w m) ms n
 splits_first w m ms zero world fits le = omega arith
 splits_first w m ms (suc n) world fits le =
-    let rest = splits_first w m ms n world fits (omega (arith, le)) in
-    let both = births_both (mutator w (n + 1)) (beats_in (n + 1) w m) (beats_of (n + 1) (after_move w m) ms) in
-    let then_ : births_told (told (mutator w (n + 1)) (beats_in (n + 1) w m)) (beats_of (n + 1) (after_move w m) ms) ≡ births_told (mutator (after_move w m) (n + 1)) (beats_of (n + 1) (after_move w m) ms)
-    = ap (λ (p : Private). births_told p (beats_of (n + 1) (after_move w m) ms)) (sym (told_in w m (n + 1) (world_kept w world) fits (omega arith, omega (arith, le)))) in
-    omega (arith, rest, both, then_)
+    let now : List Beat = by_actor (n + 1) beats_in w m in
+    let later : List Beat = beats_of (n + 1) (after_move w m) ms in
+    let then_ : births_told (told (mutator w (n + 1)) now) later ≡ births_told (mutator (after_move w m) (n + 1)) later
+    = ap (λ (p : Private). births_told p later) (sym (told_in w m (n + 1) (world_kept w world) fits (omega arith, omega (arith, le)))) in
+    omega (arith, splits_first w m ms n world fits (omega (arith, le)), births_both (mutator w (n + 1)) now later, then_)
 
--- a step's births are told of its mutator alone
-stepped_none : (w : Core) (t n : ℕ) → n < t → moved_births w (Move.Steps t) n ≡ 0
-unfolding moved_births
-stepped_none w t zero lt = refl
-stepped_none w t (suc n) lt =
-    let rest = stepped_none w t n (omega (arith, lt)) in
-    let none : births_told (mutator w (n + 1)) (beats_in (n + 1) w (Move.Steps t)) ≡ 0 = ap (λ (b : Bool). births_told (mutator w (n + 1)) (cond b (Saw (found_by w t) ∷ []) [])) (ne_eqb t (n + 1) (λ e. omega (arith, e, lt))) in
-    omega (arith, rest, none)
+-- a move's births are told of its mutator alone
+move_made : (w : Core) (m : Move) → Fits w m → (after_move w m).made ≡ w.made + all_births w (λ x. by_actor x beats_in w m) w.config.mutators
+move_made w m fits = by m fits
+  where
+    own : (m : Move) → 1 ≤ maker m → maker m ≤ w.config.mutators → all_births w (λ x. by_actor x beats_in w m) w.config.mutators ≡ births_told (mutator w (maker m)) (beats_in w m)
+    own m low most =
+        one_alone w (λ x. by_actor x beats_in w m) (maker m) (λ x le ne. other_gives x beats_in w m ne) w.config.mutators low most
+        ∙ ap (births_told (mutator w (maker m))) (own_gives (maker m) beats_in w m refl)
 
-stepped_one : (w : Core) (t n : ℕ) → 1 ≤ t → t ≤ n → moved_births w (Move.Steps t) n ≡ births_of (next_of (mutator w t)) (found_by w t)
-unfolding moved_births
-stepped_one w t zero low le = absurd (omega (arith, low, le))
-stepped_one w t (suc n) low le = dite (ℕ_discrete t (n + 1))
-    (λ (e : t ≡ n + 1).
-    let before = stepped_none w t n (omega (arith, e)) in
-    let one : births_told (mutator w (n + 1)) (beats_in (n + 1) w (Move.Steps t)) ≡ births_of (next_of (mutator w (n + 1))) (found_by w t) + 0 =
-    ap (λ (b : Bool). births_told (mutator w (n + 1)) (cond b (Saw (found_by w t) ∷ []) [])) (eq-eqb t (n + 1) e) in
-    let same : births_of (next_of (mutator w (n + 1))) (found_by w t) ≡ births_of (next_of (mutator w t)) (found_by w t) = ap (λ (k : ℕ). births_of (next_of (mutator w k)) (found_by w t)) (sym e) in
-    omega (arith, before, one, same))
-    (λ (ne : t ≢ n + 1).
-    let low_ : t ≤ n = omega (arith, le, ne) in
-    let rest = stepped_one w t n low low_ in
-    let none : births_told (mutator w (n + 1)) (beats_in (n + 1) w (Move.Steps t)) ≡ 0 = ap (λ (b : Bool). births_told (mutator w (n + 1)) (cond b (Saw (found_by w t) ∷ []) [])) (ne_eqb t (n + 1) ne) in
-    omega (arith, rest, none))
+    none : (m : Move) → maker m ≡ 0 → all_births w (λ x. by_actor x beats_in w m) w.config.mutators ≡ 0
+    none m is = none_before w (λ x. by_actor x beats_in w m) (suc w.config.mutators) (λ x le ne. other_gives x beats_in w m (λ e. omega (arith, e, is, le))) w.config.mutators (omega arith)
 
-begun_none : (w : Core) (t n : ℕ) (work : Work) (from : ℕ) → moved_births w (Move.Begins t work from) n ≡ 0
-unfolding moved_births
-begun_none w t zero work from = refl
-begun_none w t (suc n) work from =
-    let rest = begun_none w t n work from in
-    let none : births_told (mutator w (n + 1)) (beats_in (n + 1) w (Move.Begins t work from)) ≡ 0 = dite (ℕ_discrete t (n + 1))
-    (λ (e : t ≡ n + 1). ap (λ (b : Bool). births_told (mutator w (n + 1)) (cond b (Begins (record { work = work; from = from }) ∷ []) [])) (eq-eqb t (n + 1) e))
-    (λ (ne : t ≢ n + 1). ap (λ (b : Bool). births_told (mutator w (n + 1)) (cond b (Begins (record { work = work; from = from }) ∷ []) [])) (ne_eqb t (n + 1) ne)) in
-    omega (arith, rest, none)
-
-turned_none : (w : Core) (n : ℕ) → moved_births w Move.Turns n ≡ 0
-unfolding moved_births
-turned_none w zero = refl
-turned_none w (suc n) =
-    let rest = turned_none w n in
-    let none : births_told (mutator w (n + 1)) (beats_in (n + 1) w Move.Turns) ≡ 0 = ap (λ (b : Bool). births_told (mutator w (n + 1)) (cond b (turn_at w (collector_next.next_of w.collector)) [])) (ne_eqb (n + 1) 0 (λ e. omega (arith, e))) in
-    omega (arith, rest, none)
-
-offered_none : (w : Core) (n : ℕ) → moved_births w Move.Offers n ≡ 0
-unfolding moved_births
-offered_none w zero = refl
-offered_none w (suc n) = let rest = offered_none w n in omega (arith, rest)
-
-turned_made : (w : Core) (x : Option Op) → (turned_at w x).made ≡ w.made
-turned_made w None = refl
-turned_made w (Some op) = refl
-
-move_made : (w : Core) (m : Move) → Fits w m → (after_move w m).made ≡ w.made + moved_births w m w.config.mutators
-move_made w (Move.Begins t work from) fits = let none = begun_none w t w.config.mutators work from in omega (arith, none)
-move_made w (Move.Steps t) fits = let one = stepped_one w t w.config.mutators fits.0.0 fits.0.1 in omega (arith, one)
-move_made w Move.Turns fits = let none = turned_none w w.config.mutators in let same = turned_made w (collector_next.next_of w.collector) in omega (arith, none, same)
-move_made w Move.Offers fits = let none = offered_none w w.config.mutators in omega (arith, none)
+    by : (m : Move) → Fits w m → (after_move w m).made ≡ w.made + all_births w (λ x. by_actor x beats_in w m) w.config.mutators
+    by (Move.Begins t work from) fits = omega (arith, own (Move.Begins t work from) fits.0.0 fits.0.1)
+    by (Move.Steps t) fits = omega (arith, own (Move.Steps t) fits.0.0 fits.0.1)
+    by Move.Turns fits = omega (arith, none Move.Turns refl, turned_made w)
+    by Move.Offers fits = omega (arith, none Move.Offers refl)
 
 none_yet : (w : Core) (n : ℕ) → births_all w [] n ≡ 0
 none_yet w zero = refl
@@ -100,8 +76,5 @@ none_yet w (suc n) = let rest = none_yet w n in omega (arith, rest)
 pub births_add_up : (w : Core) (ms : List Move) → IsWorld w → AllFit w ms → (after_moves w ms).made ≡ w.made + births_all w ms w.config.mutators
 births_add_up w [] world fit = let none = none_yet w w.config.mutators in omega (arith, none)
 births_add_up w (m ∷ ms) world fit =
-    let rest = births_add_up (after_move w m) ms (moved_world w m world fit.0) fit.1 in
     let same : births_all (after_move w m) ms (after_move w m).config.mutators ≡ births_all (after_move w m) ms w.config.mutators = ap (λ (c : Config). births_all (after_move w m) ms c.mutators) (move_stays w m) in
-    let one = move_made w m fit.0 in
-    let split = splits_first w m ms w.config.mutators world fit.0 (omega arith) in
-    omega (arith, rest, same, one, split)
+    omega (arith, births_add_up (after_move w m) ms (moved_world w m world fit.0) fit.1, same, move_made w m fit.0, splits_first w m ms w.config.mutators world fit.0 (omega arith))

@@ -33,7 +33,7 @@ use Rattle.rec_table.specs.Rule.{beats, TakenBy, GivenBy}
 use Rattle.rec_table.specs.declared.views.Beat.TheVariants.{Saw}
 use Rattle.rec_table.specs.declared.views.Seated.{Seated}
 use Rattle.rec_table.specs.declared.views.View.TheVariants.{Mutates}
-use Rattle.rec_table.proofs.Steps.{before, before_none, Here, here_at, goes_on, grows_by, stepped_learns}
+use Rattle.rec_table.proofs.Steps.{before, Here, here_at, goes_on, grows_by}
 
 pub homes_set : (ws : List ℕ) (bs : List Contents) (i c : ℕ) (b : Contents) → homes_of (set ws i c) (set bs i b) ≡ set (homes_of ws bs) i (home_of c b)
 homes_set [] bs i c b = refl
@@ -138,8 +138,7 @@ gives_box key slots id t p op f st is_p busy giving is_op does s h len at_id fit
     let none_taken : TakesNone m.phase = subst TakesNone (sym phase) tt in
     let left : left_of (took_of m (found_by v x)) (box v x) ≡ box v x = left_same (took_of m (found_by v x)) (box v x) (step_between (learnt_made m (found_by v x) (box v x) here.busy none_taken)) in
     let mine = h.each id (Mutates t) at_id in
-    let same : v ≡ now = before_none now x in
-    let hand : t.hand ≡ box v x = mine.4 (ap (λ (c : Core). (mutator c x).phase) (sym same) ∙ phase) ∙ ap (λ (c : Core). box c x) (sym same) in
+    let hand : t.hand ≡ box v x = mine.4 phase in
     let crossing_after : (stepped v x).crossing ≡ set v.crossing (x - 1) (crossing_word (m.epoch + 1) Retired) =
     ap (λ o. (with_cell (cells_of v) o (written o (found_by v x))).crossing) (gives_op m phase) ∙ ap (λ k. set v.crossing (k - 1) (crossing_word (m.epoch + 1) Retired)) number in
     let homes' : set s.homes (p.number - 1) (some (Some t.hand)) ≡ homes_of (stepped v x).crossing (stepped v x).boxes =
@@ -149,7 +148,7 @@ gives_box key slots id t p op f st is_p busy giving is_op does s h len at_id fit
     ∙ ap (λ l. homes_of l (stepped v x).boxes) (sym crossing_after) in
     let learnt_is : learnt p (Saw n) ≡ crossed p = here_same p n (spare (took_of p n)) busy (subst TakesNone (sym giving) tt) ∙ crosses p n giving in
     let over : (mutator (stepped v x) x).phase ≡ at.Giving → t.hand ≡ box (stepped v x) x = λ again.
-    absurd (true≢false (ap is_giving (sym again) ∙ ap (λ (q : Private). is_giving q.phase) (stepped_learns key s h t None p op here ∙ learnt_is))) in
+    absurd (true≢false (ap is_giving (sym again) ∙ ap (λ (q : Private). is_giving q.phase) (here.learns ∙ learnt_is))) in
     let after = goes_on key s h id t None p op (f n) (set s.homes (p.number - 1) (some (Some t.hand))) t.hand at_id here (does n) homes' over in (
       Mutates (record t { log = t.log ++ beats None n }),
       gives,

@@ -25,7 +25,7 @@ use Rattle.rec_table.specs.Ends.{IsRunOf}
 use Rattle.rec_core.specs.Row.{cells_of_row}
 use Rattle.rec_table.specs.Rule.{boxes_at, boxes_out}
 use Rattle.rec_table.specs.declared.views.Crew.{Crew}
-use Rattle.rec_table.proofs.Beats.{config_after}
+use Rattle.rec_core.proofs.Runs.{config_after}
 use Rattle.rec_table.proofs.Ends.{same_boxes}
 use Rattle.rec_core.proofs.Row.{cells_row}
 use Rattle.rec_table.proofs.Seats.{all_home, idle_not_giving}

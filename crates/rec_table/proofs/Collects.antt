@@ -15,19 +15,21 @@ use Rattle.rec_collector.specs.declared.phase.Phase.{Phase}
 use Rattle.rec_collector.specs.declared.phase.Phase.TheVariants.{Looking, Swapping}
 use Rattle.rec_core.specs.Core.{Core, cells_of, box}
 use Rattle.rec_core.specs.Kept.{IsKept}
-use Rattle.rec_core.specs.Moves.{Move, after_move, after_moves, AllFit, found_by, looked_at, left_by, turned, turned_at}
+use Rattle.rec_core.specs.Moves.{Move, after_move, after_moves, AllFit, Fits, looked_at, left_by, turned_at}
+use Rattle.rec_core.specs.Run.{by_actor}
+use Rattle.rec_core.proofs.Runs.{other_gives}
+use Rattle.std.proofs.lemmas.List.Sums.{fold-append}
 use Rattle.rec_core.specs.Cells.{cell}
 use Rattle.rec_world.specs.World.{IsWorld}
 use Rattle.rec_world.proofs.Calls.{moved_world, world_kept}
 use Rattle.rec_world.proofs.Mailboxes.{collector_stays}
 use Rattle.rec_world.proofs.Turnings.{gathers_so}
-use Rattle.rec_table.specs.Beats.{beats_of, looked, turn_at, gathered, gathered_all, Offerless}
+use Rattle.rec_table.specs.Beats.{beats_in, beats_of, looked, turn_at, gathered, gathered_all, OffersNone, Offerless}
 use Rattle.rec_table.specs.declared.views.Beat.{Beat}
 use Rattle.rec_table.specs.declared.views.Beat.TheVariants.{Begins, Saw, Took}
 
 pub gathered_both : (c : Private) (cs bs : List Beat) → gathered_all c (cs ++ bs) ≡ gathered_all (gathered_all c cs) bs
-gathered_both c [] bs = refl
-gathered_both c (b ∷ cs) bs = gathered_both (gathered c b) cs bs
+gathered_both = fold-append gathered
 
 -- a mailbox whose buffer was swapped holds a spare
 pub leaves_spare : (c : Private) (b : Contents) (t : ℕ) → c.phase ≡ Swapping t → left_of c b ≡ spare c
@@ -67,20 +69,17 @@ turn_makes : (w : Core) (x : Option Op) → IsKept w → (turned_at w x).collect
 turn_makes w None kept = refl
 turn_makes w (Some op) kept = looked_makes w (cell (cells_of w) op) w.collector.phase kept refl
 
-none_told : (t : ℕ) (b : Beat) → 1 ≤ t → cond (eqb t 0) (b ∷ []) [] ≡ []
-none_told t b le = ap (λ x. cond x (b ∷ []) []) (ne_eqb t 0 (λ e. omega (arith, e, le)))
+-- so it is after a move that does not offer the slots
+collected_in : (w : Core) (m : Move) → IsKept w → Fits w m → OffersNone m → (after_move w m).collector ≡ gathered_all w.collector (by_actor 0 beats_in w m)
+collected_in w (Move.Begins t work from) kept fits none = ap (gathered_all w.collector) (sym (other_gives 0 beats_in w (Move.Begins t work from) (λ e. omega (arith, e, fits.0.0))))
+collected_in w (Move.Steps t) kept fits none = ap (gathered_all w.collector) (sym (other_gives 0 beats_in w (Move.Steps t) (λ e. omega (arith, e, fits.0.0))))
+collected_in w Move.Turns kept fits none = turn_makes w (next_of w.collector) kept
+collected_in w Move.Offers kept fits none = absurd none
 
--- so it is after a run in which the slots are never offered
+-- and after a run of such moves
 pub collector_after : (w : Core) (ms : List Move) → IsWorld w → AllFit w ms → Offerless ms → (after_moves w ms).collector ≡ gathered_all w.collector (beats_of 0 w ms)
 collector_after w [] world fit none = refl
-collector_after w (Move.Offers ∷ ms) world fit none = absurd none
-collector_after w (Move.Begins t work from ∷ ms) world fit none =
-    collector_after (after_move w (Move.Begins t work from)) ms (moved_world w (Move.Begins t work from) world fit.0) fit.1 none
-    ∙ sym (ap (λ l. gathered_all w.collector (l ++ beats_of 0 (after_move w (Move.Begins t work from)) ms)) (none_told t (Begins (record { work = work; from = from })) fit.0.0.0))
-collector_after w (Move.Steps t ∷ ms) world fit none =
-    collector_after (after_move w (Move.Steps t)) ms (moved_world w (Move.Steps t) world fit.0) fit.1 none
-    ∙ sym (ap (λ l. gathered_all w.collector (l ++ beats_of 0 (after_move w (Move.Steps t)) ms)) (none_told t (Saw (found_by w t)) fit.0.0.0))
-collector_after w (Move.Turns ∷ ms) world fit none =
-    collector_after (turned w) ms (moved_world w Move.Turns world fit.0) fit.1 none
-    ∙ ap (λ c. gathered_all c (beats_of 0 (turned w) ms)) (turn_makes w (next_of w.collector) (world_kept w world))
-    ∙ sym (gathered_both w.collector (turn_at w (next_of w.collector)) (beats_of 0 (turned w) ms))
+collector_after w (m ∷ ms) world fit none =
+    collector_after (after_move w m) ms (moved_world w m world fit.0) fit.1 none.1
+    ∙ ap (λ c. gathered_all c (beats_of 0 (after_move w m) ms)) (collected_in w m (world_kept w world) fit.0 none.0)
+    ∙ sym (gathered_both w.collector (by_actor 0 beats_in w m) (beats_of 0 (after_move w m) ms))

@@ -1,5 +1,5 @@
 -- The journals that the lists tell are those of the run, and they have a legal order.
-use Rattle.std.proofs.Common.{◌≡◌, ◌≢◌, ℕ, zero, suc, ◌+◌, ◌-◌, ◌<◌, length, get_or, ◌==◌, Bool, true, false, if◌then◌else◌, List, [], ◌∷◌, ◌++◌, Option, Some, None, refl, sym, ap, subst, ◌∙◌, arith, append_assoc, eq-eqb, ne_eqb}
+use Rattle.std.proofs.Common.{◌≡◌, ◌≢◌, ℕ, zero, suc, ◌+◌, ◌-◌, ◌<◌, length, get_or, Bool, if◌then◌else◌, List, [], ◌∷◌, ◌++◌, Option, Some, None, refl, sym, ap, subst, ◌∙◌, arith, append_assoc, eq-eqb, ne_eqb}
 use Rattle.std.proofs.lemmas.Bool.{cases_eq}
 use Rattle.std.proofs.Common.{inl, inr}
 use Rattle.std.proofs.lemmas.List.{append-nil}
@@ -19,17 +19,17 @@ use Rattle.rec_core.specs.Config.{IsMutator}
 use Rattle.rec_core.specs.Core.{Core, sight, mutator}
 use Rattle.rec_core.specs.Asked.{told_by, told_in, told_in_all}
 use Rattle.rec_core.specs.Moves.{Move, Fits, AllFit, after_move, stepped, found_by}
+use Rattle.rec_core.specs.Run.{by_actor, maker}
 use Rattle.rec_world.specs.World.{IsWorld}
 use Rattle.rec_world.proofs.Calls.{moved_world, world_kept}
-use Rattle.rec_core.proofs.Runs.{move_stays}
+use Rattle.rec_core.proofs.Runs.{move_stays, other_gives, own_gives}
 use Rattle.rec_order.specs.Legal.{AreIdle, HasLegalOrder}
 use Rattle.rec_order.proofs.Legal.{run_legal}
-use Rattle.rec_table.specs.Beats.{beats_in, beats_of, learnt, told, turn_at}
+use Rattle.rec_table.specs.Beats.{beats_in, beats_of, learnt, told}
 use Rattle.rec_table.specs.Journals.{line_of, line_in, journal, journals_from}
 use Rattle.rec_table.specs.declared.views.Beat.{Beat}
-use Rattle.rec_table.specs.declared.views.Beat.TheVariants.{Begins, Saw}
+use Rattle.rec_table.specs.declared.views.Beat.TheVariants.{Saw}
 use Rattle.rec_table.proofs.Beats as beats
-use Rattle.rec_collector.specs.Next as collector_next
 
 pub journal_both : (p : Private) (cs bs : List Beat) → journal p (cs ++ bs) ≡ journal p cs ++ journal (told p cs) bs
 journal_both p [] bs = refl
@@ -52,27 +52,27 @@ other_line t x (Some works.Poll) answer other = refl
 other_line t x None answer other = refl
 
 -- the lines of one move
-move_lines : (w : Core) (m : Move) (x : ℕ) → IsWorld w → Fits w m → IsMutator w.config x → filter_map (line_by x) (told_in w m) ≡ journal (mutator w x) (beats_in x w m)
-move_lines w (Move.Begins t work from) x world fits is = go (t == x)
-  where
-    go : (b : Bool) → [] ≡ journal (mutator w x) (if b then Begins (record { work = work; from = from }) ∷ [] else [])
-    go true = refl
-    go false = refl
-move_lines w (Move.Steps t) x world fits is = elim (cases_eq t x) [
-  | inl same ↦
-      let here : beats_in x w (Move.Steps t) ≡ Saw (found_by w t) ∷ [] = ap (λ (b : Bool). if b then Saw (found_by w t) ∷ [] else []) (eq-eqb t x same) in
-      let after : mutator (stepped w t) x ≡ learnt (mutator w x) (Saw (found_by w t)) = beats.told_in w (Move.Steps t) x (world_kept w world) fits is ∙ ap (told (mutator w x)) here in
-      ap (λ i. filter_map (line_by x) (told_by i (work_of (mutator w i)) (answer_of (mutator (stepped w t) i)))) same
-      ∙ own_line x (work_of (mutator w x)) (answer_of (mutator (stepped w t) x))
-      ∙ ap (λ (q : Private). line_of (work_of (mutator w x)) (answer_of q)) after
-      ∙ sym (append-nil (line_in (mutator w x) (Saw (found_by w t))))
-      ∙ ap (journal (mutator w x)) (sym here)
-  | inr other ↦
-      other_line t x (work_of (mutator w t)) (answer_of (mutator (stepped w t) t)) other
-      ∙ sym (ap (λ (b : Bool). journal (mutator w x) (if b then Saw (found_by w t) ∷ [] else [])) (ne_eqb t x other))
+move_lines : (w : Core) (m : Move) (x : ℕ) → IsWorld w → Fits w m → IsMutator w.config x → filter_map (line_by x) (told_in w m) ≡ journal (mutator w x) (by_actor x beats_in w m)
+move_lines w m x world fits is = elim (cases_eq (maker m) x) [
+  | inl mine ↦ own m fits mine ∙ ap (journal (mutator w x)) (sym (own_gives x beats_in w m mine))
+  | inr theirs ↦ other m theirs ∙ ap (journal (mutator w x)) (sym (other_gives x beats_in w m theirs))
 ]
-move_lines w Move.Turns x world fits is = sym (ap (λ (b : Bool). journal (mutator w x) (if b then turn_at w (collector_next.next_of w.collector) else [])) (ne_eqb x 0 (λ e. omega (arith, e, is.0))))
-move_lines w Move.Offers x world fits is = refl
+  where
+    own : (m : Move) → Fits w m → maker m ≡ x → filter_map (line_by x) (told_in w m) ≡ journal (mutator w x) (beats_in w m)
+    own (Move.Begins t work from) fits mine = refl
+    own (Move.Steps t) fits mine =
+        let after : mutator (stepped w t) x ≡ learnt (mutator w x) (Saw (found_by w t)) =
+        beats.told_in w (Move.Steps t) x (world_kept w world) fits is ∙ ap (told (mutator w x)) (own_gives x beats_in w (Move.Steps t) mine) in
+        ap (λ i. filter_map (line_by x) (told_by i (work_of (mutator w i)) (answer_of (mutator (stepped w t) i)))) mine
+        ∙ own_line x (work_of (mutator w x)) (answer_of (mutator (stepped w t) x))
+        ∙ ap (λ (q : Private). line_of (work_of (mutator w x)) (answer_of q)) after
+        ∙ sym (append-nil (line_in (mutator w x) (Saw (found_by w t))))
+    own Move.Turns fits mine = absurd (omega (arith, mine, is.0))
+    own Move.Offers fits mine = refl
+
+    other : (m : Move) → maker m ≢ x → filter_map (line_by x) (told_in w m) ≡ []
+    other (Move.Steps t) theirs = other_line t x (work_of (mutator w t)) (answer_of (mutator (stepped w t) t)) theirs
+    other _ theirs = refl
 
 -- The lines that a run told a mutator are those that its list tells.
 pub run_lines : (w : Core) (ms : List Move) (x : ℕ) → IsWorld w → AllFit w ms → IsMutator w.config x → filter_map (line_by x) (told_in_all w ms) ≡ journal (mutator w x) (beats_of x w ms)
@@ -80,10 +80,10 @@ run_lines w [] x world fit is = refl
 run_lines w (m ∷ ms) x world fit is =
     filter_map-append (line_by x) (told_in w m) (told_in_all (after_move w m) ms)
     ∙ ap (λ (ls : List Line). ls ++ filter_map (line_by x) (told_in_all (after_move w m) ms)) (move_lines w m x world fit.0 is)
-    ∙ ap (λ (ls : List Line). journal (mutator w x) (beats_in x w m) ++ ls)
+    ∙ ap (λ (ls : List Line). journal (mutator w x) (by_actor x beats_in w m) ++ ls)
     (run_lines (after_move w m) ms x (moved_world w m world fit.0) fit.1 (subst (λ (c : Config). IsMutator c x) (sym (move_stays w m)) is)
     ∙ ap (λ (p : Private). journal p (beats_of x (after_move w m) ms)) (beats.told_in w m x (world_kept w world) fit.0 is))
-    ∙ sym (journal_both (mutator w x) (beats_in x w m) (beats_of x (after_move w m) ms))
+    ∙ sym (journal_both (mutator w x) (by_actor x beats_in w m) (beats_of x (after_move w m) ms))
 
 at_from : (w : Core) (k : ℕ) (lists : List (List Beat)) (i : ℕ) → i < length lists → get_or (journals_from w k lists) i [] ≡ journal (mutator w (k + i + 1)) (get_or lists i [])
 at_from w k [] i lt = absurd (omega arith)

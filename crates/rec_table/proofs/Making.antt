@@ -62,15 +62,10 @@ unfolding next_of next_at
 plain_phase p op is between plain_op = by p.phase between (subst IsPlainOp is plain_op)
   where
     by : (phase : phases.Phase) → IsBetween phase → IsPlainOp (next_at p phase) → IsSettledIn phase
-    by at.Idle b o = tt
-    by (at.Begun work) b o = tt
-    by (at.Scanning reg label leaf before slot) b o = tt
-    by (at.Scanned reg label leaf before) b o = tt
-    by (at.Storing src f val slot) b o = tt
     by at.Crossing b o = o
     by at.Swapping b o = b
     by at.Giving b o = o
-    by (at.Finished work made) b o = tt
+    by _ b o = tt
 
 pub crossing_phase : (p : Private) (op : Op) → op ≡ next_of p → IsBetween p.phase → IsTakeOp op → p.phase ≡ at.Crossing
 unfolding next_of next_at
@@ -290,15 +285,9 @@ no_else p op is load swap claim take give = by op (subst (IsOwnOp p) (sym is) (o
     by (ops.LoadCross x) own l s c t g = l (inr (inr (inr (inl (x, refl)))))
     by (ops.ClaimHeader x y) own l s c t g = c x y refl
     by ops.LoadFreed own l s c t g = l (inr (inr (inr (inr refl))))
-    by (ops.LoadChild x) own l s c t g = own
-    by (ops.ClearField x) own l s c t g = own
-    by (ops.FreeHeader x) own l s c t g = own
     by (ops.TakeBox x y) own l s c t g = t x y refl
     by (ops.GiveBox x y) own l s c t g = g x y refl
-    by (ops.StoreEpoch e) own l s c t g = own
-    by (ops.LookBox x e) own l s c t g = own
-    by (ops.ReturnBox x e) own l s c t g = own
-    by ops.AddFreed own l s c t g = own
+    by _ own l s c t g = own
 
 box_of : Op → ℕ
 box_of (ops.TakeBox t e) = t
@@ -338,14 +327,7 @@ ready_between p (Some start) is = begun_between p start.work start.from
 
 hand_twice : (hand x : Contents) (phase : phases.Phase) → hand_after hand x phase ≡ hand_after (hand_after hand x phase) x phase
 hand_twice hand x at.Idle = refl
-hand_twice hand x (at.Begun work) = refl
-hand_twice hand x (at.Scanning reg label leaf before slot) = refl
-hand_twice hand x (at.Scanned reg label leaf before) = refl
-hand_twice hand x (at.Storing src f val slot) = refl
-hand_twice hand x at.Crossing = refl
-hand_twice hand x at.Swapping = refl
-hand_twice hand x at.Giving = refl
-hand_twice hand x (at.Finished work made) = refl
+hand_twice hand x _ = refl
 
 -- what the seat has between the operation and what is learnt
 pub made_out : (t : Seated) (p q : Private) (wk : Option Start) (word : ℕ) (me : Me (Option Contents) View) → me ≡ me_after t q wk word → p ≡ q → me.1 ≡ taken_by p word p.phase

@@ -39,9 +39,9 @@ use Rattle.rec_core.proofs.Crossings.{left_same}
 use Rattle.rec_core.proofs.Steps.{actor_of, in_list, fields_many}
 use Rattle.rec_core.proofs.Words.{may_step, names_slots}
 use Rattle.std.proofs.lemmas.List.{set-get_or}
-use Rattle.rec_table.specs.Beats.{beats_of, told, learnt, Offerless}
+use Rattle.rec_table.specs.Beats.{beats_of, told, learnt, OffersNone, Offerless}
 use Rattle.rec_table.specs.Homes.{homes_of}
-use Rattle.rec_table.specs.Operations.{Kind, Performed, Adds, Grows, Operates, moves_of, operation, performed, steps_in}
+use Rattle.rec_table.specs.Operations.{Kind, Performed, Adds, Grows, Operates, moves_of, operation, performed, step_in, steps_in}
 use Rattle.rec_core.specs.Row.{row, index_of}
 use Rattle.rec_table.specs.Rule.{Fits, Holds, ready, MayGo, beats, longer, MadeBy}
 use Rattle.rec_table.specs.declared.start.Start.{Start}
@@ -50,21 +50,15 @@ use Rattle.rec_table.specs.declared.views.Seated.{Seated}
 use Rattle.rec_table.specs.declared.views.View.{View}
 use Rattle.rec_table.specs.declared.views.View.TheVariants.{Collects, Mutates, Spent}
 use Rattle.rec_core.proofs.Row.{row_read, row_write}
-use Rattle.rec_order.proofs.Runs.{after_both, fit_both}
-use Rattle.rec_table.proofs.Beats.{beats_both, world_after, config_after, mutator_after, step_same}
-use Rattle.rec_table.proofs.Operations.{steps_both}
+use Rattle.rec_core.proofs.Runs.{after_both, config_after, every_both, fit_both, over_both}
+use Rattle.rec_table.proofs.Beats.{beats_both, world_after, mutator_after, step_same}
 
 -- the state in which the step is made
-pub before : Core → (t : ℕ) → Option Start → Core
+abbrev pub before : Core → (t : ℕ) → Option Start → Core
 before w t None = w
 before w t (Some start) = begun_from w t start.work start.from
 
-pub before_none : (w : Core) (t : ℕ) → before w t None ≡ w
-unfolding before
-before_none w t = refl
-
 ready_is : (w : Core) (t : ℕ) (wk : Option Start) → IsKept w → IsMutator w.config t → mutator (before w t wk) t ≡ ready (mutator w t) wk
-unfolding before
 ready_is w t None kept is = refl
 ready_is w t (Some start) kept is = get_or-set_same w.mutators (t - 1) (begun_of (mutator w t) start.work start.from) nobody (in_list w t kept is)
 
@@ -77,47 +71,38 @@ starts : (w : Core) (t from : ℕ) → IsKept w → IsMutator w.config t → fro
 starts w t from kept is there = subst (λ n. from < n) (actor_of w t kept is).own.slots there
 
 before_world : (w : Core) (t : ℕ) (wk : Option Start) → IsWorld w → IsMutator w.config t → MayGo (mutator w t) wk → IsWorld (before w t wk)
-unfolding before
 before_world w t None world is may = world
 before_world w t (Some start) world is may = moved_world w (Move.Begins t start.work start.from) world (is, may.0, may.1, may.2, starts w t start.from (world_kept w world) is may.3)
 
 before_busy : (w : Core) (t : ℕ) (wk : Option Start) → IsKept w → IsMutator w.config t → MayGo (mutator w t) wk → is_busy (mutator (before w t wk) t) ≡ true
-unfolding before
 before_busy w t None kept is may = may
 before_busy w t (Some start) kept is may = ap is_busy (ready_is w t (Some start) kept is) ∙ begun_busy (mutator w t) start.work start.from
 
 before_config : (w : Core) (t : ℕ) (wk : Option Start) → (before w t wk).config ≡ w.config
-unfolding before
 before_config w t None = refl
 before_config w t (Some start) = refl
 
 before_cells : (w : Core) (t : ℕ) (wk : Option Start) → cells_of (before w t wk) ≡ cells_of w
-unfolding before
 before_cells w t None = refl
 before_cells w t (Some start) = refl
 
 before_boxes : (w : Core) (t : ℕ) (wk : Option Start) → (before w t wk).boxes ≡ w.boxes
-unfolding before
 before_boxes w t None = refl
 before_boxes w t (Some start) = refl
 
 all_fit : (w : Core) (t : ℕ) (wk : Option Start) → IsKept w → IsMutator w.config t → MayGo (mutator w t) wk → AllFit w (moves_of t wk)
-unfolding before
 all_fit w t None kept is may = ((is, may), tt)
 all_fit w t (Some start) kept is may = ((is, may.0, may.1, may.2, starts w t start.from kept is may.3), ((is, before_busy w t (Some start) kept is may), tt))
 
 after_is : (w : Core) (t : ℕ) (wk : Option Start) → after_moves w (moves_of t wk) ≡ stepped (before w t wk) t
-unfolding before
 after_is w t None = refl
 after_is w t (Some start) = refl
 
 own_beats : (w : Core) (t : ℕ) (wk : Option Start) → beats_of t w (moves_of t wk) ≡ beats wk (found_by (before w t wk) t)
-unfolding before
 own_beats w t None = ap (λ b. cond b (Saw (found_by w t) ∷ []) [] ++ []) (eq-eqb t t refl)
 own_beats w t (Some start) = ap (λ b. cond b (Begins start ∷ []) [] ++ (cond b (Saw (found_by (begun_from w t start.work start.from) t) ∷ []) [] ++ [])) (eq-eqb t t refl)
 
 own_steps : (w : Core) (t : ℕ) (wk : Option Start) → steps_in w (moves_of t wk) ≡ performed t (next_of (mutator (before w t wk) t)) (found_by (before w t wk) t) ∷ []
-unfolding before
 own_steps w t None = refl
 own_steps w t (Some start) = refl
 
@@ -125,16 +110,9 @@ no_beats : (w : Core) (t x : ℕ) (wk : Option Start) → t ≢ x → beats_of x
 no_beats w t x None ne = ap (λ b. cond b (Saw (found_by w t) ∷ []) [] ++ []) (ne_eqb t x ne)
 no_beats w t x (Some start) ne = ap (λ b. cond b (Begins start ∷ []) [] ++ (cond b (Saw (found_by (begun_from w t start.work start.from) t) ∷ []) [] ++ [])) (ne_eqb t x ne)
 
-pub offerless_both : (ms ns : List Move) → Offerless ms → Offerless ns → Offerless (ms ++ ns)
-offerless_both [] ns a b = b
-offerless_both (Move.Begins t work from ∷ ms) ns a b = offerless_both ms ns a b
-offerless_both (Move.Steps t ∷ ms) ns a b = offerless_both ms ns a b
-offerless_both (Move.Turns ∷ ms) ns a b = offerless_both ms ns a b
-offerless_both (Move.Offers ∷ ms) ns a b = absurd a
-
 moves_offerless : (t : ℕ) (wk : Option Start) → Offerless (moves_of t wk)
-moves_offerless t None = tt
-moves_offerless t (Some start) = tt
+moves_offerless t None = (tt, tt)
+moves_offerless t (Some start) = (tt, (tt, tt))
 
 -- an operation that moves no mailbox
 abbrev pub IsPlainOp : Op → Type 0
@@ -237,7 +215,6 @@ else_box : (l : List Contents) (t x : ℕ) (q d : Contents) → t ≢ x → 1 �
 else_box l t x q d ne a b = get_or-set_other l (t - 1) (x - 1) q d (λ e. ne (omega (arith, e)))
 
 before_else : (w : Core) (t x : ℕ) (wk : Option Start) → t ≢ x → 1 ≤ t → 1 ≤ x → mutator (before w t wk) x ≡ mutator w x
-unfolding before
 before_else w t x None ne a b = refl
 before_else w t x (Some start) ne a b = else_private w.mutators t x (begun_of (mutator w t) start.work start.from) nobody ne a b
 
@@ -282,6 +259,7 @@ pub record Here (key : Core) (s : State (Option Contents) View) (h : Holds key s
       → set s.words (index_of (length key.words) (length key.headers) op) x ≡ row (cells_of (stepped (before (after_moves key h.run) t.number wk) t.number))
   pub homes : s.homes ≡ homes_of (before (after_moves key h.run) t.number wk).crossing (before (after_moves key h.run) t.number wk).boxes
   pub may : IsFound (ready p wk) op (get_or s.words (index_of (length key.words) (length key.headers) op) 0)
+  pub learns : mutator (stepped (before (after_moves key h.run) t.number wk) t.number) t.number ≡ learnt (ready p wk) (Saw (get_or s.words (index_of (length key.words) (length key.headers) op) 0))
   pub names : NamesSlots (learnt (ready p wk) (Saw (get_or s.words (index_of (length key.words) (length key.headers) op) 0)))
 
 pub here_at : (key : Core) (s : State (Option Contents) View) (h : Holds key s) (id : ℕ) (t : Seated) (wk : Option Start) (p : Private) (op : Op)
@@ -332,6 +310,7 @@ here_at key s h id t wk p op fit is_p may is_op =
           ∙ ap (λ o. row (with_cell (cells_of v) o (written o (cell (cells_of v) o)))) (sym v_op);
       homes = h.homes ∙ (λ j. homes_of (sym cells j).crossing (sym (before_boxes now x wk) j));
       may = subst (λ (q : Private). IsFound q op n) v_is (subst (λ (o : Op). IsFound (mutator v x) o n) v_op (subst (IsFound (mutator v x) (next_of (mutator v x))) (sym found') steps_.found));
+      learns = u_is;
       names = subst NamesSlots u_is (names_slots u x (world_kept u u_world) v_here);
     }
 
@@ -352,7 +331,7 @@ grows_by key s h t wk p op f run' here is_op does more =
       moves = more;
       steps = adds_one key t wk f (get_or s.words (index_of (length key.words) (length key.headers) op) 0) op (steps_in key h.run) (steps_in key run')
           (ap (steps_in key) more
-          ∙ steps_both key h.run (moves_of x wk)
+          ∙ over_both step_in key h.run (moves_of x wk)
           ∙ ap (λ l. steps_in key h.run ++ l) (own_steps now x wk ∙ (λ j. performed x (its j) (sym here.found j) ∷ [])))
           does;
     }
@@ -384,7 +363,7 @@ goes_on key s h id t wk p op z homes' hand fit here does homes_are holds_it =
         owner = h.owner;
         world = h.world;
         fit = fit_both key h.run ms h.fit (all_fit now x wk (world_kept now here.now_world) here.now_here here.goes);
-        offerless = offerless_both h.run ms h.offerless (moves_offerless x wk);
+        offerless = every_both OffersNone h.run ms h.offerless (moves_offerless x wk);
         words = here.words z does ∙ ap (λ (c : Core). row (cells_of c)) (sym ends);
         homes = homes_are ∙ ap (λ (c : Core). homes_of c.crossing c.boxes) (sym ends);
         order = h.order;
@@ -396,15 +375,6 @@ goes_on key s h id t wk p op z homes' hand fit here does homes_are holds_it =
       },
       refl,
     )
-
-pub stepped_learns : (key : Core) (s : State (Option Contents) View) (h : Holds key s) (t : Seated) (wk : Option Start) (p : Private) (op : Op) → (here : Here key s h t wk p op)
-    → mutator (stepped (before (after_moves key h.run) t.number wk) t.number) t.number ≡ learnt (ready p wk) (Saw (get_or s.words (index_of (length key.words) (length key.headers) op) 0))
-stepped_learns key s h t wk p op here =
-    let x : ℕ = t.number in
-    let v : Core = before (after_moves key h.run) x wk in
-    get_or-set_same v.mutators (x - 1) (step_of (mutator v x) (found_by v x) (box v x)) nobody (in_list v x (world_kept v here.world) here.here)
-    ∙ step_same v x (world_kept v here.world) here.here here.busy
-    ∙ (λ j. learnt (here.is j) (Saw (sym here.found j)))
 
 -- what a step that takes no mailbox leads to isn't the phase in which one is given back
 not_giving : (p : Private) (word : ℕ) (phase : phases.Phase) → IsSettledIn phase → is_giving (took_at p word phase).phase ≡ false
@@ -464,7 +434,7 @@ steps key slots id t hs wk p op f st is_p may plain is_op does s h len at_id fit
     let n : ℕ = get_or s.words (index_of (length key.words) (length key.headers) op) 0 in
     let plain' : IsSettledIn (mutator v x).phase = subst (λ (q : Private). IsSettledIn q.phase) (sym here.is) plain in
     let never : (mutator (stepped v x) x).phase ≡ at.Giving → t.hand ≡ box (stepped v x) x = λ giving. absurd (left_plain (ready p wk) n plain (ap is_busy (sym here.is) ∙ here.busy)
-    (ap (λ (q : Private). q.phase) (sym (stepped_learns key s h t wk p op here)) ∙ giving)) in
+    (ap (λ (q : Private). q.phase) (sym here.learns) ∙ giving)) in
     let after = goes_on key s h id t wk p op (f n) s.homes t.hand at_id here (does n) (here.homes ∙ sym (plain_homes v x here.busy plain')) never in (
       Mutates (longer t (beats wk n)),
       keeps,

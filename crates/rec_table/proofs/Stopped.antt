@@ -1,8 +1,9 @@
 -- What stopping promises, from the run of all lists.
-use Rattle.std.proofs.Common.{◌≡◌, ◌++◌, List, [], ◌∷◌, length, map, sym, ap, ◌∙◌, subst}
+use Rattle.std.proofs.Common.{◌≡◌, List, length, map, sym, ap, ◌∙◌, subst}
 use Rattle.std.proofs.lemmas.List.{length-map}
 use Rattle.rec_core.specs.Core.{Core}
-use Rattle.rec_core.specs.Moves.{Move, AllFit, after_move, after_moves}
+use Rattle.rec_core.proofs.Runs.{fit_first}
+use Rattle.rec_core.specs.Moves.{AllFit, after_moves}
 use Rattle.rec_core.specs.Worked.{AreIdle}
 use Rattle.rec_world.specs.World.{IsWorld}
 use Rattle.rec_table.specs.Beats.{gathered_all}
@@ -13,11 +14,6 @@ use Rattle.rec_table.specs.declared.views.Beat.{Beat}
 use Rattle.rec_table.proofs.Beats.{world_after}
 use Rattle.rec_table.proofs.Journals.{lists_legal}
 use Rattle.rec_table.proofs.Safe.{safe}
-
--- the first moves of those that fit fit
-first_fit : (w : Core) (before after : List Move) → AllFit w (before ++ after) → AllFit w before
-first_fit w [] after fit = tt
-first_fit w (m ∷ ms) after fit = (fit.0, first_fit (after_move w m) ms after fit.1)
 
 pub stopped : (s : Started) (g h : Gathers) (hs : List Held) (w : Core) → IsWorld s.world → AreIdle s.world → g.opened ≡ s.world.collector → AreMutatorsOf s hs → PutsBack g h
     → Interleaves s.world h.crew.log (map (λ (m : Held). m.log) hs) w → IsStopped s.world g.crew.log (map (λ (m : Held). m.log) hs) w
@@ -37,5 +33,5 @@ stopped s g h hs w world idle opened mutators back run =
         mutators = run.mutators;
       };
       order = λ heap number unfreed stands are. lists_legal s.world heap number unfreed run.run lists world idle stands are run.fit many run.mutators;
-      always = λ before after is. safe (after_moves s.world before) (world_after s.world before world (first_fit s.world before after (subst (AllFit s.world) (sym is) run.fit)));
+      always = λ before after is. safe (after_moves s.world before) (world_after s.world before world (fit_first s.world before after (subst (AllFit s.world) (sym is) run.fit)));
     }

@@ -14,12 +14,12 @@ use Rattle.rec_world.specs.World.{IsWorld}
 use Rattle.rec_world.specs.declared.parts.Parts.{Parts}
 use Rattle.rec_world.proofs.Calls.{made_small, world_kept}
 use Rattle.rec_table.specs.Beats.{beats_of, births_told, gathered_all, told}
-use Rattle.rec_table.specs.Ends.{IsRunOf, births_all}
+use Rattle.rec_table.specs.Ends.{IsRunOf}
 use Rattle.rec_table.specs.Held.{AreMutatorsOf, Held, Started, fresh, has}
 use Rattle.rec_table.specs.Rule.{boxes_out}
 use Rattle.rec_table.specs.declared.views.Beat.{Beat}
 use Rattle.rec_table.specs.declared.views.Crew.{Crew}
-use Rattle.rec_table.proofs.Births.{births_add_up}
+use Rattle.rec_table.proofs.Births.{births_add_up, births_all}
 use Rattle.rec_table.proofs.Closing.{Ends, all_even, ends}
 use Rattle.rec_table.proofs.Lists.{sum_more, take_next}
 

@@ -35,9 +35,9 @@ use Rattle.rec_core.proofs.Turns.{its_spare}
 use Rattle.rec_core.proofs.Shapes.{same_boxes}
 use Rattle.rec_core.proofs.Steps.{actor_of}
 use Rattle.rec_core.proofs.Words.{may_turn}
-use Rattle.rec_table.specs.Beats.{beats_of, looked, turn_at, gathered_all}
+use Rattle.rec_table.specs.Beats.{beats_of, looked, turn_at, gathered_all, OffersNone}
 use Rattle.rec_table.specs.Homes.{homes_of}
-use Rattle.rec_table.specs.Operations.{Kind, Grows, Operates, operation, performed, steps_in, turned_by}
+use Rattle.rec_table.specs.Operations.{Kind, Grows, Operates, operation, performed, step_in, steps_in, turned_by}
 use Rattle.rec_core.specs.Row.{row, index_of}
 use Rattle.rec_table.specs.Rule.{Fits, Holds, TurnedBy, LookedBy, GlancedBy, ReturnedBy}
 use Rattle.rec_table.specs.declared.views.Beat.{Beat}
@@ -46,12 +46,12 @@ use Rattle.rec_table.specs.declared.views.Crew.{Crew}
 use Rattle.rec_table.specs.declared.views.View.{View}
 use Rattle.rec_table.specs.declared.views.View.TheVariants.{Collects, Mutates, Spent}
 use Rattle.rec_core.proofs.Row.{row_read, row_write}
-use Rattle.rec_order.proofs.Runs.{after_both, fit_both}
-use Rattle.rec_table.proofs.Beats.{beats_both, world_after, config_after}
+use Rattle.rec_core.proofs.Runs.{after_both, config_after, every_both, fit_both, over_both}
+use Rattle.rec_table.proofs.Beats.{beats_both, world_after}
 use Rattle.rec_table.proofs.Boxes.{homes_set, homes_at, home_even, home_odd, even_zero, even_two, odd_three}
 use Rattle.rec_table.proofs.Collects.{collector_after}
-use Rattle.rec_table.proofs.Operations.{steps_both, glances_due, glances_early}
-use Rattle.rec_table.proofs.Steps.{IsPlainOp, plain_crossing, places_after, slots_after, fits_set, offerless_both}
+use Rattle.rec_table.proofs.Operations.{glances_due, glances_early}
+use Rattle.rec_table.proofs.Steps.{IsPlainOp, plain_crossing, places_after, slots_after, fits_set}
 
 looks_op : (c : Private) (t : ℕ) → c.phase ≡ Looking t → ◌≡◌ {A = Option Op} (next_of c) (Some (ops.LookBox t c.epoch))
 unfolding next_of next_at
@@ -83,7 +83,7 @@ hand_kept w op x kept is named giving = by w.collector.phase refl
 mutator_beats : (key : Core) (run : List Move) (x : ℕ) → 1 ≤ x → beats_of x key run ≡ beats_of x key (run ++ Move.Turns ∷ [])
 mutator_beats key run x le =
     let now : Core = after_moves key run in
-    sym (beats_both x key run (Move.Turns ∷ []) ∙ ap (λ b. beats_of x key run ++ (cond b (turn_at now (next_of now.collector)) [] ++ [])) (ne_eqb x 0 (λ e. omega (arith, e, le))) ∙ append-nil (beats_of x key run))
+    sym (beats_both x key run (Move.Turns ∷ []) ∙ ap (λ b. beats_of x key run ++ (cond b (turn_at now (next_of now.collector)) [] ++ [])) (ne_eqb 0 x (λ e. omega (arith, e, le))) ∙ append-nil (beats_of x key run))
 
 -- What is known as the collector makes a turn.
 pub record Here (key : Core) (s : State (Option Contents) View) (h : Holds key s) (c : Crew) (p : Private) (op : Op) : Type 0 where
@@ -132,7 +132,7 @@ grows_by key s h c p op f run' here does more =
       steps = (
         op,
         ap (steps_in key) more
-            ∙ steps_both key h.run (Move.Turns ∷ [])
+            ∙ over_both step_in key h.run (Move.Turns ∷ [])
             ∙ ap (λ (x : Option Op). steps_in key h.run ++ (turned_by now x ++ [])) here.named
             ∙ (λ j. steps_in key h.run ++ performed 0 op (sym here.found j) ∷ []),
         (refl, does),
@@ -162,7 +162,7 @@ turns_on key s h id c p op z homes' b fit here does homes_are beat_is =
         owner = h.owner;
         world = h.world;
         fit = fit_both key h.run (Move.Turns ∷ []) h.fit (tt, tt);
-        offerless = offerless_both h.run (Move.Turns ∷ []) h.offerless tt;
+        offerless = every_both OffersNone h.run (Move.Turns ∷ []) h.offerless (tt, tt);
         words = here.words z does ∙ ap (λ (x : Core). row (cells_of x)) (sym ends);
         homes = homes_are ∙ ap (λ (x : Core). homes_of x.crossing x.boxes) (sym ends);
         order = h.order;

@@ -1,5 +1,5 @@
 -- The list of an actor over a run, and the private record that a list makes up.
-use Rattle.std.specs.Prelude.{ℕ, ◌+◌, ◌==◌, if◌then◌else◌, Option, Some, None, List, [], ◌∷◌, ◌++◌}
+use Rattle.std.specs.Prelude.{ℕ, ◌+◌, ◌==◌, if◌then◌else◌, Option, Some, None, List, [], ◌∷◌, fold}
 use Rattle.rec_word.specs.Mailbox.{crossing_word}
 use Rattle.rec_word.specs.declared.mailbox.Mailbox.TheVariants.{Retired}
 use Rattle.rec_word.specs.declared.op.Op.{Op}
@@ -12,7 +12,8 @@ use Rattle.rec_collector.specs.Took as collector_took
 use Rattle.rec_collector.specs.declared.phase.Phase.{Phase}
 use Rattle.rec_collector.specs.declared.phase.Phase.TheVariants.{Looking}
 use Rattle.rec_core.specs.Core.{Core, cells_of, box}
-use Rattle.rec_core.specs.Moves.{Move, after_move, found_by}
+use Rattle.rec_core.specs.Moves.{Move, found_by}
+use Rattle.rec_core.specs.Run.{by_actor, Every, over}
 use Rattle.rec_core.specs.Cells.{cell, births_of}
 use Rattle.rec_table.specs.declared.views.Beat.{Beat}
 use Rattle.rec_table.specs.declared.views.Beat.TheVariants.{Begins, Saw, Took}
@@ -26,17 +27,16 @@ abbrev pub turn_at : Core → Option Op → List Beat
 turn_at w None = []
 turn_at w (Some op) = looked w (cell (cells_of w) op) w.collector.phase ∷ []
 
--- what an actor records of a move: mutators are numbered from 1, and 0 is the collector
-abbrev pub beats_in : (x : ℕ) → Core → Move → List Beat
-beats_in x w (Move.Begins t work from) = if t == x then Begins (record { work = work; from = from }) ∷ [] else []
-beats_in x w (Move.Steps t) = if t == x then Saw (found_by w t) ∷ [] else []
-beats_in x w Move.Turns = if x == 0 then turn_at w (collector_next.next_of w.collector) else []
-beats_in x w Move.Offers = []
+-- what its maker records of a move
+abbrev pub beats_in : Core → Move → List Beat
+beats_in w (Move.Begins t work from) = Begins (record { work = work; from = from }) ∷ []
+beats_in w (Move.Steps t) = Saw (found_by w t) ∷ []
+beats_in w Move.Turns = turn_at w (collector_next.next_of w.collector)
+beats_in w Move.Offers = []
 
--- and of a run
+-- what an actor records of a run: mutators are numbered from 1, and 0 is the collector
 abbrev pub beats_of : (x : ℕ) → Core → List Move → List Beat
-beats_of x w [] = []
-beats_of x w (m ∷ ms) = beats_in x w m ++ beats_of x (after_move w m) ms
+beats_of x w ms = over (by_actor x beats_in) w ms
 
 -- what a beat makes of a mutator's private record: the mailbox that it takes holds a spare
 abbrev pub learnt : Private → Beat → Private
@@ -46,8 +46,7 @@ learnt p (Took word b) = p
 
 -- and a list
 abbrev pub told : Private → List Beat → Private
-told p [] = p
-told p (b ∷ bs) = told (learnt p b) bs
+told p bs = fold learnt p bs
 
 -- what a beat makes of the collector's record: only where it took a mailbox is a buffer swapped
 abbrev pub gathered : collectors.Private → Beat → collectors.Private
@@ -56,14 +55,15 @@ gathered c (Saw word) = collector_took.took_of c word
 gathered c (Took word b) = collector_took.step_of c word b
 
 abbrev pub gathered_all : collectors.Private → List Beat → collectors.Private
-gathered_all c [] = c
-gathered_all c (b ∷ bs) = gathered_all (gathered c b) bs
+gathered_all c bs = fold gathered c bs
 
 -- a run in which the slots are never offered
+abbrev pub OffersNone : Move → Type 0
+OffersNone Move.Offers = ⊥
+OffersNone m = Unit {0}
+
 abbrev pub Offerless : List Move → Type 0
-Offerless [] = Unit {0}
-Offerless (Move.Offers ∷ ms) = ⊥
-Offerless (m ∷ ms) = Offerless ms
+Offerless ms = Every OffersNone ms
 
 -- the births of a list
 abbrev pub births_in : Private → Beat → ℕ

@@ -1,5 +1,5 @@
 -- What a table leaves as it is closed.
-use Rattle.std.specs.Prelude.{◌≡◌, ℕ, zero, suc, ◌+◌, ◌<◌, ◌≤◌, Option, List, [], ◌++◌, length, slice_index_or}
+use Rattle.std.specs.Prelude.{◌≡◌, ℕ, ◌+◌, ◌<◌, ◌≤◌, Option, List, [], ◌++◌, length, slice_index_or}
 use mathlib.Core.Option as maybe
 use mathlib.Core.Option.{some}
 use lib.ListN.{get_elem?}
@@ -11,7 +11,7 @@ use Rattle.rec_model.specs.Sight.{StandsBy}
 use Rattle.rec_model.specs.Unfreed.{AreUnfreed}
 use Rattle.rec_order.specs.Legal.{HasLegalOrder}
 use Rattle.rec_world.specs.World.{IsWorld}
-use Rattle.rec_table.specs.Beats.{beats_of, births_told, told, gathered_all, Offerless}
+use Rattle.rec_table.specs.Beats.{beats_of, told, gathered_all, Offerless}
 use Rattle.rec_table.specs.Homes.{homes_of}
 use Rattle.rec_core.specs.Row.{row}
 use Rattle.rec_table.specs.Journals.{journals_from}
@@ -36,11 +36,6 @@ pub record IsRunOf (key : Core) (c : Crew) (ws : List ℕ) (xs : List (Option Co
   pub theirs : (k : ℕ) → slice_index_or c.known k [] ≡ beats_of (k + 1) key run
   pub collector : (after_moves key run).collector ≡ gathered_all key.collector c.log
   pub mutators : (k : ℕ) → k < key.config.mutators → mutator (after_moves key run) (k + 1) ≡ told (mutator key (k + 1)) (slice_index_or c.known k [])
-
--- the births in the lists of the first so many mutators, added up
-abbrev pub births_all : Core → List Move → ℕ → ℕ
-births_all w ms zero = 0
-births_all w ms (suc n) = births_all w ms n + births_told (mutator w (n + 1)) (beats_of (n + 1) w ms)
 
 -- One run from the started world leads to this one. The collector's list and the mutators', in order of number, are each actor's own
 -- moves in it, each once and in order.

@@ -12,7 +12,8 @@ use Rattle.rec_mutator.specs.Next.{next_of}
 use Rattle.rec_collector.specs.Next as collector_next
 use Rattle.rec_core.specs.Cells.{cell}
 use Rattle.rec_core.specs.Core.{Core, cells_of, mutator}
-use Rattle.rec_core.specs.Moves.{Move, after_move, after_moves, found_by}
+use Rattle.rec_core.specs.Moves.{Move, after_moves, found_by}
+use Rattle.rec_core.specs.Run.{over}
 use Rattle.rec_core.specs.Row.{index_of}
 use Rattle.rec_table.specs.Rule.{Holds}
 use Rattle.rec_table.specs.declared.start.Start.{Start}
@@ -57,8 +58,7 @@ step_in w _ = []
 
 -- the steps of a run
 abbrev pub steps_in : Core → List Move → List Performed
-steps_in w [] = []
-steps_in w (m ∷ ms) = step_in w m ++ steps_in (after_move w m) ms
+steps_in w ms = over step_in w ms
 
 -- the moves of a mutator's step, with the work that begins first
 abbrev pub moves_of : (t : ℕ) → Option Start → List Move

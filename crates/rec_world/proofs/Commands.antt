@@ -67,9 +67,6 @@ found_filled : {w : Core} {t : ℕ} {cmd : Cmd} {told : Told} {v : Core} (before
 found_filled {w = w} {t = t} {cmd = cmd} before a none = go (mutator w t).phase refl (actor_of w t a.kept a.is).own.machine.now a.work a.found none.scanned
   where
     go : (phase : Phase) → (mutator w t).phase ≡ phase → IsAt (mutator w t) phase → work_at phase ≡ Some (works.Command cmd) → HasFound w (mutator w t).from phase → FoundNoneAt phase before → FoundFilled w t cmd before
-    go Idle its at work found none = absurd none
-    go (Begun begun) its at work found none = absurd none
-    go (Scanning reg label leaf first slot) its at work found none = absurd none
     go (Scanned reg label leaf first) its at work found none =
         let p : Private = mutator w t in
         let room : length p.log.entries < p.log.capacity = at.0.room in
@@ -79,11 +76,7 @@ found_filled {w = w} {t = t} {cmd = cmd} before a none = go (mutator w t).phase 
           first = sym none ∙ found.0;
           last = scanned_finds w t reg label leaf first its;
         }
-    go (Storing src f val slot) its at work found none = absurd none
-    go Crossing its at work found none = absurd none
-    go Swapping its at work found none = absurd none
-    go Giving its at work found none = absurd none
-    go (Finished begun made) its at work found none = absurd none
+    go _ its at work found none = absurd none
 
 -- an allocation is done, or refused for one of three causes
 data IsOfNew (answer : Answer) : Type 0 where

@@ -59,10 +59,8 @@ first_step w t src f val slot kept is busy work names leaf = go (mutator w t).ph
         let same : at ≡ slot = cc in
         let unmarked : is_leaf (slice_index_or w.headers at 0) ≡ false = subst (HasLearnt w.config.slots w.headers w.freed (mutator w t).from) its (kept.learnt t is) in
         absurd (false≢true (sym unmarked ∙ ap (λ n. is_leaf (slice_index_or w.headers n 0)) same ∙ leaf))
-    go Crossing its busy work = cc
-    go Swapping its busy work = cc
-    go Giving its busy work = cc
     go (Finished done made) its busy work = absurd (false≢true busy)
+    go _ its busy work = cc
 
 pub into_leaf : (w : Core) (t : ℕ) (cmd : Cmd) → IsKept w → IsMutator w.config t → is_busy (mutator w t) ≡ true → work_of (mutator w t) ≡ Some (works.Command cmd) → FindsLeaf (mutator w t) (found_by w t) cmd ↔ WritesLeaf w t cmd
 into_leaf w t (commands.Put src f val) kept is busy work = (

@@ -32,15 +32,8 @@ unfolding left_of left_at
 left_log p b is = go p.phase is
   where
     go : (phase : phases.Phase) → IsSwapping phase → left_at p b phase ≡ p.log
-    go at.Idle is = absurd is
-    go (at.Begun work) is = absurd is
-    go (at.Scanning reg label leaf before slot) is = absurd is
-    go (at.Scanned reg label leaf before) is = absurd is
-    go (at.Storing src f val slot) is = absurd is
-    go at.Crossing is = absurd is
     go at.Swapping is = refl
-    go at.Giving is = absurd is
-    go (at.Finished work made) is = absurd is
+    go _ is = absurd is
 
 -- where it doesn't, both stay
 pub machine_stays : (p : Private) (b : Contents) → (IsSwapping p.phase → ⊥) → p ≡ swapped_of p b

@@ -134,14 +134,7 @@ free_ahead w t slot kept is found few free = go (mutator w t).phase refl found
           | inl behind ↦ absurd (omega (arith, its_found.2 slot behind, free (omega (arith, behind, there, own.slots))))
           | inr ahead ↦ ahead
         ]
-    go Idle phase its_found = tt
-    go (Begun work) phase its_found = tt
-    go (Scanned reg label leaf before) phase its_found = tt
-    go (Storing src f val at) phase its_found = tt
-    go Crossing phase its_found = tt
-    go Swapping phase its_found = tt
-    go Giving phase its_found = tt
-    go (Finished work made) phase its_found = tt
+    go _ phase its_found = tt
 
 -- steps lead from a world to a world
 pub path_world : (w : Core) (t : ℕ) (v : Core) → IsWorld w → IsMutator w.config t → StepsTo w t v → IsWorld v × IsMutator v.config t

@@ -22,8 +22,8 @@ own_beat : (t : ℕ) (b : Beat) (bs : List Beat) → cond (eqb t t) (b ∷ []) [
 own_beat t b bs e = some_beat b bs (subst (λ (v : Bool). cond v (b ∷ []) [] ++ bs ≡ []) (eq-eqb t t refl) e)
 
 -- and the collector's in none of theirs
-theirs : (k : ℕ) (cs bs : List Beat) → cond (eqb (k + 1) 0) cs [] ++ bs ≡ [] → bs ≡ []
-theirs k cs bs e = subst (λ (v : Bool). cond v cs [] ++ bs ≡ []) (ne_eqb (k + 1) 0 (λ z. omega arith)) e
+theirs : (k : ℕ) (cs bs : List Beat) → cond (eqb 0 (k + 1)) cs [] ++ bs ≡ [] → bs ≡ []
+theirs k cs bs e = subst (λ (v : Bool). cond v cs [] ++ bs ≡ []) (ne_eqb 0 (k + 1) (λ z. omega arith)) e
 
 -- a turn that records nothing does nothing
 idle_turn : (w : Core) (o : Option Op) (bs : List Beat) → turn_at w o ++ bs ≡ [] → (turned_at w o ≡ w) × (bs ≡ [])
@@ -46,8 +46,8 @@ no_moves w (Move.Steps t ∷ ms) fit off none each =
 no_moves w (Move.Turns ∷ ms) fit off none each =
     let idle = idle_turn w (collector_next.next_of w.collector) (beats_of 0 (turned w) ms) none in
     let same : turned w ≡ w = idle.0 in
-    no_moves (turned w) ms fit.1 off idle.1 (λ k lt. theirs k (turn_at w (collector_next.next_of w.collector)) (beats_of (k + 1) (turned w) ms) (each k (subst (λ (v : Core). k < v.config.mutators) same lt))) ∙ same
-no_moves w (Move.Offers ∷ ms) fit off none each = absurd off
+    no_moves (turned w) ms fit.1 off.1 idle.1 (λ k lt. theirs k (turn_at w (collector_next.next_of w.collector)) (beats_of (k + 1) (turned w) ms) (each k (subst (λ (v : Core). k < v.config.mutators) same lt))) ∙ same
+no_moves w (Move.Offers ∷ ms) fit off none each = absurd off.0
 
 pub still : (key : Core) (lists : List (List Beat)) (w : Core) → IsWorld key → All (λ word. word % 2 ≡ 0) key.crossing → ((k : ℕ) → slice_index_or lists k [] ≡ []) →
     IsStopped key [] lists w → w ≡ key

@@ -4,7 +4,7 @@ use Rattle.std.proofs.lemmas.Bool.{ltb-true, ltb-false}
 use Rattle.std.specs.Arc.{arc_value}
 use Rattle.rec_core.specs.Core.{Core}
 use Rattle.rec_core.specs.declared.config.Config.{Config}
-use Rattle.rec_table.proofs.Beats.{config_after}
+use Rattle.rec_core.proofs.Runs.{config_after}
 use Rattle.rec_table.specs.Ends.{IsStopped}
 use Rattle.rec_table.specs.Held.{Held}
 use Rattle.rec_table.specs.declared.views.Beat.{Beat}

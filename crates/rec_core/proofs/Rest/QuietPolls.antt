@@ -202,16 +202,11 @@ on_step : (first t : ℕ) (w : Core) → PollsOn first t w → is_busy (mutator 
 on_step first t w on busy = go (mutator w t).phase refl on.own.polls
   where
     go : (phase : Phase) → (mutator w t).phase ≡ phase → IsOfPoll phase → PollsOn first t (stepped w t)
-    go Idle at polls = absurd polls
-    go (Begun (works.Command cmd)) at polls = absurd polls
     go (Begun works.Poll) at polls = on_begun first t w on busy at
-    go (Scanning reg label leaf before probed) at polls = absurd polls
-    go (Scanned reg label leaf before) at polls = absurd polls
-    go (Storing src f val slot) at polls = absurd polls
     go Crossing at polls = on_crossing first t w on busy at
-    go Swapping at polls = absurd polls
     go Giving at polls = on_giving first t w on busy at
     go (Finished work made) at polls = absurd (false≢true (sym (ap is_busy_at at) ∙ busy))
+    go _ at polls = absurd polls
 
 -- the poll begins
 on_begin : (first t : ℕ) (w : Core) → IsKept w → IsMutator w.config t → AreQuiet first w → PollsOn first t (begun w t works.Poll)

@@ -126,11 +126,7 @@ off_decremented s y d =
 
 orange_not : (c : Colour) → is_orange c ≡ false → c ≡ Orange → ⊥
 orange_not Orange e h = cc
-orange_not Black e h = cc
-orange_not Purple e h = cc
-orange_not Gray e h = cc
-orange_not White e h = cc
-orange_not Green e h = cc
+orange_not _ e h = cc
 
 off : (s : State) (target : Option ℕ) → IsOff s (taken_off true s target) target
 off s None = record { alike = record { set = λ x. refl; released = λ x. refl; colour = λ x i e h. h }; cyclic = λ x i e h. omega arith }

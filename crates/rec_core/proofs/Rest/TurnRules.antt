@@ -26,16 +26,16 @@ use Rattle.rec_collector.specs.Took.{step_of, took_of, turn_of, moved}
 use Rattle.rec_collector.specs.declared.phase.Phase.{Phase}
 use Rattle.rec_collector.specs.declared.phase.Phase.TheVariants.{Idle, Looking, Returning, Releasing, Freeing, Trying, Preparing, Opening, Sweeping, Closing}
 use Rattle.rec_collector.specs.declared.turn.Turn.{Turn}
-use Rattle.rec_collector.proofs.Steps.{has_cause, spends, step_made}
+use Rattle.rec_collector.proofs.Steps.{has_cause, spends}
 use Rattle.rec_core.specs.Cells.{cell}
 use Rattle.rec_core.specs.Core.{Core, cells_of, box, crossing_of}
 use Rattle.rec_core.specs.Kept.{IsKept}
-use Rattle.rec_core.specs.Moves.{looked_at, left_by, collected, turned, turned_at}
+use Rattle.rec_core.specs.Moves.{looked_at, left_by, collected, turned}
 use Rattle.rec_core.proofs.TurnCases.{IsTurn, word_at, swept_by}
 use Rattle.rec_core.proofs.Preparing.{loads_due}
-use Rattle.rec_core.proofs.Runs.{given_is}
+use Rattle.rec_core.proofs.Runs.{rule_of}
 use Rattle.rec_core.proofs.Trying.{loads_child}
-use Rattle.rec_core.proofs.Turning.{plain_left, mutator_at, some_op, freed_more}
+use Rattle.rec_core.proofs.Turning.{plain_left, mutator_at, some_op, freed_more, turn_case}
 use Rattle.rec_core.proofs.Turns.{now_at}
 use Rattle.rec_trial.specs.Rules.{visible}
 
@@ -173,17 +173,11 @@ rule_is w op word q turn kept found (Step.end_sweep n closing named e) =
 
 -- Every turn of a kept heap's collector is one of the rules.
 pub turn_is : (w : Core) → IsKept w → IsTurn w (turned w)
-turn_is w kept = go (next_of w.collector) refl
-  where
-    go : (x : Option Op) → next_of w.collector ≡ x → IsTurn w (turned_at w x)
-    go None none =
-        let cause = has_cause w.collector 0 kept.collector.machine in
-        let last : IsNone (next_of w.collector) = subst (λ (o : Option Op). IsNone o) (sym none) refl in
-        let is = subst (HasCause w.collector 0 (took_of w.collector 0)) (spends w.collector 0 kept.collector.machine last) cause in
-        IsTurn.spent is.0 (ap (λ n. n + 1) (sym kept.collector.epoch) ∙ is.1) refl
-    go (Some op) named =
-        let word : ℕ = cell (cells_of w) op in
-        let b : Contents = box w (looked_at w.collector.phase) in
-        let step : Step w.collector word b (Some op) (step_of w.collector word b) (turn_of w.collector word)
-        = subst (λ (x : Option Op). Step w.collector word b x (step_of w.collector word b) (turn_of w.collector word)) named (step_made w.collector word b kept.collector.machine kept.collector.between (given_is w op kept named)) in
-        rule_is w op word (step_of w.collector word b) (turn_of w.collector word) kept refl step
+turn_is w kept = turn_case w (λ o v. IsTurn w v)
+    (λ none.
+    let last : IsNone (next_of w.collector) = subst (λ (o : Option Op). IsNone o) (sym none) refl in
+    let is = subst (HasCause w.collector 0 (took_of w.collector 0)) (spends w.collector 0 kept.collector.machine last) (has_cause w.collector 0 kept.collector.machine) in
+    IsTurn.spent is.0 (ap (λ n. n + 1) (sym kept.collector.epoch) ∙ is.1) refl)
+    (λ op named.
+    let word : ℕ = cell (cells_of w) op in
+    rule_is w op word (step_of w.collector word (box w (looked_at w.collector.phase))) (turn_of w.collector word) kept refl (rule_of w op kept named))

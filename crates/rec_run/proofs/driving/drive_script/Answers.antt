@@ -6,7 +6,7 @@ use Rattle.rec_world.specs.Order.{Turns}
 use Rattle.rec_table.specs.Held.{Gathers, Held, Started, fresh, fresh_collector}
 use Rattle.rec_table.specs.declared.views.Beat.{Beat}
 use Rattle.rec_threads.specs.Done.{HasCollected, HaveDone}
-use Rattle.rec_table.proofs.Beats.{config_after}
+use Rattle.rec_core.proofs.Runs.{config_after}
 use Rattle.rec_threads.proofs.Requests.{at_most}
 use Rattle.rec_order.specs.Naming.{first_naming, named_after_all}
 use Rattle.rec_play.specs.Played.{config_of}

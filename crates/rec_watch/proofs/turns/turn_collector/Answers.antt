@@ -9,9 +9,11 @@ use Rattle.rec_collector.specs.declared.turn.Turn.TheVariants.{Waiting}
 use Rattle.rec_core.specs.Core.{Core}
 use Rattle.rec_core.specs.Kept.{IsKept}
 use Rattle.rec_core.specs.Moves.{turned}
+use Rattle.rec_core.specs.Worked.{AreIdle}
 use Rattle.rec_world.specs.World.{TurnHasCause}
 use Rattle.rec_world.proofs.Calls.{world_kept}
 use Rattle.rec_play.specs.Run.{commands_of}
+use Rattle.rec_play.proofs.Commands.{others_idle}
 use Rattle.rec_play.proofs.Rounds.{commands_are}
 use Rattle.rec_settle.specs.Collecting.{HasPolled, IsAwaited}
 use Rattle.rec_settle.proofs.Waiting.{awaited, has_polled}
@@ -65,3 +67,9 @@ returns-else-made-from-clause-stepped c =
           (omega (arith, ap length (theirs d c.commands.result.now c.commands.ensures.value), c.if-made-from.false, ap (λ n. slice_index_or c.args.made.now (n - 1) 0) c.from.ensures)))
           c.turn_seen-turn.ensures.turned;
     }
+
+-- the mutator that polled is idle again, and the others stayed so
+pub returns-then-made-from-clause-idle : goal.returns-then-made-from-clause-idle
+returns-then-made-from-clause-idle c =
+    let d : In-Waiting = (goal.at.returns-then-made-from-clause-idle c).In-Waiting in
+    others_idle c.turn_seen-turn.new.self c.poll.new.self c.in-Waiting.mutator c.poll.ensures.quiet.config c.poll.ensures.quiet.others c.poll.ensures.idle (subst AreIdle (sym (same d)) c.requires.idle)
