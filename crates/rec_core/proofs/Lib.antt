@@ -43,6 +43,7 @@ pub mod Swept
 pub mod Taken
 pub mod Trials
 pub mod Trying
+pub mod Turn
 pub mod TurnCases
 pub mod Turning
 pub mod Turns

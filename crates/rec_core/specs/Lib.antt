@@ -19,5 +19,6 @@ pub mod Settled
 pub mod Settling
 pub mod Shown
 pub mod Swept
+pub mod Turn
 pub mod Unfinished
 pub mod Worked
