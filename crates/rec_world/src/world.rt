@@ -1,21 +1,17 @@
-ghost use Rattle.std.specs.Prelude.{◌≡◌, ◌≢◌, ℕ, ◌+◌, ◌*◌, ◌%◌, ◌<◌, ◌≤◌, ◌↔◌, if◌then◌else◌, true, false, None, Some, All, is_none, length, map, slice_index_or, IsTrue, IsNone, IsSome, IfOk, IfErr, IfSome};
+ghost use Rattle.std.specs.Prelude.{◌≡◌, ℕ, ◌+◌, ◌*◌, ◌%◌, ◌<◌, ◌≤◌, ◌↔◌, true, false, None, Some, All, is_none, length, map, slice_index_or, IsTrue, IsNone, IsSome, IfOk, IfErr, IfSome};
 ghost use Rattle.rec_word.specs.Header.{is_leaf};
-ghost use Rattle.rec_word.specs.Word.{stamp_of};
 ghost use Rattle.rec_counts.specs.Counts.{slot_at};
-ghost use Rattle.rec_model.specs.declared.answer.Answer.TheVariants as answers;
 ghost use Rattle.rec_model.specs.Heap.{opening, register, registers_of};
 ghost use Rattle.rec_model.specs.Explained.{IsExplained};
-ghost use Rattle.rec_model.specs.LegalOrder.{is_birth, word_left};
 ghost use Rattle.rec_model.specs.Sight.{IsTaken, StandsFor, NumbersSlots};
-ghost use Rattle.rec_mutator.specs.Causes.{is_refusal, LacksObject};
 ghost use Rattle.rec_mutator.specs.Private.{is_busy, answer_of, limit_of, work_of};
 ghost use Rattle.rec_mutator.specs.declared.made.Made.TheVariants as makes;
 ghost use Rattle.rec_mutator.specs.declared.work.Work.TheVariants as works;
 ghost use Rattle.rec_collector.specs.declared.turn.Turn as turns;
 ghost use Rattle.rec_core.specs.Config.{IsConfig, IsMutator, IsValid, IsWork, HasLabel};
-ghost use Rattle.rec_core.specs.Core.{Core, sight, mutator, log_length, opened, opened_mutator, opened_mutators};
+ghost use Rattle.rec_core.specs.Core.{Core, sight, mutator, opened, opened_mutator, opened_mutators};
 ghost use Rattle.rec_core.specs.Moves.{begun, stepped, offering, EndsRun};
-ghost use Rattle.rec_core.specs.Shown.{IsShown, entries_of, sight_told};
+ghost use Rattle.rec_core.specs.Shown.{IsShown};
 ghost use Rattle.rec_core.specs.Turn.{IsTurn, step_seen};
 ghost use Rattle.rec_world.specs.OpenError.{IsRefused};
 ghost use Rattle.rec_world.specs.Parts.{AreParts, MakeWorld};
@@ -23,11 +19,11 @@ ghost use Rattle.rec_word.specs.Op.{written};
 ghost use Rattle.rec_mutator.specs.Next.{next_of};
 ghost use Rattle.rec_mutator.specs.Took.{took_of, step_of, left_of};
 ghost use Rattle.rec_core.specs.Cells.{births_of, cell, with_cell};
-ghost use Rattle.rec_core.specs.Unfinished.{HasFound, IsQuiet, OnlyWorks};
+ghost use Rattle.rec_core.specs.Unfinished.{HasFound, IsQuiet};
 ghost use Rattle.rec_core.specs.Worked.{AreIdle, StepsTo, IsWorked};
 ghost use Rattle.rec_world.specs.Mailbox.{held};
 ghost use Rattle.rec_world.specs.Stepping.{MakesStep};
-ghost use Rattle.rec_world.specs.World.{IsWorld, label_of, IsLogFull, WritesLeaf, IsFull, IsBusy, IsLowestFree, IsFinished, IsCrossed};
+ghost use Rattle.rec_world.specs.World.{IsWorld, label_of, Refuses, Changes, Stays, IsFinished, IsCrossed};
 
 use crate::mailbox::{gather, open_boxes, swap_own};
 use crate::memory::Memory;
@@ -245,28 +241,10 @@ impl World {
         // stands for the world afterwards, by numbers of its objects that go on.
         ensures explained { IsExplained (sight self.old) t cmd result (sight self.new) }
 
-        // When each refusal comes. It changes no register, no field, no header and no log: only the mutator's work differs.
-        ensures log_full { (result.answer ≡ answers.LogFull) ↔ IsLogFull self.old t cmd }
-        ensures full { (result.answer ≡ answers.Full) ↔ IsFull self.old t cmd }
-        ensures busy { (before after : ℕ) → (result.answer ≡ answers.Busy before after) ↔ (IsBusy self.old t cmd × (before ≡ self.old.freed) × (after ≡ self.old.freed)) }
-        ensures no_object { (result.answer ≡ answers.NoObject) ↔ LacksObject (mutator self.old t) cmd }
-        ensures no_field { (result.answer ≡ answers.NoField) ↔ WritesLeaf self.old t cmd }
-        ensures refused { is_refusal result.answer ≡ true → OnlyWorks self.old self.new t }
-
-        // What changes: a birth takes the lowest free slot, and a write leaves the stamp of its log entry.
-        ensures seen { (slot : ℕ) × (sight self.new ≡ sight_told (sight self.old) slot t cmd result) × (is_birth (cmd, result) ≡ true → IsLowestFree (sight self.old) slot) }
-        ensures stamp { IfSome (word_left cmd result) (λ word. stamp_of word ≡ record { writer = t; epoch = (mutator self.old t).epoch; index = log_length self.old t }) }
-        ensures logged { log_length self.new t ≡ log_length self.old t + entries_of cmd result.answer }
-        ensures made { self.new.made ≡ self.old.made + (if is_birth (cmd, result) then 1 else 0) }
-
-        // What stays: the collector, the epochs, the freed word and the other mutators.
-        ensures collector { self.new.collector ≡ self.old.collector }
-        ensures requested { self.new.epoch ≡ self.old.epoch }
-        ensures epoch { (mutator self.new t).epoch ≡ (mutator self.old t).epoch }
-        ensures freed { self.new.freed ≡ self.old.freed }
-        ensures others { (s : ℕ) → s ≢ t → 1 ≤ s → mutator self.new s ≡ mutator self.old s }
-        ensures idle { is_busy (mutator self.new t) ≡ false }
-        ensures config { self.new.config ≡ self.old.config }
+        // When each refusal comes; what the command changes; what stays.
+        ensures refuses { Refuses self.old t cmd result self.new }
+        ensures changes { Changes self.old t cmd result self.new }
+        ensures stays { Stays self.old t self.new }
         ensures run { EndsRun self.new }
         ensures kept { IsWorld self.new }
     {
