@@ -36,6 +36,7 @@ pub mod Scans
 pub mod SetTests
 pub mod Shapes
 pub mod Showing
+pub mod Step
 pub mod Steps
 pub mod Sums
 pub mod Sweeping

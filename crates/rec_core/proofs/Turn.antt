@@ -149,10 +149,10 @@ told_cause w kept = go (next_of w.collector) refl
         let word : ℕ = cell (cells_of w) op in
         let cause : HasCause c word (took_of c word) (turn_of c word) = has_cause c word kept.collector.machine in
         let more : turn_of c word ≡ turns.EpochsSpent → ⊥ = λ spent.
-          let is = subst (HasCause c word (took_of c word)) spent cause in
-          let none : ◌≡◌ {A = Option Op} (next_of c) None = ap (next_at c) is.0 ∙ ap (λ (b : Bool). if b then None else Some (ops.StoreEpoch (c.epoch + 1))) (eq-eqb (c.epoch + 1) (2 ^ 24) is.1) in
-          let not_so : ◌≡◌ {A = Option Op} (Some op) None = sym named ∙ none in
-          cc in
+        let is = subst (HasCause c word (took_of c word)) spent cause in
+        let none : ◌≡◌ {A = Option Op} (next_of c) None = ap (next_at c) is.0 ∙ ap (λ (b : Bool). if b then None else Some (ops.StoreEpoch (c.epoch + 1))) (eq-eqb (c.epoch + 1) (2 ^ 24) is.1) in
+        let not_so : ◌≡◌ {A = Option Op} (Some op) None = sym named ∙ none in
+        cc in
         subst (λ (x : Core). TurnHasCause w x (turn_of c word)) (ap (turned_at w) named) (caused w op (took_of c word) (turn_of c word) kept named refl cause more)
 
 -- who hasn't crossed is waited for
@@ -191,8 +191,8 @@ turn_is_one w kept run =
       waiting = λ t. told_waiting w t kept;
       spent = told_spent w kept;
       awaited = λ t is.
-        let waits : TurnHasCause w (turned w) (turns.Waiting t) = subst (TurnHasCause w (turned w)) is cause in
-        subst (λ (c : Config). IsMutator c t) (sym same) (looked_is w (Looking t) kept waits.0);
+          let waits : TurnHasCause w (turned w) (turns.Waiting t) = subst (TurnHasCause w (turned w)) is cause in
+          subst (λ (c : Config). IsMutator c t) (sym same) (looked_is w (Looking t) kept waits.0);
       reached = turned_keeps w kept;
       stands = λ heap number. keeps_stands_by heap (sight w) (sight (turned w)) number (turned_keeps w kept);
       sweep = turned_sweeps w kept;

@@ -18,6 +18,7 @@ pub mod Scans
 pub mod Settled
 pub mod Settling
 pub mod Shown
+pub mod Step
 pub mod Swept
 pub mod Turn
 pub mod Unfinished

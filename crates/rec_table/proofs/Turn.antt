@@ -48,7 +48,7 @@ makes_one g g' op b answer machine named grows now is = record {
   cause = caused (gathers_now g) answer machine;
   same = grows ∙ (λ k. record g { crew = record g.crew { log = (sym grows k).crew.log } });
   turn = λ w world same finds.
-    let its : ◌≡◌ {A = Option Op} (next_of w.collector) (Some op) = ap next_of same ∙ named in
-    let word : word_of b ≡ cell (cells_of w) op = finds op b its (ap (λ (x : Gathers). x.crew) grows) in
-    told w answer world (ap (told_at w) its ∙ ap (λ (p : Private). turn_of p (cell (cells_of w) op)) same ∙ ap (turn_of (gathers_now g)) (sym word) ∙ sym is);
+      let its : ◌≡◌ {A = Option Op} (next_of w.collector) (Some op) = ap next_of same ∙ named in
+      let word : word_of b ≡ cell (cells_of w) op = finds op b its (ap (λ (x : Gathers). x.crew) grows) in
+      told w answer world (ap (told_at w) its ∙ ap (λ (p : Private). turn_of p (cell (cells_of w) op)) same ∙ ap (turn_of (gathers_now g)) (sym word) ∙ sym is);
 }

@@ -136,19 +136,9 @@ fn run(
         made,
         free,
     } = parts;
-    let opened = Snapshot::of(&collector);
     let slots = config.slots as usize;
     let places = slots * config.fields as usize;
-    match Board::open(
-        alloc,
-        row.as_slice(),
-        full,
-        places,
-        slots,
-        collector,
-        opened,
-        was,
-    ) {
+    match Board::open(alloc, row.as_slice(), full, places, slots, collector, was) {
         Ok((board, mut collector)) => {
             let machines = seat_all(&board, &mut collector, machines, &mut mutators);
             row.clear();

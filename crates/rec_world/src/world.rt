@@ -1,17 +1,17 @@
-ghost use Rattle.std.specs.Prelude.{◌≡◌, ℕ, ◌+◌, ◌*◌, ◌%◌, ◌<◌, ◌≤◌, ◌↔◌, true, false, None, Some, All, is_none, length, map, slice_index_or, IsTrue, IsNone, IsSome, IfOk, IfErr, IfSome};
+ghost use Rattle.std.specs.Prelude.{◌≡◌, ℕ, ◌+◌, ◌*◌, ◌%◌, ◌<◌, ◌↔◌, true, false, None, Some, All, length, map, slice_index_or, IsTrue, IsNone, IsSome, IfOk, IfErr};
 ghost use Rattle.rec_word.specs.Header.{is_leaf};
 ghost use Rattle.rec_counts.specs.Counts.{slot_at};
 ghost use Rattle.rec_model.specs.Heap.{opening, register, registers_of};
 ghost use Rattle.rec_model.specs.Explained.{IsExplained};
 ghost use Rattle.rec_model.specs.Sight.{IsTaken, StandsFor, NumbersSlots};
-ghost use Rattle.rec_mutator.specs.Private.{is_busy, answer_of, limit_of, work_of};
+ghost use Rattle.rec_mutator.specs.Private.{is_busy, answer_of, work_of};
 ghost use Rattle.rec_mutator.specs.declared.made.Made.TheVariants as makes;
 ghost use Rattle.rec_mutator.specs.declared.work.Work.TheVariants as works;
 ghost use Rattle.rec_collector.specs.declared.turn.Turn as turns;
 ghost use Rattle.rec_core.specs.Config.{IsConfig, IsMutator, IsValid, IsWork, HasLabel};
 ghost use Rattle.rec_core.specs.Core.{Core, sight, mutator, opened, opened_mutator, opened_mutators};
 ghost use Rattle.rec_core.specs.Moves.{begun, stepped, offering, EndsRun};
-ghost use Rattle.rec_core.specs.Shown.{IsShown};
+ghost use Rattle.rec_core.specs.Step.{IsStep};
 ghost use Rattle.rec_core.specs.Turn.{IsTurn, step_seen};
 ghost use Rattle.rec_world.specs.OpenError.{IsRefused};
 ghost use Rattle.rec_world.specs.Parts.{AreParts, MakeWorld};
@@ -166,20 +166,7 @@ impl World {
         requires mutator { IsMutator self.old.config t }
         requires busy { is_busy (mutator self.old t) ≡ true }
 
-        ensures stepped { self.new ≡ stepped self.old t }
-        ensures answer { result ≡ answer_of (mutator self.new t) }
-        ensures busy { is_busy (mutator self.new t) ≡ is_none result }
-
-        // Where the step answers a command, whatever heap stood for the world explains the answer, and each refusal has its
-        // cause; else all that is seen stays.
-        ensures shown { IsShown self.old t result self.new }
-
-        ensures work { work_of (mutator self.new t) ≡ work_of (mutator self.old t) }
-
-        // Each step counts, and a work ends in time.
-        ensures steps { (mutator self.new t).steps ≡ (mutator self.old t).steps + 1 }
-        ensures limit { IfSome (work_of (mutator self.new t)) (λ work. (mutator self.new t).steps ≤ limit_of self.new.config.slots work) }
-        ensures run { EndsRun self.new }
+        ensures step { IsStep self.old t result self.new }
         ensures kept { IsWorld self.new }
     {
         let index = usize::from(t) - 1;
