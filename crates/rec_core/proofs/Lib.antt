@@ -36,6 +36,7 @@ pub mod Scans
 pub mod SetTests
 pub mod Shapes
 pub mod Showing
+pub mod Step
 pub mod Steps
 pub mod Sums
 pub mod Sweeping
@@ -43,6 +44,7 @@ pub mod Swept
 pub mod Taken
 pub mod Trials
 pub mod Trying
+pub mod Turn
 pub mod TurnCases
 pub mod Turning
 pub mod Turns

@@ -47,25 +47,26 @@ swept_by c slot next = record c { counts = swept c.counts slot; freed = c.freed 
 abbrev pub header_freed : Core → (slot : ℕ) → Core
 header_freed w slot = record w { headers = slice_set w.headers slot 0 }
 
-pub data IsTurn (w v : Core) : Type 0 where
-  spent : w.collector.phase ≡ Idle → w.epoch + 1 ≡ 2 ^ 24 → v ≡ w → IsTurn w v
-  requests : w.collector.phase ≡ Idle → v ≡ record w { epoch = w.epoch + 1; collector = moved (record w.collector { epoch = w.collector.epoch + 1 }) (Looking 1) } → IsTurn w v
-  waits : (t : ℕ) → IsMutator w.config t → w.collector.phase ≡ Looking t → crossing_of w t ≢ crossing_word w.epoch Retired → v ≡ w → IsTurn w v
+-- a turn by its cases, one for each rule of the collector
+pub data TurnCase (w v : Core) : Type 0 where
+  spent : w.collector.phase ≡ Idle → w.epoch + 1 ≡ 2 ^ 24 → v ≡ w → TurnCase w v
+  requests : w.collector.phase ≡ Idle → v ≡ record w { epoch = w.epoch + 1; collector = moved (record w.collector { epoch = w.collector.epoch + 1 }) (Looking 1) } → TurnCase w v
+  waits : (t : ℕ) → IsMutator w.config t → w.collector.phase ≡ Looking t → crossing_of w t ≢ crossing_word w.epoch Retired → v ≡ w → TurnCase w v
   gathers : (t : ℕ) → IsMutator w.config t → w.collector.phase ≡ Looking t → crossing_of w t ≡ crossing_word w.epoch Retired
-      → v ≡ record w { crossing = crossing_with w t WithCollector; boxes = slice_set w.boxes (t - 1) (spare w.collector); collector = moved (record w.collector { newer = slice_set w.collector.newer (t - 1) (box w t) }) (Returning t) } → IsTurn w v
+      → v ≡ record w { crossing = crossing_with w t WithCollector; boxes = slice_set w.boxes (t - 1) (spare w.collector); collector = moved (record w.collector { newer = slice_set w.collector.newer (t - 1) (box w t) }) (Returning t) } → TurnCase w v
   gives_back : (t : ℕ) → IsMutator w.config t → w.collector.phase ≡ Returning t → t ≢ length w.collector.newer
-      → v ≡ record w { crossing = crossing_with w t Spare; collector = moved w.collector (Looking (t + 1)) } → IsTurn w v
+      → v ≡ record w { crossing = crossing_with w t Spare; collector = moved w.collector (Looking (t + 1)) } → TurnCase w v
   applies : (t : ℕ) (q : Private) (turn : Turn) → IsMutator w.config t → w.collector.phase ≡ Returning t → t ≡ length w.collector.newer
-      → ClearsOn w.collector q turn (zeros_released false (batched w.collector)) → v ≡ record w { crossing = crossing_with w t Spare; collector = q } → IsTurn w v
+      → ClearsOn w.collector q turn (zeros_released false (batched w.collector)) → v ≡ record w { crossing = crossing_with w t Spare; collector = q } → TurnCase w v
   releases : (m : Release) (a : At) (q : Private) (turn : Turn) → w.collector.phase ≡ Releasing m → m.at ≡ Some a
-      → ClearsOn w.collector q turn (with_released m (parts_of w.collector) (word_at w a.slot a.field)) → v ≡ record w { words = words_without w a.slot a.field; collector = q } → IsTurn w v
+      → ClearsOn w.collector q turn (with_released m (parts_of w.collector) (word_at w a.slot a.field)) → v ≡ record w { words = words_without w a.slot a.field; collector = q } → TurnCase w v
   frees : (m : SetFreeing) (a : Member) (q : Private) (turn : Turn) → w.collector.phase ≡ Freeing m → m.at ≡ Some a
-      → ClearsOn w.collector q turn (with_freed m (parts_of w.collector) (word_at w a.slot a.field)) → v ≡ record w { words = words_without w a.slot a.field; collector = q } → IsTurn w v
+      → ClearsOn w.collector q turn (with_freed m (parts_of w.collector) (word_at w a.slot a.field)) → v ≡ record w { words = words_without w a.slot a.field; collector = q } → TurnCase w v
   tries : (m : Trial) (place : ℕ) (q : Private) (turn : Turn) → w.collector.phase ≡ Trying m → ◌≡◌ {A = Option Op} (trial_next m) (Some (LoadChild place))
-      → TriesOn w.collector (parts_of w.collector) (tried_of (record { machine = m; counts = w.collector.counts }) (visible w.collector.counts (slice_index_or w.words place 0))) q turn → v ≡ record w { collector = q } → IsTurn w v
+      → TriesOn w.collector (parts_of w.collector) (tried_of (record { machine = m; counts = w.collector.counts }) (visible w.collector.counts (slice_index_or w.words place 0))) q turn → v ≡ record w { collector = q } → TurnCase w v
   prepares : (m : Preparation) (a : loads.At) (q : Private) (turn : Turn) → w.collector.phase ≡ Preparing m → m.at ≡ Some a
-      → PreparesOn w.collector (parts_of w.collector) (loaded_of (record { machine = m; counts = w.collector.counts }) (word_at w a.member.slot a.member.field)) q turn → v ≡ record w { collector = q } → IsTurn w v
-  begins_sweep : w.collector.phase ≡ Opening → v ≡ record w { freed = w.freed + 1; collector = moved w.collector (Sweeping (slice_get w.collector.counts.free 0) 0) } → IsTurn w v
+      → PreparesOn w.collector (parts_of w.collector) (loaded_of (record { machine = m; counts = w.collector.counts }) (word_at w a.member.slot a.member.field)) q turn → v ≡ record w { collector = q } → TurnCase w v
+  begins_sweep : w.collector.phase ≡ Opening → v ≡ record w { freed = w.freed + 1; collector = moved w.collector (Sweeping (slice_get w.collector.counts.free 0) 0) } → TurnCase w v
   sweeps : (n slot : ℕ) (next : Phase) → w.collector.phase ≡ Sweeping (Some slot) n → (next ≡ Sweeping (slice_get (drop 1 w.collector.counts.free) 0) (n + 1)) ⊎ (next ≡ Closing (n + 1))
-      → v ≡ record w { headers = slice_set w.headers slot 0; collector = swept_by w.collector slot next } → IsTurn w v
-  ends_sweep : (n : ℕ) → w.collector.phase ≡ Closing n → v ≡ record w { freed = w.freed + 1; collector = ended w.collector } → IsTurn w v
+      → v ≡ record w { headers = slice_set w.headers slot 0; collector = swept_by w.collector slot next } → TurnCase w v
+  ends_sweep : (n : ℕ) → w.collector.phase ≡ Closing n → v ≡ record w { freed = w.freed + 1; collector = ended w.collector } → TurnCase w v

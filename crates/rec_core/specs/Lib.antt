@@ -19,6 +19,8 @@ pub mod Scans
 pub mod Settled
 pub mod Settling
 pub mod Shown
+pub mod Step
 pub mod Swept
+pub mod Turn
 pub mod Unfinished
 pub mod Worked

@@ -31,6 +31,7 @@ ghost use Rattle.rec_core.specs.Pending.{pending};
 ghost use Rattle.rec_core.specs.Reach.{KeepsReached};
 ghost use Rattle.rec_core.specs.Scans.{BeginsNone, FailsByProbes};
 ghost use Rattle.rec_core.specs.Shown.{IsShown};
+ghost use Rattle.rec_core.specs.Turn.{IsTurn, turn_told};
 
 /// What every heap keeps holds at the end of every run.
 pub fn runs_keep()
@@ -56,6 +57,12 @@ pub fn nothing_reached_is_freed()
     ensures turned { (w : Core) → IsConfig w.config → EndsRun w → KeepsReached (sight w) (sight (turned w)) }
     ensures stands { (w : Core) (heap : Heap) (number : ℕ → ℕ) → IsConfig w.config → EndsRun w → StandsBy heap (sight w) number → StandsBy heap (sight (turned w)) number }
     ensures claimed { (w : Core) (t slot : ℕ) → IsTaken (sight w) slot → slice_index_or (stepped w t).headers slot 0 ≡ slice_index_or w.headers slot 0 }
+{}
+
+/// Each turn of the collector, in any run of a heap with its collector, is one, with the answer that its machine gives: whichever heap
+/// makes the run, one turn after another or among the steps of the mutators.
+pub fn turns_are_turns()
+    ensures { (w : Core) → IsConfig w.config → EndsRun w → IsTurn w (turned w) (turn_told w) }
 {}
 
 /// While sets are tested, in any state of any run of a heap with its collector, a set that passes the Delta test and the Sigma

@@ -28,7 +28,7 @@ pub use laws::{
     freed_slots_are_forgotten, loaded_words_stay_references, nothing_reached_is_freed,
     orange_members_stay_untouched, outside_counts_are_of_the_run, runs_begin_with_an_opening,
     runs_go_on, runs_keep, sets_that_pass_are_garbage, true_counts_are_the_formula,
-    zeros_are_exact,
+    turns_are_turns, zeros_are_exact,
 };
 pub use layout::Layout;
 pub use part::Part;

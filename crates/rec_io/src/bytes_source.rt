@@ -1,7 +1,8 @@
 //! A source in memory, with calls that fail.
-ghost use Rattle.std.specs.Prelude.{◌≡◌, ◌↔◌, ◌<◌, ◌≤◌, ℕ, [], IfOk, Some, drop, length, min};
+ghost use Rattle.std.specs.Prelude.{◌≡◌, ◌↔◌, ◌<◌, ◌≤◌, ℕ, [], IfOk, Some, length, min};
+ghost use Rattle.rec_io.specs.BytesSource.{after_read};
 ghost use Rattle.rec_io.specs.Calls.{NextFails};
-ghost use Rattle.rec_io.specs.Faults.{Rose, counted_up, last_count};
+ghost use Rattle.rec_io.specs.Faults.{Rose, last_count};
 ghost use Rattle.rec_io.specs.Source.{IfGiven, OnEnd, OnReadFailed, GivesFront, IsSpent};
 ghost use Rattle.rec_io.specs.Told.{KeepsTold, StaysTold};
 
@@ -80,17 +81,7 @@ impl Source for BytesSource {
         ensures gives { IfGiven result (λ n. n ≡ min (length into.old) (length self.old.rest)) }
 
         // What it holds afterwards.
-        ensures after_bytes { IfGiven result (λ n. self.new ≡ record self.old {
-          rest = drop n self.old.rest;
-          calls = counted_up self.old.calls;
-        }) }
-        ensures after_end { OnEnd result (self.new ≡ record self.old {
-          calls = counted_up self.old.calls;
-        }) }
-        ensures after_failed { OnReadFailed result (self.new ≡ record self.old {
-          calls = counted_up self.old.calls;
-          faults = counted_up self.old.faults;
-        }) }
+        ensures after { self.new ≡ after_read result self.old }
     {
         if self.calls.next_fails() {
             self.calls.count_fault();

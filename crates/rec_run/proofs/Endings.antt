@@ -21,8 +21,8 @@ use Rattle.rec_run.specs.declared.status.Status.TheVariants as statuses
 use Rattle.rec_script.specs.declared.error.Kind.{Kind}
 use Rattle.rec_script.specs.declared.error.ScriptError.{ScriptError}
 use Rattle.rec_script.specs.declared.error.ScriptError.TheVariants.{Bad}
-use Rattle.rec_run.specs.CommandLine.{ReadsScript}
-use Rattle.rec_run.specs.Ends.{Passage, Failed, Ends, passage}
+use Rattle.rec_run.specs.CommandLine.{Asks, ReadsScript}
+use Rattle.rec_run.specs.Ends.{Passage, Failed, Ends, HasCause, passage}
 use Rattle.rec_run.specs.Headline.{Are, HasRead, IsAnswer, Answers, AnswersTo, HasRun, WroteAnswer, WroteFront, IsReadPast, ReadNoScript, is_summary, printed, printed_order}
 use Rattle.rec_play.specs.Played.{last_moment}
 use Rattle.rec_script.proofs.Refusing.{refused_no_text}
@@ -181,6 +181,14 @@ finished told faults request status result source old wrote new ends rises fault
           subst (λ r. Ends request r source (passage told faults old new)) (sym same.0)
           (subst (λ k. Ends request status source (passage told faults old k)) (sym same.1) ends)
     ]
+
+-- how a request ended that the words ask for has its cause
+pub caused : (words : List (List ℕ)) (request : Request) (status : Status) (source sink : Passage) → Asks words request → Ends request status source sink → HasCause words status source sink
+caused words request statuses.Usage source sink asks ends = absurd ends
+caused words request (statuses.BadScript line kind) source sink asks ends = ((request, asks, ends.0), ends.1)
+caused words request statuses.ReadFault source sink asks ends = ((request, asks, ends.0), ends.1)
+caused words request statuses.WriteFault source sink asks ends = ends.0
+caused words request _ source sink asks ends = tt
 
 -- a script that is told is answered, unless a call fails or memory runs out
 pub completes : (request : Request) (status : Status) (source sink : Passage) → Ends request status source sink

@@ -7,8 +7,8 @@ ghost use Rattle.rec_io.specs.Told.{KeepsTold};
 ghost use Rattle.rec_script.specs.Script.{IsText, IsRefused};
 ghost use Rattle.rec_script.specs.declared.error.Kind.{Kind};
 ghost use Rattle.rec_run.specs.CommandLine.{Asks, AsksToMake, AsksToRead, HasFewTurns, IsCommandLine, IsInRange, ReadsScript};
-ghost use Rattle.rec_run.specs.Ends.{Ends, passage, untouched};
-ghost use Rattle.rec_run.specs.Headline.{AnswersTo, WroteAnswer, WroteFront, ReadNoScript};
+ghost use Rattle.rec_run.specs.Ends.{Ends, HasCause, passage, untouched};
+ghost use Rattle.rec_run.specs.Headline.{AnswersTo, WroteAnswer, WroteFront};
 ghost use Rattle.rec_run.specs.Status.{may_write};
 ghost use Rattle.rec_run.specs.declared.command_line.Request.{Request as Asked};
 
@@ -42,14 +42,9 @@ pub fn run<R: Threads + Wait + Sync, S: Source, K: Flush, G: Gate>(
     // Nothing of it stayed behind: the sink passed on all that was written.
     ensures passed { result ≡ Status.Done → KeepsTold (K.written sink.new) (K.passed_on sink.new) }
 
-    // When each other status comes. Words that are no command line give Usage, or memory ran out. A made script is read from
-    // no source, so it is never bad and no read of it fails.
-    ensures usage { result ≡ Status.Usage → ¬ IsCommandLine (map (λ word. word.now) words.now) }
+    // When each other status comes. Words that are no command line give Usage, or memory ran out.
+    ensures cause { HasCause (map (λ word. word.now) words.now) result (passage S.rest S.faults source.old source.new) (passage K.written K.faults sink.old sink.new) }
     ensures words { ¬ IsCommandLine (map (λ word. word.now) words.now) → (result ≡ Status.Usage) ⊎ (result ≡ Status.NoMemory) }
-    ensures bad_script { (line : ℕ) (kind : Kind) → result ≡ Status.BadScript line kind → AsksToRead (map (λ word. word.now) words.now)
-        × ReadNoScript (S.rest source.old) (S.rest source.new) line kind }
-    ensures read_fault { result ≡ Status.ReadFault → AsksToRead (map (λ word. word.now) words.now) × Rose (S.faults source.old) (S.faults source.new) }
-    ensures write_fault { result ≡ Status.WriteFault → Rose (K.faults sink.old) (K.faults sink.new) }
 
     // A fault ends the run: with every other status no read or no write failed.
     ensures reads { result ≢ Status.ReadFault → S.faults source.new ≡ S.faults source.old }

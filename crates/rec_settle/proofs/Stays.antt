@@ -11,7 +11,7 @@ use Rattle.rec_core.specs.Kept.{IsKept}
 use Rattle.rec_core.specs.Moves.{turned}
 use Rattle.rec_core.specs.Quiet.{AreQuiet}
 use Rattle.rec_core.specs.Swept.{swept}
-use Rattle.rec_core.proofs.TurnCases.{IsTurn}
+use Rattle.rec_core.proofs.TurnCases.{TurnCase}
 use Rattle.rec_core.proofs.Reach.{turned_keeps, keeps_stands_by}
 use Rattle.rec_core.proofs.Swept.{preparation_sweeps, test_sweeps, trial_sweeps}
 use Rattle.rec_core.proofs.Rest.TurnRules.{turn_is}
@@ -24,26 +24,26 @@ record TurnStays (w v : Core) : Type 0 where
   made : v.made ≡ w.made
   freed : w.collector.freed ≤ v.collector.freed
 
-turn_stays : (w v : Core) → IsTurn w v → TurnStays w v
+turn_stays : (w v : Core) → TurnCase w v → TurnStays w v
 turn_stays w v turn = go turn
   where
     same : (x : Core) → v ≡ x → x.made ≡ w.made → w.collector.freed ≤ x.collector.freed → TurnStays w v
     same x is made freed = subst (TurnStays w) (sym is) (record { made = made; freed = freed })
 
-    go : IsTurn w v → TurnStays w v
-    go (IsTurn.spent phase last is) = same _ is refl (omega arith)
-    go (IsTurn.requests phase is) = same _ is refl (omega arith)
-    go (IsTurn.waits t there phase word is) = same _ is refl (omega arith)
-    go (IsTurn.gathers t there phase word is) = same _ is refl (omega arith)
-    go (IsTurn.gives_back t there phase other is) = same _ is refl (omega arith)
-    go (IsTurn.applies t q answer there phase last on is) = same _ is refl (omega (arith, test_sweeps on))
-    go (IsTurn.releases m a q answer phase at on is) = same _ is refl (omega (arith, test_sweeps on))
-    go (IsTurn.frees m a q answer phase at on is) = same _ is refl (omega (arith, test_sweeps on))
-    go (IsTurn.tries m place q answer phase named on is) = same _ is refl (omega (arith, trial_sweeps on))
-    go (IsTurn.prepares m a q answer phase at on is) = same _ is refl (omega (arith, preparation_sweeps on))
-    go (IsTurn.begins_sweep phase is) = same _ is refl (omega arith)
-    go (IsTurn.sweeps n slot next phase which is) = same _ is refl (omega arith)
-    go (IsTurn.ends_sweep n phase is) = same _ is refl (omega arith)
+    go : TurnCase w v → TurnStays w v
+    go (TurnCase.spent phase last is) = same _ is refl (omega arith)
+    go (TurnCase.requests phase is) = same _ is refl (omega arith)
+    go (TurnCase.waits t there phase word is) = same _ is refl (omega arith)
+    go (TurnCase.gathers t there phase word is) = same _ is refl (omega arith)
+    go (TurnCase.gives_back t there phase other is) = same _ is refl (omega arith)
+    go (TurnCase.applies t q answer there phase last on is) = same _ is refl (omega (arith, test_sweeps on))
+    go (TurnCase.releases m a q answer phase at on is) = same _ is refl (omega (arith, test_sweeps on))
+    go (TurnCase.frees m a q answer phase at on is) = same _ is refl (omega (arith, test_sweeps on))
+    go (TurnCase.tries m place q answer phase named on is) = same _ is refl (omega (arith, trial_sweeps on))
+    go (TurnCase.prepares m a q answer phase at on is) = same _ is refl (omega (arith, preparation_sweeps on))
+    go (TurnCase.begins_sweep phase is) = same _ is refl (omega arith)
+    go (TurnCase.sweeps n slot next phase which is) = same _ is refl (omega arith)
+    go (TurnCase.ends_sweep n phase is) = same _ is refl (omega arith)
 
 -- What stays from one heap to a later one; and how many slots were swept meanwhile is the difference of the two numbers.
 pub record Stays (before after : Core) : Type 0 where

@@ -24,3 +24,4 @@ pub mod Stopped
 pub mod Answering
 pub mod Lines
 pub mod Sends
+pub mod Turn

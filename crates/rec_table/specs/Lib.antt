@@ -9,3 +9,4 @@ pub mod Safe
 pub mod Answered
 pub mod Scan
 pub mod Operations
+pub mod Turn

@@ -56,7 +56,6 @@ impl Board {
         boxes: Vec<Option<Buffer>>,
         layout: Layout,
         machine: Machine,
-        opened: Snapshot<Machine>,
         was: &Snapshot<World>,
     ) -> Result<(Board, Collector), (Vec<Option<Buffer>>, Machine)>
         requires world { IsWorld was.now.value }
@@ -64,12 +63,13 @@ impl Board {
         requires home { map some boxes.items ≡ homes_of was.now.value.crossing was.now.value.boxes }
         requires layout { (layout.places ≡ length was.now.value.words) × (layout.slots ≡ length was.now.value.headers) × IsLayout layout }
         requires few { length words.now < 2 ^ 63 }
-        requires collector { (machine ≡ opened.value) × (opened.value ≡ was.now.value.collector) × (boxes_out machine ≡ []) × IsBetween machine.phase }
+        requires collector { (machine ≡ was.now.value.collector) × (boxes_out machine ≡ []) × IsBetween machine.phase }
 
         ensures ok { IfOk result (λ r. (r.0.table.shared.key ≡ was.now) × (r.1 ≡ record { table = r.0.table.shared.table_id; opened = was.now.value.collector; crew = record { log = []; made = 0; known = [] } })) }
         ensures sizes { IfOk result (λ r. (r.0.table.shared.table_id.words ≡ length words.now) × (r.0.table.shared.table_id.slots ≡ length boxes.items)) }
         ensures err { IfErr result (λ r. (r.0.items ≡ boxes.items) × (r.1 ≡ machine)) }
     {
+        let opened = Snapshot::of(&machine);
         match Table::new(alloc, words, boxes, was) {
             Ok((table, seat)) => Ok((
                 Board { table, layout },

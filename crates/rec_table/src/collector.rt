@@ -1,20 +1,19 @@
 //! The collector on the table.
-ghost use Rattle.std.specs.Prelude.{◌≡◌, ℕ, ◌+◌, ◌%◌, ◌^◌, ◌<◌, ◌≤◌, ◌↔◌, IsTrue, [], ◌∷◌, ◌++◌, false, length, Some, None, Option};
-ghost use Rattle.rec_collector.specs.Causes.{HasCause};
+ghost use Rattle.std.specs.Prelude.{◌≡◌, ◌+◌, ◌%◌, ◌^◌, ◌<◌, ◌≤◌, ◌↔◌, IsTrue, [], ◌∷◌, ◌++◌, false, length, Some, Option};
 ghost use Rattle.rec_collector.specs.Given.{IsGiven};
-ghost use Rattle.rec_collector.specs.Kept.{IsMachine, KeepsSizes};
+ghost use Rattle.rec_collector.specs.Kept.{KeepsSizes};
 ghost use Rattle.rec_collector.specs.Next.{next_of as turn_next};
 ghost use Rattle.rec_collector.specs.Step.{IsBetween as IsBetweenTurns};
-ghost use Rattle.rec_collector.specs.Took.{took_of, turn_of};
+ghost use Rattle.rec_collector.specs.Took.{turn_of};
 ghost use Rattle.rec_collector.specs.declared.phase.Phase.TheVariants as phases;
 ghost use Rattle.rec_table.specs.Beats.{gathered, gathered_all, births_told};
 ghost use Rattle.rec_table.specs.Held.{gathers, gathers_now, has, IsCollectorOf, IsOwn, PutsBack};
 ghost use Rattle.rec_core.specs.Row.{index_of};
+ghost use Rattle.rec_table.specs.Turn.{MakesTurn};
 ghost use Rattle.rec_table.specs.Rule.{boxes_out, crew_of, IsReturnOp, crew_more, word_of, Looks, NotLooking};
 ghost use Rattle.rec_table.specs.declared.views.Beat.{Beat as Beats};
 ghost use Rattle.rec_table.specs.declared.views.Beat.TheVariants.{Saw};
 ghost use Rattle.rec_table.specs.declared.views.View.TheVariants.{Collects};
-ghost use Rattle.rec_word.specs.declared.op.Op.{Op as Ops};
 ghost use Rattle.rec_word.specs.declared.op.Op.TheVariants as ops;
 ghost use Rattle.rec_mutator.specs.Private.{is_busy};
 ghost use Rattle.rec_core.specs.Core.{mutator};
@@ -187,10 +186,8 @@ impl Collector {
         requires own { IsOwn board.now.table.shared.table_id board.now.table.shared.key.value self.old }
         requires world { IsWorld board.now.table.shared.key.value }
 
-        ensures spent { turn_next (gathers_now self.old) ≡ None → (self.new ≡ self.old) × (result ≡ Turn.EpochsSpent) }
-        ensures turned { (op : Ops) → turn_next (gathers_now self.old) ≡ Some op → (b : Beats) × (self.new ≡ record self.old { crew = crew_more self.old.crew b }) × (gathers_now self.new ≡ gathered (gathers_now self.old) b) × (result ≡ turn_of (gathers_now self.old) (word_of b)) }
-        ensures cause { (word : ℕ) → result ≡ turn_of (gathers_now self.old) word → HasCause (gathers_now self.old) word (took_of (gathers_now self.old) word) result }
-        ensures same { self.new ≡ record self.old { crew = record self.old.crew { log = self.new.crew.log } } }
+        ensures turn { MakesTurn self.old self.new result }
+
         // No turn but a look at a mailbox ends with one held.
         ensures free { NotLooking (gathers_now self.old).phase → boxes_out (gathers_now self.new) ≡ [] }
     {
@@ -214,16 +211,10 @@ impl Collector {
     pub fn turn(&mut self, heap: &Heap) -> Turn
         requires own { IsCollectorOf heap.now self.old }
 
-        // Its list grows by the word found, and by what the mailbox held where it took one; its record and the answer follow.
-        ensures spent { turn_next (gathers_now self.old) ≡ None → (self.new ≡ self.old) × (result ≡ Turn.EpochsSpent) }
-        ensures turned { (op : Ops) → turn_next (gathers_now self.old) ≡ Some op → (b : Beats) × (self.new ≡ record self.old { crew = crew_more self.old.crew b }) × (gathers_now self.new ≡ gathered (gathers_now self.old) b) × (result ≡ turn_of (gathers_now self.old) (word_of b)) }
-
-        // Why each answer comes, by the word found.
-        ensures cause { (word : ℕ) → result ≡ turn_of (gathers_now self.old) word → HasCause (gathers_now self.old) word (took_of (gathers_now self.old) word) result }
+        ensures turn { MakesTurn self.old self.new result }
 
         // It stays the collector of this heap.
         ensures own { IsCollectorOf heap.now self.new }
-        ensures same { self.new ≡ record self.old { crew = record self.old.crew { log = self.new.crew.log } } }
     {
         self.turn_on(heap.board())
     }

@@ -137,10 +137,9 @@ fn run(
         made,
         free,
     } = parts;
-    let opened = Snapshot::of(&collector);
     let slots = config.slots as usize;
     let layout = Layout::new(slots * config.fields as usize, slots);
-    match Board::open(alloc, row.as_slice(), full, layout, collector, opened, was) {
+    match Board::open(alloc, row.as_slice(), full, layout, collector, was) {
         Ok((board, mut collector)) => {
             let machines = seat_all(&board, &mut collector, machines, &mut mutators);
             row.clear();

@@ -6,6 +6,7 @@ use Rattle.rec_collector.specs.Next.{is_spent, next_of}
 use Rattle.rec_collector.specs.Private.{Private, parts_of, with_parts}
 use Rattle.rec_collector.specs.Testing.{zeros_released}
 use Rattle.rec_collector.specs.Took.{batched, came, moved, step_of, took_at, took_of}
+use Rattle.rec_collector.specs.declared.turn.Turn.{Turn}
 use Rattle.rec_collector.specs.declared.phase.Phase.{Phase}
 use Rattle.rec_collector.specs.declared.phase.Phase.TheVariants.{Idle, Looking, Swapping, Returning, Opening, Sweeping, Closing}
 use Rattle.rec_word.specs.Mailbox.{crossing_word}
@@ -14,8 +15,9 @@ use Rattle.rec_word.specs.declared.op.Op.{Op}
 use Rattle.rec_table.specs.Beats.{gathered}
 use Rattle.rec_table.specs.Held.{Gathers, gathers_now}
 use Rattle.rec_table.specs.Rule.{crew_more}
+use Rattle.rec_table.specs.Turn.{MakesTurn}
 use Rattle.rec_table.proofs.PutBack.{ended_epoch, swapped_epoch}
-use Rattle.rec_threads.specs.Done.{HasTurned}
+use Rattle.rec_threads.specs.Done.{HasTurned, TurnsTo}
 use Rattle.rec_table.specs.declared.views.Beat.{Beat}
 use Rattle.rec_table.specs.declared.views.Beat.TheVariants.{Begins, Saw, Took}
 
@@ -50,6 +52,7 @@ gathered_epoch p (Took word b) = let e = swapped_epoch (took_of p word) b in let
 -- none yet
 pub no_turn : (g : Gathers) → HasTurned 0 g g
 no_turn g = record {
+  path = TurnsTo.none;
   beats = [];
   grows = λ i. record g { crew = record g.crew { log = sym (append-nil g.crew.log) i } };
   each = inl refl;
@@ -63,25 +66,26 @@ at_most turns g g' so = elim so.each [
 ]
 
 -- One turn more.
-pub one_turn : (turns : ℕ) (g a b : Gathers) → HasTurned turns g a → (next_of (gathers_now a) ≡ None → b ≡ a)
-    → ((op : Op) → next_of (gathers_now a) ≡ Some op → (beat : Beat) × (b ≡ record a { crew = crew_more a.crew beat }) × (gathers_now b ≡ gathered (gathers_now a) beat)) → HasTurned (turns + 1) g b
-one_turn turns g a b so spent turned = by (next_of (gathers_now a)) refl
+pub one_turn : (turns : ℕ) (g a b : Gathers) (answer : Turn) → HasTurned turns g a → MakesTurn a b answer → HasTurned (turns + 1) g b
+one_turn turns g a b answer so one = by (next_of (gathers_now a)) refl
   where
     by : (next : Option Op) → next_of (gathers_now a) ≡ next → HasTurned (turns + 1) g b
     by None e =
-        let same : b ≡ a = spent e in
+        let same : b ≡ a = (one.spent e).0 in
         let few : length so.beats ≤ turns = at_most turns g a so in
         record {
+          path = TurnsTo.more turns a b answer so.path one;
           beats = so.beats;
           grows = same ∙ so.grows;
           each = inr (ap (λ (x : Gathers). next_of (gathers_now x)) same ∙ e, omega (arith, few));
           requested = let r = so.requested in let n : (gathers_now b).epoch ≡ (gathers_now a).epoch = ap (λ (x : Gathers). (gathers_now x).epoch) same in omega (arith, r, n);
         }
     by (Some op) e =
-        let (beat, more, now) = turned op e in
+        let (beat, more, now, told) = one.turned op e in
         let crew : (record g.crew { log = (g.crew.log ++ so.beats) ++ beat ∷ [] }) ≡ (record g.crew { log = g.crew.log ++ (so.beats ++ beat ∷ []) }) = λ i. record g.crew { log = append_assoc g.crew.log so.beats (beat ∷ []) i } in
         let many : length (so.beats ++ beat ∷ []) ≡ length so.beats + 1 = length-append so.beats (beat ∷ []) in
         record {
+          path = TurnsTo.more turns a b answer so.path one;
           beats = so.beats ++ beat ∷ [];
           grows = more ∙ (λ i. record (so.grows i) { crew = crew_more (so.grows i).crew beat }) ∙ (λ i. record g { crew = crew i });
           each = elim so.each [

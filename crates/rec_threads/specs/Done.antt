@@ -7,9 +7,11 @@ use Rattle.rec_mutator.specs.Private.{KeepsSizes}
 use Rattle.rec_mutator.specs.declared.work.Work.{Work}
 use Rattle.rec_mutator.specs.declared.work.Work.TheVariants as works
 use Rattle.rec_collector.specs.Next.{next_of}
+use Rattle.rec_collector.specs.declared.turn.Turn.{Turn}
 use Rattle.rec_script.specs.Script.{Contents}
 use Rattle.rec_table.specs.Held.{Gathers, Held, Started, IsCollectorOf, IsMutatorOf, gathers_now, has}
 use Rattle.rec_table.specs.Journals.{Tells}
+use Rattle.rec_table.specs.Turn.{MakesTurn}
 use Rattle.rec_table.specs.declared.views.Beat.{Beat}
 use Rattle.rec_table.specs.declared.views.Beat.TheVariants as beats
 use Rattle.rec_world.specs.Journal.{Notes, no_notes}
@@ -91,8 +93,14 @@ pub record HaveDone (commands : List (List Cmd)) (mutators : List Held) (journal
   pub journals_all : length journals' ≡ length journals
   pub each : (k : ℕ) (d : Held) → k < length mutators → HasDone (commands_at commands k) (worker_at mutators journals k d) (worker_at mutators' journals' k d)
 
+-- the collectors to which so many turns lead, one after another
+pub data TurnsTo (g : Gathers) : ℕ → Gathers → Type 0 where
+  none : TurnsTo g 0 g
+  more : (turns : ℕ) (a b : Gathers) (answer : Turn) → TurnsTo g turns a → MakesTurn a b answer → TurnsTo g (turns + 1) b
+
 -- The collector made so many turns: each is a beat of its list, but where the epochs were spent, and then no turn is one any more.
 pub record HasTurned (turns : ℕ) (g g' : Gathers) : Type 0 where
+  pub path : TurnsTo g turns g'
   pub beats : List Beat
   pub grows : g' ≡ record g { crew = record g.crew { log = g.crew.log ++ beats } }
   pub each : (length beats ≡ turns) ⊎ ((next_of (gathers_now g') ≡ None) × (length beats ≤ turns))

@@ -14,7 +14,7 @@ use Rattle.rec_mutator.specs.declared.work.Work.TheVariants as works
 use Rattle.rec_core.proofs.Offering.{offering_kept}
 use Rattle.rec_core.proofs.Rest.QuietTurns.{quiet_begun}
 use Rattle.rec_core.proofs.Rest.TurnRules.{turn_is}
-use Rattle.rec_core.proofs.TurnCases.{IsTurn}
+use Rattle.rec_core.proofs.TurnCases.{TurnCase}
 use Rattle.rec_world.specs.World.{TurnHasCause}
 use Rattle.rec_settle.specs.Collecting.{Finishes, HasPolled, IsAmid, IsAwaited, IsCollection, IsSettling}
 use Rattle.rec_settle.proofs.Amid.{quiet_after, quiet_amid}
@@ -27,23 +27,23 @@ waits_still w t kept waits = go (turn_is w kept)
     other : (p : Phase) → w.collector.phase ≡ p → ◌≡◌ {A = Phase} (Looking t) p
     other p is = sym waits.looks ∙ is
 
-    go : IsTurn w (turned w) → turned w ≡ w
-    go (IsTurn.spent phase last is) = is
-    go (IsTurn.waits s there phase word is) = is
-    go (IsTurn.requests phase is) = absurd (let no : ◌≡◌ {A = Phase} (Looking t) Idle = other Idle phase in cc)
-    go (IsTurn.gathers s there phase word is) =
+    go : TurnCase w (turned w) → turned w ≡ w
+    go (TurnCase.spent phase last is) = is
+    go (TurnCase.waits s there phase word is) = is
+    go (TurnCase.requests phase is) = absurd (let no : ◌≡◌ {A = Phase} (Looking t) Idle = other Idle phase in cc)
+    go (TurnCase.gathers s there phase word is) =
         let looks : ◌≡◌ {A = Phase} (Looking t) (Looking s) = other (Looking s) phase in
         let same : s ≡ t = cc in
         absurd (waits.behind (subst (λ n. crossing_of w n ≡ crossing_word w.epoch Retired) same word))
-    go (IsTurn.gives_back s there phase more is) = absurd (let no : ◌≡◌ {A = Phase} (Looking t) (Returning s) = other (Returning s) phase in cc)
-    go (IsTurn.applies s q turn there phase last on is) = absurd (let no : ◌≡◌ {A = Phase} (Looking t) (Returning s) = other (Returning s) phase in cc)
-    go (IsTurn.releases m a q turn phase at on is) = absurd (let no : ◌≡◌ {A = Phase} (Looking t) (Releasing m) = other (Releasing m) phase in cc)
-    go (IsTurn.frees m a q turn phase at on is) = absurd (let no : ◌≡◌ {A = Phase} (Looking t) (Freeing m) = other (Freeing m) phase in cc)
-    go (IsTurn.tries m place q turn phase named on is) = absurd (let no : ◌≡◌ {A = Phase} (Looking t) (Trying m) = other (Trying m) phase in cc)
-    go (IsTurn.prepares m a q turn phase at on is) = absurd (let no : ◌≡◌ {A = Phase} (Looking t) (Preparing m) = other (Preparing m) phase in cc)
-    go (IsTurn.begins_sweep phase is) = absurd (let no : ◌≡◌ {A = Phase} (Looking t) Opening = other Opening phase in cc)
-    go (IsTurn.sweeps n slot next phase which is) = absurd (let no : ◌≡◌ {A = Phase} (Looking t) (Sweeping (Some slot) n) = other (Sweeping (Some slot) n) phase in cc)
-    go (IsTurn.ends_sweep n phase is) = absurd (let no : ◌≡◌ {A = Phase} (Looking t) (Closing n) = other (Closing n) phase in cc)
+    go (TurnCase.gives_back s there phase more is) = absurd (let no : ◌≡◌ {A = Phase} (Looking t) (Returning s) = other (Returning s) phase in cc)
+    go (TurnCase.applies s q turn there phase last on is) = absurd (let no : ◌≡◌ {A = Phase} (Looking t) (Returning s) = other (Returning s) phase in cc)
+    go (TurnCase.releases m a q turn phase at on is) = absurd (let no : ◌≡◌ {A = Phase} (Looking t) (Releasing m) = other (Releasing m) phase in cc)
+    go (TurnCase.frees m a q turn phase at on is) = absurd (let no : ◌≡◌ {A = Phase} (Looking t) (Freeing m) = other (Freeing m) phase in cc)
+    go (TurnCase.tries m place q turn phase named on is) = absurd (let no : ◌≡◌ {A = Phase} (Looking t) (Trying m) = other (Trying m) phase in cc)
+    go (TurnCase.prepares m a q turn phase at on is) = absurd (let no : ◌≡◌ {A = Phase} (Looking t) (Preparing m) = other (Preparing m) phase in cc)
+    go (TurnCase.begins_sweep phase is) = absurd (let no : ◌≡◌ {A = Phase} (Looking t) Opening = other Opening phase in cc)
+    go (TurnCase.sweeps n slot next phase which is) = absurd (let no : ◌≡◌ {A = Phase} (Looking t) (Sweeping (Some slot) n) = other (Sweeping (Some slot) n) phase in cc)
+    go (TurnCase.ends_sweep n phase is) = absurd (let no : ◌≡◌ {A = Phase} (Looking t) (Closing n) = other (Closing n) phase in cc)
 
 -- one move of a collection of settling
 data Goes (w v : Core) : Type 0 where

@@ -39,7 +39,7 @@ use Rattle.rec_core.proofs.Showing.{Says, mutator_other, stepped_mutator, step_s
 use Rattle.rec_core.proofs.Steps.{actor_of}
 use Rattle.rec_core.proofs.Unfinished.{works_both, works_quiet, quiet_both, begun_works, waits_quiet, mutator_there, waits_epoch, answered_idle}
 use Rattle.rec_world.proofs.IntoLeaves.{allocates, into_leaf}
-use Rattle.rec_world.specs.World.{IsLogFull, WritesLeaf, FindsNone, IsFull, IsBusy, IsLowestFree, IsFinished, IsCrossed}
+use Rattle.rec_world.specs.World.{WritesLeaf, FindsNone, IsFull, IsBusy, IsLowestFree, Refuses, Changes, Stays, IsFinished, IsCrossed}
 
 -- A step that answers a command, in a heap in which nothing else moved since its begin.
 record Answering (w : Core) (t : ℕ) (cmd : Cmd) (told : Told) (v : Core) : Type 0 where
@@ -180,23 +180,9 @@ enters_same p phase steps (commands.Same a b) = (λ x. x, λ x. x)
 -- What is said of a command that was told this: how it is explained, why it was refused, what it left, and that all else stays.
 pub record IsAnswered (w v : Core) (t : ℕ) (cmd : Cmd) (told : Told) : Type 0 where
   pub explained : IsExplained (sight w) t cmd told (sight v)
-  pub log_full : (told.answer ≡ answers.LogFull) ↔ IsLogFull w t cmd
-  pub no_object : (told.answer ≡ answers.NoObject) ↔ LacksObject (mutator w t) cmd
-  pub no_field : (told.answer ≡ answers.NoField) ↔ WritesLeaf w t cmd
-  pub full : (told.answer ≡ answers.Full) ↔ IsFull w t cmd
-  pub busy : (before after : ℕ) → (told.answer ≡ answers.Busy before after) ↔ (IsBusy w t cmd × (before ≡ w.freed) × (after ≡ w.freed))
-  pub refused : is_refusal told.answer ≡ true → OnlyWorks w v t
-  pub seen : (slot : ℕ) × (sight v ≡ sight_told (sight w) slot t cmd told) × (is_birth (cmd, told) ≡ true → IsLowestFree (sight w) slot)
-  pub others : (s : ℕ) → s ≢ t → 1 ≤ s → mutator v s ≡ mutator w s
-  pub idle : is_busy (mutator v t) ≡ false
-  pub made : v.made ≡ w.made + (if is_birth (cmd, told) then 1 else 0)
-  pub logged : log_length v t ≡ log_length w t + entries_of cmd told.answer
-  pub stamp : IfSome (word_left cmd told) (λ word. stamp_of word ≡ record { writer = t; epoch = (mutator w t).epoch; index = log_length w t })
-  pub epoch : (mutator v t).epoch ≡ (mutator w t).epoch
-  pub requested : v.epoch ≡ w.epoch
-  pub freed : v.freed ≡ w.freed
-  pub collector : v.collector ≡ w.collector
-  pub config : v.config ≡ w.config
+  pub refuses : Refuses w t cmd told v
+  pub changes : Changes w t cmd told v
+  pub stays : Stays w t v
 
 -- what an allocation finds, in another heap with the same headers and freed word, and as many entries of this mutator
 finds_along : (w v : Core) (t : ℕ) (cmd : Cmd) → log_length v t ≡ log_length w t → v.config ≡ w.config → v.headers ≡ w.headers → FindsNone w t cmd → FindsNone v t cmd
@@ -257,51 +243,57 @@ answers_all w last v t cmd told kept is only steps answer a =
     let (slot, leaves) = a.said.leaves in
     record {
       explained = subst (λ (s : Sight). IsExplained s t cmd told (sight v)) same a.said.explained;
-      log_full = (
-        λ full.
-            let found : IsLogFullOf (mutator last t) × MakesEntry (mutator last t) cmd = a.cause.log_full.0 full in
-            let all : length p.log.entries ≡ p.log.capacity = subst IsLogFullOf only.own found.0 in
-            (all ∙ capacity, (enters_same p phase steps_made cmd).0 (subst (λ (x : Private). MakesEntry x cmd) only.own found.1)),
-        λ full.
-            let all : length p.log.entries ≡ p.log.capacity = full.0 ∙ sym capacity in
-            a.cause.log_full.1 (subst IsLogFullOf (sym only.own) all, subst (λ (x : Private). MakesEntry x cmd) (sym only.own) ((enters_same p phase steps_made cmd).1 full.1)),
-      );
-      no_object = (
-        λ none. (lacks_same p phase steps_made cmd).0 (subst (λ (x : Private). LacksObject x cmd) only.own (a.cause.no_object.0 none)),
-        λ none. a.cause.no_object.1 (subst (λ (x : Private). LacksObject x cmd) (sym only.own) ((lacks_same p phase steps_made cmd).1 none)),
-      );
-      no_field = (
-        λ refused. writes_along last w t cmd (sym registers) (sym entries) (sym config) (sym headers) ((into_leaf last t cmd a.kept a.is a.busy a.work).0 (a.cause.no_field.0 refused)),
-        λ writes. a.cause.no_field.1 ((into_leaf last t cmd a.kept a.is a.busy a.work).1 (writes_along w last t cmd registers entries config headers writes)),
-      );
-      full = (
-        λ full. full_along last w t cmd (sym entries) (sym config) (sym headers) (sym freed) (told_full a full),
-        λ full. must_be_full a (full_along w last t cmd entries config headers freed full),
-      );
-      busy = λ before after. (
-        λ sweeps.
-            let (busy, first, ends) = told_busy before after a sweeps in
-            (busy_along last w t cmd (sym entries) (sym config) (sym headers) (sym freed) busy, first ∙ freed, ends ∙ freed),
-        λ sweeps. must_be_busy before after a (busy_along w last t cmd entries config headers freed sweeps.0, sweeps.1 ∙ sym freed, sweeps.2 ∙ sym freed),
-      );
-      refused = λ refusal. works_both w last v t only (a.refused refusal);
-      seen = (
-        slot,
-        subst (λ (s : Sight). sight v ≡ sight_told s slot t cmd told) same leaves.seen,
-        λ born. subst (λ (s : Sight). IsLowestFree s slot) same (lowest slot a (leaves.birth born)),
-      );
-      others = λ s other some.
-          ap (λ (x : Core). mutator x s) steps ∙ mutator_other last.mutators t s (step_of (mutator last t) (found_by last t) (box last t)) is.0 other some ∙ quiet.others s other some;
-      idle = answered_idle (mutator v t).phase (makes.Answered told) answer;
-      made = a.said.made ∙ ap (λ n. n + (if is_birth (cmd, told) then 1 else 0)) quiet.made;
-      logged = a.said.logged ∙ ap (λ n. n + entries_of cmd told.answer) entries;
-      stamp = subst (λ n. IfSome (word_left cmd told) (λ word. stamp_of word ≡ record { writer = t; epoch = n; index = log_length w t })) epoch
-          (subst (λ n. IfSome (word_left cmd told) (λ word. stamp_of word ≡ record { writer = t; epoch = (mutator last t).epoch; index = n })) entries a.said.stamp);
-      epoch = a.said.epoch ∙ epoch;
-      requested = a.said.requested ∙ quiet.requested;
-      freed = a.said.freed ∙ freed;
-      collector = ap (λ (x : Core). x.collector) steps ∙ quiet.collector;
-      config = ap (λ (x : Core). x.config) steps ∙ config;
+      refuses = record {
+        log_full = (
+          λ full.
+              let found : IsLogFullOf (mutator last t) × MakesEntry (mutator last t) cmd = a.cause.log_full.0 full in
+              let all : length p.log.entries ≡ p.log.capacity = subst IsLogFullOf only.own found.0 in
+              (all ∙ capacity, (enters_same p phase steps_made cmd).0 (subst (λ (x : Private). MakesEntry x cmd) only.own found.1)),
+          λ full.
+              let all : length p.log.entries ≡ p.log.capacity = full.0 ∙ sym capacity in
+              a.cause.log_full.1 (subst IsLogFullOf (sym only.own) all, subst (λ (x : Private). MakesEntry x cmd) (sym only.own) ((enters_same p phase steps_made cmd).1 full.1)),
+        );
+        no_object = (
+          λ none. (lacks_same p phase steps_made cmd).0 (subst (λ (x : Private). LacksObject x cmd) only.own (a.cause.no_object.0 none)),
+          λ none. a.cause.no_object.1 (subst (λ (x : Private). LacksObject x cmd) (sym only.own) ((lacks_same p phase steps_made cmd).1 none)),
+        );
+        no_field = (
+          λ refused. writes_along last w t cmd (sym registers) (sym entries) (sym config) (sym headers) ((into_leaf last t cmd a.kept a.is a.busy a.work).0 (a.cause.no_field.0 refused)),
+          λ writes. a.cause.no_field.1 ((into_leaf last t cmd a.kept a.is a.busy a.work).1 (writes_along w last t cmd registers entries config headers writes)),
+        );
+        full = (
+          λ full. full_along last w t cmd (sym entries) (sym config) (sym headers) (sym freed) (told_full a full),
+          λ full. must_be_full a (full_along w last t cmd entries config headers freed full),
+        );
+        busy = λ before after. (
+          λ sweeps.
+              let (busy, first, ends) = told_busy before after a sweeps in
+              (busy_along last w t cmd (sym entries) (sym config) (sym headers) (sym freed) busy, first ∙ freed, ends ∙ freed),
+          λ sweeps. must_be_busy before after a (busy_along w last t cmd entries config headers freed sweeps.0, sweeps.1 ∙ sym freed, sweeps.2 ∙ sym freed),
+        );
+        refused = λ refusal. works_both w last v t only (a.refused refusal);
+      };
+      changes = record {
+        seen = (
+          slot,
+          subst (λ (s : Sight). sight v ≡ sight_told s slot t cmd told) same leaves.seen,
+          λ born. subst (λ (s : Sight). IsLowestFree s slot) same (lowest slot a (leaves.birth born)),
+        );
+        made = a.said.made ∙ ap (λ n. n + (if is_birth (cmd, told) then 1 else 0)) quiet.made;
+        logged = a.said.logged ∙ ap (λ n. n + entries_of cmd told.answer) entries;
+        stamp = subst (λ n. IfSome (word_left cmd told) (λ word. stamp_of word ≡ record { writer = t; epoch = n; index = log_length w t })) epoch
+            (subst (λ n. IfSome (word_left cmd told) (λ word. stamp_of word ≡ record { writer = t; epoch = (mutator last t).epoch; index = n })) entries a.said.stamp);
+      };
+      stays = record {
+        others = λ s other some.
+            ap (λ (x : Core). mutator x s) steps ∙ mutator_other last.mutators t s (step_of (mutator last t) (found_by last t) (box last t)) is.0 other some ∙ quiet.others s other some;
+        idle = answered_idle (mutator v t).phase (makes.Answered told) answer;
+        epoch = a.said.epoch ∙ epoch;
+        requested = a.said.requested ∙ quiet.requested;
+        freed = a.said.freed ∙ freed;
+        collector = ap (λ (x : Core). x.collector) steps ∙ quiet.collector;
+        config = ap (λ (x : Core). x.config) steps ∙ config;
+      };
     }
 
 -- what was said of the command that was answered

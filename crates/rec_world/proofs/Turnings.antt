@@ -1,36 +1,24 @@
 -- What the fields of a world become in a turn is what the definitions say.
-use Rattle.std.proofs.Common.{◌≡◌, ◌≢◌, ℕ, ◌+◌, ◌-◌, ◌<◌, ◌≤◌, ◌==◌, if◌then◌else◌, List, Option, None, Some, Bool, true, false, slice_set, slice_index_or, length, map, refl, sym, ap, subst, ◌∙◌, arith}
+use Rattle.std.proofs.Common.{◌≡◌, ◌≢◌, ℕ, ◌+◌, ◌-◌, ◌<◌, ◌==◌, if◌then◌else◌, List, Option, None, Some, Bool, true, false, slice_set, slice_index_or, length, map, refl, sym, ap, subst, ◌∙◌}
 use Rattle.std.specs.Option.{IfSome, IsSome}
-use Rattle.std.proofs.lemmas.Bool.{ne_eqb}
 use Rattle.std.proofs.lemmas.List.{get_or_default, map-set, set-get_or}
 use Rattle.rec_word.specs.Mailbox.{crossing_word}
-use Rattle.rec_word.specs.declared.mailbox.Mailbox.TheVariants.{Retired, WithCollector}
+use Rattle.rec_word.specs.declared.mailbox.Mailbox.TheVariants.{Retired}
 use Rattle.rec_word.specs.Op.{written}
 use Rattle.rec_word.specs.declared.op.Op.{Op}
-use Rattle.rec_word.specs.declared.op.Op.TheVariants as ops
 use Rattle.rec_log.specs.declared.contents.Contents.{Contents}
-use Rattle.rec_collector.specs.Causes.{HasCause}
 use Rattle.rec_collector.specs.Given.{IsSwapping, swapping_for}
-use Rattle.rec_collector.specs.Kept.{swept_at, under_way}
-use Rattle.rec_collector.specs.Next.{next_of, next_at}
+use Rattle.rec_collector.specs.Next.{next_of}
 use Rattle.rec_collector.specs.Private as collectors
 use Rattle.rec_collector.specs.Step.{IsBetween}
-use Rattle.rec_collector.specs.Took.{left_at, left_of, took_of, took_at, step_of, swapped_of, swapped_at}
+use Rattle.rec_collector.specs.Took.{left_at, left_of, took_of, took_at, step_of, swapped_of}
 use Rattle.rec_collector.specs.declared.phase.Phase.{Phase}
-use Rattle.rec_collector.specs.declared.phase.Phase.TheVariants.{Idle, Looking, Swapping}
-use Rattle.rec_collector.specs.declared.turn.Turn.{Turn}
-use Rattle.rec_collector.specs.declared.turn.Turn.TheVariants as turns
+use Rattle.rec_collector.specs.declared.phase.Phase.TheVariants.{Looking, Swapping}
 use Rattle.rec_collector.proofs.Steps.{took_between}
-use Rattle.rec_collector.proofs.Landing.{under_way_most}
 use Rattle.rec_core.specs.Cells.{Cells, cell, with_cell}
-use Rattle.rec_core.specs.Core.{Core, cells_of, box, crossing_of}
-use Rattle.rec_core.specs.Kept.{IsKept}
-use Rattle.rec_core.specs.Moves.{looked_at, left_by, collected, turned, turned_at, turned_by}
-use Rattle.rec_core.specs.declared.config.Config.{Config}
-use Rattle.rec_core.proofs.Turning.{some_op}
-use Rattle.rec_core.proofs.Shapes.{same_boxes}
+use Rattle.rec_core.specs.Core.{Core, cells_of, box}
+use Rattle.rec_core.specs.Moves.{looked_at, left_by, turned, turned_at, turned_by}
 use Rattle.rec_world.specs.Mailbox.{held, held_by, gathered_by, gathered_from}
-use Rattle.rec_world.specs.World.{TurnHasCause}
 use Rattle.rec_world.proofs.Calls.{box_read, home_again}
 use Rattle.rec_world.proofs.Mailboxes.{collector_leaves, collector_stays, gathered_stays}
 
@@ -152,103 +140,3 @@ pub home_still : (c : collectors.Private) (boxes : List (Option Contents)) (x : 
     → (i : ℕ) → i < length (gathered_from c boxes x) → IsSome (slice_index_or (gathered_from c boxes x) i None)
 home_still c boxes None home = home
 home_still c boxes (Some t) home = home_again boxes (t - 1) (Some (left_of c (held_by boxes t))) refl home
-
--- the swap of a mailbox changes no number of the collector
-record KeepsNumbers (p q : collectors.Private) : Type 0 where
-  pub turns : q.turns ≡ p.turns
-  pub collections : q.collections ≡ p.collections
-  pub freed : q.freed ≡ p.freed
-  pub swept : swept_at q.phase ≡ swept_at p.phase
-
-swapped_keeps : (p : collectors.Private) (b : Contents) → KeepsNumbers p (swapped_of p b)
-unfolding swapped_of swapped_at
-swapped_keeps p b = go p.phase refl
-  where
-    same : KeepsNumbers p p
-    same = record { turns = refl; collections = refl; freed = refl; swept = refl }
-
-    go : (phase : Phase) → p.phase ≡ phase → KeepsNumbers p (swapped_at p b phase)
-    go (Swapping t) is = record { turns = refl; collections = refl; freed = refl; swept = sym (ap swept_at is) }
-    go _ is = same
-
--- nor does it happen at rest
-swapped_idle : (p : collectors.Private) (b : Contents) → p.phase ≡ Idle → swapped_of p b ≡ p
-unfolding swapped_of swapped_at
-swapped_idle p b is = ap (swapped_at p b) is
-
--- the word of a mailbox that is looked at
-looks : (w : Core) (t : ℕ) (op : Op) → w.collector.phase ≡ Looking t → ◌≡◌ {A = Option Op} (next_of w.collector) (Some op) → op ≡ ops.LookBox t w.collector.epoch
-unfolding next_of next_at
-looks w t op is named = sym (some_op (ops.LookBox t w.collector.epoch) op (sym (ap (next_at w.collector) is) ∙ named))
-
-pub looked_word : (w : Core) (t : ℕ) (op : Op) → w.collector.phase ≡ Looking t → ◌≡◌ {A = Option Op} (next_of w.collector) (Some op) → cell (cells_of w) op ≡ crossing_of w t
-looked_word w t op is named = ap (cell (cells_of w)) (looks w t op is named)
-
--- a turn that waits changes nothing
-waits_same : (w : Core) (t : ℕ) (op : Op) → w.collector.phase ≡ Looking t → ◌≡◌ {A = Option Op} (next_of w.collector) (Some op) → crossing_of w t ≢ crossing_word w.collector.epoch Retired → turned w ≡ w
-unfolding step_of swapped_of swapped_at took_of took_at next_of next_at
-waits_same w t op is named other =
-    let c : collectors.Private = w.collector in
-    let word : ℕ = crossing_of w t in
-    let no : (word == crossing_word c.epoch Retired) ≡ false = ne_eqb word (crossing_word c.epoch Retired) other in
-    let named_so : ◌≡◌ {A = Option Op} (next_of c) (Some (ops.LookBox t c.epoch)) = ap (next_at c) is in
-    let kept_word : written (ops.LookBox t c.epoch) word ≡ word = ap (λ b. if b then crossing_word c.epoch WithCollector else word) no in
-    let same_words : slice_set w.crossing (t - 1) (written (ops.LookBox t c.epoch) word) ≡ w.crossing = ap (slice_set w.crossing (t - 1)) kept_word ∙ set-get_or w.crossing (t - 1) 0 in
-    let learnt : took_of c word ≡ c = ap (took_at c word) is ∙ ap (λ (b : Bool). let d : collectors.Private = (if b then record c { phase = Swapping t; turns = c.turns + 1 } else c) in d) no in
-    let stays : step_of c word (box w t) ≡ c = ap (λ x. swapped_of x (box w t)) learnt ∙ ap (swapped_at c (box w t)) is in
-    let left : left_by c word (box w t) (Looking t) ≡ box w t = ap (λ (b : Bool). if b then collectors.spare c else box w t) no in
-    let boxes : slice_set w.boxes (t - 1) (left_by c word (box w t) (Looking t)) ≡ w.boxes = ap (slice_set w.boxes (t - 1)) left ∙ same_boxes w t in
-    let make : List ℕ → List Contents → collectors.Private → Core = λ crossing bs d. record w { crossing = crossing; boxes = bs; collector = d } in
-    let looked : Phase → Core = λ phase. collected w (ops.LookBox t c.epoch) word (step_of c word (box w (looked_at phase))) (left_by c word (box w (looked_at phase)) phase) in
-    ap (turned_at w) named_so ∙ at_phase
-    ∙ ap (λ x. make x (slice_set w.boxes (t - 1) (left_by c word (box w t) (Looking t))) (step_of c word (box w t))) same_words ∙ ap (λ x. make w.crossing x (step_of c word (box w t))) boxes ∙ ap (λ x. make w.crossing w.boxes x) stays
-  where
-    at_phase : turned_at w (Some (ops.LookBox t w.collector.epoch)) ≡ record w {
-      crossing = slice_set w.crossing (t - 1) (written (ops.LookBox t w.collector.epoch) (crossing_of w t));
-      boxes = slice_set w.boxes (t - 1) (left_by w.collector (crossing_of w t) (box w t) (Looking t));
-      collector = step_of w.collector (crossing_of w t) (box w t);
-    }
-    at_phase = ap (λ (phase : Phase). let v : Core = record w {
-      crossing = slice_set w.crossing (t - 1) (written (ops.LookBox t w.collector.epoch) (crossing_of w t));
-      boxes = slice_set w.boxes (looked_at phase - 1) (left_by w.collector (crossing_of w t) (box w (looked_at phase)) phase);
-      collector = step_of w.collector (crossing_of w t) (box w (looked_at phase));
-    } in v) is
-
--- the collector after its turn
-collector_left : (w : Core) (op : Op) → ◌≡◌ {A = Option Op} (next_of w.collector) (Some op) → (turned w).collector ≡ step_of w.collector (cell (cells_of w) op) (box w (looked_at w.collector.phase))
-collector_left w op named = ap (λ (x : Option Op). (turned_at w x).collector) named
-
--- why a turn with an operation answers this
-pub turn_cause : (w : Core) (op : Op) (taken : collectors.Private) (turn : Turn) → IsKept w → ◌≡◌ {A = Option Op} (next_of w.collector) (Some op) → taken ≡ took_of w.collector (cell (cells_of w) op)
-    → HasCause w.collector (cell (cells_of w) op) taken turn → (turn ≡ turns.EpochsSpent → ⊥) → TurnHasCause w (turned w) turn
-unfolding step_of
-turn_cause w op taken turns.Moved kept named learns cause none =
-    let b : Contents = box w (looked_at w.collector.phase) in
-    let left : (turned w).collector ≡ swapped_of taken b = collector_left w op named ∙ ap (λ x. swapped_of x b) (sym learns) in
-    let keeps : KeepsNumbers taken (turned w).collector = subst (KeepsNumbers taken) (sym left) (swapped_keeps taken b) in
-    (keeps.turns ∙ cause.0, keeps.collections ∙ cause.1, ap (λ n. n + swept_at w.collector.phase) keeps.freed ∙ cause.2 ∙ ap (λ n. w.collector.freed + n) (sym keeps.swept))
-turn_cause w op taken (turns.Waiting t) kept named learns cause none =
-    let other : crossing_of w t ≢ crossing_word w.collector.epoch Retired = λ is. cause.1 (looked_word w t op cause.0 named ∙ is) in
-    (cause.0, λ is. other (is ∙ ap (λ n. crossing_word n Retired) (sym kept.collector.epoch)), waits_same w t op cause.0 named other)
-turn_cause w op taken (turns.Collected epoch freed) kept named learns cause none =
-    let b : Contents = box w (looked_at w.collector.phase) in
-    let left : (turned w).collector ≡ taken = collector_left w op named ∙ ap (λ x. swapped_of x b) (sym learns) ∙ swapped_idle taken b cause.2 in
-    (cause.0 ∙ kept.collector.epoch, cause.1, ap (λ (c : collectors.Private). c.phase) left ∙ cause.2, ap (λ (c : collectors.Private). c.collections) left ∙ cause.3, ap (λ (c : collectors.Private). c.freed) left ∙ cause.4)
-turn_cause w op taken turns.EpochsSpent kept named learns cause none = absurd (none refl)
-
--- one epoch more is requested at most
-pub turn_requests : (w v : Core) (turn : Turn) → IsKept w → IsKept v → v.config ≡ w.config → TurnHasCause w v turn → v.epoch ≤ w.epoch + 1
-turn_requests w v turns.Moved kept later same cause =
-    let before : w.config.first_epoch + w.collector.collections + under_way w.collector.phase ≡ w.epoch = kept.collector.begun in
-    let after : v.config.first_epoch + v.collector.collections + under_way v.collector.phase ≡ v.epoch = later.collector.begun in
-    let first : v.config.first_epoch ≡ w.config.first_epoch = ap (λ (c : Config). c.first_epoch) same in
-    let one : under_way v.collector.phase ≤ 1 = under_way_most v.collector.phase in
-    omega (arith, cause.1)
-turn_requests w v (turns.Waiting t) kept later same cause = subst (λ n. n ≤ w.epoch + 1) (sym (ap (λ (x : Core). x.epoch) cause.2)) (omega arith)
-turn_requests w v (turns.Collected epoch freed) kept later same cause =
-    let before : w.config.first_epoch + w.collector.collections + under_way w.collector.phase ≡ w.epoch = kept.collector.begun in
-    let after : v.config.first_epoch + v.collector.collections + under_way v.collector.phase ≡ v.epoch = later.collector.begun in
-    let first : v.config.first_epoch ≡ w.config.first_epoch = ap (λ (c : Config). c.first_epoch) same in
-    let none : under_way v.collector.phase ≡ 0 = ap under_way cause.2 in
-    omega (arith, cause.3)
-turn_requests w v turns.EpochsSpent kept later same cause = subst (λ n. n ≤ w.epoch + 1) (sym (ap (λ (x : Core). x.epoch) cause.2)) (omega arith)

@@ -1,27 +1,22 @@
--- What every world is, and what a command, a poll and a turn leave of it.
-use Rattle.std.specs.Prelude.{◌≡◌, ◌≢◌, ◌==◌, ℕ, ◌+◌, ◌%◌, ◌^◌, ◌<◌, if◌then◌else◌, true, Option, None, Some, All, length, slice_index_or}
-use Rattle.rec_word.specs.Mailbox.{crossing_word}
-use Rattle.rec_word.specs.declared.mailbox.Mailbox.TheVariants.{Retired}
+-- What every world is, and what a command and a poll leave of it.
+use Rattle.std.specs.Prelude.{◌≡◌, ◌≢◌, ◌↔◌, ◌==◌, ℕ, ◌+◌, ◌%◌, ◌^◌, ◌<◌, ◌≤◌, if◌then◌else◌, false, true, Option, None, Some, IfSome, All, length, slice_index_or}
 use Rattle.rec_word.specs.Header.{is_leaf, label_of as label_in}
-use Rattle.rec_word.specs.declared.op.Op.{Op}
+use Rattle.rec_word.specs.Word.{stamp_of}
+use Rattle.rec_model.specs.declared.answer.Answer.TheVariants as answers
 use Rattle.rec_model.specs.declared.command.Cmd.{Cmd}
 use Rattle.rec_model.specs.declared.command.Cmd.TheVariants as commands
-use Rattle.rec_model.specs.LegalOrder.{is_new}
+use Rattle.rec_model.specs.declared.told.Told.{Told}
+use Rattle.rec_model.specs.LegalOrder.{is_birth, is_new, word_left}
 use Rattle.rec_model.specs.Sight.{Sight, IsSound, IsTaken}
-use Rattle.rec_mutator.specs.Causes.{MakesEntry}
+use Rattle.rec_mutator.specs.Causes.{is_refusal, LacksObject, MakesEntry}
 use Rattle.rec_mutator.specs.Private.{register, is_busy, work_of, answer_of}
 use Rattle.rec_mutator.specs.declared.made.Made.{Made}
-use Rattle.rec_collector.specs.Next.{next_of}
-use Rattle.rec_collector.specs.declared.phase.Phase.TheVariants.{Idle, Looking}
-use Rattle.rec_collector.specs.declared.turn.Turn.{Turn}
-use Rattle.rec_collector.specs.declared.turn.Turn.TheVariants as turns
-use Rattle.rec_core.specs.Cells.{cell}
 use Rattle.rec_core.specs.Config.{IsConfig, IsMutator}
 pub use Rattle.rec_core.specs.Core.{Core, cells_of, sight, mutator, with_mutator, crossing_of, log_length, opened}
 use Rattle.rec_core.specs.Moves.{stepped, EndsRun}
-use Rattle.rec_core.specs.Shown.{IsFilled}
+use Rattle.rec_core.specs.Shown.{IsFilled, sight_told}
 pub use Rattle.rec_core.specs.Shown.{entries_of}
-use Rattle.rec_core.specs.Swept.{swept}
+pub use Rattle.rec_core.specs.Turn.{TurnHasCause, step_seen}
 pub use Rattle.rec_core.specs.Unfinished.{OnlyWorks, IsQuiet, HasFound, Waits}
 use Rattle.rec_core.specs.Worked.{StepsTo}
 use Rattle.rec_core.specs.Kept.{IsHeader}
@@ -77,6 +72,32 @@ pub record IsLowestFree (w : Sight) (slot : ℕ) : Type 0 where
   pub free : slice_index_or w.headers slot 0 ≡ 0
   pub lower : (s : ℕ) → s < slot → IsTaken w s
 
+-- When each refusal of a command comes. It changes no register, no field, no header and no log: only the mutator's work differs.
+pub record Refuses (before : Core) (t : ℕ) (cmd : Cmd) (told : Told) (after : Core) : Type 0 where
+  pub log_full : (told.answer ≡ answers.LogFull) ↔ IsLogFull before t cmd
+  pub full : (told.answer ≡ answers.Full) ↔ IsFull before t cmd
+  pub busy : (first last : ℕ) → (told.answer ≡ answers.Busy first last) ↔ (IsBusy before t cmd × (first ≡ before.freed) × (last ≡ before.freed))
+  pub no_object : (told.answer ≡ answers.NoObject) ↔ LacksObject (mutator before t) cmd
+  pub no_field : (told.answer ≡ answers.NoField) ↔ WritesLeaf before t cmd
+  pub refused : is_refusal told.answer ≡ true → OnlyWorks before after t
+
+-- What a command changes: a birth takes the lowest free slot, and a write leaves the stamp of its log entry.
+pub record Changes (before : Core) (t : ℕ) (cmd : Cmd) (told : Told) (after : Core) : Type 0 where
+  pub seen : (slot : ℕ) × (sight after ≡ sight_told (sight before) slot t cmd told) × (is_birth (cmd, told) ≡ true → IsLowestFree (sight before) slot)
+  pub stamp : IfSome (word_left cmd told) (λ word. stamp_of word ≡ record { writer = t; epoch = (mutator before t).epoch; index = log_length before t })
+  pub logged : log_length after t ≡ log_length before t + entries_of cmd told.answer
+  pub made : after.made ≡ before.made + (if is_birth (cmd, told) then 1 else 0)
+
+-- What stays: the collector, the epochs, the freed word, the other mutators and the heap's numbers; and the mutator works no more.
+pub record Stays (before : Core) (t : ℕ) (after : Core) : Type 0 where
+  pub collector : after.collector ≡ before.collector
+  pub requested : after.epoch ≡ before.epoch
+  pub epoch : (mutator after t).epoch ≡ (mutator before t).epoch
+  pub freed : after.freed ≡ before.freed
+  pub others : (s : ℕ) → s ≢ t → 1 ≤ s → mutator after s ≡ mutator before s
+  pub idle : is_busy (mutator after t) ≡ false
+  pub config : after.config ≡ before.config
+
 -- The work of a mutator was finished by steps, of which all but the last finished nothing.
 pub record IsFinished (before : Core) (t : ℕ) (made : Made) (after : Core) : Type 0 where
   -- the state before the last step
@@ -93,20 +114,3 @@ pub record IsFinished (before : Core) (t : ℕ) (made : Made) (after : Core) : T
 abbrev pub IsCrossed : (before after : Core) (t : ℕ) → Option ℕ → Type 0
 IsCrossed before after t None = ((mutator after t).epoch ≡ (mutator before t).epoch) × (log_length after t ≡ log_length before t)
 IsCrossed before after t (Some epoch) = (epoch ≡ (mutator before t).epoch + 1) × ((mutator after t).epoch ≡ epoch) × (log_length after t ≡ 0)
-
--- Why a turn of the collector answers this, and what it changed. A turn that waits, or that finds the epochs spent, changed nothing.
--- A collection is complete exactly where it is told, with the slots that its sweep has freed.
-abbrev pub TurnHasCause : (before after : Core) → Turn → Type 0
-TurnHasCause w v turns.Moved = (v.collector.turns ≡ w.collector.turns + 1) × (v.collector.collections ≡ w.collector.collections) × (v.collector.freed + swept w ≡ w.collector.freed + swept v)
-TurnHasCause w v (turns.Waiting t) = (w.collector.phase ≡ Looking t) × (crossing_of w t ≢ crossing_word w.epoch Retired) × (v ≡ w)
-TurnHasCause w v (turns.Collected epoch freed) = (epoch + 1 ≡ w.epoch) × (freed ≡ swept w) × (v.collector.phase ≡ Idle) × (v.collector.collections ≡ w.collector.collections + 1) × (v.collector.freed ≡ w.collector.freed)
-TurnHasCause w v turns.EpochsSpent = (w.collector.phase ≡ Idle) × (w.epoch + 1 ≡ 2 ^ 24) × (v ≡ w)
-
--- what is seen of a turn of the collector that makes this operation: the word that it names is found; without one nothing is
-abbrev pub seen_at : Core → Option Op → Option (Op × ℕ)
-seen_at w None = None
-seen_at w (Some op) = Some (op, cell (cells_of w) op)
-
--- what is seen of the collector's next turn
-abbrev pub step_seen : Core → Option (Op × ℕ)
-step_seen w = seen_at w (next_of w.collector)

@@ -1,40 +1,29 @@
-ghost use Rattle.std.specs.Prelude.{◌≡◌, ◌≢◌, ℕ, ◌+◌, ◌*◌, ◌%◌, ◌^◌, ◌<◌, ◌≤◌, ◌↔◌, if◌then◌else◌, true, false, None, Some, All, is_none, length, map, slice_index_or, IsTrue, IsNone, IsSome, IfOk, IfErr, IfSome};
+ghost use Rattle.std.specs.Prelude.{◌≡◌, ℕ, ◌+◌, ◌*◌, ◌%◌, ◌<◌, ◌↔◌, true, false, None, Some, All, length, map, slice_index_or, IsTrue, IsNone, IsSome, IfOk, IfErr};
 ghost use Rattle.rec_word.specs.Header.{is_leaf};
-ghost use Rattle.rec_word.specs.Mailbox.{crossing_word};
-ghost use Rattle.rec_word.specs.declared.mailbox.Mailbox.TheVariants.{Retired};
-ghost use Rattle.rec_word.specs.declared.op.Op.TheVariants.{FreeHeader};
-ghost use Rattle.rec_word.specs.Word.{stamp_of};
 ghost use Rattle.rec_counts.specs.Counts.{slot_at};
-ghost use Rattle.rec_model.specs.declared.answer.Answer.TheVariants as answers;
-ghost use Rattle.rec_model.specs.Heap.{Heap, opening, register, registers_of};
+ghost use Rattle.rec_model.specs.Heap.{opening, register, registers_of};
 ghost use Rattle.rec_model.specs.Explained.{IsExplained};
-ghost use Rattle.rec_model.specs.LegalOrder.{is_birth, word_left};
-ghost use Rattle.rec_model.specs.Sight.{IsTaken, StandsBy, StandsFor, NumbersSlots};
-ghost use Rattle.rec_mutator.specs.Causes.{is_refusal, LacksObject};
-ghost use Rattle.rec_mutator.specs.Private.{is_busy, answer_of, limit_of, work_of};
+ghost use Rattle.rec_model.specs.Sight.{IsTaken, StandsFor, NumbersSlots};
+ghost use Rattle.rec_mutator.specs.Private.{is_busy, answer_of, work_of};
 ghost use Rattle.rec_mutator.specs.declared.made.Made.TheVariants as makes;
 ghost use Rattle.rec_mutator.specs.declared.work.Work.TheVariants as works;
-ghost use Rattle.rec_collector.specs.Next.{next_of as collector_next};
-ghost use Rattle.rec_collector.specs.declared.phase.Phase as phases;
 ghost use Rattle.rec_collector.specs.declared.turn.Turn as turns;
 ghost use Rattle.rec_core.specs.Config.{IsConfig, IsMutator, IsValid, IsWork, HasLabel};
-ghost use Rattle.rec_core.specs.Core.{Core, sight, mutator, crossing_of, log_length, opened, opened_mutator, opened_mutators};
-ghost use Rattle.rec_core.specs.Freed.{AreGone, IsForgotten};
-ghost use Rattle.rec_core.specs.Moves.{begun, stepped, turned, offering, EndsRun};
-ghost use Rattle.rec_core.specs.Reach.{KeepsReached};
-ghost use Rattle.rec_core.specs.Shown.{IsShown, entries_of, sight_told};
-ghost use Rattle.rec_core.specs.Swept.{IsSweep};
+ghost use Rattle.rec_core.specs.Core.{Core, sight, mutator, opened, opened_mutator, opened_mutators};
+ghost use Rattle.rec_core.specs.Moves.{begun, stepped, offering, EndsRun};
+ghost use Rattle.rec_core.specs.Step.{IsStep};
+ghost use Rattle.rec_core.specs.Turn.{IsTurn, step_seen};
 ghost use Rattle.rec_world.specs.OpenError.{IsRefused};
 ghost use Rattle.rec_world.specs.Parts.{AreParts, MakeWorld};
 ghost use Rattle.rec_word.specs.Op.{written};
 ghost use Rattle.rec_mutator.specs.Next.{next_of};
 ghost use Rattle.rec_mutator.specs.Took.{took_of, step_of, left_of};
 ghost use Rattle.rec_core.specs.Cells.{births_of, cell, with_cell};
-ghost use Rattle.rec_core.specs.Unfinished.{HasFound, IsQuiet, OnlyWorks};
+ghost use Rattle.rec_core.specs.Unfinished.{HasFound, IsQuiet};
 ghost use Rattle.rec_core.specs.Worked.{AreIdle, StepsTo, IsWorked};
 ghost use Rattle.rec_world.specs.Mailbox.{held};
 ghost use Rattle.rec_world.specs.Stepping.{MakesStep};
-ghost use Rattle.rec_world.specs.World.{IsWorld, label_of, IsLogFull, WritesLeaf, IsFull, IsBusy, IsLowestFree, IsFinished, IsCrossed, TurnHasCause, step_seen};
+ghost use Rattle.rec_world.specs.World.{IsWorld, label_of, Refuses, Changes, Stays, IsFinished, IsCrossed};
 
 use crate::mailbox::{gather, open_boxes, swap_own};
 use crate::memory::Memory;
@@ -178,20 +167,7 @@ impl World {
         requires mutator { IsMutator self.old.config t }
         requires busy { is_busy (mutator self.old t) ≡ true }
 
-        ensures stepped { self.new ≡ stepped self.old t }
-        ensures answer { result ≡ answer_of (mutator self.new t) }
-        ensures busy { is_busy (mutator self.new t) ≡ is_none result }
-
-        // Where the step answers a command, whatever heap stood for the world explains the answer, and each refusal has its
-        // cause; else all that is seen stays.
-        ensures shown { IsShown self.old t result self.new }
-
-        ensures work { work_of (mutator self.new t) ≡ work_of (mutator self.old t) }
-
-        // Each step counts, and a work ends in time.
-        ensures steps { (mutator self.new t).steps ≡ (mutator self.old t).steps + 1 }
-        ensures limit { IfSome (work_of (mutator self.new t)) (λ work. (mutator self.new t).steps ≤ limit_of self.new.config.slots work) }
-        ensures run { EndsRun self.new }
+        ensures step { IsStep self.old t result self.new }
         ensures kept { IsWorld self.new }
     {
         let index = usize::from(t) - 1;
@@ -202,34 +178,9 @@ impl World {
 
     /// Makes one turn of the collector: one step of its collection, on the word that this names. It answers `Waiting` for a mutator
     /// that hasn't crossed into the requested epoch, and `EpochsSpent` for good where the next request would be epoch 16,777,216.
+    /// No slot that a register reaches is freed or changed, and whatever heap stood for the world still does.
     pub fn turn(&mut self) -> Turn
-        ensures turned { self.new ≡ turned self.old }
-
-        // Why each answer comes. A turn that waits, or that finds the epochs spent, changes nothing.
-        ensures cause { TurnHasCause self.old self.new result }
-        ensures waiting { (t : ℕ) → self.old.collector.phase ≡ phases.Phase.Looking t → crossing_of self.old t ≢ crossing_word self.old.epoch Retired → result ≡ turns.Turn.Waiting t }
-        ensures spent { self.old.collector.phase ≡ phases.Phase.Idle → self.old.epoch + 1 ≡ 2 ^ 24 → result ≡ turns.Turn.EpochsSpent }
-
-        // Whoever is waited for is a mutator of this heap, so it may poll where it is idle.
-        ensures awaited { (t : ℕ) → result ≡ turns.Turn.Waiting t → IsMutator self.new.config t }
-
-        // No slot that a register reaches is freed or changed, and whatever heap stood for the world still does, by the same
-        // numbers of its objects. Within a sweep a turn frees one slot at most.
-        ensures reached { KeepsReached (sight self.old) (sight self.new) }
-        ensures stands { (heap : Heap) (number : ℕ → ℕ) → StandsBy heap (sight self.old) number → StandsBy heap (sight self.new) number }
-        ensures sweep { IsSweep self.old self.new }
-
-        // What was given up, the members of a set that passed both tests among it, is in no reach, and nothing names it. A header
-        // is set to 0 only where nothing at all names the slot.
-        ensures gone { AreGone self.new }
-        ensures forgotten { (slot : ℕ) → collector_next self.old.collector ≡ Some (FreeHeader slot) → IsForgotten self.old slot }
-
-        // One epoch more is requested at most, and no mutator changes.
-        ensures requested { self.new.epoch ≤ self.old.epoch + 1 }
-        ensures mutators { self.new.mutators ≡ self.old.mutators }
-        ensures config { self.new.config ≡ self.old.config }
-        ensures made { self.new.made ≡ self.old.made }
-        ensures run { EndsRun self.new }
+        ensures turn { IsTurn self.old self.new result }
         ensures kept { IsWorld self.new }
     {
         self.turn_seen().0
@@ -239,37 +190,11 @@ impl World {
     /// this found. There was no step, and the second is `None`, exactly where the epochs are spent.
     #[inline(always)]
     pub fn turn_seen(&mut self) -> (Turn, Option<(Op, u64)>)
-        ensures turned { self.new ≡ turned self.old }
+        ensures turn { IsTurn self.old self.new result.0 }
 
         // What is seen of it: the operation that came next, and the word that it named.
         ensures seen { result.1 ≡ step_seen self.old }
         ensures unseen { IsNone result.1 ↔ (result.0 ≡ turns.Turn.EpochsSpent) }
-
-        // Why each answer comes. A turn that waits, or that finds the epochs spent, changes nothing.
-        ensures cause { TurnHasCause self.old self.new result.0 }
-        ensures waiting { (t : ℕ) → self.old.collector.phase ≡ phases.Phase.Looking t → crossing_of self.old t ≢ crossing_word self.old.epoch Retired → result.0 ≡ turns.Turn.Waiting t }
-        ensures spent { self.old.collector.phase ≡ phases.Phase.Idle → self.old.epoch + 1 ≡ 2 ^ 24 → result.0 ≡ turns.Turn.EpochsSpent }
-
-        // Whoever is waited for is a mutator of this heap, so it may poll where it is idle.
-        ensures awaited { (t : ℕ) → result.0 ≡ turns.Turn.Waiting t → IsMutator self.new.config t }
-
-        // No slot that a register reaches is freed or changed, and whatever heap stood for the world still does, by the same
-        // numbers of its objects. Within a sweep a turn frees one slot at most.
-        ensures reached { KeepsReached (sight self.old) (sight self.new) }
-        ensures stands { (heap : Heap) (number : ℕ → ℕ) → StandsBy heap (sight self.old) number → StandsBy heap (sight self.new) number }
-        ensures sweep { IsSweep self.old self.new }
-
-        // What was given up, the members of a set that passed both tests among it, is in no reach, and nothing names it. A header
-        // is set to 0 only where nothing at all names the slot.
-        ensures gone { AreGone self.new }
-        ensures forgotten { (slot : ℕ) → collector_next self.old.collector ≡ Some (FreeHeader slot) → IsForgotten self.old slot }
-
-        // One epoch more is requested at most, and no mutator changes.
-        ensures requested { self.new.epoch ≤ self.old.epoch + 1 }
-        ensures mutators { self.new.mutators ≡ self.old.mutators }
-        ensures config { self.new.config ≡ self.old.config }
-        ensures made { self.new.made ≡ self.old.made }
-        ensures run { EndsRun self.new }
         ensures kept { IsWorld self.new }
     {
         let Some(op) = self.collector.next() else {
@@ -304,28 +229,10 @@ impl World {
         // stands for the world afterwards, by numbers of its objects that go on.
         ensures explained { IsExplained (sight self.old) t cmd result (sight self.new) }
 
-        // When each refusal comes. It changes no register, no field, no header and no log: only the mutator's work differs.
-        ensures log_full { (result.answer ≡ answers.LogFull) ↔ IsLogFull self.old t cmd }
-        ensures full { (result.answer ≡ answers.Full) ↔ IsFull self.old t cmd }
-        ensures busy { (before after : ℕ) → (result.answer ≡ answers.Busy before after) ↔ (IsBusy self.old t cmd × (before ≡ self.old.freed) × (after ≡ self.old.freed)) }
-        ensures no_object { (result.answer ≡ answers.NoObject) ↔ LacksObject (mutator self.old t) cmd }
-        ensures no_field { (result.answer ≡ answers.NoField) ↔ WritesLeaf self.old t cmd }
-        ensures refused { is_refusal result.answer ≡ true → OnlyWorks self.old self.new t }
-
-        // What changes: a birth takes the lowest free slot, and a write leaves the stamp of its log entry.
-        ensures seen { (slot : ℕ) × (sight self.new ≡ sight_told (sight self.old) slot t cmd result) × (is_birth (cmd, result) ≡ true → IsLowestFree (sight self.old) slot) }
-        ensures stamp { IfSome (word_left cmd result) (λ word. stamp_of word ≡ record { writer = t; epoch = (mutator self.old t).epoch; index = log_length self.old t }) }
-        ensures logged { log_length self.new t ≡ log_length self.old t + entries_of cmd result.answer }
-        ensures made { self.new.made ≡ self.old.made + (if is_birth (cmd, result) then 1 else 0) }
-
-        // What stays: the collector, the epochs, the freed word and the other mutators.
-        ensures collector { self.new.collector ≡ self.old.collector }
-        ensures requested { self.new.epoch ≡ self.old.epoch }
-        ensures epoch { (mutator self.new t).epoch ≡ (mutator self.old t).epoch }
-        ensures freed { self.new.freed ≡ self.old.freed }
-        ensures others { (s : ℕ) → s ≢ t → 1 ≤ s → mutator self.new s ≡ mutator self.old s }
-        ensures idle { is_busy (mutator self.new t) ≡ false }
-        ensures config { self.new.config ≡ self.old.config }
+        // When each refusal comes; what the command changes; what stays.
+        ensures refuses { Refuses self.old t cmd result self.new }
+        ensures changes { Changes self.old t cmd result self.new }
+        ensures stays { Stays self.old t self.new }
         ensures run { EndsRun self.new }
         ensures kept { IsWorld self.new }
     {

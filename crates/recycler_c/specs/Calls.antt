@@ -1,12 +1,8 @@
 -- What each call comes to, code by code: why that code came, and what the call left.
 use Rattle.std.specs.Prelude.{◌≡◌, ℕ, ◌+◌, ◌%◌, ◌^◌, ◌<◌, ◌≤◌, All, Option, Some, None, IsSome, List, [], ◌∷◌, length, map, slice_index_or, unwrap_or}
 use Rattle.std.specs.Arc.{arc_value}
-use Rattle.rec_collector.specs.Causes.{HasCause}
 use Rattle.rec_collector.specs.Kept.{under_way}
-use Rattle.rec_collector.specs.Next.{next_of}
-use Rattle.rec_collector.specs.Took.{took_of, turn_of}
 use Rattle.rec_collector.specs.declared.turn.Turn.{Turn}
-use Rattle.rec_collector.specs.declared.turn.Turn.TheVariants as turns
 use Rattle.rec_core.specs.Config.{IsConfig}
 use Rattle.rec_core.specs.Core.{Core, opened, sight}
 use Rattle.rec_core.specs.Settled.{IsSettled}
@@ -21,13 +17,10 @@ use Rattle.rec_mutator.specs.declared.made.Made.TheVariants as makes
 use Rattle.rec_mutator.specs.declared.work.Work.TheVariants as works
 use Rattle.rec_settle.specs.Collecting.{IsSettling, taken_slots}
 use Rattle.rec_table.specs.Answered.{IsAnswered, IsPolled}
-use Rattle.rec_table.specs.Beats.{gathered}
 use Rattle.rec_table.specs.Ends.{IsStopped}
 use Rattle.rec_table.specs.Held.{Gathers, Held, Started, Works, fresh, fresh_collector, gathers_now, has}
 use Rattle.rec_table.specs.Journals.{Tells}
-use Rattle.rec_table.specs.Rule.{crew_more, word_of}
-use Rattle.rec_table.specs.declared.views.Beat.{Beat}
-use Rattle.rec_word.specs.declared.op.Op.{Op}
+use Rattle.rec_table.specs.Turn.{MakesTurn}
 use Rattle.rec_world.specs.OpenError.{IsRefused}
 use Rattle.rec_world.specs.World.{label_of}
 use Rattle.rec_world.specs.declared.open_error.OpenError.{OpenError}
@@ -67,6 +60,25 @@ Rests h = IsSome (rests_in h)
 abbrev pub Runs : Option End → Type 0
 Runs h = IsSome (collects_in h)
 
+-- the handle is open, and no heap runs in it
+pub record IsAtRest (h : Option End) : Type 0 where
+  pub is_open : IsSome h
+  pub collects : collects_in h ≡ None
+  pub mutates : mutates_in h ≡ None
+
+-- a call that is for a heap at rest is refused so: none is open, or it runs
+abbrev pub LacksRest : Option End → Code → Type 0
+LacksRest h codes.Closed = IsClosed h
+LacksRest h codes.Runs = Runs h
+LacksRest h _ = ⊥
+
+-- a call that is for one end of a running heap: none is open, or it rests, or the handle holds the other end
+abbrev pub LacksEnd : (other : Type 0) → Option End → Code → Type 0
+LacksEnd other h codes.Closed = IsClosed h
+LacksEnd other h codes.Rests = IsAtRest h
+LacksEnd other h codes.Other = other
+LacksEnd other h _ = ⊥
+
 -- a heap with these numbers was opened
 pub record HasOpened (config : Config) (h : Option End) (hs : List Handle) (h' : Option End) (hs' : List Handle) : Type 0 where
   pub was : IsClosed h
@@ -88,9 +100,7 @@ Opens config h hs code h' hs' = RefusesOpening config h hs code h' hs'
 
 abbrev pub Closes : Option End → List Handle → Code → Option End → List Handle → Type 0
 Closes h hs codes.Ok h' hs' = Rests h × IsClosed h'
-Closes h hs codes.Closed h' hs' = IsClosed h × IsSame h hs h' hs'
-Closes h hs codes.Runs h' hs' = Runs h × IsSame h hs h' hs'
-Closes h hs _ h' hs' = ⊥
+Closes h hs code h' hs' = LacksRest h code × IsSame h hs h' hs'
 
 -- a handle holds this mutator of this heap
 pub record IsOut (s : Started) (e : Held) (h : Option End) : Type 0 where
@@ -134,10 +144,8 @@ pub record StartsHome (h : Option End) (hs : List Handle) (h' : Option End) (hs'
 abbrev pub Starts : Option End → List Handle → Code → Option End → List Handle → Type 0
 Starts h hs codes.Ok h' hs' = HasStarted h hs h' hs'
 Starts h hs codes.NoMemory h' hs' = Rests h × IsSame h hs h' hs'
-Starts h hs codes.Closed h' hs' = IsClosed h × IsSame h hs h' hs'
-Starts h hs codes.Runs h' hs' = Runs h × IsSame h hs h' hs'
 Starts h hs codes.Shared h' hs' = StartsHome h hs h' hs'
-Starts h hs _ h' hs' = ⊥
+Starts h hs code h' hs' = LacksRest h code × IsSame h hs h' hs'
 
 -- these are the mutators of the running heap, in order of number: those that are home, or else those in the handles
 pub record AreGathered (c : Collecting) (hs : List Handle) (ms : List Held) : Type 0 where
@@ -202,44 +210,26 @@ pub record HasFewEpochs (h : Option End) : Type 0 where
 
 abbrev pub Settles : Option End → Settled → Code → Option End → Settled → Type 0
 Settles h told codes.Ok h' told' = HasSettled h h' told'
-Settles h told codes.Closed h' told' = IsClosed h × (h' ≡ h) × (told' ≡ told)
-Settles h told codes.Runs h' told' = Runs h × (h' ≡ h) × (told' ≡ told)
 Settles h told codes.EpochsSpent h' told' = HasFewEpochs h × (h' ≡ h) × (told' ≡ told)
-Settles h told _ h' told' = ⊥
+Settles h told code h' told' = LacksRest h code × (h' ≡ h) × (told' ≡ told)
 
--- One turn of the collector. Its list grows by the word found, and by what the mailbox held where it took one; its record, the answer
--- and the cause of the answer follow.
-pub record Turns (before after : Gathers) (turn : Turn) : Type 0 where
-  pub spent : next_of (gathers_now before) ≡ None → (after ≡ before) × (turn ≡ turns.EpochsSpent)
-  pub turned : (op : Op) → next_of (gathers_now before) ≡ Some op
-      → (b : Beat) × (after ≡ record before { crew = crew_more before.crew b }) × (gathers_now after ≡ gathered (gathers_now before) b) × (turn ≡ turn_of (gathers_now before) (word_of b))
-  pub cause : (word : ℕ) → turn ≡ turn_of (gathers_now before) word → HasCause (gathers_now before) word (took_of (gathers_now before) word) turn
-
+-- one turn of the collector, and how it is told
 pub record HasTurned (h h' : Option End) (told : Turned) : Type 0 where
   pub before : Collecting
   pub was : collects_in h ≡ Some before
   pub after : Collecting
   pub is : collects_in h' ≡ Some after
   pub turn : Turn
-  pub turns : Turns before.collector after.collector turn
+  pub turns : MakesTurn before.collector after.collector turn
   pub told_so : told ≡ turned_of turn
   -- nothing else of the handle changes
   pub heap : arc_value after.heap ≡ arc_value before.heap
   pub home : after.home.items ≡ before.home.items
   pub count : after.count ≡ before.count
 
--- the handle is open, and no heap runs in it
-pub record IsAtRest (h : Option End) : Type 0 where
-  pub is_open : IsSome h
-  pub collects : collects_in h ≡ None
-  pub mutates : mutates_in h ≡ None
-
 abbrev pub TurnsIn : Option End → Turned → Code → Option End → Turned → Type 0
 TurnsIn h told codes.Ok h' told' = HasTurned h h' told'
-TurnsIn h told codes.Closed h' told' = IsClosed h × (h' ≡ h) × (told' ≡ told)
-TurnsIn h told codes.Rests h' told' = IsAtRest h × (h' ≡ h) × (told' ≡ told)
-TurnsIn h told codes.Other h' told' = IsSome (mutates_in h) × (h' ≡ h) × (told' ≡ told)
-TurnsIn h told _ h' told' = ⊥
+TurnsIn h told code h' told' = LacksEnd (IsSome (mutates_in h)) h code × (h' ≡ h) × (told' ≡ told)
 
 -- what stays of a mutator's handle
 pub record KeepsMutator (before after : Mutating) : Type 0 where
@@ -271,10 +261,7 @@ pub record LacksOperand (h : Option End) (asked : Option Cmd) : Type 0 where
 abbrev pub Asks : Option End → Option Cmd → Asked → Code → Option End → Asked → Type 0
 Asks h asked told codes.Ok h' told' = (cmd : Cmd) × (asked ≡ Some cmd) × HasAsked h cmd h' told'
 Asks h asked told codes.Range h' told' = LacksOperand h asked × (h' ≡ h) × (told' ≡ told)
-Asks h asked told codes.Closed h' told' = IsClosed h × (h' ≡ h) × (told' ≡ told)
-Asks h asked told codes.Rests h' told' = IsAtRest h × (h' ≡ h) × (told' ≡ told)
-Asks h asked told codes.Other h' told' = IsSome (collects_in h) × (h' ≡ h) × (told' ≡ told)
-Asks h asked told _ h' told' = ⊥
+Asks h asked told code h' told' = LacksEnd (Runs h) h code × (h' ≡ h) × (told' ≡ told)
 
 -- A mutator polled: `crossed` is the epoch that it crossed into, or 0.
 pub record HasPolled (h h' : Option End) (crossed : ℕ) : Type 0 where
@@ -292,10 +279,7 @@ pub record HasPolled (h h' : Option End) (crossed : ℕ) : Type 0 where
 
 abbrev pub Polls : Option End → ℕ → Code → Option End → ℕ → Type 0
 Polls h crossed codes.Ok h' crossed' = HasPolled h h' crossed'
-Polls h crossed codes.Closed h' crossed' = IsClosed h × (h' ≡ h) × (crossed' ≡ crossed)
-Polls h crossed codes.Rests h' crossed' = IsAtRest h × (h' ≡ h) × (crossed' ≡ crossed)
-Polls h crossed codes.Other h' crossed' = IsSome (collects_in h) × (h' ≡ h) × (crossed' ≡ crossed)
-Polls h crossed _ h' crossed' = ⊥
+Polls h crossed code h' crossed' = LacksEnd (Runs h) h code × (h' ≡ h) × (crossed' ≡ crossed)
 
 -- a slot of a heap at rest was looked at
 pub record HasLooked (h : Option End) (slot : ℕ) (told : Slot) : Type 0 where
@@ -313,9 +297,7 @@ pub record LacksSlot (h : Option End) (slot : ℕ) : Type 0 where
 abbrev pub Looks : Option End → ℕ → Slot → Code → Slot → Type 0
 Looks h slot told codes.Ok told' = HasLooked h slot told'
 Looks h slot told codes.Range told' = LacksSlot h slot × (told' ≡ told)
-Looks h slot told codes.Closed told' = IsClosed h × (told' ≡ told)
-Looks h slot told codes.Runs told' = Runs h × (told' ≡ told)
-Looks h slot told _ told' = ⊥
+Looks h slot told code told' = LacksRest h code × (told' ≡ told)
 
 -- its totals as C reads them
 abbrev pub totals_in : Core → Totals
@@ -329,9 +311,7 @@ pub record HasTotals (h : Option End) (told : Totals) : Type 0 where
 
 abbrev pub Tallies : Option End → Totals → Code → Totals → Type 0
 Tallies h told codes.Ok told' = HasTotals h told'
-Tallies h told codes.Closed told' = IsClosed h × (told' ≡ told)
-Tallies h told codes.Runs told' = Runs h × (told' ≡ told)
-Tallies h told _ told' = ⊥
+Tallies h told code told' = LacksRest h code × (told' ≡ told)
 
 -- how many slots of a heap at rest hold objects
 pub record HasCounted (h : Option End) (taken : ℕ) : Type 0 where
@@ -341,6 +321,4 @@ pub record HasCounted (h : Option End) (taken : ℕ) : Type 0 where
 
 abbrev pub Counts : Option End → ℕ → Code → ℕ → Type 0
 Counts h taken codes.Ok taken' = HasCounted h taken'
-Counts h taken codes.Closed taken' = IsClosed h × (taken' ≡ taken)
-Counts h taken codes.Runs taken' = Runs h × (taken' ≡ taken)
-Counts h taken _ taken' = ⊥
+Counts h taken code taken' = LacksRest h code × (taken' ≡ taken)

@@ -27,7 +27,7 @@ use Rattle.rec_core.specs.Core.{Core}
 use Rattle.rec_core.specs.Kept.{IsKept}
 use Rattle.rec_core.specs.Quiet.{gathered, AreGathered}
 use Rattle.rec_core.specs.Resting.{AreCounted, TrialRests, PrepRests, Round, RestsIn, ComesTo}
-use Rattle.rec_core.proofs.TurnCases.{IsTurn, word_at}
+use Rattle.rec_core.proofs.TurnCases.{TurnCase, word_at}
 use Rattle.rec_core.proofs.Begun.{applied_lands}
 use Rattle.rec_core.proofs.Freeing.{freed_lands}
 use Rattle.rec_core.proofs.Landed.{HasLanded, HasCleared}
@@ -116,27 +116,27 @@ Comes w after = ComesTo Round.First w after.words after.collector
 
 -- So it is over a whole turn, but for the sweep of a slot, which changes what is held. Counts are to be true once all mailboxes are
 -- gathered.
-pub first_turned : (w v : Core) → IsKept w → IsTurn w v → (AreGathered w → (crossing words : List ℕ) (u : Begun) → HasLanded w crossing words u → AreCounted w words u.parts.counts)
+pub first_turned : (w v : Core) → IsKept w → TurnCase w v → (AreGathered w → (crossing words : List ℕ) (u : Begun) → HasLanded w crossing words u → AreCounted w words u.parts.counts)
     → ((due : Option ℕ) (n : ℕ) → w.collector.phase ≡ Sweeping due n → ⊥) → RestsIn Round.First w w.words w.collector w.collector.phase → (words : List ℕ) × (v.words ≡ words) × ComesTo Round.First w words v.collector
 first_turned w v kept turn counted unswept h = (v.words, refl, go turn)
   where
-    go : IsTurn w v → ComesTo Round.First w v.words v.collector
-    go (IsTurn.spent phase last is) = subst (Comes w) (sym is) (ComesTo.goes_on refl h)
-    go (IsTurn.requests phase is) = subst (Comes w) (sym is) (ComesTo.goes_on refl (known_in w Idle phase h))
-    go (IsTurn.waits t there phase word is) = subst (Comes w) (sym is) (ComesTo.goes_on refl h)
-    go (IsTurn.gathers t there phase word is) = subst (Comes w) (sym is) (ComesTo.goes_on refl (known_in w (Looking t) phase h))
-    go (IsTurn.gives_back t there phase other is) = subst (Comes w) (sym is) (ComesTo.goes_on refl (known_in w (Returning t) phase h))
-    go (IsTurn.applies t q turn there phase last on is) =
+    go : TurnCase w v → ComesTo Round.First w v.words v.collector
+    go (TurnCase.spent phase last is) = subst (Comes w) (sym is) (ComesTo.goes_on refl h)
+    go (TurnCase.requests phase is) = subst (Comes w) (sym is) (ComesTo.goes_on refl (known_in w Idle phase h))
+    go (TurnCase.waits t there phase word is) = subst (Comes w) (sym is) (ComesTo.goes_on refl h)
+    go (TurnCase.gathers t there phase word is) = subst (Comes w) (sym is) (ComesTo.goes_on refl (known_in w (Looking t) phase h))
+    go (TurnCase.gives_back t there phase other is) = subst (Comes w) (sym is) (ComesTo.goes_on refl (known_in w (Returning t) phase h))
+    go (TurnCase.applies t q turn there phase last on is) =
         subst (Comes w) (sym is) (first_clears (applied_lands w t kept phase last) (known_in w (Returning t) phase h) (counted (last_gathered w kept t phase last) _ w.words) on)
-    go (IsTurn.releases m a q turn phase at on is) =
+    go (TurnCase.releases m a q turn phase at on is) =
         subst (Comes w) (sym is) (first_clears (released_lands w m a kept phase at) (known_in w (Releasing m) phase h) (counted (all_gathered w (Releasing m) phase (λ t there. refl)) w.crossing _) on)
-    go (IsTurn.frees m a q turn phase at on is) =
+    go (TurnCase.frees m a q turn phase at on is) =
         let offers = freed_offers m (parts_of w.collector) (word_at w a.slot a.field) in
         subst (Comes w) (sym is) (first_clears (freed_lands w m a kept phase at) (offers ∙ known_in w (Freeing m) phase h) (counted (all_gathered w (Freeing m) phase (λ t there. refl)) w.crossing _) on)
-    go (IsTurn.tries m place q turn phase named on is) =
+    go (TurnCase.tries m place q turn phase named on is) =
         subst (Comes w) (sym is) (first_tries {u = parts_of w.collector} (trying_lands w m kept phase place named) (trial_rests_more w m place kept phase named (known_in w (Trying m) phase h)) on)
-    go (IsTurn.prepares m a q turn phase at on is) =
+    go (TurnCase.prepares m a q turn phase at on is) =
         subst (Comes w) (sym is) (first_prepares {u = parts_of w.collector} (preparing_lands w m kept phase a at) (prep_rests_more w m a kept phase at (known_in w (Preparing m) phase h)) on)
-    go (IsTurn.begins_sweep phase is) = subst (Comes w) (sym is) (ComesTo.goes_on refl (known_in w Opening phase h))
-    go (IsTurn.sweeps n slot next phase which is) = absurd (unswept (Some slot) n phase)
-    go (IsTurn.ends_sweep n phase is) = subst (Comes w) (sym is) (ComesTo.completes refl refl (known_in w (Closing n) phase h))
+    go (TurnCase.begins_sweep phase is) = subst (Comes w) (sym is) (ComesTo.goes_on refl (known_in w Opening phase h))
+    go (TurnCase.sweeps n slot next phase which is) = absurd (unswept (Some slot) n phase)
+    go (TurnCase.ends_sweep n phase is) = subst (Comes w) (sym is) (ComesTo.completes refl refl (known_in w (Closing n) phase h))

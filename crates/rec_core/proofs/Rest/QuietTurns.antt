@@ -30,7 +30,7 @@ use Rattle.rec_core.proofs.Freeing.{freed_lands}
 use Rattle.rec_core.proofs.Landed.{HasCleared}
 use Rattle.rec_core.proofs.Releasing.{released_lands}
 use Rattle.rec_core.proofs.SetTests.{tested_lands}
-use Rattle.rec_core.proofs.TurnCases.{crossing_with, words_without, swept_by, IsTurn}
+use Rattle.rec_core.proofs.TurnCases.{crossing_with, words_without, swept_by, TurnCase}
 use Rattle.rec_core.specs.declared.config.Config.{Config}
 
 -- no mutator is past the requested epoch
@@ -222,7 +222,7 @@ gives_back_quiet first w t kept is returns quiet s there =
     }
 
 -- A turn of the collector leaves the mutators at rest.
-pub quiet_turned : (first : ℕ) (w v : Core) → IsKept w → IsKept v → IsTurn w v → AreQuiet first w → AreQuiet first v
+pub quiet_turned : (first : ℕ) (w v : Core) → IsKept w → IsKept v → TurnCase w v → AreQuiet first w → AreQuiet first v
 quiet_turned first w v kept after turn quiet = go turn
   where
     becomes : (x : Core) → v ≡ x → AreQuiet first x → AreQuiet first v
@@ -252,18 +252,18 @@ quiet_turned first w v kept after turn quiet = go turn
     swept due n phase (inl is) = subst IsPast (sym is) tt
     swept due n phase (inr is) = subst IsPast (sym is) tt
 
-    go : IsTurn w v → AreQuiet first v
-    go (IsTurn.spent idle last e) = becomes w e quiet
-    go (IsTurn.requests idle e) = becomes _ e (requests_quiet first w kept idle quiet)
-    go (IsTurn.waits t is looks other e) = becomes w e quiet
-    go (IsTurn.gathers t is looks crossed e) = becomes _ e (gathers_quiet first w t kept is looks crossed quiet)
-    go (IsTurn.gives_back t is returns more e) = becomes _ e (gives_back_quiet first w t kept is returns quiet)
-    go (IsTurn.applies t q turned is returns last on e) = last_back t q is returns last (clears_comes (applied_lands w t kept returns last) on) e
-    go (IsTurn.releases m a q turned at field on e) = past (Releasing m) tt at w.headers (words_without w a.slot a.field) w.freed q (clears_comes (released_lands w m a kept at field) on) e
-    go (IsTurn.frees m a q turned at field on e) = past (Freeing m) tt at w.headers (words_without w a.slot a.field) w.freed q (clears_comes (freed_lands w m a kept at field) on) e
-    go (IsTurn.tries m place q turned at loads on e) = past (Trying m) tt at w.headers w.words w.freed q (tries_comes on) e
-    go (IsTurn.prepares m a q turned at field on e) = past (Preparing m) tt at w.headers w.words w.freed q (prepares_comes on) e
-    go (IsTurn.begins_sweep at e) =
+    go : TurnCase w v → AreQuiet first v
+    go (TurnCase.spent idle last e) = becomes w e quiet
+    go (TurnCase.requests idle e) = becomes _ e (requests_quiet first w kept idle quiet)
+    go (TurnCase.waits t is looks other e) = becomes w e quiet
+    go (TurnCase.gathers t is looks crossed e) = becomes _ e (gathers_quiet first w t kept is looks crossed quiet)
+    go (TurnCase.gives_back t is returns more e) = becomes _ e (gives_back_quiet first w t kept is returns quiet)
+    go (TurnCase.applies t q turned is returns last on e) = last_back t q is returns last (clears_comes (applied_lands w t kept returns last) on) e
+    go (TurnCase.releases m a q turned at field on e) = past (Releasing m) tt at w.headers (words_without w a.slot a.field) w.freed q (clears_comes (released_lands w m a kept at field) on) e
+    go (TurnCase.frees m a q turned at field on e) = past (Freeing m) tt at w.headers (words_without w a.slot a.field) w.freed q (clears_comes (freed_lands w m a kept at field) on) e
+    go (TurnCase.tries m place q turned at loads on e) = past (Trying m) tt at w.headers w.words w.freed q (tries_comes on) e
+    go (TurnCase.prepares m a q turned at field on e) = past (Preparing m) tt at w.headers w.words w.freed q (prepares_comes on) e
+    go (TurnCase.begins_sweep at e) =
         past Opening tt at w.headers w.words (w.freed + 1) (moved w.collector (Sweeping (slice_get w.collector.counts.free 0) 0)) (GoesOrEnds.goes refl refl tt) e
-    go (IsTurn.sweeps n slot next at more e) = past (Sweeping (Some slot) n) tt at (slice_set w.headers slot 0) w.words w.freed (swept_by w.collector slot next) (GoesOrEnds.goes refl refl (swept _ n next more)) e
-    go (IsTurn.ends_sweep n at e) = past (Closing n) tt at w.headers w.words (w.freed + 1) (ended w.collector) (GoesOrEnds.ends refl refl) e
+    go (TurnCase.sweeps n slot next at more e) = past (Sweeping (Some slot) n) tt at (slice_set w.headers slot 0) w.words w.freed (swept_by w.collector slot next) (GoesOrEnds.goes refl refl (swept _ n next more)) e
+    go (TurnCase.ends_sweep n at e) = past (Closing n) tt at w.headers w.words (w.freed + 1) (ended w.collector) (GoesOrEnds.ends refl refl) e

@@ -8,7 +8,7 @@ use Rattle.rec_core.specs.Kept.{IsKept}
 use Rattle.rec_core.specs.Moves.{turned}
 use Rattle.rec_core.specs.Quiet.{gathered, AreQuiet, AreGathered}
 use Rattle.rec_core.specs.Resting.{holds, Round, RestsIn, ComesTo, TurnsTo, epochs_before}
-use Rattle.rec_core.proofs.TurnCases.{IsTurn, header_freed, swept_by}
+use Rattle.rec_core.proofs.TurnCases.{TurnCase, header_freed, swept_by}
 use Rattle.rec_core.proofs.Rest.FirstRound.{first_turned}
 use Rattle.rec_core.proofs.Rest.QuietCounts.{landed_count}
 use Rattle.rec_core.proofs.Rest.RestingSeen.{rests_seen}
@@ -47,26 +47,26 @@ record IsSeenAlike (w v : Core) : Type 0 where
   config : v.config ≡ w.config
   held : holds (sight v) ≡ holds (sight w)
 
-alike : (w v : Core) → IsTurn w v → ((due : Option ℕ) (n : ℕ) → w.collector.phase ≡ Sweeping due n → ⊥) → IsSeenAlike w v
+alike : (w v : Core) → TurnCase w v → ((due : Option ℕ) (n : ℕ) → w.collector.phase ≡ Sweeping due n → ⊥) → IsSeenAlike w v
 alike w v turn unswept = go turn
   where
     same : (x : Core) → v ≡ x → x.config ≡ w.config → holds (sight x) ≡ holds (sight w) → IsSeenAlike w v
     same x is config held = subst (IsSeenAlike w) (sym is) (record { config = config; held = held })
 
-    go : IsTurn w v → IsSeenAlike w v
-    go (IsTurn.spent phase last is) = same _ is refl refl
-    go (IsTurn.requests phase is) = same _ is refl refl
-    go (IsTurn.waits t there phase word is) = same _ is refl refl
-    go (IsTurn.gathers t there phase word is) = same _ is refl refl
-    go (IsTurn.gives_back t there phase other is) = same _ is refl refl
-    go (IsTurn.applies t q answer there phase last on is) = same _ is refl refl
-    go (IsTurn.releases m a q answer phase at on is) = same _ is refl refl
-    go (IsTurn.frees m a q answer phase at on is) = same _ is refl refl
-    go (IsTurn.tries m place q answer phase named on is) = same _ is refl refl
-    go (IsTurn.prepares m a q answer phase at on is) = same _ is refl refl
-    go (IsTurn.begins_sweep phase is) = same _ is refl refl
-    go (IsTurn.sweeps n slot next phase which is) = absurd (unswept (Some slot) n phase)
-    go (IsTurn.ends_sweep n phase is) = same _ is refl refl
+    go : TurnCase w v → IsSeenAlike w v
+    go (TurnCase.spent phase last is) = same _ is refl refl
+    go (TurnCase.requests phase is) = same _ is refl refl
+    go (TurnCase.waits t there phase word is) = same _ is refl refl
+    go (TurnCase.gathers t there phase word is) = same _ is refl refl
+    go (TurnCase.gives_back t there phase other is) = same _ is refl refl
+    go (TurnCase.applies t q answer there phase last on is) = same _ is refl refl
+    go (TurnCase.releases m a q answer phase at on is) = same _ is refl refl
+    go (TurnCase.frees m a q answer phase at on is) = same _ is refl refl
+    go (TurnCase.tries m place q answer phase named on is) = same _ is refl refl
+    go (TurnCase.prepares m a q answer phase at on is) = same _ is refl refl
+    go (TurnCase.begins_sweep phase is) = same _ is refl refl
+    go (TurnCase.sweeps n slot next phase which is) = absurd (unswept (Some slot) n phase)
+    go (TurnCase.ends_sweep n phase is) = same _ is refl refl
 
 -- whether a slot is swept
 sweeping_or_not : (phase : Phase) → ((due : Option ℕ) × (n : ℕ) × (phase ≡ Sweeping due n)) ⊎ ((due : Option ℕ) (n : ℕ) → phase ≡ Sweeping due n → ⊥)
@@ -83,7 +83,7 @@ module _ (first : ℕ) (w : Core) (kept : IsKept w) (quiet : AreQuiet first w) w
   busy all idle = false≢true (sym (ap (λ phase. gathered phase 1) idle) ∙ all 1 (omega arith, kept.config.some_mutators))
 
   -- a turn that sweeps no slot
-  comes : (r : Round) (v : Core) → IsTurn w v → ((w.collector.phase ≡ Idle → ⊥) → first + epochs_before r ≤ w.epoch) → ((due : Option ℕ) (n : ℕ) → w.collector.phase ≡ Sweeping due n → ⊥) → RestsIn r w w.words w.collector w.collector.phase → (r ≡ Round.Over → ⊥)
+  comes : (r : Round) (v : Core) → TurnCase w v → ((w.collector.phase ≡ Idle → ⊥) → first + epochs_before r ≤ w.epoch) → ((due : Option ℕ) (n : ℕ) → w.collector.phase ≡ Sweeping due n → ⊥) → RestsIn r w w.words w.collector w.collector.phase → (r ≡ Round.Over → ⊥)
       → ComesTo r w v.words v.collector
   comes Round.First v turn late unswept h some =
       let (words, same, there) = first_turned w v kept turn (λ all crossing words u l. landed_count first l quiet all (omega (arith, late (busy all)))) unswept h in
@@ -92,23 +92,23 @@ module _ (first : ℕ) (w : Core) (kept : IsKept w) (quiet : AreQuiet first w) w
   comes Round.Over v turn late unswept h some = absurd (some refl)
 
   -- a turn that sweeps one
-  sweeps : (r : Round) (due : Option ℕ) (n : ℕ) (v : Core) → IsTurn w v → w.collector.phase ≡ Sweeping due n → RestsIn r w w.words w.collector (Sweeping due n) → TurnsTo r w v
-  sweeps r due n v (IsTurn.sweeps m slot next phase which is) sweeping h =
+  sweeps : (r : Round) (due : Option ℕ) (n : ℕ) (v : Core) → TurnCase w v → w.collector.phase ≡ Sweeping due n → RestsIn r w w.words w.collector (Sweeping due n) → TurnsTo r w v
+  sweeps r due n v (TurnCase.sweeps m slot next phase which is) sweeping h =
       let rests = rests_seen r (header_freed w slot) (record w { headers = slice_set w.headers slot 0; collector = swept_by w.collector slot next }) refl refl w.words (swept_by w.collector slot next) next
       (swept_rests r w m slot next kept phase which (subst (RestsIn r w w.words w.collector) (sym sweeping ∙ phase) h)) in
       subst (TurnsTo r w) (sym is) (TurnsTo.goes_on refl rests)
-  sweeps r due n v (IsTurn.spent phase last is) sweeping h = absurd (other Idle (λ e. cc) phase sweeping)
-  sweeps r due n v (IsTurn.requests phase is) sweeping h = absurd (other Idle (λ e. cc) phase sweeping)
-  sweeps r due n v (IsTurn.waits t there phase word is) sweeping h = absurd (other (Looking t) (λ e. cc) phase sweeping)
-  sweeps r due n v (IsTurn.gathers t there phase word is) sweeping h = absurd (other (Looking t) (λ e. cc) phase sweeping)
-  sweeps r due n v (IsTurn.gives_back t there phase more is) sweeping h = absurd (other (Returning t) (λ e. cc) phase sweeping)
-  sweeps r due n v (IsTurn.applies t q answer there phase last on is) sweeping h = absurd (other (Returning t) (λ e. cc) phase sweeping)
-  sweeps r due n v (IsTurn.releases m a q answer phase at on is) sweeping h = absurd (other (Releasing m) (λ e. cc) phase sweeping)
-  sweeps r due n v (IsTurn.frees m a q answer phase at on is) sweeping h = absurd (other (Freeing m) (λ e. cc) phase sweeping)
-  sweeps r due n v (IsTurn.tries m place q answer phase named on is) sweeping h = absurd (other (Trying m) (λ e. cc) phase sweeping)
-  sweeps r due n v (IsTurn.prepares m a q answer phase at on is) sweeping h = absurd (other (Preparing m) (λ e. cc) phase sweeping)
-  sweeps r due n v (IsTurn.begins_sweep phase is) sweeping h = absurd (other Opening (λ e. cc) phase sweeping)
-  sweeps r due n v (IsTurn.ends_sweep m phase is) sweeping h = absurd (other (Closing m) (λ e. cc) phase sweeping)
+  sweeps r due n v (TurnCase.spent phase last is) sweeping h = absurd (other Idle (λ e. cc) phase sweeping)
+  sweeps r due n v (TurnCase.requests phase is) sweeping h = absurd (other Idle (λ e. cc) phase sweeping)
+  sweeps r due n v (TurnCase.waits t there phase word is) sweeping h = absurd (other (Looking t) (λ e. cc) phase sweeping)
+  sweeps r due n v (TurnCase.gathers t there phase word is) sweeping h = absurd (other (Looking t) (λ e. cc) phase sweeping)
+  sweeps r due n v (TurnCase.gives_back t there phase more is) sweeping h = absurd (other (Returning t) (λ e. cc) phase sweeping)
+  sweeps r due n v (TurnCase.applies t q answer there phase last on is) sweeping h = absurd (other (Returning t) (λ e. cc) phase sweeping)
+  sweeps r due n v (TurnCase.releases m a q answer phase at on is) sweeping h = absurd (other (Releasing m) (λ e. cc) phase sweeping)
+  sweeps r due n v (TurnCase.frees m a q answer phase at on is) sweeping h = absurd (other (Freeing m) (λ e. cc) phase sweeping)
+  sweeps r due n v (TurnCase.tries m place q answer phase named on is) sweeping h = absurd (other (Trying m) (λ e. cc) phase sweeping)
+  sweeps r due n v (TurnCase.prepares m a q answer phase at on is) sweeping h = absurd (other (Preparing m) (λ e. cc) phase sweeping)
+  sweeps r due n v (TurnCase.begins_sweep phase is) sweeping h = absurd (other Opening (λ e. cc) phase sweeping)
+  sweeps r due n v (TurnCase.ends_sweep m phase is) sweeping h = absurd (other (Closing m) (λ e. cc) phase sweeping)
 
   -- Every turn of either collection keeps what is known of it, and its last one leaves what is known of the next. Mutators did nothing
   -- in so many epochs.

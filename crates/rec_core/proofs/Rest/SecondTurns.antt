@@ -24,7 +24,7 @@ use Rattle.rec_core.specs.Kept.{IsKept}
 use Rattle.rec_core.specs.Pending.{older_at}
 use Rattle.rec_core.specs.Quiet.{AreQuiet, AreGathered}
 use Rattle.rec_core.specs.Resting.{AreCounted, Round, RestsIn, ComesTo, AreFound}
-use Rattle.rec_core.proofs.TurnCases.{IsTurn, word_at, words_without}
+use Rattle.rec_core.proofs.TurnCases.{TurnCase, word_at, words_without}
 use Rattle.rec_core.proofs.Begun.{applied_lands, batch_comes}
 use Rattle.rec_core.proofs.Freeing.{freed_lands, may_empty}
 use Rattle.rec_core.proofs.Landed.{HasCleared, HasLanded}
@@ -65,13 +65,13 @@ module _ (first : ℕ) (w : Core) (kept : IsKept w) (quiet : AreQuiet first w) w
   abbrev Comes : Core → Type 0
   Comes after = ComesTo Round.Second w after.words after.collector
 
-  pub second_turned : (v : Core) → IsTurn w v → ((w.collector.phase ≡ Idle → ⊥) → first + 1 < w.epoch) → ((due : Option ℕ) (n : ℕ) → w.collector.phase ≡ Sweeping due n → ⊥) → RestsIn Round.Second w w.words w.collector w.collector.phase → ComesTo Round.Second w v.words v.collector
-  second_turned v (IsTurn.spent phase last is) late unswept h = subst Comes (sym is) (ComesTo.goes_on refl h)
-  second_turned v (IsTurn.requests phase is) late unswept h = subst Comes (sym is) (ComesTo.goes_on refl (known_in Idle phase h))
-  second_turned v (IsTurn.waits t there phase word is) late unswept h = subst Comes (sym is) (ComesTo.goes_on refl h)
-  second_turned v (IsTurn.gathers t there phase word is) late unswept h = subst Comes (sym is) (ComesTo.goes_on refl (known_in (Looking t) phase h))
-  second_turned v (IsTurn.gives_back t there phase other is) late unswept h = subst Comes (sym is) (ComesTo.goes_on refl (known_in (Returning t) phase h))
-  second_turned v (IsTurn.applies t q turn there phase last on is) late unswept h =
+  pub second_turned : (v : Core) → TurnCase w v → ((w.collector.phase ≡ Idle → ⊥) → first + 1 < w.epoch) → ((due : Option ℕ) (n : ℕ) → w.collector.phase ≡ Sweeping due n → ⊥) → RestsIn Round.Second w w.words w.collector w.collector.phase → ComesTo Round.Second w v.words v.collector
+  second_turned v (TurnCase.spent phase last is) late unswept h = subst Comes (sym is) (ComesTo.goes_on refl h)
+  second_turned v (TurnCase.requests phase is) late unswept h = subst Comes (sym is) (ComesTo.goes_on refl (known_in Idle phase h))
+  second_turned v (TurnCase.waits t there phase word is) late unswept h = subst Comes (sym is) (ComesTo.goes_on refl h)
+  second_turned v (TurnCase.gathers t there phase word is) late unswept h = subst Comes (sym is) (ComesTo.goes_on refl (known_in (Looking t) phase h))
+  second_turned v (TurnCase.gives_back t there phase other is) late unswept h = subst Comes (sym is) (ComesTo.goes_on refl (known_in (Returning t) phase h))
+  second_turned v (TurnCase.applies t q turn there phase last on is) late unswept h =
       let all : AreGathered w = last_gathered w kept t phase last in
       let far : first + 1 < w.epoch = late (λ idle. other_phase (sym phase ∙ idle)) in
       let early : first < w.epoch = omega (arith, far) in
@@ -82,22 +82,22 @@ module _ (first : ℕ) (w : Core) (kept : IsKept w) (quiet : AreQuiet first w) w
     where
       other_phase : Returning t ≡ Idle → ⊥
       other_phase is = cc
-  second_turned v (IsTurn.releases m a q turn phase at on is) late unswept h = absurd (known_in (Releasing m) phase h)
-  second_turned v (IsTurn.frees m a q turn phase at on is) late unswept h =
+  second_turned v (TurnCase.releases m a q turn phase at on is) late unswept h = absurd (known_in (Releasing m) phase h)
+  second_turned v (TurnCase.frees m a q turn phase at on is) late unswept h =
       let far : first + 1 < w.epoch = late (λ idle. other_phase (sym phase ∙ idle)) in
       subst Comes (sym is) (second_clears (freed_lands w m a kept phase at) (frees_rest_more w m a kept phase at (exchanged_count m a phase at (omega (arith, far))) (known_in (Freeing m) phase h)) (tries_on (λ u l. landed_count first l quiet (all_gathered w (Freeing m) phase (λ t there. refl)) (omega (arith, far)))) on)
     where
       other_phase : Freeing m ≡ Idle → ⊥
       other_phase is = cc
-  second_turned v (IsTurn.tries m place q turn phase named on is) late unswept h =
+  second_turned v (TurnCase.tries m place q turn phase named on is) late unswept h =
       let u : Work = took_of (record { machine = m; counts = w.collector.counts }) (visible w.collector.counts (slice_index_or w.words place 0)) in
       let keeps = took_keeps m w.collector.counts (now_at w (Trying m) kept phase).kept (visible w.collector.counts (slice_index_or w.words place 0)) (visible_leads w.collector.counts (slice_index_or w.words place 0) (loaded_leads w m kept phase place named)) in
       subst Comes (sym is) (within_tries (within_same w w.words w.collector.counts u.counts keeps.released (known_in (Trying m) phase h)) on)
-  second_turned v (IsTurn.prepares m a q turn phase at on is) late unswept h =
+  second_turned v (TurnCase.prepares m a q turn phase at on is) late unswept h =
       let found : ℕ = word_at w a.member.slot a.member.field in
       let u : preps.Work = preps.took_of (record { machine = m; counts = w.collector.counts }) found in
       let others = took_others (record { machine = m; counts = w.collector.counts }) found in
       subst Comes (sym is) (within_prepares (within_same w w.words w.collector.counts u.counts (λ x. ap (λ (y : Slot). y.released) (others.slots x)) (known_in (Preparing m) phase h)) on)
-  second_turned v (IsTurn.begins_sweep phase is) late unswept h = subst Comes (sym is) (ComesTo.goes_on refl (known_in Opening phase h))
-  second_turned v (IsTurn.sweeps n slot next phase which is) late unswept h = absurd (unswept (Some slot) n phase)
-  second_turned v (IsTurn.ends_sweep n phase is) late unswept h = subst Comes (sym is) (ComesTo.completes refl refl (known_in (Closing n) phase h))
+  second_turned v (TurnCase.begins_sweep phase is) late unswept h = subst Comes (sym is) (ComesTo.goes_on refl (known_in Opening phase h))
+  second_turned v (TurnCase.sweeps n slot next phase which is) late unswept h = absurd (unswept (Some slot) n phase)
+  second_turned v (TurnCase.ends_sweep n phase is) late unswept h = subst Comes (sym is) (ComesTo.completes refl refl (known_in (Closing n) phase h))

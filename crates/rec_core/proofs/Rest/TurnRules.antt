@@ -31,7 +31,7 @@ use Rattle.rec_core.specs.Cells.{cell}
 use Rattle.rec_core.specs.Core.{Core, cells_of, box, crossing_of}
 use Rattle.rec_core.specs.Kept.{IsKept}
 use Rattle.rec_core.specs.Moves.{looked_at, left_by, collected, turned}
-use Rattle.rec_core.proofs.TurnCases.{IsTurn, word_at, swept_by}
+use Rattle.rec_core.proofs.TurnCases.{TurnCase, word_at, swept_by}
 use Rattle.rec_core.proofs.Preparing.{loads_due}
 use Rattle.rec_core.proofs.Runs.{rule_of}
 use Rattle.rec_core.proofs.Trying.{loads_child}
@@ -46,13 +46,13 @@ plain w op its word q phase is same named = plain_left w op word q phase is same
 
 -- each rule
 rule_is : (w : Core) (op : Op) (word : ℕ) (q : Private) (turn : Turn) → IsKept w → word ≡ cell (cells_of w) op → Step w.collector word (box w (looked_at w.collector.phase)) (Some op) q turn
-    → IsTurn w (collected w op word q (left_by w.collector word (box w (looked_at w.collector.phase)) w.collector.phase))
+    → TurnCase w (collected w op word q (left_by w.collector word (box w (looked_at w.collector.phase)) w.collector.phase))
 unfolding release_next freeing_next sweeps.started_of sweeps.next_of sweeps.took_of
 rule_is w op word q turn kept found (Step.spent idle last none same answer) = let not_so : ◌≡◌ {A = Option Op} (Some op) None = none in absurd (cc)
 rule_is w op word q turn kept found (Step.request idle more named g) =
     let its : op ≡ ops.StoreEpoch (w.collector.epoch + 1) = some_op op (ops.StoreEpoch (w.collector.epoch + 1)) named in
     let epoch : w.collector.epoch + 1 ≡ w.epoch + 1 = ap (λ n. n + 1) kept.collector.epoch in
-    IsTurn.requests idle (
+    TurnCase.requests idle (
     plain w op (ops.StoreEpoch (w.collector.epoch + 1)) word q Idle idle refl its
     ∙ ap (λ (n : ℕ). let v : Core = record w { epoch = n; collector = q } in v) epoch
     ∙ ap (λ (c : Private). let v : Core = record w { epoch = w.epoch + 1; collector = c } in v) g.after
@@ -64,7 +64,7 @@ rule_is w op word q turn kept found (Step.wait t looking other named same answer
     let left : left_by w.collector word (box w t) (Looking t) ≡ box w t = cond-false (word == crossing_word w.collector.epoch Retired) (collectors.spare w.collector) (box w t) (ne_eqb word (crossing_word w.collector.epoch Retired) other) in
     let stays : written (ops.LookBox t w.collector.epoch) word ≡ word = cond-false (word == crossing_word w.collector.epoch Retired) (crossing_word w.collector.epoch WithCollector) word (ne_eqb word (crossing_word w.collector.epoch Retired) other) in
     let crossing : slice_set w.crossing (t - 1) (written (ops.LookBox t w.collector.epoch) word) ≡ w.crossing = ap (slice_set w.crossing (t - 1)) (stays ∙ at) ∙ set-get_or w.crossing (t - 1) 0 in
-    IsTurn.waits t (mutator_at w t (Looking t) kept looking (now.first, now.there)) looking (λ has. other (at ∙ has ∙ ap (λ n. crossing_word n Retired) (sym kept.collector.epoch))) (
+    TurnCase.waits t (mutator_at w t (Looking t) kept looking (now.first, now.there)) looking (λ has. other (at ∙ has ∙ ap (λ n. crossing_word n Retired) (sym kept.collector.epoch))) (
     plain w op (ops.LookBox t w.collector.epoch) word q (Looking t) looking left its
     ∙ ap (λ (cs : List ℕ). let v : Core = record w { crossing = cs; collector = q } in v) crossing
     ∙ ap (λ (c : Private). let v : Core = record w { collector = c } in v) same
@@ -81,7 +81,7 @@ rule_is w op word q turn kept found (Step.gather t looking crossed named g) =
     let after : q ≡ moved (record w.collector { newer = slice_set w.collector.newer (t - 1) (box w t) }) (Returning t)
     = g.after ∙ ap (λ (phase : Phase). moved (record w.collector { newer = slice_set w.collector.newer (t - 1) (box w (looked_at phase)) }) (Returning t)) looking in
     let leaves : Phase → Core = λ f. collected (record w { collector = record w.collector { phase = f } }) op word q (left_by w.collector word (box w (looked_at f)) f) in
-    IsTurn.gathers t (mutator_at w t (Looking t) kept looking (now.first, now.there)) looking has (
+    TurnCase.gathers t (mutator_at w t (Looking t) kept looking (now.first, now.there)) looking has (
     ap leaves looking
     ∙ ap (λ (o : Op). collected (record w { collector = record w.collector { phase = Looking t } }) o word q (left_by w.collector word (box w t) (Looking t))) its
     ∙ ap (λ (x : Contents). let v : Core = record w { crossing = slice_set w.crossing (t - 1) (written (ops.LookBox t w.collector.epoch) word); boxes = slice_set w.boxes (t - 1) x; collector = q } in v) (cond-true b (collectors.spare w.collector) (box w t) yes)
@@ -91,7 +91,7 @@ rule_is w op word q turn kept found (Step.gather t looking crossed named g) =
 rule_is w op word q turn kept found (Step.give_back t returning more named g) =
     let its : op ≡ ops.ReturnBox t w.collector.epoch = some_op op (ops.ReturnBox t w.collector.epoch) named in
     let now = now_at w (Returning t) kept returning in
-    IsTurn.gives_back t (mutator_at w t (Returning t) kept returning (now.first, now.there)) returning more (
+    TurnCase.gives_back t (mutator_at w t (Returning t) kept returning (now.first, now.there)) returning more (
     plain w op (ops.ReturnBox t w.collector.epoch) word q (Returning t) returning refl its
     ∙ ap (λ (n : ℕ). let v : Core = record w { crossing = slice_set w.crossing (t - 1) (crossing_word n Spare); collector = q } in v) kept.collector.epoch
     ∙ ap (λ (c : Private). let v : Core = record w { crossing = slice_set w.crossing (t - 1) (crossing_word w.epoch Spare); collector = c } in v) g.after
@@ -99,35 +99,35 @@ rule_is w op word q turn kept found (Step.give_back t returning more named g) =
 rule_is w op word q turn kept found (Step.apply t returning last named on) =
     let its : op ≡ ops.ReturnBox t w.collector.epoch = some_op op (ops.ReturnBox t w.collector.epoch) named in
     let now = now_at w (Returning t) kept returning in
-    IsTurn.applies t q turn (mutator_at w t (Returning t) kept returning (now.first, now.there)) returning last on (
+    TurnCase.applies t q turn (mutator_at w t (Returning t) kept returning (now.first, now.there)) returning last on (
     plain w op (ops.ReturnBox t w.collector.epoch) word q (Returning t) returning refl its
     ∙ ap (λ (n : ℕ). let v : Core = record w { crossing = slice_set w.crossing (t - 1) (crossing_word n Spare); collector = q } in v) kept.collector.epoch
     )
 rule_is w op word q turn kept found (Step.release m releasing named on) = go m.at refl
   where
-    go : (x : Option At) → m.at ≡ x → IsTurn w (collected w op word q (left_by w.collector word (box w (looked_at w.collector.phase)) w.collector.phase))
+    go : (x : Option At) → m.at ≡ x → TurnCase w (collected w op word q (left_by w.collector word (box w (looked_at w.collector.phase)) w.collector.phase))
     go None at = let not_so : ◌≡◌ {A = Option Op} (Some op) None = named ∙ ap (release_op_at m.fields) at in absurd (cc)
     go (Some a) at =
         let place : ℕ = place_of a.slot a.field w.config.fields in
         let fields : m.fields ≡ w.config.fields = (now_at w (Releasing m) kept releasing).clearing.fields ∙ kept.collector.fields in
         let its : op ≡ ops.ClearField place = some_op op (ops.ClearField place) (named ∙ ap (release_op_at m.fields) at ∙ ap (λ n. Some (ops.ClearField (place_of a.slot a.field n))) fields) in
         let there : word ≡ word_at w a.slot a.field = found ∙ ap (cell (cells_of w)) its in
-        IsTurn.releases m a q turn releasing at (subst (λ n. ClearsOn w.collector q turn (with_released m (parts_of w.collector) n)) there on) (plain w op (ops.ClearField place) word q (Releasing m) releasing refl its)
+        TurnCase.releases m a q turn releasing at (subst (λ n. ClearsOn w.collector q turn (with_released m (parts_of w.collector) n)) there on) (plain w op (ops.ClearField place) word q (Releasing m) releasing refl its)
 rule_is w op word q turn kept found (Step.freeing m freeing named on) = go m.at refl
   where
-    go : (x : Option Member) → m.at ≡ x → IsTurn w (collected w op word q (left_by w.collector word (box w (looked_at w.collector.phase)) w.collector.phase))
+    go : (x : Option Member) → m.at ≡ x → TurnCase w (collected w op word q (left_by w.collector word (box w (looked_at w.collector.phase)) w.collector.phase))
     go None at = let not_so : ◌≡◌ {A = Option Op} (Some op) None = named ∙ ap (freeing_op_at m.fields) at in absurd (cc)
     go (Some a) at =
         let place : ℕ = place_of a.slot a.field w.config.fields in
         let fields : m.fields ≡ w.config.fields = (now_at w (Freeing m) kept freeing).clearing.fields ∙ kept.collector.fields in
         let its : op ≡ ops.ClearField place = some_op op (ops.ClearField place) (named ∙ ap (freeing_op_at m.fields) at ∙ ap (λ n. Some (ops.ClearField (place_of a.slot a.field n))) fields) in
         let there : word ≡ word_at w a.slot a.field = found ∙ ap (cell (cells_of w)) its in
-        IsTurn.frees m a q turn freeing at (subst (λ n. ClearsOn w.collector q turn (with_freed m (parts_of w.collector) n)) there on) (plain w op (ops.ClearField place) word q (Freeing m) freeing refl its)
+        TurnCase.frees m a q turn freeing at (subst (λ n. ClearsOn w.collector q turn (with_freed m (parts_of w.collector) n)) there on) (plain w op (ops.ClearField place) word q (Freeing m) freeing refl its)
 rule_is w op word q turn kept found (Step.trial m trying named on) =
     let (place, its) = loads_child m op named in
     let there : word ≡ slice_index_or w.words place 0 = found ∙ ap (cell (cells_of w)) its in
     let stays : slice_set w.words place word ≡ w.words = ap (slice_set w.words place) there ∙ set-get_or w.words place 0 in
-    IsTurn.tries m place q turn trying (sym named ∙ ap (λ o. Some o) its) (subst (λ n. TriesOn w.collector (parts_of w.collector) (trials.took_of (record { machine = m; counts = w.collector.counts }) (visible w.collector.counts n)) q turn) there on) (
+    TurnCase.tries m place q turn trying (sym named ∙ ap (λ o. Some o) its) (subst (λ n. TriesOn w.collector (parts_of w.collector) (trials.took_of (record { machine = m; counts = w.collector.counts }) (visible w.collector.counts n)) q turn) there on) (
     plain w op (ops.LoadChild place) word q (Trying m) trying refl its ∙ ap (λ (ws : List ℕ). let v : Core = record w { words = ws; collector = q } in v) stays
     )
 rule_is w op word q turn kept found (Step.preparation m preparing named on) =
@@ -137,14 +137,14 @@ rule_is w op word q turn kept found (Step.preparation m preparing named on) =
     let its : op ≡ ops.LoadChild place = due ∙ ap (λ n. ops.LoadChild (place_of a.member.slot a.member.field n)) fields in
     let there : word ≡ word_at w a.member.slot a.member.field = found ∙ ap (cell (cells_of w)) its in
     let stays : slice_set w.words place word ≡ w.words = ap (slice_set w.words place) there ∙ set-get_or w.words place 0 in
-    IsTurn.prepares m a q turn preparing at (subst (λ n. PreparesOn w.collector (parts_of w.collector) (preps.took_of (record { machine = m; counts = w.collector.counts }) n) q turn) there on) (
+    TurnCase.prepares m a q turn preparing at (subst (λ n. PreparesOn w.collector (parts_of w.collector) (preps.took_of (record { machine = m; counts = w.collector.counts }) n) q turn) there on) (
     plain w op (ops.LoadChild place) word q (Preparing m) preparing refl its ∙ ap (λ (ws : List ℕ). let v : Core = record w { words = ws; collector = q } in v) stays
     )
 rule_is w op word q turn kept found (Step.begin_sweep opening named g) =
     let its : op ≡ ops.AddFreed = some_op op ops.AddFreed named in
     let there : word ≡ w.freed = found ∙ ap (cell (cells_of w)) its in
     let more : (word + 1) % 2 ^ 64 ≡ w.freed + 1 = ap (λ n. (n + 1) % 2 ^ 64) there ∙ freed_more w kept in
-    IsTurn.begins_sweep opening (
+    TurnCase.begins_sweep opening (
     plain w op ops.AddFreed word q Opening opening refl its
     ∙ ap (λ (n : ℕ). let v : Core = record w { freed = n; collector = q } in v) more
     ∙ ap (λ (c : Private). let v : Core = record w { freed = w.freed + 1; collector = c } in v) g.after
@@ -154,7 +154,7 @@ rule_is w op word q turn kept found (Step.sweep (Some x) n u next sweeping named
     let its : op ≡ ops.FreeHeader x = some_op op (ops.FreeHeader x) named in
     let after : q ≡ swept_by w.collector x next
     = g.after ∙ ap (λ (v : sweeps.Work). let c : Private = record w.collector { counts = v.counts; freed = w.collector.freed + 1; phase = next; turns = w.collector.turns + 1 } in c) took in
-    IsTurn.sweeps n x next sweeping (follow follows) (
+    TurnCase.sweeps n x next sweeping (follow follows) (
     plain w op (ops.FreeHeader x) word q (Sweeping (Some x) n) sweeping refl its ∙ ap (λ (c : Private). let v : Core = record w { headers = slice_set w.headers x 0; collector = c } in v) after
     )
   where
@@ -165,19 +165,19 @@ rule_is w op word q turn kept found (Step.end_sweep n closing named e) =
     let its : op ≡ ops.AddFreed = some_op op ops.AddFreed named in
     let there : word ≡ w.freed = found ∙ ap (cell (cells_of w)) its in
     let more : (word + 1) % 2 ^ 64 ≡ w.freed + 1 = ap (λ n. (n + 1) % 2 ^ 64) there ∙ freed_more w kept in
-    IsTurn.ends_sweep n closing (
+    TurnCase.ends_sweep n closing (
     plain w op ops.AddFreed word q (Closing n) closing refl its
     ∙ ap (λ (m : ℕ). let v : Core = record w { freed = m; collector = q } in v) more
     ∙ ap (λ (c : Private). let v : Core = record w { freed = w.freed + 1; collector = c } in v) e.after
     )
 
 -- Every turn of a kept heap's collector is one of the rules.
-pub turn_is : (w : Core) → IsKept w → IsTurn w (turned w)
-turn_is w kept = turn_case w (λ o v. IsTurn w v)
+pub turn_is : (w : Core) → IsKept w → TurnCase w (turned w)
+turn_is w kept = turn_case w (λ o v. TurnCase w v)
     (λ none.
     let last : IsNone (next_of w.collector) = subst (λ (o : Option Op). IsNone o) (sym none) refl in
     let is = subst (HasCause w.collector 0 (took_of w.collector 0)) (spends w.collector 0 kept.collector.machine last) (has_cause w.collector 0 kept.collector.machine) in
-    IsTurn.spent is.0 (ap (λ n. n + 1) (sym kept.collector.epoch) ∙ is.1) refl)
+    TurnCase.spent is.0 (ap (λ n. n + 1) (sym kept.collector.epoch) ∙ is.1) refl)
     (λ op named.
     let word : ℕ = cell (cells_of w) op in
     rule_is w op word (step_of w.collector word (box w (looked_at w.collector.phase))) (turn_of w.collector word) kept refl (rule_of w op kept named))

@@ -21,34 +21,34 @@ use Rattle.rec_play.proofs.playing.give_collector_turn.Goals.{After-commands, El
 
 pub overflow_sub-journal : goal.overflow_sub-journal
 overflow_sub-journal c =
-    let there : IsMutator c.turn.new.self.config c.in-Waiting.mutator = waits_for_one c.args.world.now c.turn.new.self c.turn.result c.in-Waiting.mutator c.turn.ensures.cause c.in-Waiting.is c.turn.ensures.run c.turn.ensures.kept in
+    let there : IsMutator c.turn.new.self.config c.in-Waiting.mutator = waits_for_one c.args.world.now c.turn.new.self c.turn.result c.in-Waiting.mutator c.turn.ensures.turn.cause c.in-Waiting.is c.turn.ensures.turn.run c.turn.ensures.kept in
     omega (arith, c.from.ensures)
 
 pub bounds-journals-from : goal.bounds-journals-from
 bounds-journals-from c =
-    let there : IsMutator c.turn.new.self.config c.in-Waiting.mutator = waits_for_one c.args.world.now c.turn.new.self c.turn.result c.in-Waiting.mutator c.turn.ensures.cause c.in-Waiting.is c.turn.ensures.run c.turn.ensures.kept in
-    let mutators : c.turn.new.self.config.mutators ≡ length c.args.script.now.commands = ap (λ (x : Config). x.mutators) (c.turn.ensures.config ∙ c.requires.config) in
+    let there : IsMutator c.turn.new.self.config c.in-Waiting.mutator = waits_for_one c.args.world.now c.turn.new.self c.turn.result c.in-Waiting.mutator c.turn.ensures.turn.cause c.in-Waiting.is c.turn.ensures.turn.run c.turn.ensures.kept in
+    let mutators : c.turn.new.self.config.mutators ≡ length c.args.script.now.commands = ap (λ (x : Config). x.mutators) (c.turn.ensures.turn.config ∙ c.requires.config) in
     omega (arith, c.from.ensures, c.requires.journals)
 
 pub commands-requires-clause-some : goal.commands-requires-clause-some
 commands-requires-clause-some c =
-    (waits_for_one c.args.world.now c.turn.new.self c.turn.result c.in-Waiting.mutator c.turn.ensures.cause c.in-Waiting.is c.turn.ensures.run c.turn.ensures.kept).0
+    (waits_for_one c.args.world.now c.turn.new.self c.turn.result c.in-Waiting.mutator c.turn.ensures.turn.cause c.in-Waiting.is c.turn.ensures.turn.run c.turn.ensures.kept).0
 
 pub commands-requires-clause-most : goal.commands-requires-clause-most
 commands-requires-clause-most c =
-    let there : IsMutator c.turn.new.self.config c.in-Waiting.mutator = waits_for_one c.args.world.now c.turn.new.self c.turn.result c.in-Waiting.mutator c.turn.ensures.cause c.in-Waiting.is c.turn.ensures.run c.turn.ensures.kept in
-    let mutators : c.turn.new.self.config.mutators ≡ length c.args.script.now.commands = ap (λ (x : Config). x.mutators) (c.turn.ensures.config ∙ c.requires.config) in
+    let there : IsMutator c.turn.new.self.config c.in-Waiting.mutator = waits_for_one c.args.world.now c.turn.new.self c.turn.result c.in-Waiting.mutator c.turn.ensures.turn.cause c.in-Waiting.is c.turn.ensures.turn.run c.turn.ensures.kept in
+    let mutators : c.turn.new.self.config.mutators ≡ length c.args.script.now.commands = ap (λ (x : Config). x.mutators) (c.turn.ensures.turn.config ∙ c.requires.config) in
     omega (arith, there.1)
 
 pub poll-requires-clause-mutator : goal.poll-requires-clause-mutator
-poll-requires-clause-mutator c = waits_for_one c.args.world.now c.turn.new.self c.turn.result c.in-Waiting.mutator c.turn.ensures.cause c.in-Waiting.is c.turn.ensures.run c.turn.ensures.kept
+poll-requires-clause-mutator c = waits_for_one c.args.world.now c.turn.new.self c.turn.result c.in-Waiting.mutator c.turn.ensures.turn.cause c.in-Waiting.is c.turn.ensures.turn.run c.turn.ensures.kept
 
 pub poll-requires-clause-idle : goal.poll-requires-clause-idle
 poll-requires-clause-idle c =
     let done : Turned c.args.world.now c.turn.new.self =
-    record { step = c.turn.ensures.turned; config = c.turn.ensures.config; mutators = c.turn.ensures.mutators; requested = c.turn.ensures.requested } in
+    record { step = c.turn.ensures.turn.turned; config = c.turn.ensures.turn.config; mutators = c.turn.ensures.turn.mutators; requested = c.turn.ensures.turn.requested } in
     turned_idle c.args.world.now c.turn.new.self done c.requires.idle c.in-Waiting.mutator
-    (waits_for_one c.args.world.now c.turn.new.self c.turn.result c.in-Waiting.mutator c.turn.ensures.cause c.in-Waiting.is c.turn.ensures.run c.turn.ensures.kept)
+    (waits_for_one c.args.world.now c.turn.new.self c.turn.result c.in-Waiting.mutator c.turn.ensures.turn.cause c.in-Waiting.is c.turn.ensures.turn.run c.turn.ensures.kept)
 
 -- the mutator that was told is one for which the collector waits
 waited : (before after : Core) (turn : Turn) (t : ℕ) → TurnHasCause before after turn → turn ≡ Waiting t → WaitsFor before t
@@ -61,8 +61,8 @@ record AreCounted (script : Contents) (journals : List Notes) (t line_count comm
 
 counted : (c : After-commands) → AreCounted c.args.script.now c.args.journals.now c.in-Waiting.mutator (length c.lines.result.now) (length c.commands.result.now)
 counted c =
-    let there : IsMutator c.turn.new.self.config c.in-Waiting.mutator = waits_for_one c.args.world.now c.turn.new.self c.turn.result c.in-Waiting.mutator c.turn.ensures.cause c.in-Waiting.is c.turn.ensures.run c.turn.ensures.kept in
-    let mutators : c.turn.new.self.config.mutators ≡ length c.args.script.now.commands = ap (λ (x : Config). x.mutators) (c.turn.ensures.config ∙ c.requires.config) in
+    let there : IsMutator c.turn.new.self.config c.in-Waiting.mutator = waits_for_one c.args.world.now c.turn.new.self c.turn.result c.in-Waiting.mutator c.turn.ensures.turn.cause c.in-Waiting.is c.turn.ensures.turn.run c.turn.ensures.kept in
+    let mutators : c.turn.new.self.config.mutators ≡ length c.args.script.now.commands = ap (λ (x : Config). x.mutators) (c.turn.ensures.turn.config ∙ c.requires.config) in
     let noted_so : length c.args.journals.now ≡ length c.args.script.now.commands = c.requires.journals in
     record {
       lines = ap length c.lines.ensures ∙ ap (λ (j : Notes). length j.lines) (c.index-journals-from.is ∙ journal_is c.args.journals.now c.from.result c.in-Waiting.mutator c.index-journals-from.result c.from.ensures there.0 (omega (arith, there.1)));
@@ -73,11 +73,11 @@ pub returns-then-lines-commands : goal.returns-then-lines-commands
 returns-then-lines-commands c =
     let so : AreCounted c.args.script.now c.args.journals.now c.in-Waiting.mutator (length c.lines.result.now) (length c.commands.result.now) = counted (goal.at.returns-then-lines-commands c).After-commands in (
       c.turn.new.self,
-      record { step = c.turn.ensures.turned; config = c.turn.ensures.config; mutators = c.turn.ensures.mutators; requested = c.turn.ensures.requested },
+      record { step = c.turn.ensures.turn.turned; config = c.turn.ensures.turn.config; mutators = c.turn.ensures.turn.mutators; requested = c.turn.ensures.turn.requested },
       inl
           (record {
             t = c.in-Waiting.mutator;
-            waited = waited c.args.world.now c.turn.new.self c.turn.result c.in-Waiting.mutator c.turn.ensures.cause c.in-Waiting.is;
+            waited = waited c.args.world.now c.turn.new.self c.turn.result c.in-Waiting.mutator c.turn.ensures.turn.cause c.in-Waiting.is;
             spent = omega (arith, so.lines, so.commands, c.if-lines-commands.true);
             polled = polled_by c.turn.new.self c.poll.new.self c.in-Waiting.mutator c.poll.ensures.quiet c.poll.ensures.idle c.poll.ensures.worked;
           }),
@@ -87,7 +87,7 @@ returns-then-lines-commands c =
 has_left : (c : Else-lines-commands) → noted c.args.journals.now c.in-Waiting.mutator < length (commands_of c.args.script.now c.in-Waiting.mutator)
 has_left c =
     let so : AreCounted c.args.script.now c.args.journals.now c.in-Waiting.mutator (length c.lines.result.now) (length c.commands.result.now) = counted (goal.at.returns-else-lines-commands c).After-commands in
-    let some : 0 < c.in-Waiting.mutator = (waits_for_one c.args.world.now c.turn.new.self c.turn.result c.in-Waiting.mutator c.turn.ensures.cause c.in-Waiting.is c.turn.ensures.run c.turn.ensures.kept).0 in
+    let some : 0 < c.in-Waiting.mutator = (waits_for_one c.args.world.now c.turn.new.self c.turn.result c.in-Waiting.mutator c.turn.ensures.turn.cause c.in-Waiting.is c.turn.ensures.turn.run c.turn.ensures.kept).0 in
     let few : noted c.args.journals.now c.in-Waiting.mutator ≤ length (commands_of c.args.script.now c.in-Waiting.mutator)
     = subst (λ (cmds : List Cmd). noted c.args.journals.now c.in-Waiting.mutator ≤ length cmds) (sym (commands_are c.args.script.now c.in-Waiting.mutator some)) (c.requires.few c.in-Waiting.mutator) in
     elim (cases_lt (noted c.args.journals.now c.in-Waiting.mutator) (length (commands_of c.args.script.now c.in-Waiting.mutator))) [
@@ -98,11 +98,11 @@ has_left c =
 pub returns-else-lines-commands : goal.returns-else-lines-commands
 returns-else-lines-commands c = (
   c.turn.new.self,
-  record { step = c.turn.ensures.turned; config = c.turn.ensures.config; mutators = c.turn.ensures.mutators; requested = c.turn.ensures.requested },
+  record { step = c.turn.ensures.turn.turned; config = c.turn.ensures.turn.config; mutators = c.turn.ensures.turn.mutators; requested = c.turn.ensures.turn.requested },
   inr
       (record {
         left = λ s waits.
-            let again : ◌≡◌ {A = Turn} (Waiting s) (Waiting c.in-Waiting.mutator) = sym (c.turn.ensures.waiting s waits.looks waits.behind) ∙ c.in-Waiting.is in
+            let again : ◌≡◌ {A = Turn} (Waiting s) (Waiting c.in-Waiting.mutator) = sym (c.turn.ensures.turn.waiting s waits.looks waits.behind) ∙ c.in-Waiting.is in
             let same : c.in-Waiting.mutator ≡ s = cc in
             subst (λ n. noted c.args.journals.now n < length (commands_of c.args.script.now n)) same (has_left c);
         same = refl;
@@ -112,6 +112,6 @@ returns-else-lines-commands c = (
 pub returns-in_default : goal.returns-in_default
 returns-in_default c = (
   c.turn.new.self,
-  record { step = c.turn.ensures.turned; config = c.turn.ensures.config; mutators = c.turn.ensures.mutators; requested = c.turn.ensures.requested },
-  inr (record { left = λ s waits. absurd (c.in_default.not-Waiting s (c.turn.ensures.waiting s waits.looks waits.behind)); same = refl }),
+  record { step = c.turn.ensures.turn.turned; config = c.turn.ensures.turn.config; mutators = c.turn.ensures.turn.mutators; requested = c.turn.ensures.turn.requested },
+  inr (record { left = λ s waits. absurd (c.in_default.not-Waiting s (c.turn.ensures.turn.waiting s waits.looks waits.behind)); same = refl }),
 )

@@ -19,9 +19,9 @@ returns-clause-commanded c =
       ap (λ xs. slice_get xs (length c.args.journal.now.lines)) own ∙ ap (slice_get cmds) at ∙ slice_get-get_or cmds (length c.lines.result.now) _ next,
       polled_by c.args.world.now c.poll.new.self c.args.t c.poll.ensures.quiet c.poll.ensures.idle c.poll.ensures.worked,
       record {
-        config = c.command-told.ensures.config;
-        mutators = record { others = c.command-told.ensures.others; idle = c.command-told.ensures.idle };
-        requested = c.command-told.ensures.requested;
+        config = c.command-told.ensures.stays.config;
+        mutators = record { others = c.command-told.ensures.stays.others; idle = c.command-told.ensures.stays.idle };
+        requested = c.command-told.ensures.stays.requested;
         worked = c.command-told.ensures.worked;
         answer = c.command-told.ensures.answer;
       },

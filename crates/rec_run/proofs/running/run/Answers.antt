@@ -1,7 +1,7 @@
 -- Each clause is read off the end of the request, which stays an end when the sink has passed on what it held.
 use Rattle.std.proofs.Common.{subst}
 use Rattle.rec_run.specs.Ends.{Ends, passage}
-use Rattle.rec_run.proofs.Endings.{completes, finished, none_failed, refuses}
+use Rattle.rec_run.proofs.Endings.{caused, completes, finished, none_failed, refuses}
 use Rattle.rec_run.proofs.Requests.{asked_to_read}
 use Rattle.rec_run.proofs.running.run.Goals as goal
 
@@ -29,3 +29,10 @@ returns-in-Ok-clause-refuses g c = λ reads.
 pub returns-in-Ok-clause-writes : goal.returns-in-Ok-clause-writes
 returns-in-Ok-clause-writes g c = none_failed g.K.Sink.faults c.carry_out-status.result c.finish.result c.args.sink.now c.carry_out-status.new.sink c.finish.new.sink
     c.carry_out-status.ensures.writes c.finish.ensures.fault c.finish.ensures.faultless c.finish.ensures.other
+
+pub returns-in-Ok-clause-cause : goal.returns-in-Ok-clause-cause
+returns-in-Ok-clause-cause g c =
+    let ends = finished g.K.Sink.written g.K.Sink.faults c.in-Ok.request c.carry_out-status.result c.finish.result
+    (passage g.S.Source.rest g.S.Source.faults c.args.source.now c.carry_out-status.new.source) c.args.sink.now c.carry_out-status.new.sink c.finish.new.sink
+    c.carry_out-status.ensures.ends c.carry_out-status.ensures.never_falls c.finish.ensures.fault c.finish.ensures.written c.finish.ensures.other in
+    caused _ c.in-Ok.request c.finish.result (passage g.S.Source.rest g.S.Source.faults c.args.source.now c.carry_out-status.new.source) (passage g.K.Sink.written g.K.Sink.faults c.args.sink.now c.finish.new.sink) c.in-Ok.ensures.asked ends

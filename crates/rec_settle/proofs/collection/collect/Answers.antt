@@ -16,7 +16,7 @@ loop-mutator-init c = record { path = IsAmid.here c.args.world.now refl; idle = 
 
 -- the collection went on
 moved : (c : In-Moved) → TurnHasCause c.loop-mutator.world c.turn.new.self answers.Moved
-moved c = subst (TurnHasCause c.loop-mutator.world c.turn.new.self) c.in-Moved.is c.turn.ensures.cause
+moved c = subst (TurnHasCause c.loop-mutator.world c.turn.new.self) c.in-Moved.is c.turn.ensures.turn.cause
 
 before : (c : In-Moved) → IsKept c.loop-mutator.world
 before c = world_kept c.loop-mutator.world c.loop-mutator.invariant.world
@@ -25,22 +25,22 @@ after : (c : In-Moved) → IsKept c.turn.new.self
 after c = world_kept c.turn.new.self c.turn.ensures.kept
 
 pub loop-mutator-smaller-in-Moved : goal.loop-mutator-smaller-in-Moved
-loop-mutator-smaller-in-Moved c = moved_nearer c.loop-mutator.world c.turn.new.self (before c) (after c) c.turn.ensures.config (moved c)
+loop-mutator-smaller-in-Moved c = moved_nearer c.loop-mutator.world c.turn.new.self (before c) (after c) c.turn.ensures.turn.config (moved c)
 
 pub loop-mutator-preserved-in-Moved : goal.loop-mutator-preserved-in-Moved
 loop-mutator-preserved-in-Moved c =
     let w : Core = c.loop-mutator.world in
     let v : Core = c.turn.new.self in
     record {
-      path = IsAmid.turns w v c.loop-mutator.invariant.path c.turn.ensures.turned (moved c);
-      idle = idle_turned w v c.turn.ensures.mutators c.turn.ensures.config c.loop-mutator.invariant.idle;
+      path = IsAmid.turns w v c.loop-mutator.invariant.path c.turn.ensures.turn.turned (moved c);
+      idle = idle_turned w v c.turn.ensures.turn.mutators c.turn.ensures.turn.config c.loop-mutator.invariant.idle;
       more = λ idle. absurd (moved_busy w v (after c) (moved c) idle);
       world = c.turn.ensures.kept;
     }
 
 -- the collector waits for a mutator, and nothing has changed
 waits : (c : In-Waiting) → TurnHasCause c.loop-mutator.world c.turn.new.self (answers.Waiting c.in-Waiting.mutator)
-waits c = subst (TurnHasCause c.loop-mutator.world c.turn.new.self) c.in-Waiting.is c.turn.ensures.cause
+waits c = subst (TurnHasCause c.loop-mutator.world c.turn.new.self) c.in-Waiting.is c.turn.ensures.turn.cause
 
 same : (c : In-Waiting) → c.turn.new.self ≡ c.loop-mutator.world
 same c = (waits c).2
@@ -54,7 +54,7 @@ poll-requires-clause-mutator c = (awaits (goal.at.poll-requires-clause-mutator c
 pub poll-requires-clause-idle : goal.poll-requires-clause-idle
 poll-requires-clause-idle c =
     let w : In-Waiting = (goal.at.poll-requires-clause-idle c).In-Waiting in
-    idle_turned w.loop-mutator.world w.turn.new.self w.turn.ensures.mutators w.turn.ensures.config w.loop-mutator.invariant.idle w.in-Waiting.mutator (awaits w).there
+    idle_turned w.loop-mutator.world w.turn.new.self w.turn.ensures.turn.mutators w.turn.ensures.turn.config w.loop-mutator.invariant.idle w.in-Waiting.mutator (awaits w).there
 
 -- whoever was waited for has polled
 polled : (c : After-poll) → HasPolled c.turn.new.self c.in-Waiting.mutator c.poll.new.self
@@ -80,10 +80,10 @@ loop-mutator-preserved c =
 
 -- the collection is complete
 completed : (c : In-Collected) → TurnHasCause c.loop-mutator.world c.turn.new.self (answers.Collected c.in-Collected.epoch c.in-Collected.freed)
-completed c = subst (TurnHasCause c.loop-mutator.world c.turn.new.self) c.in-Collected.is c.turn.ensures.cause
+completed c = subst (TurnHasCause c.loop-mutator.world c.turn.new.self) c.in-Collected.is c.turn.ensures.turn.cause
 
 whole : (c : In-Collected) → IsCollection c.args.world.now c.turn.new.self
-whole c = record { last = c.loop-mutator.world; path = c.loop-mutator.invariant.path; turns = c.turn.ensures.turned; epoch = c.in-Collected.epoch; swept = c.in-Collected.freed; complete = completed c }
+whole c = record { last = c.loop-mutator.world; path = c.loop-mutator.invariant.path; turns = c.turn.ensures.turn.turned; epoch = c.in-Collected.epoch; swept = c.in-Collected.freed; complete = completed c }
 
 pub returns-in-Collected-clause-collection : goal.returns-in-Collected-clause-collection
 returns-in-Collected-clause-collection c = whole c

@@ -23,7 +23,7 @@ open-requires-clause-collector c =
     let w : Core = c.args.was.now.value in
     let kept : IsKept w = world_kept w c.requires.world in
     let own : c.args.parts.collector ≡ w.collector = c.requires.parts.collector in
-    (sym c.of-opened.ensures, c.of-opened.ensures ∙ own, ap boxes_out own ∙ none_out_where_even w kept c.requires.home, subst (λ (p : collectors.Private). IsBetween p.phase) (sym own) kept.collector.between)
+    (own, ap boxes_out own ∙ none_out_where_even w kept c.requires.home, subst (λ (p : collectors.Private). IsBetween p.phase) (sym own) kept.collector.between)
 
 pub returns-in-Err-clause-refused : goal.returns-in-Err-clause-refused
 returns-in-Err-clause-refused c =

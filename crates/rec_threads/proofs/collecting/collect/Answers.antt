@@ -11,19 +11,19 @@ turn-turn-requires g c = record { own = c.loop-turns.invariant.own }
 pub loop-turns-preserved : goal.loop-turns-preserved
 loop-turns-preserved g c = record {
   own = c.turn-turn.ensures.own;
-  turned = one_turn c.loop-turns.turns c.args.collector c.loop-turns.collector c.turn-turn.new.self c.loop-turns.invariant.turned (λ none. (c.turn-turn.ensures.spent none).0) (λ op e. let x = c.turn-turn.ensures.turned op e in (x.0, x.1, x.2));
+  turned = one_turn c.loop-turns.turns c.args.collector c.loop-turns.collector c.turn-turn.new.self c.turn-turn.result c.loop-turns.invariant.turned c.turn-turn.ensures.turn;
 }
 
 pub returns-in-Some-clause-turned : goal.returns-in-Some-clause-turned
 returns-in-Some-clause-turned g c =
-    one_turn c.loop-turns.turns c.args.collector c.loop-turns.collector c.turn-turn.new.self c.loop-turns.invariant.turned (λ none. (c.turn-turn.ensures.spent none).0) (λ op e. let x = c.turn-turn.ensures.turned op e in (x.0, x.1, x.2))
+    one_turn c.loop-turns.turns c.args.collector c.loop-turns.collector c.turn-turn.new.self c.turn-turn.result c.loop-turns.invariant.turned c.turn-turn.ensures.turn
 
 pub returns-in-Some-clause-collected : goal.returns-in-Some-clause-collected
 returns-in-Some-clause-collected g c = record {
   turns = c.loop-turns.turns + 1;
   some = omega arith;
   few = omega arith;
-  turned = one_turn c.loop-turns.turns c.args.collector c.loop-turns.collector c.turn-turn.new.self c.loop-turns.invariant.turned (λ none. (c.turn-turn.ensures.spent none).0) (λ op e. let x = c.turn-turn.ensures.turned op e in (x.0, x.1, x.2));
+  turned = one_turn c.loop-turns.turns c.args.collector c.loop-turns.collector c.turn-turn.new.self c.turn-turn.result c.loop-turns.invariant.turned c.turn-turn.ensures.turn;
 }
 
 pub returns-clause-collected : goal.returns-clause-collected

@@ -14,7 +14,7 @@ returns-clause-carried c =
     let cmds : List Cmd = c.commands.result.now in
     let own : commands_of c.args.script.now c.args.t ≡ cmds = commands_are c.args.script.now c.args.t c.requires.some ∙ get_or_from_slice_get c.args.script.now.commands (c.args.t - 1) cmds [] c.commands.ensures.value in
     let next : c.args.made < length cmds = subst (λ (xs : List Cmd). c.args.made < length xs) own c.requires.next in
-    let (slot, seen, lowest) = c.command-told.ensures.seen in
+    let (slot, seen, lowest) = c.command-told.ensures.changes.seen in
     record {
       next = ap (λ xs. slice_get xs c.args.made) own ∙ slice_get-get_or cmds c.args.made _ next;
       polled = c.poll.new.self;
@@ -26,5 +26,5 @@ returns-clause-carried c =
 
 pub returns-clause-idle : goal.returns-clause-idle
 returns-clause-idle c =
-    others_idle c.poll.new.self c.command-told.new.self c.args.t c.command-told.ensures.config c.command-told.ensures.others c.command-told.ensures.idle
+    others_idle c.poll.new.self c.command-told.new.self c.args.t c.command-told.ensures.stays.config c.command-told.ensures.stays.others c.command-told.ensures.stays.idle
     (others_idle c.args.world.now c.poll.new.self c.args.t c.poll.ensures.quiet.config c.poll.ensures.quiet.others c.poll.ensures.idle c.requires.idle)

@@ -23,16 +23,16 @@ use Rattle.rec_watch.proofs.turns.turn_collector.Goals.{In-Waiting}
 
 -- the collector waits, and nothing has changed
 waits : (c : In-Waiting) → TurnHasCause c.args.world.now c.turn_seen-turn.new.self (Waiting c.in-Waiting.mutator)
-waits c = subst (TurnHasCause c.args.world.now c.turn_seen-turn.new.self) c.in-Waiting.is c.turn_seen-turn.ensures.cause
+waits c = subst (TurnHasCause c.args.world.now c.turn_seen-turn.new.self) c.in-Waiting.is c.turn_seen-turn.ensures.turn.cause
 
 same : (c : In-Waiting) → c.turn_seen-turn.new.self ≡ c.args.world.now
 same c = (waits c).2
 
 still : (c : In-Waiting) → turned c.args.world.now ≡ c.args.world.now
-still c = sym c.turn_seen-turn.ensures.turned ∙ same c
+still c = sym c.turn_seen-turn.ensures.turn.turned ∙ same c
 
 so : (c : In-Waiting) → TurnHasCause c.args.world.now (turned c.args.world.now) (Waiting c.in-Waiting.mutator)
-so c = subst (λ (x : Core). TurnHasCause c.args.world.now x (Waiting c.in-Waiting.mutator)) c.turn_seen-turn.ensures.turned (waits c)
+so c = subst (λ (x : Core). TurnHasCause c.args.world.now x (Waiting c.in-Waiting.mutator)) c.turn_seen-turn.ensures.turn.turned (waits c)
 
 awaits : (c : In-Waiting) → IsAwaited c.args.world.now c.in-Waiting.mutator
 awaits c = awaited c.args.world.now c.turn_seen-turn.new.self c.in-Waiting.mutator (subst IsKept (same c) (world_kept c.turn_seen-turn.new.self c.turn_seen-turn.ensures.kept)) (waits c)
@@ -65,7 +65,7 @@ returns-else-made-from-clause-stepped c =
           let one : m ≡ t = cc in
           subst (λ n. made_by c.args.made.now n < length (commands_of c.args.script.now n)) one
           (omega (arith, ap length (theirs d c.commands.result.now c.commands.ensures.value), c.if-made-from.false, ap (λ n. slice_index_or c.args.made.now (n - 1) 0) c.from.ensures)))
-          c.turn_seen-turn.ensures.turned;
+          c.turn_seen-turn.ensures.turn.turned;
     }
 
 -- the mutator that polled is idle again, and the others stayed so

@@ -10,7 +10,7 @@ returns-in-Collecting c = record {
   after = _;
   is = refl;
   turn = c.turn-turn.result;
-  turns = record { spent = c.turn-turn.ensures.spent; turned = c.turn-turn.ensures.turned; cause = c.turn-turn.ensures.cause };
+  turns = c.turn-turn.ensures.turn;
   told_so = c.show_turn.ensures;
   heap = refl;
   home = refl;

@@ -28,7 +28,7 @@ returns-then-gives_back-clause-none c =
 pub returns-then-gives_back-clause-returned : goal.returns-then-gives_back-clause-returned
 returns-then-gives_back-clause-returned c =
     let a : In-Some = (goal.at.returns-then-gives_back-clause-returned c).In-Some in
-    let t = c.turn_on.ensures.turned c.in-Some.op (named a) in
+    let t = c.turn_on.ensures.turn.turned c.in-Some.op (named a) in
     puts_back c.args.self.now c.turn_on.new.self c.in-Some.op t.0 (between a) (named a) (c.gives_back.ensures.0 c.if-gives_back.true) t.1
 
 pub returns-else-gives_back-clause-none : goal.returns-else-gives_back-clause-none

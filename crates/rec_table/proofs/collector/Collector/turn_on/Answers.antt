@@ -1,15 +1,12 @@
-use Rattle.std.proofs.Common.{◌≡◌, ◌<◌, ℕ, length, Option, Some, None, refl, sym, ap, ◌∙◌, subst, arith}
+use Rattle.std.proofs.Common.{◌≡◌, ◌<◌, ℕ, length, Option, Some, refl, sym, ap, ◌∙◌, subst, arith}
 use Rattle.rec_word.specs.declared.op.Op.{Op}
 use Rattle.rec_word.specs.declared.op.Op.TheVariants as ops
 use Rattle.rec_collector.specs.Given.{IsGiven}
-use Rattle.rec_collector.specs.Causes.{HasCause}
 use Rattle.rec_collector.specs.Kept.{IsMachine, KeepsSizes}
-use Rattle.rec_collector.specs.declared.turn.Turn.{Turn}
-use Rattle.rec_collector.proofs.Steps.{has_cause}
 use Rattle.rec_collector.specs.Next.{next_of}
 use Rattle.rec_collector.specs.Private.{Private}
 use Rattle.rec_collector.specs.Step.{IsBetween}
-use Rattle.rec_collector.specs.Took.{took_of, turn_of}
+use Rattle.rec_collector.specs.Took.{turn_of}
 use Rattle.rec_collector.specs.declared.phase.Phase.{Phase}
 use Rattle.rec_collector.specs.declared.phase.Phase.TheVariants.{Looking}
 use Rattle.rec_core.specs.Core.{Core}
@@ -21,6 +18,7 @@ use Rattle.rec_table.specs.declared.views.Beat.TheVariants.{Saw}
 use Rattle.rec_table.specs.declared.views.Crew.{Crew}
 use Rattle.rec_table.specs.declared.views.View.TheVariants.{Collects}
 use Rattle.rec_table.proofs.Gathering.{turn_there, turn_names, looking_of, not_looking, looking_boxes, turn_me, turn_log, turn_end, lone_out}
+use Rattle.rec_table.proofs.Turn.{makes_none, makes_one}
 use Rattle.rec_table.proofs.collector.Collector.turn_on.Goals as goal
 use Rattle.rec_table.proofs.collector.Collector.turn_on.Goals.{In-Some}
 
@@ -50,21 +48,23 @@ there c =
 keeps : (a b d : Private) → KeepsSizes a b → KeepsSizes b d → KeepsSizes a d
 keeps a b d x y = record { slots = y.slots ∙ x.slots; fields = y.fields ∙ x.fields; registers = y.registers ∙ x.registers; capacity = y.capacity ∙ x.capacity; mutators = y.mutators ∙ x.mutators }
 
-same_op : (c : In-Some) (op : Op) → ◌≡◌ {A = Option Op} (next_of (gathers_now c.args.self.now)) None → ⊥
-same_op c op none = let bad : ◌≡◌ {A = Option Op} None (Some c.in-Some.op) = sym none ∙ ap next_of (sym (c.self.invariant.1 ∙ ap gathers_now c.self.view_is)) ∙ named c in cc
-
 looking : (c : In-Some) (t e : ℕ) → c.in-Some.op ≡ ops.LookBox t e → (c.self.inside.machine.phase ≡ Looking t) × (c.self.inside.machine.epoch ≡ e)
 looking c t e is = looking_of c.self.inside.machine c.in-Some.op t e c.self.invariant.3 (named c) is
 
--- an answer has its cause
-caused : (g : Gathers) (p : Private) (turn : Turn) → p ≡ gathers_now g → IsMachine p → (word : ℕ) → turn ≡ turn_of (gathers_now g) word → HasCause (gathers_now g) word (took_of (gathers_now g) word) turn
-caused g p turn is machine = λ word told. subst (HasCause (gathers_now g) word (took_of (gathers_now g) word)) (sym told) (has_cause (gathers_now g) word (subst IsMachine is machine))
+-- what is known of the collector's record as the turn begins
+now : (c : In-Some) → c.self.inside.machine ≡ gathers_now c.args.self.now
+now c = c.self.invariant.1 ∙ ap gathers_now c.self.view_is
 
-pub returns-in_default-clause-cause : goal.returns-in_default-clause-cause
-returns-in_default-clause-cause c = caused c.args.self.now c.self.inside.machine _ (c.self.invariant.1 ∙ ap gathers_now c.self.view_is) c.turns-turns.ensures.kept
+machine : (c : In-Some) → IsMachine (gathers_now c.args.self.now)
+machine c = subst IsMachine (now c) c.turns-turns.ensures.kept
 
-pub returns-in-LookBox-clause-cause : goal.returns-in-LookBox-clause-cause
-returns-in-LookBox-clause-cause c = caused c.args.self.now c.self.inside.machine c.look.result (c.self.invariant.1 ∙ ap gathers_now c.self.view_is) c.turns-turns.ensures.kept
+its_op : (c : In-Some) → ◌≡◌ {A = Option Op} (next_of (gathers_now c.args.self.now)) (Some c.in-Some.op)
+its_op c = ap next_of (sym (now c)) ∙ named c
+
+pub returns-in_default-clause-turn : goal.returns-in_default-clause-turn
+returns-in_default-clause-turn c =
+    let is : c.self.inside.machine ≡ gathers_now c.args.self.now = c.self.invariant.1 ∙ ap gathers_now c.self.view_is in
+    makes_none c.args.self.now (subst IsMachine is c.turns-turns.ensures.kept) (ap next_of (sym is) ∙ sym c.next.ensures.next ∙ c.in_default.is)
 
 pub look-requires-clause-table : goal.look-requires-clause-table
 look-requires-clause-table c = table (goal.at.look-requires-clause-table c).In-Some
@@ -122,23 +122,20 @@ invariant_of-self-in_default-op c =
     let s = c.self.inside in
     let b = Saw c.make_turn-word.result in
     let out = lone_out s.machine c.took.new.self c.make_turn-word.result c.self.invariant.3 (not_looking s.machine c.in-Some.op c.self.invariant.3 (named a) c.in_default-op.not-LookBox) c.took.ensures.took in
-    let now : c.make_turn-word.new.seat.me ≡ (Collects (crew_more (crew a) b), boxes_out c.took.new.self) = c.make_turn-word.ensures.view ∙ (λ k. (Collects (crew_more (crew a) b), sym out.0 k)) in (
-      turn_me (crew a) b c.took.new.self c.make_turn-word.new.seat.me now,
-      turn_log s.opened.value s.machine c.took.new.self (crew a) b c.make_turn-word.new.seat.me c.self.invariant.1 c.took.ensures.took now,
+    let seated : c.make_turn-word.new.seat.me ≡ (Collects (crew_more (crew a) b), boxes_out c.took.new.self) = c.make_turn-word.ensures.view ∙ (λ k. (Collects (crew_more (crew a) b), sym out.0 k)) in (
+      turn_me (crew a) b c.took.new.self c.make_turn-word.new.seat.me seated,
+      turn_log s.opened.value s.machine c.took.new.self (crew a) b c.make_turn-word.new.seat.me c.self.invariant.1 c.took.ensures.took seated,
       keeps s.opened.value s.machine c.took.new.self c.self.invariant.2 c.took.ensures.same,
       out.1,
     )
 
-pub returns-in-LookBox-clause-spent : goal.returns-in-LookBox-clause-spent
-returns-in-LookBox-clause-spent c = λ none. absurd (same_op (goal.at.returns-in-LookBox-clause-spent c).In-Some c.in-Some.op none)
-
-pub returns-in-LookBox-clause-turned : goal.returns-in-LookBox-clause-turned
-returns-in-LookBox-clause-turned c = λ op named_.
-    let a : In-Some = (goal.at.returns-in-LookBox-clause-turned c).In-Some in
+pub returns-in-LookBox-clause-turn : goal.returns-in-LookBox-clause-turn
+returns-in-LookBox-clause-turn c =
+    let a : In-Some = (goal.at.returns-in-LookBox-clause-turn c).In-Some in
     let s = c.self.inside in
     let t = c.look.ensures.turned in
     let e = turn_end s.seat.table_id c.look.new.seat.table_id s.opened.value s.machine c.look.new.machine (crew a) t.0 c.look.new.seat.me c.args.self.now c.self.view_is c.look.ensures.seat.0 c.self.invariant.1 t.2 t.1 in
-    (t.0, e.0, e.1, t.3 ∙ ap (λ (p : Private). turn_of p (word_of t.0)) (c.self.invariant.1 ∙ ap gathers_now c.self.view_is))
+    makes_one c.args.self.now _ c.in-Some.op t.0 c.look.result (machine a) (its_op a) e.0 e.1 (t.3 ∙ ap (λ (p : Private). turn_of p (word_of t.0)) (now a))
 
 pub returns-in-LookBox-clause-free : goal.returns-in-LookBox-clause-free
 returns-in-LookBox-clause-free c = λ looks_none.
@@ -152,12 +149,9 @@ returns-in_default-op c =
     let s = c.self.inside in
     let b = Saw c.make_turn-word.result in
     let out = lone_out s.machine c.took.new.self c.make_turn-word.result c.self.invariant.3 (not_looking s.machine c.in-Some.op c.self.invariant.3 (named a) c.in_default-op.not-LookBox) c.took.ensures.took in
-    let now : c.make_turn-word.new.seat.me ≡ (Collects (crew_more (crew a) b), boxes_out c.took.new.self) = c.make_turn-word.ensures.view ∙ (λ k. (Collects (crew_more (crew a) b), sym out.0 k)) in
-    let e = turn_end s.seat.table_id c.make_turn-word.new.seat.table_id s.opened.value s.machine c.took.new.self (crew a) b c.make_turn-word.new.seat.me c.args.self.now c.self.view_is c.make_turn-word.ensures.seat.0 c.self.invariant.1 c.took.ensures.took now in
+    let seated : c.make_turn-word.new.seat.me ≡ (Collects (crew_more (crew a) b), boxes_out c.took.new.self) = c.make_turn-word.ensures.view ∙ (λ k. (Collects (crew_more (crew a) b), sym out.0 k)) in
+    let e = turn_end s.seat.table_id c.make_turn-word.new.seat.table_id s.opened.value s.machine c.took.new.self (crew a) b c.make_turn-word.new.seat.me c.args.self.now c.self.view_is c.make_turn-word.ensures.seat.0 c.self.invariant.1 c.took.ensures.took seated in
     record {
-      spent = λ none. absurd (same_op a c.in-Some.op none);
-      turned = λ op named_. (b, e.0, e.1, c.took.ensures.turn ∙ ap (λ (p : Private). turn_of p c.make_turn-word.result) (c.self.invariant.1 ∙ ap gathers_now c.self.view_is));
-      cause = caused c.args.self.now c.self.inside.machine c.took.result (c.self.invariant.1 ∙ ap gathers_now c.self.view_is) c.turns-turns.ensures.kept;
-      same = e.0 ∙ (λ k. record c.args.self.now { crew = record c.args.self.now.crew { log = (sym e.0 k).crew.log } });
+      turn = makes_one c.args.self.now _ c.in-Some.op b c.took.result (machine a) (its_op a) e.0 e.1 (c.took.ensures.turn ∙ ap (λ (p : Private). turn_of p c.make_turn-word.result) (now a));
       free = λ looks_none. ap boxes_out (e.1 ∙ ap (λ (p : Private). gathered p b) (sym (c.self.invariant.1 ∙ ap gathers_now c.self.view_is)) ∙ sym c.took.ensures.took) ∙ out.0;
     }

@@ -29,8 +29,8 @@ returns-in-Some-clause-finished c =
       busy = c.skip_taken.ensures.busy;
       work = (path_counts w c.args.t v c.loop-made.invariant.world is c.skip_taken.ensures.path).1 ∙ c.loop-made.invariant.work;
       world = c.skip_taken.ensures.kept;
-      steps = c.step.ensures.stepped;
-      answer = sym c.step.ensures.answer ∙ c.in-Some.is;
+      steps = c.step.ensures.step.stepped;
+      answer = sym c.step.ensures.step.answer ∙ c.in-Some.is;
     }
 
 pub loop-made-preserved : goal.loop-made-preserved
@@ -43,10 +43,10 @@ loop-made-preserved c =
     let v_is : IsMutator v.config c.args.t = (path_world w c.args.t v c.loop-made.invariant.world is c.skip_taken.ensures.path).1 in
     let waits : Waits before v c.args.t = path_waits before w c.args.t v c.loop-made.invariant.world is c.loop-made.invariant.waits c.skip_taken.ensures.path c.skip_taken.ensures.busy in
     record {
-      path = StepsTo.further v u (path_both before c.args.t w v c.loop-made.invariant.path c.skip_taken.ensures.path) c.skip_taken.ensures.busy c.step.ensures.stepped;
-      waits = waited before v u c.args.t (world_kept v c.skip_taken.ensures.kept) v_is c.skip_taken.ensures.busy waits c.step.ensures.stepped (sym c.step.ensures.answer ∙ c.in_default.is);
-      work = c.step.ensures.work ∙ (path_counts w c.args.t v c.loop-made.invariant.world is c.skip_taken.ensures.path).1 ∙ c.loop-made.invariant.work;
-      busy = c.step.ensures.busy ∙ ap is_none c.in_default.is;
+      path = StepsTo.further v u (path_both before c.args.t w v c.loop-made.invariant.path c.skip_taken.ensures.path) c.skip_taken.ensures.busy c.step.ensures.step.stepped;
+      waits = waited before v u c.args.t (world_kept v c.skip_taken.ensures.kept) v_is c.skip_taken.ensures.busy waits c.step.ensures.step.stepped (sym c.step.ensures.step.answer ∙ c.in_default.is);
+      work = c.step.ensures.step.work ∙ (path_counts w c.args.t v c.loop-made.invariant.world is c.skip_taken.ensures.path).1 ∙ c.loop-made.invariant.work;
+      busy = c.step.ensures.step.busy ∙ ap is_none c.in_default.is;
       world = c.step.ensures.kept;
     }
 
@@ -58,6 +58,6 @@ loop-made-smaller c =
     let is : IsMutator w.config c.args.t = mutator_there before w c.args.t c.loop-made.invariant.waits c.requires.mutator in
     let v_is : IsMutator v.config c.args.t = (path_world w c.args.t v c.loop-made.invariant.world is c.skip_taken.ensures.path).1 in
     let waits : Waits before v c.args.t = path_waits before w c.args.t v c.loop-made.invariant.world is c.loop-made.invariant.waits c.skip_taken.ensures.path c.skip_taken.ensures.busy in
-    let less = nearer before v c.step.new.self c.args.t (world_kept v c.skip_taken.ensures.kept) v_is c.skip_taken.ensures.busy waits c.step.ensures.stepped in
+    let less = nearer before v c.step.new.self c.args.t (world_kept v c.skip_taken.ensures.kept) v_is c.skip_taken.ensures.busy waits c.step.ensures.step.stepped in
     let more : (mutator w c.args.t).steps ≤ (mutator v c.args.t).steps = (path_counts w c.args.t v c.loop-made.invariant.world is c.skip_taken.ensures.path).0 in
     omega (arith, less, more)

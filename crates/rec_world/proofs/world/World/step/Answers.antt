@@ -1,16 +1,15 @@
 -- The machine names an operation, the memory carries it out, the machine learns: the core is that of the definitions.
-use Rattle.std.proofs.Common.{◌≡◌, ◌-◌, ◌+◌, ◌<◌, ◌≤◌, ◌^◌, true, map, length, slice_set, arith, refl, sym, ap, subst, ◌∙◌}
-use Rattle.std.specs.Option.{is_none, is_some, IfSome}
+use Rattle.std.proofs.Common.{◌≡◌, ◌-◌, ◌+◌, ◌<◌, ◌≤◌, ◌^◌, Option, true, map, length, slice_set, arith, refl, sym, ap, subst, ◌∙◌}
+use Rattle.std.specs.Option.{is_some}
 use Rattle.rec_mutator.specs.Next.{next_of}
-use Rattle.rec_mutator.specs.Private.{is_busy, work_of, answer_of, limit_of}
+use Rattle.rec_mutator.specs.Private.{is_busy, answer_of}
+use Rattle.rec_mutator.specs.declared.made.Made.{Made}
 use Rattle.rec_core.specs.Cells.{cell, births_of}
 use Rattle.rec_core.specs.Core.{Core, cells_of, mutator}
 use Rattle.rec_core.specs.Met.{MayStep}
 use Rattle.rec_core.specs.Moves.{Move, stepped}
-use Rattle.rec_core.specs.Shown.{IsShown}
-use Rattle.rec_core.proofs.Runs.{move_kept}
-use Rattle.rec_core.proofs.Showing.{step_shown}
-use Rattle.rec_core.proofs.Unfinished.{work_stays, step_busy, steps_counted, steps_limited}
+use Rattle.rec_core.specs.Step.{IsStep}
+use Rattle.rec_core.proofs.Step.{step_is_one}
 use Rattle.rec_core.proofs.Words.{may_step}
 use Rattle.rec_world.specs.Inside.{core}
 use Rattle.rec_world.specs.Mailbox.{held}
@@ -83,57 +82,14 @@ pub invariant_of-self : goal.invariant_of-self
 invariant_of-self c =
     record { world = world (goal.at.invariant_of-self c).After-answer; home = home_again c.self.inside.boxes.items (c.from-index.result - 1) c.make_step.new.mailbox (ap is_some c.make_step.ensures.mailbox) c.self.invariant.home }
 
-pub returns-clause-stepped : goal.returns-clause-stepped
-returns-clause-stepped c = left (goal.at.returns-clause-stepped c).After-answer ∙ ap (λ (s : Core). stepped s c.args.t) c.self.view_is
-
--- what the machine answers
-answered : (c : After-answer) → c.answer.result ≡ answer_of (mutator (stepped (core c.self.inside) c.args.t) c.args.t)
-answered c =
-    c.answer.ensures.answer
-    ∙ ap answer_of (sym (machine_left (core c.self.inside) c.args.t c.from-index.result c.make_step.new.machine (ends c).kept (ends c).is c.from-index.ensures) ∙ ap (λ (s : Core). mutator s c.args.t) (left c))
-
-pub returns-clause-answer : goal.returns-clause-answer
-returns-clause-answer c =
-    let at : After-answer = (goal.at.returns-clause-answer c).After-answer in
-    answered at ∙ ap (λ (s : Core). answer_of (mutator s c.args.t)) (sym (left at))
-
-pub returns-clause-busy : goal.returns-clause-busy
-returns-clause-busy c =
-    let at : After-answer = (goal.at.returns-clause-busy c).After-answer in
+pub returns-clause-step : goal.returns-clause-step
+returns-clause-step c =
+    let at : After-answer = (goal.at.returns-clause-step c).After-answer in
     let w : Core = core c.self.inside in
-    ap (λ (s : Core). is_busy (mutator s c.args.t)) (left at) ∙ step_busy w c.args.t (ends at).kept (ends at).is (was_busy at) ∙ ap is_none (sym (answered at))
-
-pub returns-clause-shown : goal.returns-clause-shown
-returns-clause-shown c =
-    let at : After-answer = (goal.at.returns-clause-shown c).After-answer in
-    let w : Core = core c.self.inside in
-    subst (λ (s : Core). IsShown s c.args.t c.answer.result (after at)) c.self.view_is
-    (subst (λ (s : Core). IsShown w c.args.t c.answer.result s) (sym (left at))
-    (subst (λ x. IsShown w c.args.t x (stepped w c.args.t)) (sym (answered at)) (step_shown w c.args.t (ends at).kept (ends at).is (was_busy at))))
-
-pub returns-clause-work : goal.returns-clause-work
-returns-clause-work c =
-    let at : After-answer = (goal.at.returns-clause-work c).After-answer in
-    let w : Core = core c.self.inside in
-    ap (λ (s : Core). work_of (mutator s c.args.t)) (left at) ∙ work_stays w c.args.t (ends at).kept (ends at).is (was_busy at) ∙ ap (λ (s : Core). work_of (mutator s c.args.t)) c.self.view_is
-
-pub returns-clause-steps : goal.returns-clause-steps
-returns-clause-steps c =
-    let at : After-answer = (goal.at.returns-clause-steps c).After-answer in
-    let w : Core = core c.self.inside in
-    ap (λ (s : Core). (mutator s c.args.t).steps) (left at) ∙ steps_counted w c.args.t (ends at).kept (ends at).is (was_busy at) ∙ ap (λ (s : Core). (mutator s c.args.t).steps + 1) c.self.view_is
-
-pub returns-clause-limit : goal.returns-clause-limit
-returns-clause-limit c =
-    let at : After-answer = (goal.at.returns-clause-limit c).After-answer in
-    let w : Core = core c.self.inside in
-    let P : Core → Type 0 = λ s. IfSome (work_of (mutator s c.args.t)) (λ work. (mutator s c.args.t).steps ≤ limit_of s.config.slots work) in
-    subst P (sym (left at)) (steps_limited (stepped w c.args.t) c.args.t (move_kept w (Move.Steps c.args.t) (ends at).kept ((ends at).is, was_busy at)) (ends at).is)
-
-pub returns-clause-run : goal.returns-clause-run
-returns-clause-run c =
-    let at : After-answer = (goal.at.returns-clause-run c).After-answer in
-    (world at).run
+    let answered : c.answer.result ≡ answer_of (mutator (stepped w c.args.t) c.args.t)
+    = c.answer.ensures.answer ∙ ap answer_of (sym (machine_left w c.args.t c.from-index.result c.make_step.new.machine (ends at).kept (ends at).is c.from-index.ensures) ∙ ap (λ (s : Core). mutator s c.args.t) (left at)) in
+    subst (λ (s : Core). IsStep s c.args.t c.answer.result (after at)) c.self.view_is
+    (subst (λ (x : Option Made × Core). IsStep w c.args.t x.0 x.1) (λ i. (sym answered i, sym (left at) i)) (step_is_one w c.args.t (ends at).kept c.self.invariant.world.run (ends at).is (was_busy at)))
 
 pub returns-clause-kept : goal.returns-clause-kept
 returns-clause-kept c = world (goal.at.returns-clause-kept c).After-answer

@@ -1,53 +1,40 @@
 -- The collector names an operation, the memory carries it out, the collector learns: the core is that of the definitions.
-use Rattle.std.proofs.Common.{◌≡◌, ℕ, ◌-◌, ◌+◌, ◌<◌, ◌≤◌, List, Option, None, Some, map, length, slice_index_or, refl, sym, ap, subst, ◌∙◌}
-use Rattle.std.specs.Option.{is_some, IfSome, IsSome}
-use Rattle.std.proofs.lemmas.Bool.{false≢true}
+use Rattle.std.proofs.Common.{◌≡◌, ℕ, ◌-◌, ◌<◌, ◌≤◌, List, Option, None, Some, map, length, slice_index_or, refl, sym, ap, subst, ◌∙◌}
+use Rattle.std.specs.Option.{IfSome, IsSome}
 use Rattle.std.proofs.lemmas.List.{get_or_default}
-use Rattle.rec_word.specs.Mailbox.{crossing_word}
-use Rattle.rec_word.specs.declared.mailbox.Mailbox.TheVariants.{Retired}
 use Rattle.rec_word.specs.declared.op.Op.{Op}
-use Rattle.rec_word.specs.declared.op.Op.TheVariants.{FreeHeader}
-use Rattle.rec_model.specs.Sight.{StandsBy}
 use Rattle.rec_log.specs.declared.contents.Contents.{Contents}
-use Rattle.rec_collector.specs.Causes.{HasCause}
 use Rattle.rec_collector.specs.Given.{IsGiven, IsSized, swapping_for}
 use Rattle.rec_collector.specs.Next.{next_of}
 use Rattle.rec_collector.specs.Private.{Private}
-use Rattle.rec_collector.specs.Took.{took_of}
-use Rattle.rec_collector.specs.declared.phase.Phase.TheVariants.{Idle, Looking}
+use Rattle.rec_collector.specs.Took.{took_of, turn_of}
+use Rattle.rec_collector.specs.declared.turn.Turn.{Turn}
 use Rattle.rec_collector.specs.declared.turn.Turn.TheVariants as turns
-use Rattle.rec_core.specs.Cells.{cell}
-use Rattle.rec_core.specs.Core.{Core, cells_of, sight, box, crossing_of}
-use Rattle.rec_core.specs.Freed.{AreGone, IsForgotten}
+use Rattle.rec_core.specs.Core.{Core, box}
 use Rattle.rec_core.specs.Met.{MayTurn}
-use Rattle.rec_core.specs.Moves.{Move, EndsRun, looked_at, turned}
-use Rattle.rec_core.specs.Reach.{KeepsReached}
-use Rattle.rec_core.specs.Swept.{IsSweep}
-use Rattle.rec_core.proofs.Freed.{freed_is_forgotten, given_up_are_gone}
-use Rattle.rec_core.proofs.Reach.{turned_keeps, keeps_stands_by}
-use Rattle.rec_core.proofs.Runs.{looked_is, move_kept, move_stays}
-use Rattle.rec_core.proofs.Swept.{turned_sweeps}
+use Rattle.rec_core.specs.Moves.{Move, looked_at, turned, turned_at}
+use Rattle.rec_core.specs.Turn.{IsTurn, told_at, turn_told}
+use Rattle.rec_core.proofs.Turn.{turn_is_one}
 use Rattle.rec_core.proofs.Words.{may_turn}
 use Rattle.rec_world.specs.Inside.{core}
 use Rattle.rec_world.specs.Mailbox.{held, held_by}
-use Rattle.rec_world.specs.World.{IsWorld, TurnHasCause}
-use Rattle.rec_world.proofs.Calls.{ReadyToTurn, ready_to_turn, box_read, moved_world}
-use Rattle.rec_world.proofs.Turnings.{holds_looked, home_still, looked_word, turned_is, turn_cause, turn_requests}
+use Rattle.rec_world.specs.World.{IsWorld}
+use Rattle.rec_world.proofs.Calls.{ReadyToTurn, ready_to_turn, box_read, moved_world, world_kept}
+use Rattle.rec_world.proofs.Turnings.{holds_looked, home_still, turned_is}
 use Rattle.rec_world.proofs.world.World.turn_seen.Goals as goal
 use Rattle.rec_world.proofs.world.World.turn_seen.Goals.{In_default, In-Some, After-gather}
 
--- where no operation comes next, the epochs are spent
-pub returns-in_default-clause-cause : goal.returns-in_default-clause-cause
-returns-in_default-clause-cause c =
-    let now : ReadyToTurn c.self.inside = ready_to_turn c.self.inside c.self.invariant in
-    let spent = c.next.ensures.none.0 (ap is_some c.in_default.is) in (
-      ap (λ (s : Core). s.collector.phase) (sym c.self.view_is) ∙ spent.0,
-      ap (λ (s : Core). s.epoch + 1) (sym c.self.view_is) ∙ ap (λ n. n + 1) (sym now.kept.collector.epoch) ∙ spent.1,
-      refl,
-    )
+-- what a world's turn is
+turn_of_world : (w : Core) → IsWorld w → IsTurn w (turned w) (turn_told w)
+turn_of_world w world = turn_is_one w (world_kept w world) world.run
 
-pub returns-in_default-clause-run : goal.returns-in_default-clause-run
-returns-in_default-clause-run c = subst EndsRun c.self.view_is c.self.invariant.world.run
+-- where no operation comes next, the epochs are spent
+pub returns-in_default-clause-turn : goal.returns-in_default-clause-turn
+returns-in_default-clause-turn c =
+    let w : Core = core c.self.inside in
+    let none : ◌≡◌ {A = Option Op} (next_of w.collector) None = sym c.next.ensures.next ∙ c.in_default.is in
+    let same : IsTurn w w turns.EpochsSpent = subst (λ (x : Core × Turn). IsTurn w x.0 x.1) (ap (λ (o : Option Op). (turned_at w o, told_at w o)) none) (turn_of_world w c.self.invariant.world) in
+    subst (λ (x : Core). IsTurn x x turns.EpochsSpent) c.self.view_is same
 
 -- what is known as the operation is named
 begins : (c : In-Some) → ReadyToTurn c.self.inside
@@ -127,93 +114,13 @@ invariant_of-self c =
       home = subst (λ (bs : List (Option Contents)). (i : ℕ) → i < length bs → IsSome (slice_index_or bs i None)) (sym c.gather.ensures.boxes) (home_still c.took-turn.new.self c.self.inside.boxes.items (swapping_for c.took-turn.new.self.phase) c.self.invariant.home);
     }
 
-pub returns-clause-turned : goal.returns-clause-turned
-returns-clause-turned c = left (goal.at.returns-clause-turned c).After-gather ∙ ap turned c.self.view_is
-
--- the epochs are not spent
-goes_on : (c : After-gather) → c.self.inside.collector.phase ≡ Idle → c.self.inside.collector.epoch + 1 ≡ 16777216 → ⊥
-goes_on c idle last = false≢true (sym (c.next.ensures.none.1 (idle, last)) ∙ ap is_some c.in-Some.is)
-
--- why this is answered
-caused : (c : After-gather) → TurnHasCause (core c.self.inside) (turned (core c.self.inside)) c.took-turn.result
-caused c =
+-- the turn that was made
+pub returns-clause-turn : goal.returns-clause-turn
+returns-clause-turn c =
+    let at : After-gather = (goal.at.returns-clause-turn c).After-gather in
     let w : Core = core c.self.inside in
-    let cause : HasCause w.collector (cell (cells_of w) c.in-Some.op) c.took-turn.new.self c.took-turn.result
-    = subst (λ n. HasCause w.collector n c.took-turn.new.self c.took-turn.result) c.perform-found.ensures.found c.took-turn.ensures.cause in
-    turn_cause w c.in-Some.op c.took-turn.new.self c.took-turn.result (ends c).kept (its_op c) (c.took-turn.ensures.took ∙ ap (took_of w.collector) c.perform-found.ensures.found) cause
-    (λ is. let spent = subst (HasCause w.collector (cell (cells_of w) c.in-Some.op) c.took-turn.new.self) is cause in goes_on c spent.0 spent.1)
-
-pub returns-clause-cause : goal.returns-clause-cause
-returns-clause-cause c =
-    let at : After-gather = (goal.at.returns-clause-cause c).After-gather in
-    subst (λ (s : Core). TurnHasCause s (after at) c.took-turn.result) c.self.view_is (subst (λ (s : Core). TurnHasCause (core c.self.inside) s c.took-turn.result) (sym (left at)) (caused at))
-
-pub returns-clause-waiting : goal.returns-clause-waiting
-returns-clause-waiting c = λ t looks other.
-    let at : After-gather = (goal.at.returns-clause-waiting c).After-gather in
-    let w : Core = core c.self.inside in
-    let looks_so : w.collector.phase ≡ Looking t = ap (λ (s : Core). s.collector.phase) c.self.view_is ∙ looks in
-    let word : c.perform-found.result ≡ crossing_of c.args.self.now t = c.perform-found.ensures.found ∙ looked_word w t c.in-Some.op looks_so (its_op at) ∙ ap (λ (s : Core). crossing_of s t) c.self.view_is in
-    let epoch : w.collector.epoch ≡ c.args.self.now.epoch = (ends at).kept.collector.epoch ∙ ap (λ (s : Core). s.epoch) c.self.view_is in
-    c.took-turn.ensures.waiting t looks_so (λ is. other (sym word ∙ is ∙ ap (λ n. crossing_word n Retired) epoch))
-
-pub returns-clause-spent : goal.returns-clause-spent
-returns-clause-spent c = λ idle last.
-    let at : After-gather = (goal.at.returns-clause-spent c).After-gather in
-    absurd (goes_on at (ap (λ (s : Core). s.collector.phase) c.self.view_is ∙ idle) (ap (λ n. n + 1) ((ends at).kept.collector.epoch ∙ ap (λ (s : Core). s.epoch) c.self.view_is) ∙ last))
-
-pub returns-clause-awaited : goal.returns-clause-awaited
-returns-clause-awaited c = λ t is.
-    let at : After-gather = (goal.at.returns-clause-awaited c).After-gather in
-    let w : Core = core c.self.inside in
-    let cause : TurnHasCause w (turned w) (turns.Waiting t) = subst (TurnHasCause w (turned w)) is (caused at) in
-    looked_is w (Looking t) (ends at).kept cause.0
-
-pub returns-clause-reached : goal.returns-clause-reached
-returns-clause-reached c =
-    let at : After-gather = (goal.at.returns-clause-reached c).After-gather in
-    subst (λ (s : Core). KeepsReached (sight s) (sight (after at))) c.self.view_is (subst (λ (s : Core). KeepsReached (sight (core c.self.inside)) (sight s)) (sym (left at)) (turned_keeps (core c.self.inside) (ends at).kept))
-
-pub returns-clause-stands : goal.returns-clause-stands
-returns-clause-stands c = λ heap number stood.
-    let at : After-gather = (goal.at.returns-clause-stands c).After-gather in
-    subst (λ (s : Core). StandsBy heap (sight s) number) (sym (left at))
-    (keeps_stands_by heap (sight (core c.self.inside)) (sight (turned (core c.self.inside))) number (turned_keeps (core c.self.inside) (ends at).kept) (subst (λ (s : Core). StandsBy heap (sight s) number) (sym c.self.view_is) stood))
-
-pub returns-clause-sweep : goal.returns-clause-sweep
-returns-clause-sweep c =
-    let at : After-gather = (goal.at.returns-clause-sweep c).After-gather in
-    subst (λ (s : Core). IsSweep s (after at)) c.self.view_is (subst (IsSweep (core c.self.inside)) (sym (left at)) (turned_sweeps (core c.self.inside) (ends at).kept))
-
-pub returns-in_default-clause-gone : goal.returns-in_default-clause-gone
-returns-in_default-clause-gone c = subst AreGone c.self.view_is (given_up_are_gone (core c.self.inside) (ready_to_turn c.self.inside c.self.invariant).kept)
-
-pub returns-in_default-clause-forgotten : goal.returns-in_default-clause-forgotten
-returns-in_default-clause-forgotten c = λ slot.
-    let now : ReadyToTurn c.self.inside = ready_to_turn c.self.inside c.self.invariant in
-    subst (λ (s : Core). ◌≡◌ {A = Option Op} (next_of s.collector) (Some (FreeHeader slot)) → IsForgotten s slot) c.self.view_is (freed_is_forgotten (core c.self.inside) slot now.kept)
-
-pub returns-clause-gone : goal.returns-clause-gone
-returns-clause-gone c =
-    let at : After-gather = (goal.at.returns-clause-gone c).After-gather in
-    subst AreGone (sym (left at)) (given_up_are_gone (turned (core c.self.inside)) (move_kept (core c.self.inside) Move.Turns (ends at).kept tt))
-
-pub returns-clause-forgotten : goal.returns-clause-forgotten
-returns-clause-forgotten c = λ slot.
-    let at : After-gather = (goal.at.returns-clause-forgotten c).After-gather in
-    subst (λ (s : Core). ◌≡◌ {A = Option Op} (next_of s.collector) (Some (FreeHeader slot)) → IsForgotten s slot) c.self.view_is (freed_is_forgotten (core c.self.inside) slot (ends at).kept)
-
-pub returns-clause-requested : goal.returns-clause-requested
-returns-clause-requested c =
-    let at : After-gather = (goal.at.returns-clause-requested c).After-gather in
-    let w : Core = core c.self.inside in
-    let few : (turned w).epoch ≤ w.epoch + 1 = turn_requests w (turned w) c.took-turn.result (ends at).kept (move_kept w Move.Turns (ends at).kept tt) (move_stays w Move.Turns) (caused at) in
-    subst (λ (s : Core). (after at).epoch ≤ s.epoch + 1) c.self.view_is (subst (λ (s : Core). s.epoch ≤ w.epoch + 1) (sym (left at)) few)
-
-pub returns-clause-run : goal.returns-clause-run
-returns-clause-run c =
-    let at : After-gather = (goal.at.returns-clause-run c).After-gather in
-    (world at).run
+    let told : turn_told w ≡ c.took-turn.result = ap (told_at w) (its_op at) ∙ sym (c.took-turn.ensures.turn ∙ ap (turn_of w.collector) c.perform-found.ensures.found) in
+    subst (λ (x : Core). IsTurn x (after at) c.took-turn.result) c.self.view_is (subst (λ (x : Core × Turn). IsTurn w x.0 x.1) (λ i. (sym (left at) i, told i)) (turn_of_world w c.self.invariant.world))
 
 pub returns-clause-kept : goal.returns-clause-kept
 returns-clause-kept c = world (goal.at.returns-clause-kept c).After-gather

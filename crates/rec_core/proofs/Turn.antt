@@ -1,0 +1,206 @@
+-- A turn of a heap that keeps what every heap keeps is one, with the answer that its machine gives.
+use Rattle.std.proofs.Common.{◌≡◌, ◌≢◌, ℕ, ◌+◌, ◌-◌, ◌^◌, ◌≤◌, ◌==◌, if◌then◌else◌, List, Option, None, Some, Bool, false, IsNone, slice_set, refl, sym, ap, subst, ◌∙◌, arith}
+use Rattle.std.proofs.lemmas.Bool.{eq-eqb, ne_eqb}
+use Rattle.std.proofs.lemmas.List.{set-get_or}
+use Rattle.rec_word.specs.Mailbox.{crossing_word}
+use Rattle.rec_word.specs.declared.mailbox.Mailbox.TheVariants.{Retired, WithCollector}
+use Rattle.rec_word.specs.Op.{written}
+use Rattle.rec_word.specs.declared.op.Op.{Op}
+use Rattle.rec_word.specs.declared.op.Op.TheVariants as ops
+use Rattle.rec_log.specs.declared.contents.Contents.{Contents}
+use Rattle.rec_collector.specs.Causes.{HasCause}
+use Rattle.rec_collector.specs.Kept.{swept_at, under_way}
+use Rattle.rec_collector.specs.Next.{next_of, next_at}
+use Rattle.rec_collector.specs.Private as collectors
+use Rattle.rec_collector.specs.Took.{took_of, took_at, step_of, swapped_of, swapped_at, turn_of, turn_at}
+use Rattle.rec_collector.specs.declared.phase.Phase.{Phase}
+use Rattle.rec_collector.specs.declared.phase.Phase.TheVariants.{Idle, Looking, Swapping}
+use Rattle.rec_collector.specs.declared.turn.Turn.{Turn}
+use Rattle.rec_collector.specs.declared.turn.Turn.TheVariants as turns
+use Rattle.rec_collector.proofs.Landing.{under_way_most}
+use Rattle.rec_collector.proofs.Steps.{has_cause, spends}
+use Rattle.rec_core.specs.Cells.{cell}
+use Rattle.rec_core.specs.Config.{IsMutator}
+use Rattle.rec_core.specs.Core.{Core, cells_of, box, crossing_of, sight}
+use Rattle.rec_core.specs.Kept.{IsKept}
+use Rattle.rec_core.specs.Moves.{Move, looked_at, left_by, collected, turned, turned_at, EndsRun}
+use Rattle.rec_core.specs.Turn.{TurnHasCause, IsTurn, turn_told, told_at}
+use Rattle.rec_core.specs.declared.config.Config.{Config}
+use Rattle.rec_core.proofs.Freed.{freed_is_forgotten, given_up_are_gone}
+use Rattle.rec_core.proofs.Reach.{turned_keeps, keeps_stands_by}
+use Rattle.rec_core.proofs.Runs.{looked_is, move_stays, run_more, turned_kept}
+use Rattle.rec_core.proofs.Shapes.{same_boxes}
+use Rattle.rec_core.proofs.Swept.{turned_sweeps}
+use Rattle.rec_core.proofs.Turning.{some_op, turned_mutators}
+
+-- the swap of a mailbox changes no number of the collector
+record KeepsNumbers (p q : collectors.Private) : Type 0 where
+  pub turns : q.turns ≡ p.turns
+  pub collections : q.collections ≡ p.collections
+  pub freed : q.freed ≡ p.freed
+  pub swept : swept_at q.phase ≡ swept_at p.phase
+
+swapped_keeps : (p : collectors.Private) (b : Contents) → KeepsNumbers p (swapped_of p b)
+unfolding swapped_of swapped_at
+swapped_keeps p b = go p.phase refl
+  where
+    same : KeepsNumbers p p
+    same = record { turns = refl; collections = refl; freed = refl; swept = refl }
+
+    go : (phase : Phase) → p.phase ≡ phase → KeepsNumbers p (swapped_at p b phase)
+    go (Swapping t) is = record { turns = refl; collections = refl; freed = refl; swept = sym (ap swept_at is) }
+    go _ is = same
+
+-- nor does it happen at rest
+swapped_idle : (p : collectors.Private) (b : Contents) → p.phase ≡ Idle → swapped_of p b ≡ p
+unfolding swapped_of swapped_at
+swapped_idle p b is = ap (swapped_at p b) is
+
+-- the word of a mailbox that is looked at
+looks : (w : Core) (t : ℕ) (op : Op) → w.collector.phase ≡ Looking t → ◌≡◌ {A = Option Op} (next_of w.collector) (Some op) → op ≡ ops.LookBox t w.collector.epoch
+unfolding next_of next_at
+looks w t op is named = sym (some_op (ops.LookBox t w.collector.epoch) op (sym (ap (next_at w.collector) is) ∙ named))
+
+looked_word : (w : Core) (t : ℕ) (op : Op) → w.collector.phase ≡ Looking t → ◌≡◌ {A = Option Op} (next_of w.collector) (Some op) → cell (cells_of w) op ≡ crossing_of w t
+looked_word w t op is named = ap (cell (cells_of w)) (looks w t op is named)
+
+-- a turn that waits changes nothing
+waits_same : (w : Core) (t : ℕ) (op : Op) → w.collector.phase ≡ Looking t → ◌≡◌ {A = Option Op} (next_of w.collector) (Some op) → crossing_of w t ≢ crossing_word w.collector.epoch Retired → turned w ≡ w
+unfolding step_of swapped_of swapped_at took_of took_at next_of next_at
+waits_same w t op is named other =
+    let c : collectors.Private = w.collector in
+    let word : ℕ = crossing_of w t in
+    let no : (word == crossing_word c.epoch Retired) ≡ false = ne_eqb word (crossing_word c.epoch Retired) other in
+    let named_so : ◌≡◌ {A = Option Op} (next_of c) (Some (ops.LookBox t c.epoch)) = ap (next_at c) is in
+    let kept_word : written (ops.LookBox t c.epoch) word ≡ word = ap (λ b. if b then crossing_word c.epoch WithCollector else word) no in
+    let same_words : slice_set w.crossing (t - 1) (written (ops.LookBox t c.epoch) word) ≡ w.crossing = ap (slice_set w.crossing (t - 1)) kept_word ∙ set-get_or w.crossing (t - 1) 0 in
+    let learnt : took_of c word ≡ c = ap (took_at c word) is ∙ ap (λ (b : Bool). let d : collectors.Private = (if b then record c { phase = Swapping t; turns = c.turns + 1 } else c) in d) no in
+    let stays : step_of c word (box w t) ≡ c = ap (λ x. swapped_of x (box w t)) learnt ∙ ap (swapped_at c (box w t)) is in
+    let left : left_by c word (box w t) (Looking t) ≡ box w t = ap (λ (b : Bool). if b then collectors.spare c else box w t) no in
+    let boxes : slice_set w.boxes (t - 1) (left_by c word (box w t) (Looking t)) ≡ w.boxes = ap (slice_set w.boxes (t - 1)) left ∙ same_boxes w t in
+    let make : List ℕ → List Contents → collectors.Private → Core = λ crossing bs d. record w { crossing = crossing; boxes = bs; collector = d } in
+    let looked : Phase → Core = λ phase. collected w (ops.LookBox t c.epoch) word (step_of c word (box w (looked_at phase))) (left_by c word (box w (looked_at phase)) phase) in
+    ap (turned_at w) named_so ∙ at_phase
+    ∙ ap (λ x. make x (slice_set w.boxes (t - 1) (left_by c word (box w t) (Looking t))) (step_of c word (box w t))) same_words ∙ ap (λ x. make w.crossing x (step_of c word (box w t))) boxes ∙ ap (λ x. make w.crossing w.boxes x) stays
+  where
+    at_phase : turned_at w (Some (ops.LookBox t w.collector.epoch)) ≡ record w {
+      crossing = slice_set w.crossing (t - 1) (written (ops.LookBox t w.collector.epoch) (crossing_of w t));
+      boxes = slice_set w.boxes (t - 1) (left_by w.collector (crossing_of w t) (box w t) (Looking t));
+      collector = step_of w.collector (crossing_of w t) (box w t);
+    }
+    at_phase = ap (λ (phase : Phase). let v : Core = record w {
+      crossing = slice_set w.crossing (t - 1) (written (ops.LookBox t w.collector.epoch) (crossing_of w t));
+      boxes = slice_set w.boxes (looked_at phase - 1) (left_by w.collector (crossing_of w t) (box w (looked_at phase)) phase);
+      collector = step_of w.collector (crossing_of w t) (box w (looked_at phase));
+    } in v) is
+
+-- the collector after its turn
+collector_left : (w : Core) (op : Op) → ◌≡◌ {A = Option Op} (next_of w.collector) (Some op) → (turned w).collector ≡ step_of w.collector (cell (cells_of w) op) (box w (looked_at w.collector.phase))
+collector_left w op named = ap (λ (x : Option Op). (turned_at w x).collector) named
+
+-- why a turn with an operation answers this
+caused : (w : Core) (op : Op) (taken : collectors.Private) (turn : Turn) → IsKept w → ◌≡◌ {A = Option Op} (next_of w.collector) (Some op) → taken ≡ took_of w.collector (cell (cells_of w) op)
+    → HasCause w.collector (cell (cells_of w) op) taken turn → (turn ≡ turns.EpochsSpent → ⊥) → TurnHasCause w (turned w) turn
+unfolding step_of
+caused w op taken turns.Moved kept named learns cause none =
+    let b : Contents = box w (looked_at w.collector.phase) in
+    let left : (turned w).collector ≡ swapped_of taken b = collector_left w op named ∙ ap (λ x. swapped_of x b) (sym learns) in
+    let keeps : KeepsNumbers taken (turned w).collector = subst (KeepsNumbers taken) (sym left) (swapped_keeps taken b) in
+    (keeps.turns ∙ cause.0, keeps.collections ∙ cause.1, ap (λ n. n + swept_at w.collector.phase) keeps.freed ∙ cause.2 ∙ ap (λ n. w.collector.freed + n) (sym keeps.swept))
+caused w op taken (turns.Waiting t) kept named learns cause none =
+    let other : crossing_of w t ≢ crossing_word w.collector.epoch Retired = λ is. cause.1 (looked_word w t op cause.0 named ∙ is) in
+    (cause.0, λ is. other (is ∙ ap (λ n. crossing_word n Retired) (sym kept.collector.epoch)), waits_same w t op cause.0 named other)
+caused w op taken (turns.Collected epoch freed) kept named learns cause none =
+    let b : Contents = box w (looked_at w.collector.phase) in
+    let left : (turned w).collector ≡ taken = collector_left w op named ∙ ap (λ x. swapped_of x b) (sym learns) ∙ swapped_idle taken b cause.2 in
+    (cause.0 ∙ kept.collector.epoch, cause.1, ap (λ (c : collectors.Private). c.phase) left ∙ cause.2, ap (λ (c : collectors.Private). c.collections) left ∙ cause.3, ap (λ (c : collectors.Private). c.freed) left ∙ cause.4)
+caused w op taken turns.EpochsSpent kept named learns cause none = absurd (none refl)
+
+-- one epoch more is requested at most
+requests_few : (w v : Core) (turn : Turn) → IsKept w → IsKept v → v.config ≡ w.config → TurnHasCause w v turn → v.epoch ≤ w.epoch + 1
+requests_few w v turns.Moved kept later same cause =
+    let before : w.config.first_epoch + w.collector.collections + under_way w.collector.phase ≡ w.epoch = kept.collector.begun in
+    let after : v.config.first_epoch + v.collector.collections + under_way v.collector.phase ≡ v.epoch = later.collector.begun in
+    let first : v.config.first_epoch ≡ w.config.first_epoch = ap (λ (c : Config). c.first_epoch) same in
+    let one : under_way v.collector.phase ≤ 1 = under_way_most v.collector.phase in
+    omega (arith, cause.1)
+requests_few w v (turns.Waiting t) kept later same cause = subst (λ n. n ≤ w.epoch + 1) (sym (ap (λ (x : Core). x.epoch) cause.2)) (omega arith)
+requests_few w v (turns.Collected epoch freed) kept later same cause =
+    let before : w.config.first_epoch + w.collector.collections + under_way w.collector.phase ≡ w.epoch = kept.collector.begun in
+    let after : v.config.first_epoch + v.collector.collections + under_way v.collector.phase ≡ v.epoch = later.collector.begun in
+    let first : v.config.first_epoch ≡ w.config.first_epoch = ap (λ (c : Config). c.first_epoch) same in
+    let none : under_way v.collector.phase ≡ 0 = ap under_way cause.2 in
+    omega (arith, cause.3)
+requests_few w v turns.EpochsSpent kept later same cause = subst (λ n. n ≤ w.epoch + 1) (sym (ap (λ (x : Core). x.epoch) cause.2)) (omega arith)
+
+-- with or without an operation
+told_cause : (w : Core) → IsKept w → TurnHasCause w (turned w) (turn_told w)
+unfolding next_of next_at
+told_cause w kept = go (next_of w.collector) refl
+  where
+    c : collectors.Private
+    c = w.collector
+
+    go : (x : Option Op) → next_of c ≡ x → TurnHasCause w (turned_at w x) (told_at w x)
+    go None none =
+        let is = subst (HasCause c 0 (took_of c 0)) (spends c 0 kept.collector.machine (subst (λ (o : Option Op). IsNone o) (sym none) refl)) (has_cause c 0 kept.collector.machine) in
+        (is.0, ap (λ n. n + 1) (sym kept.collector.epoch) ∙ is.1, refl)
+    go (Some op) named =
+        let word : ℕ = cell (cells_of w) op in
+        let cause : HasCause c word (took_of c word) (turn_of c word) = has_cause c word kept.collector.machine in
+        let more : turn_of c word ≡ turns.EpochsSpent → ⊥ = λ spent.
+        let is = subst (HasCause c word (took_of c word)) spent cause in
+        let none : ◌≡◌ {A = Option Op} (next_of c) None = ap (next_at c) is.0 ∙ ap (λ (b : Bool). if b then None else Some (ops.StoreEpoch (c.epoch + 1))) (eq-eqb (c.epoch + 1) (2 ^ 24) is.1) in
+        let not_so : ◌≡◌ {A = Option Op} (Some op) None = sym named ∙ none in
+        cc in
+        subst (λ (x : Core). TurnHasCause w x (turn_of c word)) (ap (turned_at w) named) (caused w op (took_of c word) (turn_of c word) kept named refl cause more)
+
+-- who hasn't crossed is waited for
+told_waiting : (w : Core) (t : ℕ) → IsKept w → w.collector.phase ≡ Looking t → crossing_of w t ≢ crossing_word w.epoch Retired → turn_told w ≡ turns.Waiting t
+unfolding next_of next_at turn_of turn_at
+told_waiting w t kept looks other =
+    let c : collectors.Private = w.collector in
+    let no : (crossing_of w t == crossing_word c.epoch Retired) ≡ false = ne_eqb (crossing_of w t) (crossing_word c.epoch Retired) (λ is. other (is ∙ ap (λ n. crossing_word n Retired) kept.collector.epoch)) in
+    ap (λ (phase : Phase). told_at w (next_at c phase)) looks ∙ ap (turn_at c (crossing_of w t)) looks ∙ ap (λ (b : Bool). if b then turns.Moved else turns.Waiting t) no
+
+-- where the epochs are spent, that is told
+told_spent : (w : Core) → IsKept w → w.collector.phase ≡ Idle → w.epoch + 1 ≡ 2 ^ 24 → turn_told w ≡ turns.EpochsSpent
+unfolding next_of next_at
+told_spent w kept idle last =
+    let c : collectors.Private = w.collector in
+    ap (λ (phase : Phase). told_at w (next_at c phase)) idle
+    ∙ ap (λ (b : Bool). told_at w (if b then None else Some (ops.StoreEpoch (c.epoch + 1)))) (eq-eqb (c.epoch + 1) (2 ^ 24) (ap (λ n. n + 1) kept.collector.epoch ∙ last))
+
+-- no birth is counted
+turned_made : (w : Core) → (turned w).made ≡ w.made
+turned_made w = go (next_of w.collector)
+  where
+    go : (x : Option Op) → (turned_at w x).made ≡ w.made
+    go None = refl
+    go (Some op) = refl
+
+-- The turn of a heap that some run ends in.
+pub turn_is_one : (w : Core) → IsKept w → EndsRun w → IsTurn w (turned w) (turn_told w)
+turn_is_one w kept run =
+    let after : IsKept (turned w) = turned_kept w kept in
+    let same : (turned w).config ≡ w.config = move_stays w Move.Turns in
+    let cause : TurnHasCause w (turned w) (turn_told w) = told_cause w kept in
+    record {
+      turned = refl;
+      cause = cause;
+      waiting = λ t. told_waiting w t kept;
+      spent = told_spent w kept;
+      awaited = λ t is.
+          let waits : TurnHasCause w (turned w) (turns.Waiting t) = subst (TurnHasCause w (turned w)) is cause in
+          subst (λ (c : Config). IsMutator c t) (sym same) (looked_is w (Looking t) kept waits.0);
+      reached = turned_keeps w kept;
+      stands = λ heap number. keeps_stands_by heap (sight w) (sight (turned w)) number (turned_keeps w kept);
+      sweep = turned_sweeps w kept;
+      gone = given_up_are_gone (turned w) after;
+      forgotten = λ slot. freed_is_forgotten w slot kept;
+      requested = requests_few w (turned w) (turn_told w) kept after same cause;
+      mutators = turned_mutators w;
+      config = same;
+      made = turned_made w;
+      run = run_more w Move.Turns run tt;
+    }

@@ -1,0 +1,54 @@
+-- What makes a turn of the collector on the table one.
+use Rattle.std.proofs.Common.{◌≡◌, ℕ, Option, None, Some, refl, sym, ap, subst, ◌∙◌}
+use Rattle.rec_word.specs.declared.op.Op.{Op}
+use Rattle.rec_collector.specs.Causes.{HasCause}
+use Rattle.rec_collector.specs.Kept.{IsMachine}
+use Rattle.rec_collector.specs.Next.{next_of}
+use Rattle.rec_collector.specs.Private.{Private}
+use Rattle.rec_collector.specs.Took.{took_of, turn_of}
+use Rattle.rec_collector.specs.declared.turn.Turn.{Turn}
+use Rattle.rec_collector.specs.declared.turn.Turn.TheVariants as turns
+use Rattle.rec_collector.proofs.Steps.{has_cause}
+use Rattle.rec_core.specs.Cells.{cell}
+use Rattle.rec_core.specs.Core.{Core, cells_of}
+use Rattle.rec_core.specs.Moves.{turned}
+use Rattle.rec_core.specs.Turn.{IsTurn, told_at, turn_told}
+use Rattle.rec_core.proofs.Turn.{turn_is_one}
+use Rattle.rec_world.specs.World.{IsWorld}
+use Rattle.rec_world.proofs.Calls.{world_kept}
+use Rattle.rec_table.specs.Beats.{gathered}
+use Rattle.rec_table.specs.Held.{Gathers, gathers_now}
+use Rattle.rec_table.specs.Rule.{crew_more, word_of}
+use Rattle.rec_table.specs.Turn.{MakesTurn}
+use Rattle.rec_table.specs.declared.views.Beat.{Beat}
+
+-- a world's turn, with the answer that was told
+told : (w : Core) (answer : Turn) → IsWorld w → turn_told w ≡ answer → IsTurn w (turned w) answer
+told w answer world is = subst (IsTurn w (turned w)) is (turn_is_one w (world_kept w world) world.run)
+
+caused : (p : Private) (answer : Turn) → IsMachine p → (word : ℕ) → answer ≡ turn_of p word → HasCause p word (took_of p word) answer
+caused p answer machine word is = subst (HasCause p word (took_of p word)) (sym is) (has_cause p word machine)
+
+-- without an operation
+pub makes_none : (g : Gathers) → IsMachine (gathers_now g) → ◌≡◌ {A = Option Op} (next_of (gathers_now g)) None → MakesTurn g g turns.EpochsSpent
+makes_none g machine none = record {
+  spent = λ _. (refl, refl);
+  turned = λ op is. let not_so : ◌≡◌ {A = Option Op} None (Some op) = sym none ∙ is in absurd (cc);
+  cause = caused (gathers_now g) turns.EpochsSpent machine;
+  same = refl;
+  turn = λ w world same _. told w turns.EpochsSpent world (ap (λ (p : Private). told_at w (next_of p)) same ∙ ap (told_at w) none);
+}
+
+-- with one, by what its beat tells
+pub makes_one : (g g' : Gathers) (op : Op) (b : Beat) (answer : Turn) → IsMachine (gathers_now g) → ◌≡◌ {A = Option Op} (next_of (gathers_now g)) (Some op)
+    → g' ≡ record g { crew = crew_more g.crew b } → gathers_now g' ≡ gathered (gathers_now g) b → answer ≡ turn_of (gathers_now g) (word_of b) → MakesTurn g g' answer
+makes_one g g' op b answer machine named grows now is = record {
+  spent = λ none. let not_so : ◌≡◌ {A = Option Op} None (Some op) = sym none ∙ named in absurd (cc);
+  turned = λ _ _. (b, grows, now, is);
+  cause = caused (gathers_now g) answer machine;
+  same = grows ∙ (λ k. record g { crew = record g.crew { log = (sym grows k).crew.log } });
+  turn = λ w world same finds.
+      let its : ◌≡◌ {A = Option Op} (next_of w.collector) (Some op) = ap next_of same ∙ named in
+      let word : word_of b ≡ cell (cells_of w) op = finds op b its (ap (λ (x : Gathers). x.crew) grows) in
+      told w answer world (ap (told_at w) its ∙ ap (λ (p : Private). turn_of p (cell (cells_of w) op)) same ∙ ap (turn_of (gathers_now g)) (sym word) ∙ sym is);
+}
