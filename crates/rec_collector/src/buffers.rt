@@ -3,8 +3,7 @@ ghost use Rattle.std.specs.Prelude.{◌≡◌, IfOk, None, Option, map, length, 
 ghost use Rattle.rec_collector.specs.Private.{retired};
 ghost use Rattle.rec_collector.specs.Took.{cleared};
 
-use rec_frame::Frame;
-use rec_log::Buffer;
+use rec_log::{Buffer, Frame};
 use std::alloc::{AllocError as NoMemory, Global};
 
 /// A buffer for each mutator, with room for so many entries, and this frame as its snapshot.

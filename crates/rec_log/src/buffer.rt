@@ -1,7 +1,6 @@
 ghost use Rattle.std.specs.Prelude.{◌≡◌, ◌≤◌, ◌↔◌, ◌∷◌, ◌++◌, [], length, replicate, IsTrue, IfOk, OnOk, OnErr, IsErr};
 
-use crate::{Entry, Full};
-use rec_frame::Frame;
+use crate::{Entry, Frame, Full};
 use std::alloc::{AllocError as NoMemory, Global};
 use std::marker::Model;
 

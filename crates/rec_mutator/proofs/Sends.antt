@@ -9,7 +9,7 @@ use Rattle.rec_mutator.specs.contracts.phase.Phase as phase
 use Rattle.rec_mutator.specs.contracts.work.Work as work
 use Rattle.rec_mutator.specs.contracts.made.Made as made
 use Rattle.rec_log.specs.contracts.buffer.Buffer as buffer
-use Rattle.rec_frame.specs.contracts.frame.Frame as frame
+use Rattle.rec_log.specs.contracts.frame.Frame as frame
 
 frames : IsSend frame.the_field.row
 frames = search (sendable, crosses) depth 20

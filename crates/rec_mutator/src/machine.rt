@@ -12,8 +12,7 @@ ghost use Rattle.rec_mutator.specs.Took.{begun_of, begun_by, took_of, took_at, m
 
 use crate::phase::Phase;
 use crate::{Made, Work};
-use rec_frame::Frame;
-use rec_log::{Buffer, Entry};
+use rec_log::{Buffer, Entry, Frame};
 use rec_model::{Answer, Cmd, Told};
 use rec_word::{Header, Op, Stamp, pack, place, target};
 use std::alloc::{AllocError as NoMemory, Global};

@@ -12,7 +12,7 @@ use Rattle.rec_core.specs.Core.{Core, mutator, opened, sight}
 use Rattle.rec_core.specs.Moves.{Move, AllFit, after_moves}
 use Rattle.rec_order.specs.Events.{events_of}
 use Rattle.rec_order.specs.Legal.{HasLegalOrder}
-use Rattle.rec_order.specs.Naming.{first_naming, named_after_all}
+use Rattle.rec_order.specs.Naming.{Naming, first_naming, named_after_all}
 use Rattle.rec_world.specs.Journal.{Notes, no_notes}
 use Rattle.rec_table.specs.Beats.{beats_of}
 use Rattle.rec_table.specs.Ends.{Interleaves, IsStopped}
@@ -24,7 +24,9 @@ use Rattle.rec_script.specs.Script.{Contents}
 use Rattle.rec_play.specs.Played.{config_of, last_moment, lines_of}
 use Rattle.rec_play.proofs.Opened.{IsPlayedLegally, heap_of, ordered_legally, stands_opened, unfreed_opened}
 use Rattle.rec_play.proofs.Room.{no_log_full}
-use Rattle.rec_run.specs.Headline.{IsDriven, KeepsRule}
+use Rattle.rec_run.specs.Headline.{HasRun, KeepsRule}
+use Rattle.rec_run.specs.declared.command_line.How.TheVariants as hows
+use Rattle.rec_run.proofs.Outcomes.{full_only}
 
 -- where each mutator's list tells its journal's lines, the lists tell the journals
 journals_are : (w : Core) (k : ℕ) (ms : List Held) (js : List Notes) → length js ≡ length ms
@@ -146,21 +148,33 @@ module _ (script : Contents) (s : Started) (ms ms' : List Held) (js js' : List N
       ordered_legally script world moves (lines_of js') (subst (λ w. HasLegalOrder w heap opening_number (0 ∷ []) moves (lines_of js')) was.opens
       (subst (HasLegalOrder s.world heap opening_number (0 ∷ []) moves) lines_are order)) ends
 
-  pub was_driven : (events : List Event) × IsDriven script (lines_of js') events world × (world.made ≡ length (last_moment script events).heap.objects)
+  abbrev events : List Event
+  events = events_of first_naming (opened (config_of script)) moves
+
+  abbrev names : Naming
+  names = named_after_all first_naming (opened (config_of script)) moves
+
+  pub was_driven : (events : List Event) × HasRun script hows.Threads (lines_of js') events world × (world.made ≡ length (last_moment script events).heap.objects)
   was_driven = (
-    events_of first_naming (opened (config_of script)) moves,
+    events,
     record {
       commands = commands_kept;
       legal = legally.legal;
-      collected = collected ++ was.stopped.returned;
-      lists = lists;
-      interleaved = interleaved;
-      turns = let once = was.stopped.once in let most = was.turns in let both = length-append collected was.stopped.returned in omega (arith, once, most, both);
-      ruled = ruled;
-      told = ap (λ w. journals_from w 0 lists) (sym was.opens) ∙ lines_are;
-      tells = refl;
+      given = λ i t cmd told is. (legally.legal.fits i (Event.Answers t (cmd, told)) is).told.answer;
+      full = full_only script (lines_of js') events legally.legal;
+      names = names;
       stands = legally.stands;
-      no_log_full = no_log_full script (lines_of js') (events_of first_naming (opened (config_of script)) moves) commands_kept legally.legal;
+      steps = record {
+        collected = collected ++ was.stopped.returned;
+        lists = lists;
+        interleaved = interleaved;
+        turns = let once = was.stopped.once in let most = was.turns in let both = length-append collected was.stopped.returned in omega (arith, once, most, both);
+        ruled = ruled;
+        told = ap (λ w. journals_from w 0 lists) (sym was.opens) ∙ lines_are;
+        tells = refl;
+        named = refl;
+      };
+      no_log_full = no_log_full script (lines_of js') events commands_kept legally.legal;
     },
     legally.made,
   )

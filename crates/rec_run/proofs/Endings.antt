@@ -1,5 +1,5 @@
 -- How a run ends, from what its parts tell.
-use Rattle.std.proofs.Common.{◌≡◌, ◌≢◌, ◌⊎◌, inl, inr, ℕ, ◌+◌, ◌<◌, ◌≤◌, List, [], ◌++◌, Option, None, Some, Result, Ok, Err, length, refl, sym, ap, subst, ◌∙◌, arith}
+use Rattle.std.proofs.Common.{◌≡◌, ◌≢◌, ◌⊎◌, inl, inr, ℕ, ◌+◌, ◌<◌, ◌≤◌, List, [], ◌∷◌, ◌++◌, Option, None, Some, Result, Ok, Err, length, map, refl, sym, ap, subst, ◌∙◌, arith}
 use Rattle.std.specs.Result.{IfOk}
 use Rattle.std.proofs.lemmas.Bool.{cases_lt}
 use Rattle.std.proofs.lemmas.List.{append-nil, length-append}
@@ -9,8 +9,9 @@ use Rattle.rec_io.specs.Source.{Passes}
 use Rattle.rec_io.specs.Told.{KeepsTold}
 use Rattle.rec_io.proofs.Faults.{rose_since}
 use Rattle.rec_io.proofs.Told.{untold}
+use Rattle.rec_model.specs.Heap.{Heap, count_of}
 use Rattle.rec_model.specs.LegalOrder.{Line, Event, actors}
-use Rattle.rec_model.specs.Listing.{Row, ListsSlots}
+use Rattle.rec_model.specs.Listing.{Row, IsListing, ListsSlots, row}
 use Rattle.rec_model.specs.Sight.{StandsFor}
 use Rattle.rec_model.proofs.Listed.{listing_carried}
 use Rattle.rec_core.specs.Settled.{IsSettled}
@@ -231,6 +232,14 @@ pub if_ok : {T E : Type 0} (r : Result T E) (P Q : T → Type 0) → ((x : T) �
 if_ok (Ok x) P Q step held = step x held
 if_ok (Err e) P Q step held = held
 
+-- the counts in a listing's rows
+row_counts : (heap : Heap) (numbering ns : List ℕ) → map (λ (r : Row). r.count) (map (row heap numbering) ns) ≡ map (count_of heap numbering) ns
+row_counts heap numbering [] = refl
+row_counts heap numbering (n ∷ ns) = ap (λ (l : List ℕ). count_of heap numbering n ∷ l) (row_counts heap numbering ns)
+
+counted : (heap : Heap) (rows : List Row) (listing : IsListing heap rows) → map (λ (r : Row). r.count) rows ≡ map (count_of heap listing.0) listing.0
+counted heap rows (ns, listed, are) = ap (map (λ (r : Row). r.count)) are ∙ row_counts heap ns ns
+
 -- what was run, settled and listed is the answer
 pub answers_script : (script : Contents) (how : How) (journals : List (List Line)) (events : List Event) (end world : Core) (rows : List Row) (text : List ℕ)
     → HasRun script how journals events end → IsSettling end world → IsSettled world → StandsFor (last_moment script events).heap (sight world)
@@ -243,13 +252,15 @@ answers_script script how journals events end world rows text has_run settles se
       end = end;
       has_run = has_run;
       rows = rows;
-      settled = record {
+      settled = let listing : IsListing (last_moment script events).heap rows = listing_carried (last_moment script events).heap (sight world) rows stands settled.collected listed in record {
         world = world;
         settles = settles;
         settled = settled;
-        stands = stands;
+        reached = settled.collected;
         room = room;
-        listing = listing_carried (last_moment script events).heap (sight world) rows stands settled.collected listed;
+        stands = stands;
+        listing = listing;
+        counts = counted (last_moment script events).heap rows listing;
       };
       written = written;
     }

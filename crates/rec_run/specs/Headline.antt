@@ -1,30 +1,36 @@
--- What the program's answer to a request is.
--- Three definitions stand behind those that are cited here: `asks` of `rec_model/specs/Asking`, by which a heap that never frees gives
--- an answer; `IsReached` of `rec_model/specs/Reach`, by which registers reach an object; and `IsPlayedRun` of `rec_play/specs/Run`, the
--- steps of a played run.
-use Rattle.std.specs.Prelude.{◌≡◌, ◌⊎◌, ℕ, ◌+◌, ◌<◌, ◌≤◌, Bool, true, false, Option, None, Some, List, [], ◌++◌, length, map, slice_index_or}
+-- What the program's answer to a request is. Each word of the headline has its meaning here, or in a definition that is cited here.
+use Rattle.std.specs.Prelude.{◌≡◌, ◌⊎◌, ℕ, ◌+◌, ◌<◌, ◌≤◌, ◌↔◌, Bool, true, false, Option, None, Some, List, [], ◌++◌, length, map, slice_index_or}
+use Rattle.std.specs.List.{slice_get}
 use Rattle.std.specs.Option.{ForSome}
-use Rattle.rec_model.specs.Heap.{Heap}
+use Rattle.rec_model.specs.Heap.{Heap, children, roots}
+use Rattle.rec_model.specs.Asking.{allocation, asks, is_done, AnswersAs}
+use Rattle.rec_model.specs.Numbering.{holders}
+use Rattle.rec_model.specs.Reach.{IsReached}
+use Rattle.rec_model.specs.declared.answer.Answer.TheVariants as answers
 use Rattle.rec_model.specs.declared.command.Cmd.{Cmd}
-use Rattle.rec_model.specs.LegalOrder.{Line, Event, actors, IsLegalOrder, NoLogFull}
+use Rattle.rec_model.specs.declared.told.Told.{Told}
+use Rattle.rec_model.specs.LegalOrder.{Line, Event, Moment, actors, moment, IsLegalOrder, NoLogFull}
 use Rattle.rec_model.specs.Listing.{Row, IsListing}
-use Rattle.rec_model.specs.Sight.{StandsBy, StandsFor}
+use Rattle.rec_model.specs.Sight.{IsTaken, StandsBy, StandsFor, targets_of}
 use Rattle.rec_core.specs.Core.{Core, opened, sight}
 use Rattle.rec_core.specs.Settled.{IsSettled}
 use Rattle.rec_settle.specs.Collecting.{IsSettling}
 use Rattle.rec_order.specs.Events.{events_of}
-use Rattle.rec_order.specs.Naming.{first_naming, named_after_all}
+use Rattle.rec_order.specs.Naming.{Naming, first_naming, named_after_all}
 use Rattle.rec_table.specs.Ends.{Interleaves}
 use Rattle.rec_table.specs.Journals.{journals_from}
 use Rattle.rec_table.specs.declared.views.Beat.{Beat}
 use Rattle.rec_threads.specs.Done.{begun, commands_at, driving_rule}
-use Rattle.rec_play.specs.Played.{IsPlayed, config_of, last_moment, limits_of, opening_moment}
+use Rattle.rec_play.specs.Played.{config_of, last_moment, lengths_of, limits_of, opening_moment}
+use Rattle.rec_play.specs.Playing.{all_turns, order}
+use Rattle.rec_play.specs.Run.{IsPlayedRun}
 use Rattle.rec_io.specs.Sink.{Appends}
 use Rattle.rec_io.specs.Source.{BeginsWith}
 use Rattle.rec_script.specs.Lines.{lines}
 use Rattle.rec_script.specs.Script.{Contents, Spells, IsRefused}
 use Rattle.rec_run.specs.declared.command_line.How.{How}
 use Rattle.rec_run.specs.declared.command_line.How.TheVariants as hows
+use Rattle.rec_run.specs.declared.command_line.Play.{Play}
 use Rattle.rec_run.specs.declared.command_line.Request.{Request}
 use Rattle.rec_run.specs.declared.command_line.Request.TheVariants as requests
 use Rattle.rec_script.specs.declared.error.Kind.{Kind}
@@ -33,15 +39,19 @@ use Rattle.rec_report.specs.Summary.{summary_text}
 use Rattle.rec_report.specs.Text.{play_text}
 use Rattle.rec_run.specs.Whole.{IsAtEnd}
 
--- Settling came to this world: just what registers reach holds slots, of which there are so many, and the count of each is the number
--- of fields and registers that hold it. The heap stands for it, and these are its rows.
+-- The world is settled and these are its rows: just the slots that registers reach hold objects, a row for each, with its true count.
 pub record IsSettledAs (end : Core) (heap : Heap) (slots : ℕ) (rows : List Row) : Type 0 where
   pub world : Core
   pub settles : IsSettling end world
   pub settled : IsSettled world
-  pub stands : StandsFor heap (sight world)
+  -- just the slots that the registers reach, by fields from slot to slot, hold objects
+  pub reached : (slot : ℕ) → IsTaken (sight world) slot ↔ IsReached (roots (sight world).registers) (targets_of (sight world)) slot
   pub room : length world.headers ≡ slots
+  -- the heap stands for this world, and has these rows; the numbering is the first part of the listing
+  pub stands : StandsFor heap (sight world)
   pub listing : IsListing heap rows
+  -- the count in each row is how many registers, and fields of listed objects, hold the object
+  pub counts : map (λ row. row.count) rows ≡ map (holders (roots heap.registers) (children heap) listing.0) listing.0
 
 -- A mutator's list has the works of the driving rule: it polled once before each of its commands, and at most 65,536 times behind the
 -- last one.
@@ -50,14 +60,11 @@ pub record KeepsRule (cmds : List Cmd) (list : List Beat) : Type 0 where
   pub few : polls ≤ 65536
   pub begins : begun list ≡ driving_rule cmds polls
 
--- The commands of a script were carried out on threads. The collector and each mutator have a list of their own steps, and one run from
--- the opening of the script's heap to this world has these lists, each step once and in order, and no other step. Each mutator kept the
--- driving rule, and the collector made at most 10,000,000 turns, and one that gives a mailbox back. The journals are what the mutators'
--- lists tell, and no log was full. One legal order from the opening heap explains them, and it is the order of that run: an answer stands
--- in it where the step was made that decided it.
-pub record IsDriven (script : Contents) (journals : List (List Line)) (events : List Event) (world : Core) : Type 0 where
-  pub commands : map (map (λ line. line.0)) journals ≡ script.commands
-  pub legal : IsLegalOrder (limits_of script) (opening_moment script) journals events
+-- The run on threads. The collector and each mutator have a list of their own steps, and one run from the opening of the script's heap
+-- to this world has these lists, each step once and in order, and no other step. Each mutator kept the driving rule, and the collector
+-- made at most 10,000,000 turns, and one that gives a mailbox back. The journals are what the mutators' lists tell. The events are those
+-- of that run: an answer stands among them where the step was made that decided it.
+pub record IsDriven (script : Contents) (journals : List (List Line)) (events : List Event) (names : Naming) (world : Core) : Type 0 where
   pub collected : List Beat
   pub lists : List (List Beat)
   pub interleaved : Interleaves (opened (config_of script)) collected lists world
@@ -65,14 +72,39 @@ pub record IsDriven (script : Contents) (journals : List (List Line)) (events : 
   pub ruled : (k : ℕ) → k < length script.commands → KeepsRule (commands_at script.commands k) (slice_index_or lists k [])
   pub told : journals_from (opened (config_of script)) 0 lists ≡ journals
   pub tells : events ≡ events_of first_naming (opened (config_of script)) interleaved.run
-  -- which object each slot holds at the end: by this the heap of the order stands for the world
-  pub stands : StandsBy (last_moment script events).heap (sight world) (named_after_all first_naming (opened (config_of script)) interleaved.run).number
-  pub no_log_full : NoLogFull journals
+  pub named : names ≡ named_after_all first_naming (opened (config_of script)) interleaved.run
 
--- how a script was run
-abbrev pub HasRun : Contents → How → List (List Line) → List Event → Core → Type 0
-HasRun script (hows.Play play) journals events world = IsPlayed script play.seed play.turns journals events world
-HasRun script hows.Threads journals events world = IsDriven script journals events world
+-- The run that is played: its turns are those that the playing rule draws, and its answers stand in their order. The events are what
+-- these turns tell, with the frees and the sweeps of the collector's.
+pub record IsDrawn (script : Contents) (play : Play) (events : List Event) (names : Naming) (world : Core) : Type 0 where
+  pub in_order : actors events ≡ order (lengths_of script) play.seed play.turns
+  pub run : IsPlayedRun script (all_turns (lengths_of script) play.seed play.turns) events names world
+
+-- the steps of the run, by the way it was made
+abbrev pub MakesSteps : Contents → How → List (List Line) → List Event → Naming → Core → Type 0
+MakesSteps script (hows.Play play) journals events names world = IsDrawn script play events names world
+MakesSteps script hows.Threads journals events names world = IsDriven script journals events names world
+
+-- what stands before the event with this number, in an order from the opening heap
+abbrev pub before : Contents → List Event → ℕ → Moment
+before script events i = moment (limits_of script) (opening_moment script) events i
+
+-- A script was run. The journals have its commands, each with what was told, and no log was full. One legal order from the opening
+-- heap has their lines: it keeps each mutator's own, and the heap that never frees explains it.
+pub record HasRun (script : Contents) (how : How) (journals : List (List Line)) (events : List Event) (world : Core) : Type 0 where
+  pub commands : map (map (λ line. line.0)) journals ≡ script.commands
+  pub legal : IsLegalOrder (limits_of script) (opening_moment script) journals events
+  -- each answer is the one that the heap that never frees gives there; where it gives none, the command is refused, and changes nothing
+  pub given : (i t : ℕ) (cmd : Cmd) (told : Told) → slice_get events i ≡ Some (Event.Answers t (cmd, told))
+      → AnswersAs cmd (asks script.fields (before script events i).heap t cmd (is_done told.answer) told.left).answer told.answer
+  -- an allocation is answered full only where as many objects as there are slots are not freed
+  pub full : (i t reg label : ℕ) (leaf : Bool) (told : Told) → slice_get events i ≡ Some (Event.Answers t (allocation leaf reg label, told))
+      → told.answer ≡ answers.Full → length (before script events i).unfreed ≡ script.slots
+  -- which object each slot holds at the end: by this the heap of the order stands for the world
+  pub names : Naming
+  pub stands : StandsBy (last_moment script events).heap (sight world) names.number
+  pub steps : MakesSteps script how journals events names world
+  pub no_log_full : NoLogFull journals
 
 -- whether a summary is printed in place of the whole text
 abbrev pub is_summary : How → Bool

@@ -76,21 +76,22 @@ moves_by w actor found Kind.Glances = if found == crossing_word w.collector.epoc
 abbrev pub moves_made : Core → Operation → List Move
 moves_made w o = moves_by w o.actor o.found o.kind
 
-abbrev pub Does : (leaves : ℕ → ℕ) → (found : ℕ) → Op → Kind → Type 0
-Does leaves found op (Kind.Steps work) = (n : ℕ) → leaves n ≡ written op n
-Does leaves found op Kind.Turns = (n : ℕ) → leaves n ≡ written op n
-Does leaves found op _ = ((n : ℕ) → leaves n ≡ n) × (written op found ≡ found)
+abbrev pub LeavesAs : (leaves : ℕ → ℕ) → (found : ℕ) → Op → Kind → Type 0
+LeavesAs leaves found op (Kind.Steps work) = (n : ℕ) → leaves n ≡ written op n
+LeavesAs leaves found op Kind.Turns = (n : ℕ) → leaves n ≡ written op n
+LeavesAs leaves found op Kind.Passes = ((n : ℕ) → leaves n ≡ n) × (written op found ≡ found)
+LeavesAs leaves found op Kind.Glances = ((n : ℕ) → leaves n ≡ n) × (written op found ≡ found)
 
 -- An operation on the table is this one of the core: it stands at its word, and leaves what it leaves of every word. A load may stand
 -- for one that leaves the word found as it is.
-abbrev pub Is : (key : Core) → Operation → Op → Type 0
-Is key o op = (o.index ≡ index_of (length key.words) (length key.headers) op) × Does o.leaves o.found op o.kind
+abbrev pub CarriesOut : (key : Core) → Operation → Op → Type 0
+CarriesOut key o op = (o.index ≡ index_of (length key.words) (length key.headers) op) × LeavesAs o.leaves o.found op o.kind
 
 -- The steps of the run after an operation that made these moves. Where it made none, they are those before; else there is one more,
 -- which is its maker's, by the operation of the core that it is, of the word found.
 abbrev pub Adds : (key : Core) → Operation → List Move → (before after : List Performed) → Type 0
 Adds key o [] before after = after ≡ before
-Adds key o (m ∷ ms) before after = (op : Op) × (after ≡ before ++ performed o.actor op o.found ∷ []) × Is key o op
+Adds key o (m ∷ ms) before after = (op : Op) × (after ≡ before ++ performed o.actor op o.found ∷ []) × CarriesOut key o op
 
 -- The run before an operation and after it: it grew by the moves that such an operation makes, and by nothing else.
 pub record Grows (key : Core) (o : Operation) (run run' : List Move) : Type 0 where
@@ -107,7 +108,7 @@ pub data Ran (key : Core) : List Operation → List Move → Type 0 where
 pub data AreMade (key : Core) : List Operation → List Performed → Type 0 where
   opens : AreMade key [] []
   idle : (os : List Operation) (o : Operation) (steps : List Performed) → AreMade key os steps → AreMade key (os ++ o ∷ []) steps
-  step : (os : List Operation) (o : Operation) (steps : List Performed) (op : Op) → AreMade key os steps → Is key o op → AreMade key (os ++ o ∷ []) (steps ++ performed o.actor op o.found ∷ [])
+  step : (os : List Operation) (o : Operation) (steps : List Performed) (op : Op) → AreMade key os steps → CarriesOut key o op → AreMade key (os ++ o ∷ []) (steps ++ performed o.actor op o.found ∷ [])
 
 -- The rule of the table: beside what holds of a run, that run is what the operations made which the seats carried out so far.
 pub record Runs (key : Core) (s : State (Option Contents) View) : Type 0 where

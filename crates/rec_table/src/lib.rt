@@ -18,6 +18,7 @@ mod actor;
 mod board;
 mod collector;
 mod heap;
+mod laws;
 mod mutator;
 mod operating;
 mod rule;
@@ -29,6 +30,7 @@ mod views;
 
 pub use collector::Collector;
 pub use heap::Heap;
+pub use laws::steps_are_made_by_operations;
 pub use mutator::Mutator;
 pub use rule::{
     Doing, Gives, Glanced, Looked, Makes, Passes, Returned, Running, Takes, Turned, Turning,

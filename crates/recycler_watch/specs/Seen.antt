@@ -1,5 +1,6 @@
 -- A heap as it is seen between two moves: a function of the run there.
-use Rattle.std.specs.Prelude.{ℕ, ◌&&◌, zero, suc, Bool, true, false, Option, List, [], ◌∷◌, ◌++◌, map, slice_index_or, is_none, codes}
+use Rattle.std.specs.Prelude.{ℕ, ◌&&◌, Bool, true, false, Option, List, map, slice_index_or, is_none, codes}
+use Rattle.std.specs.List.{range_with_len}
 use Rattle.rec_word.specs.Header.{is_leaf}
 use Rattle.rec_word.specs.Word.{target_of}
 use Rattle.rec_model.specs.Sight.{words_of}
@@ -102,16 +103,14 @@ slot_of w slot = counted_slot (slot_at w.collector.counts slot) slot (slice_inde
 
 -- the first so many slots
 abbrev pub slots_of : Core → ℕ → List SeenSlot
-slots_of w zero = []
-slots_of w (suc n) = slots_of w n ++ slot_of w n ∷ []
+slots_of w n = map (slot_of w) (range_with_len 0 n)
 
 abbrev pub mutator_of : Core → ℕ → SeenMutator
 mutator_of w t = record { mutator = t; epoch = (mutator w t).epoch; registers = (mutator w t).registers }
 
 -- the first so many mutators, which are numbered from 1
 abbrev pub mutators_of : Core → ℕ → List SeenMutator
-mutators_of w zero = []
-mutators_of w (suc n) = mutators_of w n ++ mutator_of w (suc n) ∷ []
+mutators_of w n = map (mutator_of w) (range_with_len 1 n)
 
 abbrev pub collector_of : Core → Stage → SeenCollector
 collector_of w stage =

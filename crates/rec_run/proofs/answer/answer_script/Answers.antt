@@ -10,14 +10,14 @@ use Rattle.rec_world.specs.Order.{Turns}
 use Rattle.rec_run.specs.Headline.{Answers, is_summary, printed, printed_order}
 use Rattle.rec_run.specs.declared.command_line.How.{How}
 use Rattle.rec_run.proofs.Endings.{if_ok, answers_script}
-use Rattle.rec_run.proofs.Outcomes.{in_order, many, room}
+use Rattle.rec_run.proofs.Outcomes.{in_order, many}
 use Rattle.rec_run.proofs.answer.answer_script.Goals as goal
 
 pub write_text-requires-clause-journals : goal.write_text-requires-clause-journals
 write_text-requires-clause-journals g c =
     let o = c.in_ok-outcome.outcome in
     let is = c.in_ok-outcome.ensures.outcome in
-    many c.args.script.now (lines_of o.journals.items) is.events o.world c.args.how is.has_run o.journals.items refl ∙ sym (ap (λ (k : Config). k.mutators) (c.settle.ensures.config ∙ is.config))
+    many c.args.script.now (lines_of o.journals.items) is.events o.world o.journals.items refl is.has_run.commands ∙ sym (ap (λ (k : Config). k.mutators) (c.settle.ensures.config ∙ is.config))
 
 pub write_text-requires-clause-order : goal.write_text-requires-clause-order
 write_text-requires-clause-order g c =
@@ -26,10 +26,7 @@ write_text-requires-clause-order g c =
     in_order c.args.script.now (lines_of o.journals.items) is.events o.world c.args.how is.has_run o.order is.order
 
 pub write_text-requires-clause-room : goal.write_text-requires-clause-room
-write_text-requires-clause-room g c =
-    let o = c.in_ok-outcome.outcome in
-    let is = c.in_ok-outcome.ensures.outcome in
-    room c.args.script.now (lines_of o.journals.items) is.events o.world c.args.how is.has_run
+write_text-requires-clause-room g c = c.in_ok-outcome.ensures.outcome.has_run.no_log_full
 
 pub returns : goal.returns
 returns g c =
@@ -39,10 +36,10 @@ returns g c =
     let is = c.in_ok-outcome.ensures.outcome in
     let journals : List (List Line) = lines_of o.journals.items in
     let world : Core = c.settle.new.world in
-    let (number, by) = is.stands in
+    let number : ℕ → ℕ = is.has_run.names.number in
     if_ok c.write_text.result _ (λ text. Answers script how (flat_map (λ line. line) text))
     (λ text (rows, listed, told). answers_script script how journals is.events o.world world rows (flat_map (λ line. line) text) is.has_run
-    c.in-Ok.ensures.settles c.in-Ok.ensures.settled (number, c.settle.ensures.stands (last_moment script is.events).heap number by)
+    c.in-Ok.ensures.settles c.in-Ok.ensures.settled (number, c.settle.ensures.stands (last_moment script is.events).heap number is.has_run.stands)
     (c.settle.ensures.kept.shaped.headers ∙ ap (λ (k : Config). k.slots) (c.settle.ensures.config ∙ is.config))
     listed
     (told ∙ ap (λ (s : Bool). printed script.version s journals (option_map (λ (turns : Turns). turns.list) o.order) rows world.made world) c.wants_summary.ensures

@@ -31,7 +31,7 @@ returns-clause-outcome g c =
     let ms : List Held = c.in_ok-heap.crew.mutators.items in
     let js : List Notes = c.in_ok-heap.crew.journals.items in
     let one_each = so.whole.ready.one_each in
-    let (events, driven, made) = was_driven script c.in_ok-heap.heap ms c.in-Ok.crew.mutators.items js c.stop.result.journals.items c.in-Ok.crew.collector.crew.log c.stop.result.world
+    let (events, has_run, made) = was_driven script c.in_ok-heap.heap ms c.in-Ok.crew.mutators.items js c.stop.result.journals.items c.in-Ok.crew.collector.crew.log c.stop.result.world
     (record {
       opens = so.started.opens;
       some_slots = so.started.config.some_slots;
@@ -44,11 +44,9 @@ returns-clause-outcome g c =
       stopped = c.stop.ensures.stopped;
     }) in
     let run = c.stop.ensures.stopped.run in
-    let number : ℕ → ℕ = (named_after_all first_naming (opened (config_of script)) driven.interleaved.run).number in
     record {
       events = events;
-      has_run = driven;
-      stands = (number, driven.stands);
+      has_run = has_run;
       made = made;
       order = ap (option_map (λ (turns : Turns). turns.list)) c.stop.ensures.order;
       config = ap (λ (w : Core). w.config) (sym run.ends) ∙ config_after c.in_ok-heap.heap.world run.run ∙ ap (λ (w : Core). w.config) so.started.opens;

@@ -1,15 +1,11 @@
 -- One slot more.
-use native.Mathlib.Numerals.{unary_clauses}
-use Rattle.std.proofs.Common.{◌≡◌, ◌∙◌, ◌+◌, ◌∷◌, ◌++◌, ℕ, [], map, ap, refl}
+use Rattle.std.proofs.Common.{◌∙◌, ◌∷◌, ◌++◌, [], map, ap, arith, omega, sym}
 use Rattle.std.proofs.lemmas.List.{map-append}
-use Rattle.rec_world.specs.World.{Core}
-use Rattle.recycler_watch.specs.Seen.{slot_of, slot_seen, slots_of}
+use Rattle.std.proofs.lemmas.List.FromFn.{map-range_with_len_more}
+use Rattle.recycler_watch.specs.Seen.{slot_of, slot_seen}
 use Rattle.recycler_watch.proofs.state.slots_of.Goals as goal
-
-one_more : (w : Core) (n : ℕ) → slots_of w n ++ slot_of w n ∷ [] ≡ slots_of w (n + 1)
-one_more w n = simp unary_clauses refl
 
 pub loop-slot-preserved : goal.loop-slot-preserved
 loop-slot-preserved c =
     ap (map slot_seen) c.in_ok-push.ensures.items ∙ map-append slot_seen c.loop-slot.slots.items (c.in_ok-slot_of.field-0 ∷ [])
-    ∙ (λ i. c.loop-slot.invariant i ++ c.in_ok-slot_of.ensures i ∷ []) ∙ one_more c.args.world.now c.loop-slot.slot
+    ∙ (λ i. c.loop-slot.invariant i ++ c.in_ok-slot_of.ensures i ∷ []) ∙ sym (map-range_with_len_more (slot_of c.args.world.now) 0 c.loop-slot.slot c.loop-slot.slot (omega arith))
