@@ -1,6 +1,8 @@
 -- The numbers that a heap can have, and the commands that fit them.
 use Rattle.std.specs.Prelude.{ℕ, ◌<◌, ◌≤◌}
+use Rattle.rec_word.specs.declared.word.TheConstants.{LAST_EPOCH}
 use Rattle.rec_model.specs.declared.command.Cmd.{Cmd}
+use Rattle.rec_model.specs.declared.limits.TheConstants.{MOST_SLOTS, MOST_FIELDS, MOST_REGISTERS, MOST_MUTATORS, MOST_LOG_ENTRIES}
 use Rattle.rec_model.specs.Operands as operands
 use Rattle.rec_mutator.specs.declared.work.Work.{Work}
 use Rattle.rec_mutator.specs.declared.work.Work.TheVariants as works
@@ -11,26 +13,26 @@ use Rattle.rec_core.specs.declared.part.Part.TheVariants.{Slots, Fields, Registe
 -- every number is in its range
 pub record IsConfig (config : Config) : Type 0 where
   pub some_slots : 1 ≤ config.slots
-  pub few_slots : config.slots ≤ 65535
+  pub few_slots : config.slots ≤ MOST_SLOTS
   pub some_fields : 1 ≤ config.fields
-  pub few_fields : config.fields ≤ 16
+  pub few_fields : config.fields ≤ MOST_FIELDS
   pub some_registers : 1 ≤ config.registers
-  pub few_registers : config.registers ≤ 64
+  pub few_registers : config.registers ≤ MOST_REGISTERS
   pub some_mutators : 1 ≤ config.mutators
-  pub few_mutators : config.mutators ≤ 8
+  pub few_mutators : config.mutators ≤ MOST_MUTATORS
   pub some_log_entries : 1 ≤ config.log_entries
-  pub few_log_entries : config.log_entries ≤ 262143
+  pub few_log_entries : config.log_entries ≤ MOST_LOG_ENTRIES
   pub some_epoch : 1 ≤ config.first_epoch
-  pub few_epochs : config.first_epoch ≤ 16777215
+  pub few_epochs : config.first_epoch ≤ LAST_EPOCH
 
 -- one of the numbers is in its range
 abbrev pub IsInRange : Config → Part → Type 0
-IsInRange config Slots = (1 ≤ config.slots) × (config.slots ≤ 65535)
-IsInRange config Fields = (1 ≤ config.fields) × (config.fields ≤ 16)
-IsInRange config Registers = (1 ≤ config.registers) × (config.registers ≤ 64)
-IsInRange config Mutators = (1 ≤ config.mutators) × (config.mutators ≤ 8)
-IsInRange config LogEntries = (1 ≤ config.log_entries) × (config.log_entries ≤ 262143)
-IsInRange config FirstEpoch = (1 ≤ config.first_epoch) × (config.first_epoch ≤ 16777215)
+IsInRange config Slots = (1 ≤ config.slots) × (config.slots ≤ MOST_SLOTS)
+IsInRange config Fields = (1 ≤ config.fields) × (config.fields ≤ MOST_FIELDS)
+IsInRange config Registers = (1 ≤ config.registers) × (config.registers ≤ MOST_REGISTERS)
+IsInRange config Mutators = (1 ≤ config.mutators) × (config.mutators ≤ MOST_MUTATORS)
+IsInRange config LogEntries = (1 ≤ config.log_entries) × (config.log_entries ≤ MOST_LOG_ENTRIES)
+IsInRange config FirstEpoch = (1 ≤ config.first_epoch) × (config.first_epoch ≤ LAST_EPOCH)
 
 -- where a number stands among the numbers of a heap
 abbrev pub rank : Part → ℕ

@@ -3,6 +3,9 @@ ghost use Rattle.rec_core.specs.Config.{IsConfig, IsFirstWrong, HasOperands};
 
 use crate::Part;
 use rec_model::Cmd;
+use rec_model::limits::{
+    MOST_FIELDS, MOST_LOG_ENTRIES, MOST_MUTATORS, MOST_REGISTERS, MOST_SLOTS,
+};
 use rec_word::LAST_EPOCH;
 
 /// The numbers of a heap, which never change.
@@ -28,15 +31,15 @@ impl Config {
         ensures wrong { IfSome result (λ part. IsFirstWrong self.now part) }
         ensures none { (result ≡ None) ↔ IsConfig self.now }
     {
-        if !is_from_one(self.slots, 65_535) {
+        if !is_from_one(self.slots, MOST_SLOTS) {
             Some(Part::Slots)
-        } else if !is_from_one(self.fields, 16) {
+        } else if !is_from_one(self.fields, MOST_FIELDS) {
             Some(Part::Fields)
-        } else if !is_from_one(self.registers, 64) {
+        } else if !is_from_one(self.registers, MOST_REGISTERS) {
             Some(Part::Registers)
-        } else if !is_from_one(self.mutators, 8) {
+        } else if !is_from_one(self.mutators, u32::from(MOST_MUTATORS)) {
             Some(Part::Mutators)
-        } else if !is_from_one(self.log_entries, 262_143) {
+        } else if !is_from_one(self.log_entries, MOST_LOG_ENTRIES) {
             Some(Part::LogEntries)
         } else if !is_from_one(self.first_epoch, LAST_EPOCH) {
             Some(Part::FirstEpoch)

@@ -14,6 +14,7 @@
 mod answer;
 mod command;
 mod laws;
+pub mod limits;
 mod set_laws;
 mod told;
 

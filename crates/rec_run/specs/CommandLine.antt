@@ -2,6 +2,7 @@
 use Rattle.std.specs.Prelude.{◌≡◌, ⊤, ℕ, ◌≤◌, Bool, true, false, List, [], ◌∷◌, Option, None, Some, codes}
 use Rattle.std.specs.Str.{bytes_eq}
 use Rattle.std.specs.Str.Parse.{IsNumeral, without_leading_plus, digits_value}
+use Rattle.rec_model.specs.declared.limits.TheConstants.{MOST_MUTATORS, MOST_COMMANDS, MOST_TURNS}
 use Rattle.clap.specs.Words.{App, Row, Rule, Shape, Text, fault_of, first_of, new_rule, subcommand_of}
 use Rattle.clap.specs.Simple.{new_shape}
 use Rattle.clap.specs.declared.builder.action.ArgAction.TheVariants.{SetTrue}
@@ -64,15 +65,15 @@ is_set (Some text) = bytes_eq text (codes "true")
 -- what the options of `play` ask for: a seed of 64 bits, at most ten million turns, and a summary or the whole text
 pub record AsksPlay (options : List Row) (asked : Play) : Type 0 where
   pub seeded : Says (first_of (codes "seed") options) 0 18446744073709551615 asked.seed
-  pub limited : Says (first_of (codes "turns") options) 1000000 10000000 asked.turns
+  pub limited : Says (first_of (codes "turns") options) 1000000 MOST_TURNS asked.turns
   pub summed : asked.summary ≡ is_set (first_of (codes "summary") options)
 
 -- what the options of `make` ask for: a seed of 64 bits, one to eight mutators, and at most 200,000 commands of each
 pub record AsksMake (options : List Row) (asked : Make) : Type 0 where
   pub seeded : Says (first_of (codes "seed") options) 0 18446744073709551615 asked.seed
   pub some : 1 ≤ asked.mutators
-  pub few : Says (first_of (codes "mutators") options) 2 8 asked.mutators
-  pub limited : Says (first_of (codes "commands") options) 1000 200000 asked.commands
+  pub few : Says (first_of (codes "mutators") options) 2 MOST_MUTATORS asked.mutators
+  pub limited : Says (first_of (codes "commands") options) 1000 MOST_COMMANDS asked.commands
 
 -- what a subcommand with its options asks for, if there is one
 abbrev pub AsksBy : Option (Text × List Row) → Request → Type 0
@@ -88,13 +89,13 @@ pub record Asks (words : List Text) (request : Request) : Type 0 where
 
 -- the turns of a played run are in their range
 abbrev pub HasFewTurns : How → Type 0
-HasFewTurns (hows.Play asked) = asked.turns ≤ 10000000
+HasFewTurns (hows.Play asked) = asked.turns ≤ MOST_TURNS
 HasFewTurns hows.Threads = ⊤
 
 -- each number of a request is in its range
 abbrev pub IsInRange : Request → Type 0
 IsInRange (requests.Answer how) = HasFewTurns how
-IsInRange (requests.Make asked) = (1 ≤ asked.mutators) × (asked.mutators ≤ 8) × (asked.commands ≤ 200000)
+IsInRange (requests.Make asked) = (1 ≤ asked.mutators) × (asked.mutators ≤ MOST_MUTATORS) × (asked.commands ≤ MOST_COMMANDS)
 
 -- a request that a script is read for
 abbrev pub ReadsScript : Request → Type 0

@@ -3,6 +3,7 @@ ghost use Rattle.std.specs.Prelude.{◌≡◌, ◌≤◌, List, map, length, opt
 ghost use Rattle.std.specs.List.{flat_map};
 ghost use Rattle.rec_model.specs.LegalOrder.{NoLogFull};
 ghost use Rattle.rec_model.specs.Listing.{Row, ListsSlots};
+ghost use Rattle.rec_model.specs.declared.limits.TheConstants.{MOST_TURNS};
 ghost use Rattle.rec_core.specs.Config.{IsConfig};
 ghost use Rattle.rec_core.specs.Settled.{IsSettled};
 ghost use Rattle.rec_report.specs.Report.{AreFor};
@@ -56,7 +57,7 @@ fn carry_out<R: Threads + Wait + Sync, G: Gate>(
 ) -> Result<Outcome, NoMemory>
     requires { HasFewTurns how }
     ensures outcome { IfOk result (IsOutcome script.now how) }
-    ensures epochs { IfOk result (λ outcome. outcome.world.epoch ≤ 10000001) }
+    ensures epochs { IfOk result (λ outcome. outcome.world.epoch ≤ MOST_TURNS + 1) }
 {
     match how {
         How::Play(play) => play_script(alloc, script, play),

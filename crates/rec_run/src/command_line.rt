@@ -16,17 +16,17 @@ const SEED: u64 = 0;
 /// How many turns are drawn where no number is given, and at most.
 const TURNS: u64 = 1_000_000;
 
-const MOST_TURNS: u64 = 10_000_000;
+const MOST_TURNS: u64 = rec_model::limits::MOST_TURNS as u64;
 
 /// How many mutators a made script has where no number is given, and at most.
 const MUTATORS: u64 = 2;
 
-const MOST_MUTATORS: u64 = rec_script::MOST_MUTATORS as u64;
+const MOST_MUTATORS: u64 = rec_model::limits::MOST_MUTATORS as u64;
 
 /// How many commands each mutator of a made script has where no number is given, and at most.
 const COMMANDS: u64 = 1_000;
 
-const MOST_COMMANDS: u64 = rec_script::MOST_COMMANDS as u64;
+const MOST_COMMANDS: u64 = rec_model::limits::MOST_COMMANDS as u64;
 
 /// What a command line asks for.
 #[derive(Clone, Copy)]

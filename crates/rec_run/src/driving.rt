@@ -1,5 +1,6 @@
 //! A script is driven: each mutator's commands are carried out on a thread of its own, with the collector beside them.
 ghost use Rattle.std.specs.Prelude.{◌≡◌, ◌≤◌, None, map, IfOk};
+ghost use Rattle.rec_model.specs.declared.limits.TheConstants.{MOST_TURNS};
 ghost use Rattle.rec_core.specs.Worked.{AreIdle};
 ghost use Rattle.rec_table.specs.Ends.{IsStopped};
 ghost use Rattle.rec_table.specs.Held.{AreMutatorsOf, IsCollectorOf, gathers_now};
@@ -27,7 +28,7 @@ pub fn drive_script<R: Threads + Wait + Sync, G: Gate>(
     ensures outcome { IfOk result (IsOutcome script.now hows.Threads) }
 
     // Each turn requests one epoch more at most.
-    ensures epochs { IfOk result (λ outcome. outcome.world.epoch ≤ 10000001) }
+    ensures epochs { IfOk result (λ outcome. outcome.world.epoch ≤ MOST_TURNS + 1) }
 {
     let (heap, crew) = set_running(alloc, script)?;
     let Ok(crew) = drive(rt, alloc, &heap, crew, script, gate) else {

@@ -1,11 +1,12 @@
 //! All bytes of a source, up to the limit of a script.
 ghost use Rattle.std.specs.Prelude.{◌≡◌, ℕ, ◌+◌, ◌<◌, ◌≤◌, ◌++◌, List, false, length, IsTrue, IfOk, OnOk, IsErrOf, vec_len};
+ghost use Rattle.rec_model.specs.declared.limits.TheConstants.{MOST_BYTES};
 ghost use Rattle.rec_io.specs.Faults.{Rose};
 ghost use Rattle.rec_io.specs.Source.{Passes, IsSpent};
 ghost use Rattle.rec_run.specs.Whole.{IsAtEnd};
 
 use rec_io::{Given, Source};
-use rec_script::MOST_BYTES;
+use rec_model::limits::MOST_BYTES;
 use std::alloc::{AllocError, Global};
 
 // How many bytes are asked for at once.
@@ -66,8 +67,8 @@ fn read_more<S: Source>(
 /// one piece was read past the limit.
 pub fn read_all<S: Source>(alloc: Global, source: &mut S) -> Result<Vec<u8>, ReadStop>
     ensures passed { IfOk result (λ bytes. Passes (S.rest source.old) (S.rest source.new) bytes.items) }
-    ensures whole { IfOk result (λ bytes. length bytes.items ≤ 16777216 → IsAtEnd (S.rest source.old) (S.rest source.new)) }
-    ensures few { IfOk result (λ bytes. length bytes.items ≤ 16777216 + 65536) }
+    ensures whole { IfOk result (λ bytes. length bytes.items ≤ MOST_BYTES → IsAtEnd (S.rest source.old) (S.rest source.new)) }
+    ensures few { IfOk result (λ bytes. length bytes.items ≤ MOST_BYTES + 65536) }
     ensures left { (bytes : List ℕ) × Passes (S.rest source.old) (S.rest source.new) bytes }
 
     // A read that fails ends it, and no other read is counted.

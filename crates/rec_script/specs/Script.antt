@@ -5,6 +5,7 @@ use Rattle.std.specs.Fmt.{decimal}
 use Rattle.std.specs.List.{flat_map}
 use Rattle.std.specs.Str.{IsUtf8}
 use Rattle.rec_model.specs.declared.command.Cmd.{Cmd}
+use Rattle.rec_model.specs.declared.limits.TheConstants.{MOST_SLOTS, MOST_FIELDS, MOST_REGISTERS, MOST_MUTATORS, MOST_COMMANDS, MOST_BYTES}
 use Rattle.rec_model.specs.declared.command.Cmd.TheVariants.{New, Leaf, Null, Copy, Get, Put, Value, Same}
 use Rattle.rec_model.specs.Operands.{HasOperands, HasLabel}
 use Rattle.rec_script.specs.declared.error.Kind.{Kind}
@@ -46,15 +47,15 @@ pub record IsVersion (version : ℕ) : Type 0 where
 -- the limits of a heap
 pub record IsHeap (slots fields registers : ℕ) : Type 0 where
   pub some_slots : 1 ≤ slots
-  pub most_slots : slots ≤ 65535
+  pub most_slots : slots ≤ MOST_SLOTS
   pub some_fields : 1 ≤ fields
-  pub most_fields : fields ≤ 16
+  pub most_fields : fields ≤ MOST_FIELDS
   pub some_registers : 1 ≤ registers
-  pub most_registers : registers ≤ 64
+  pub most_registers : registers ≤ MOST_REGISTERS
 
 -- the limits of one mutator's commands
 pub record AreCommands (version registers fields : ℕ) (cmds : List Cmd) : Type 0 where
-  pub few : length cmds ≤ 200000
+  pub few : length cmds ≤ MOST_COMMANDS
   pub allowed : All (Allows version) cmds
   pub in_range : All (IsCommand registers fields) cmds
 
@@ -63,7 +64,7 @@ pub record IsScript (contents : Contents) : Type 0 where
   pub version : IsVersion contents.version
   pub heap : IsHeap contents.slots contents.fields contents.registers
   pub some_mutators : 1 ≤ length contents.commands
-  pub most_mutators : length contents.commands ≤ 8
+  pub most_mutators : length contents.commands ≤ MOST_MUTATORS
   pub commands : All (AreCommands contents.version contents.registers contents.fields) contents.commands
 
 -- the first line that counts
@@ -120,7 +121,7 @@ pub record Spells (text : List (List ℕ)) (contents : Contents) : Type 0 where
 
 -- the bytes are the text of a script, and no more than 16,777,216
 abbrev pub IsText : List ℕ → Type 0
-IsText bytes = (contents : Contents) × (length bytes ≤ 16777216) × Spells (lines bytes) contents
+IsText bytes = (contents : Contents) × (length bytes ≤ MOST_BYTES) × Spells (lines bytes) contents
 
 -- some further lines make a script's text of these
 abbrev pub Continues : List (List ℕ) → Type 0
@@ -168,15 +169,15 @@ last_length (cmds ∷ more ∷ later) = last_length (more ∷ later)
 -- what is wrong with a line behind so many commands of its mutator: it is of no command that the version has; else it is one too many; else an operand is wrong
 pub data IsBadCommand (version registers fields count : ℕ) (line : List (List ℕ)) : Kind → Type 0 where
   unknown : ((cmd : Cmd) → Allows version cmd → ¬ IsShaped line cmd) → IsBadCommand version registers fields count line BadCommand
-  too_many : (cmd : Cmd) → Allows version cmd → IsShaped line cmd → count ≡ 200000 → IsBadCommand version registers fields count line TooManyCommands
-  operand : (cmd : Cmd) (kind : Kind) → Allows version cmd → IsShaped line cmd → count < 200000 → AreWrong (limits_of registers fields cmd) (drop 1 line) kind → IsBadCommand version registers fields count line kind
+  too_many : (cmd : Cmd) → Allows version cmd → IsShaped line cmd → count ≡ MOST_COMMANDS → IsBadCommand version registers fields count line TooManyCommands
+  operand : (cmd : Cmd) (kind : Kind) → Allows version cmd → IsShaped line cmd → count < MOST_COMMANDS → AreWrong (limits_of registers fields cmd) (drop 1 line) kind → IsBadCommand version registers fields count line kind
 
 -- what is wrong with the words of a line behind such lines; which place it is in, the lines before it tell
 pub data Fits (before : List (List (List ℕ))) (line : List (List ℕ)) : Kind → Type 0 where
   no_header : before ≡ [] → ((version : ℕ) → IsVersion version → line ≢ header version) → Fits before line NoHeader
   bad_heap : (version : ℕ) → IsVersion version → before ≡ header version ∷ [] → ((slots fields registers : ℕ) → IsHeap slots fields registers → line ≢ heap_line slots fields registers) → Fits before line BadHeap
   no_mutator : (version slots fields registers : ℕ) → IsVersion version → IsHeap slots fields registers → before ≡ header version ∷ heap_line slots fields registers ∷ [] → line ≢ mutator_line → Fits before line NoMutator
-  too_many_mutators : (contents : Contents) → IsScript contents → before ≡ spelled contents → line ≡ mutator_line → length contents.commands ≡ 8 → Fits before line TooManyMutators
+  too_many_mutators : (contents : Contents) → IsScript contents → before ≡ spelled contents → line ≡ mutator_line → length contents.commands ≡ MOST_MUTATORS → Fits before line TooManyMutators
   bad_command : (contents : Contents) (kind : Kind) → IsScript contents → before ≡ spelled contents → line ≢ mutator_line → IsBadCommand contents.version contents.registers contents.fields (last_length contents.commands) line kind → Fits before line kind
 
 -- what is wrong with a line behind lines of which these count: it isn't UTF-8; else it counts, and its words are wrong
@@ -205,13 +206,13 @@ pub record StaysOpen (text : List (List ℕ)) (kind : Kind) : Type 0 where
 
 -- bytes past the limit are refused first, with line 0
 pub record IsTooLong (bytes : List ℕ) (line : ℕ) (kind : Kind) : Type 0 where
-  pub many : 16777216 < length bytes
+  pub many : MOST_BYTES < length bytes
   pub whole : line ≡ 0
   pub named : kind ≡ TooLong
 
 -- else the first line that no script continues is named, or the line behind the last one
 pub record IsStopped (bytes : List ℕ) (line : ℕ) (kind : Kind) : Type 0 where
-  pub few : length bytes ≤ 16777216
+  pub few : length bytes ≤ MOST_BYTES
   pub named : ((n : ℕ) × (line ≡ n + 1) × StopsAt (lines bytes) n kind) ⊎ ((line ≡ length (lines bytes) + 1) × StaysOpen (lines bytes) kind)
 
 -- the bytes are refused with this line and this kind

@@ -3,6 +3,7 @@
 ghost use Rattle.std.specs.Prelude.{◌≡◌, ◌≢◌, ◌<◌, ◌≤◌, ◌∷◌, map, IfOk, IfErr, IfSome, IfNone};
 ghost use Rattle.std.specs.Fmt.{decimal};
 ghost use Rattle.rec_model.specs.declared.command.Cmd.{Cmd};
+ghost use Rattle.rec_model.specs.declared.limits.TheConstants.{MOST_COMMANDS};
 ghost use Rattle.rec_script.specs.Lines.{words};
 ghost use Rattle.rec_script.specs.Operands.{AreMisread};
 ghost use Rattle.rec_script.specs.Script.{Allows, IsCommand, IsBadCommand, IsVersion, command_line, limits_of, operands_of, word_of};
@@ -61,13 +62,13 @@ fn with_operands(
     count: usize,
     rest: &[u8],
 ) -> Result<Cmd, Kind>
-    requires few { count ≤ 200000 }
+    requires few { count ≤ MOST_COMMANDS }
     requires registers { registers ≤ 64 }
     requires fields { fields ≤ 16 }
     ensures word { IfOk result (λ cmd. word_of cmd ≡ word_of named) }
     ensures right { IfOk result (λ cmd. words rest.now ≡ map decimal (operands_of cmd)) }
     ensures in_range { IfOk result (λ cmd. IsCommand registers fields cmd) }
-    ensures room { IfOk result (λ cmd. count < 200000) }
+    ensures room { IfOk result (λ cmd. count < MOST_COMMANDS) }
     ensures wrong { IfErr result (λ kind. AreMisread count
         (limits_of registers fields named) (words rest.now) kind) }
 {
@@ -145,13 +146,13 @@ pub fn command(
     rest: &[u8],
 ) -> Result<Cmd, Kind>
     requires version { IsVersion version }
-    requires few { count ≤ 200000 }
+    requires few { count ≤ MOST_COMMANDS }
     requires registers { registers ≤ 64 }
     requires fields { fields ≤ 16 }
     ensures right { IfOk result (λ cmd. word.now ∷ words rest.now ≡ command_line cmd) }
     ensures allowed { IfOk result (λ cmd. Allows version cmd) }
     ensures in_range { IfOk result (λ cmd. IsCommand registers fields cmd) }
-    ensures room { IfOk result (λ cmd. count < 200000) }
+    ensures room { IfOk result (λ cmd. count < MOST_COMMANDS) }
     ensures wrong { IfErr result (λ kind.
         IsBadCommand version registers fields count (word.now ∷ words rest.now) kind) }
 {

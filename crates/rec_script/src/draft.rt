@@ -11,12 +11,12 @@ ghost use Rattle.rec_script.specs.declared.error.ScriptError.TheVariants.{Bad};
 use crate::command::command;
 use crate::error::{Kind, ScriptError};
 use crate::heap::{Heap, read_heap};
-use crate::limits::{MOST_COMMANDS, MOST_MUTATORS};
 use crate::line::{next_line, next_word};
 use crate::operand::{is_name, no_word};
 use crate::script::Script;
 use crate::spaced::spaced_command;
 use crate::version::read_version;
+use rec_model::limits::{MOST_COMMANDS, MOST_MUTATORS};
 use std::alloc::{AllocError, Global};
 use std::str::from_utf8;
 

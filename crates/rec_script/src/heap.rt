@@ -6,6 +6,7 @@ ghost use Rattle.rec_script.specs.Lines.{words};
 ghost use Rattle.rec_script.specs.Script.{IsHeap, IsNumeralOf, heap_line};
 
 use crate::operand::{is_name, numeral, three_words};
+use rec_model::limits::{MOST_FIELDS, MOST_REGISTERS, MOST_SLOTS};
 
 /// How large the heap of a script is.
 #[derive(Clone, Copy)]
@@ -42,9 +43,9 @@ pub fn read_heap(word: &[u8], rest: &[u8]) -> Option<Heap>
         return None;
     }
     let (slots, fields, registers) = three_words(rest)?;
-    let slots = size(65_535, slots)?;
-    let fields = size(16, fields)?;
-    let registers = size(64, registers)?;
+    let slots = size(MOST_SLOTS, slots)?;
+    let fields = size(MOST_FIELDS, fields)?;
+    let registers = size(MOST_REGISTERS, registers)?;
     Some(Heap {
         slots,
         fields,

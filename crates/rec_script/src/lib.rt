@@ -14,7 +14,6 @@ mod draft;
 mod error;
 mod heap;
 mod laws;
-mod limits;
 mod line;
 mod making;
 mod operand;
@@ -25,7 +24,6 @@ mod version;
 
 pub use error::{Kind, ScriptError};
 pub use laws::{refusals_are_unique, refused_texts_spell_nothing, texts_spell_one_script};
-pub use limits::{MOST_BYTES, MOST_COMMANDS, MOST_MUTATORS};
 pub use making::make;
 pub use reading::read;
 pub use script::Script;

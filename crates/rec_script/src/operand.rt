@@ -6,10 +6,11 @@ ghost use Rattle.rec_script.specs.Operands.{AreMisread};
 ghost use Rattle.rec_script.specs.declared.error.Kind.TheVariants.{TooManyCommands};
 ghost use Rattle.rec_script.specs.Script.{IsNumeralOf, IsWrong};
 ghost use Rattle.std.specs.Fmt.{decimal};
+ghost use Rattle.rec_model.specs.declared.limits.TheConstants.{MOST_COMMANDS};
 
 use crate::error::Kind;
-use crate::limits::MOST_COMMANDS;
 use crate::line::next_word;
+use rec_model::limits::MOST_COMMANDS;
 
 /// The number that a numeral spells; a numeral has no leading zeros and is at most 4,294,967,295.
 pub fn numeral(word: &[u8]) -> Option<u32>
@@ -93,9 +94,9 @@ pub fn three_words(line: &[u8]) -> Option<(&[u8], &[u8], &[u8])>
 
 /// There is room for a command behind so many.
 fn room(count: usize) -> Result<(), Kind>
-    requires { count ≤ 200000 }
-    ensures room { IfOk result (λ x. count < 200000) }
-    ensures full { IfErr result (λ kind. (kind ≡ TooManyCommands) × (count ≡ 200000)) }
+    requires { count ≤ MOST_COMMANDS }
+    ensures room { IfOk result (λ x. count < MOST_COMMANDS) }
+    ensures full { IfErr result (λ kind. (kind ≡ TooManyCommands) × (count ≡ MOST_COMMANDS)) }
 {
     if count < MOST_COMMANDS {
         Ok(())
@@ -106,9 +107,9 @@ fn room(count: usize) -> Result<(), Kind>
 
 /// The operand of a line that has one, behind so many commands.
 pub fn one_operand(count: usize, limit: Limit, line: &[u8]) -> Result<u32, Kind>
-    requires { count ≤ 200000 }
+    requires { count ≤ MOST_COMMANDS }
     ensures right { IfOk result (λ n. words line.now ≡ decimal n ∷ []) }
-    ensures below { IfOk result (λ n. (n < 2 ^ 32) × (n < limit.below) × (count < 200000)) }
+    ensures below { IfOk result (λ n. (n < 2 ^ 32) × (n < limit.below) × (count < MOST_COMMANDS)) }
     ensures wrong { IfErr result (λ kind. AreMisread count
         ((limit.below, limit.past) ∷ []) (words line.now) kind) }
 {
@@ -126,10 +127,10 @@ pub fn two_operands(
     right: Limit,
     line: &[u8],
 ) -> Result<(u32, u32), Kind>
-    requires { count ≤ 200000 }
+    requires { count ≤ MOST_COMMANDS }
     ensures right { IfOk result (λ x. words line.now ≡ decimal x.0 ∷ decimal x.1 ∷ []) }
     ensures below { IfOk result (λ x. (x.0 < left.below) × (x.1 < right.below)
-        × (count < 200000)) }
+        × (count < MOST_COMMANDS)) }
     ensures wrong { IfErr result (λ kind. AreMisread count
         ((left.below, left.past) ∷ (right.below, right.past) ∷ []) (words line.now) kind) }
 {
@@ -150,11 +151,11 @@ pub fn three_operands(
     right: Limit,
     line: &[u8],
 ) -> Result<(u32, u32, u32), Kind>
-    requires { count ≤ 200000 }
+    requires { count ≤ MOST_COMMANDS }
     ensures right { IfOk result (λ x.
         words line.now ≡ decimal x.0 ∷ decimal x.1 ∷ decimal x.2 ∷ []) }
     ensures below { IfOk result (λ x. (x.0 < left.below) × (x.1 < middle.below)
-        × (x.2 < right.below) × (count < 200000)) }
+        × (x.2 < right.below) × (count < MOST_COMMANDS)) }
     ensures wrong { IfErr result (λ kind. AreMisread count
         ((left.below, left.past) ∷ (middle.below, middle.past) ∷ (right.below, right.past) ∷ [])
         (words line.now) kind) }

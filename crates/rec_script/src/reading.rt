@@ -1,6 +1,7 @@
 //! Reading a text, a line at a time.
 
 ghost use Rattle.std.specs.Prelude.{◌≡◌, ◌≢◌, ◌<◌, ◌≤◌, ℕ, List, [], ◌∷◌, ◌++◌, Err, Ok, IfOk, length, drop};
+ghost use Rattle.rec_model.specs.declared.limits.TheConstants.{MOST_BYTES};
 ghost use Rattle.rec_script.specs.Lines.{lines};
 ghost use Rattle.rec_script.specs.Script.{Contents, IsRefused, IsScript, IsText, Spells, spelled};
 ghost use Rattle.rec_script.specs.declared.error.Kind.{Kind};
@@ -8,14 +9,14 @@ ghost use Rattle.rec_script.specs.declared.error.ScriptError.TheVariants.{Bad};
 
 use crate::draft::Draft;
 use crate::error::{Kind, ScriptError};
-use crate::limits::MOST_BYTES;
 use crate::script::Script;
+use rec_model::limits::MOST_BYTES;
 use std::alloc::Global;
 
 /// The script that the bytes spell.
 pub fn read(alloc: Global, bytes: &[u8]) -> Result<Script, ScriptError>
     // What is read is within its limits, and the lines spell it.
-    ensures found { IfOk result (λ script. IsScript script × (length bytes.now ≤ 16777216)
+    ensures found { IfOk result (λ script. IsScript script × (length bytes.now ≤ MOST_BYTES)
         × Spells (lines bytes.now) script) }
     // It is the only script that they spell.
     ensures only { IfOk result (λ script. (other : Contents)

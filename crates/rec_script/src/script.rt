@@ -1,6 +1,7 @@
 //! A script that was read, or its first mutators and commands while it grows.
 
 ghost use Rattle.std.specs.Prelude.{◌≡◌, ◌≢◌, ◌<◌, ◌≤◌, ◌+◌, ◌-◌, ℕ, List, [], ◌∷◌, ◌++◌, Err, Ok, Some, length, All, Any, IfOk, slice_get};
+ghost use Rattle.rec_model.specs.declared.limits.TheConstants.{MOST_COMMANDS, MOST_MUTATORS};
 ghost use Rattle.rec_script.specs.Script.{Allows, AreCommands, IsCommand, IsHeap, IsScript, IsVersion, command_line, last_length, mutator_line, spelled};
 
 use crate::heap::Heap;
@@ -130,7 +131,7 @@ impl Script {
     /// How many commands the last mutator has.
     pub(crate) fn last(&self) -> usize
         ensures value { result ≡ last_length self.now.commands }
-        ensures most { result ≤ 200000 }
+        ensures most { result ≤ MOST_COMMANDS }
         ensures valid { IsScript self.now }
     {
         self.last.len()
@@ -140,7 +141,7 @@ impl Script {
     pub(crate) fn add(&mut self, cmd: Cmd) -> Result<(), AllocError>
         requires allowed { Allows self.old.version cmd }
         requires in_range { IsCommand self.old.registers self.old.fields cmd }
-        requires room { last_length self.old.commands < 200000 }
+        requires room { last_length self.old.commands < MOST_COMMANDS }
         ensures more { IfOk result (λ x. spelled self.new ≡ spelled self.old ++ command_line cmd ∷ []) }
         ensures valid { IsScript self.new }
     {
@@ -150,7 +151,7 @@ impl Script {
 
     /// A mutator more, without commands.
     pub(crate) fn add_mutator(&mut self, alloc: Global) -> Result<(), AllocError>
-        requires { length self.old.commands < 8 }
+        requires { length self.old.commands < MOST_MUTATORS }
         ensures more { IfOk result (λ x. spelled self.new ≡ spelled self.old ++ mutator_line ∷ []) }
         ensures valid { IsScript self.new }
     {

@@ -3,6 +3,7 @@ use Rattle.std.specs.Prelude.{◌≡◌, ℕ, ◌⊎◌, ◌+◌, ◌<◌, ◌�
 use Rattle.std.specs.List.{flat_map}
 use Rattle.rec_model.specs.LegalOrder.{Line}
 use Rattle.rec_model.specs.declared.command.Cmd.{Cmd}
+use Rattle.rec_model.specs.declared.limits.TheConstants.{MOST_POLLS, MOST_TURNS}
 use Rattle.rec_mutator.specs.Private.{KeepsSizes}
 use Rattle.rec_mutator.specs.declared.work.Work.{Work}
 use Rattle.rec_mutator.specs.declared.work.Work.TheVariants as works
@@ -84,7 +85,7 @@ pub record HasMade (cmds : List Cmd) (done : List Work) (was now : Worker) : Typ
 -- The worker carried out these commands by the rule: it polled once before each, and at most 65,536 times behind the last one.
 pub record HasDone (cmds : List Cmd) (was now : Worker) : Type 0 where
   pub polls : ℕ
-  pub few : polls ≤ 65536
+  pub few : polls ≤ MOST_POLLS
   pub made : HasMade cmds (driving_rule cmds polls) was now
 
 -- each mutator's worker carried out that mutator's commands
@@ -123,7 +124,7 @@ pub record IsSame (crew crew' : Crew) : Type 0 where
 pub record HasWorked (h : Started) (commands : List (List Cmd)) (crew crew' : Crew) : Type 0 where
   pub done : HaveDone commands crew.mutators.items crew.journals.items crew'.mutators.items crew'.journals.items
   pub collector : IsCollectorOf h crew'.collector
-  pub collected : HasCollected 10000000 crew.collector crew'.collector
+  pub collected : HasCollected MOST_TURNS crew.collector crew'.collector
 
 -- where all were there they worked, and else nothing was done
 abbrev pub HasEnded : Bool → Started → List (List Cmd) → Crew → Crew → Type 0

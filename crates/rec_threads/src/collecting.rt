@@ -1,6 +1,7 @@
 //! The worker of the collector.
 
 ghost use Rattle.std.specs.Prelude.{◌≡◌, ◌⊎◌, IsSome};
+ghost use Rattle.rec_model.specs.declared.limits.TheConstants.{MOST_TURNS};
 ghost use Rattle.rec_table.specs.Held.{IsCollectorOf};
 ghost use Rattle.rec_threads.specs.Done.{HasCollected, HasTurned};
 
@@ -8,10 +9,8 @@ use crate::gate::Gate;
 use crate::pause::Pause;
 use crate::signals::{AllDone, Signals};
 use rec_collector::Turn;
+use rec_model::limits::MOST_TURNS;
 use rec_table::{Collector, Heap};
-
-// The collector makes at most so many turns.
-const MOST_TURNS: u32 = 10_000_000;
 
 /// The collector as its worker leaves it: after how many turns, and the evidence that every mutator's last command was answered by
 /// then, where it was.
@@ -33,8 +32,8 @@ pub fn collect<G: Gate>(
     requires { IsCollectorOf heap.now collector }
     ensures own { IsCollectorOf heap.now result.collector }
     ensures turned { HasTurned result.turns collector result.collector }
-    ensures ended { IsSome result.all_done ⊎ (result.turns ≡ 10000000) }
-    ensures collected { HasCollected 10000000 collector result.collector }
+    ensures ended { IsSome result.all_done ⊎ (result.turns ≡ MOST_TURNS) }
+    ensures collected { HasCollected MOST_TURNS collector result.collector }
 {
     let mut pause = Pause::new();
     for turns in 0..MOST_TURNS {

@@ -2,6 +2,7 @@
 
 ghost use Rattle.std.specs.Prelude.{◌≡◌, ◌<◌, ◌≤◌, ◌∷◌, ◌++◌, [], All, length, IfErr, IfOk, MatchBool, vec_capacity, vec_len};
 ghost use Rattle.std.specs.Thread.{IsSync};
+ghost use Rattle.rec_model.specs.declared.limits.TheConstants.{MOST_COMMANDS, MOST_TURNS};
 ghost use Rattle.rec_mutator.specs.Private.{HasOperands};
 ghost use Rattle.rec_table.specs.Held.{has, AreMutatorsOf, IsCollectorOf, IsMutatorOf};
 ghost use Rattle.rec_threads.specs.Done.{AreReady, HasCollected, HasDone, HasEnded, HasWorked, HaveDone, IsCrewFor, IsSame};
@@ -43,7 +44,7 @@ pub fn drive<R: Threads + Wait + Sync, G: Gate>(
 
     // The collector made at most 10,000,000 turns, and the requested epoch rose by at most as many.
     ensures collector { IfOk result (λ after. IsCollectorOf heap.now after.collector) }
-    ensures collected { IfOk result (λ after. HasCollected 10000000 crew.collector after.collector) }
+    ensures collected { IfOk result (λ after. HasCollected MOST_TURNS crew.collector after.collector) }
 
     // Where a thread can't be had nothing is done, and the crew comes back as it was.
     ensures refused { IfErr result (λ r. IsSame crew r.0) }
@@ -120,7 +121,7 @@ fn hire<'s, 'e, R: Threads + Wait + Sync, G: Gate>(
             requires own { IsMutatorOf heap.now worker.mutator }
             requires room { length commands.now ≤ worker.journal.room }
             requires valid { All (HasOperands (has worker.mutator)) commands.now }
-            requires few { length commands.now ≤ 200000 }
+            requires few { length commands.now ≤ MOST_COMMANDS }
             ensures orders { result.orders.of ≡ signals.entry.now.orders.id }
             ensures done { MatchBool result.orders.value (HasDone commands.entry.now worker result.worker) (result.worker ≡ worker) }
         { follow(rt, heap, gate, signals, worker, commands) },
@@ -167,7 +168,7 @@ fn begin<'e, R: Wait, G: Gate>(
 ) -> (Crew, OnceToken<'e, bool>)
     requires collector { IsCollectorOf heap.now crew.collector }
     ensures orders { result.1.of ≡ signals.now.orders.id }
-    ensures begun { MatchBool result.1.value (IsCollectorOf heap.now result.0.collector × HasCollected 10000000 crew.collector result.0.collector) (result.0.collector ≡ crew.collector) }
+    ensures begun { MatchBool result.1.value (IsCollectorOf heap.now result.0.collector × HasCollected MOST_TURNS crew.collector result.0.collector) (result.0.collector ≡ crew.collector) }
     ensures mutators { result.0.mutators ≡ crew.mutators }
     ensures journals { result.0.journals ≡ crew.journals }
 {

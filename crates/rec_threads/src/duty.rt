@@ -1,6 +1,7 @@
 //! What a mutator's worker owes.
 
 ghost use Rattle.std.specs.Prelude.{◌≡◌, ◌≤◌, length, All, MatchBool};
+ghost use Rattle.rec_model.specs.declared.limits.TheConstants.{MOST_COMMANDS};
 ghost use Rattle.rec_mutator.specs.Private.{HasOperands};
 ghost use Rattle.rec_table.specs.Held.{has, IsMutatorOf};
 ghost use Rattle.rec_threads.specs.Done.{HasDone};
@@ -47,7 +48,7 @@ pub fn follow<'a, R: Wait, G: Gate>(
     requires own { IsMutatorOf heap.now worker.mutator }
     requires room { length commands.now ≤ worker.journal.room }
     requires valid { All (HasOperands (has worker.mutator)) commands.now }
-    requires few { length commands.now ≤ 200000 }
+    requires few { length commands.now ≤ MOST_COMMANDS }
 
     ensures orders { result.orders.of ≡ signals.now.orders.id }
     ensures done { MatchBool result.orders.value (HasDone commands.now worker result.worker) (result.worker ≡ worker) }

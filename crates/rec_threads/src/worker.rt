@@ -1,6 +1,7 @@
 //! The worker of a mutator.
 
 ghost use Rattle.std.specs.Prelude.{◌<◌, ◌≤◌, ◌∷◌, [], length, replicate, All};
+ghost use Rattle.rec_model.specs.declared.limits.TheConstants.{MOST_COMMANDS, MOST_POLLS};
 ghost use Rattle.rec_mutator.specs.Private.{HasOperands};
 ghost use Rattle.rec_mutator.specs.declared.work.Work.TheVariants as works;
 ghost use Rattle.rec_table.specs.Held.{has, IsMutatorOf};
@@ -9,13 +10,11 @@ ghost use Rattle.rec_threads.specs.Done.{HasMade, polled_before, turn};
 use crate::gate::Gate;
 use crate::signals::Signals;
 use rec_model::Cmd;
+use rec_model::limits::MOST_POLLS;
 use rec_table::{Heap, Mutator};
 use rec_world::Journal;
 use std::sync::Wait;
 use std::thread::yield_now;
-
-// A mutator whose commands are done polls at most so many times.
-const MOST_POLLS: u32 = 65_536;
 
 /// A mutator with its journal, as its worker holds them.
 #[derive(Drop)]
@@ -30,7 +29,7 @@ impl Worker {
         requires own { IsMutatorOf heap.now self.old.mutator }
         requires room { length commands.now ≤ self.old.journal.room }
         requires valid { All (HasOperands (has self.old.mutator)) commands.now }
-        requires few { length commands.now ≤ 200000 }
+        requires few { length commands.now ≤ MOST_COMMANDS }
 
         ensures { HasMade commands.now (polled_before commands.now) self.old self.new }
     {
@@ -58,7 +57,7 @@ impl Worker {
     pub fn attend<R: Wait>(&mut self, rt: &R, heap: &Heap, signals: &Signals) -> u32
         requires own { IsMutatorOf heap.now self.old.mutator }
 
-        ensures few { result ≤ 65536 }
+        ensures few { result ≤ MOST_POLLS }
         ensures made { HasMade [] (replicate result works.Poll) self.old self.new }
     {
         let mut polls = 0;

@@ -18,7 +18,8 @@ ghost use Rattle.std.specs.Prelude.{◌≡◌};
 
 use anyhow::Context;
 use clap::ArgMatches;
-use rec_script::{MOST_BYTES, Script, ScriptError, read};
+use rec_model::limits::MOST_BYTES;
+use rec_script::{Script, ScriptError, read};
 use refusal::refusal;
 use request::{Asked, Request, command, what_is_asked};
 use std::alloc::Global;
