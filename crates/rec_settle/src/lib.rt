@@ -11,7 +11,8 @@
 //! is offered to a trial is this project's profile (`docs/PROFILE.md`).
 #![tactic(auto)]
 
-mod collection;
-mod settling;
+mod turns;
+mod whole;
 
-pub use settling::{EpochsSpent, Settled, settle};
+pub use turns::{EpochsSpent, Settling};
+pub use whole::{Settled, settle};

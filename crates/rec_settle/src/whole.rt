@@ -1,4 +1,4 @@
-//! Settling by epochs.
+//! Settling as a whole.
 
 ghost use Rattle.std.specs.Prelude.{◌≡◌, ◌+◌, ◌<◌, ◌≤◌, ◌^◌, ℕ, IfErr, IfOk};
 ghost use Rattle.rec_model.specs.Heap.{Heap};
@@ -10,13 +10,8 @@ ghost use Rattle.rec_core.specs.Settled.{IsSettled};
 ghost use Rattle.rec_world.specs.World.{IsWorld};
 ghost use Rattle.rec_settle.specs.Collecting.{AreIdle, IsSettling, taken_slots};
 
-use crate::collection::{collect, finish, live};
-use rec_word::LAST_EPOCH;
+use crate::turns::{EpochsSpent, Settling};
 use rec_world::World;
-use thiserror::Error;
-
-// The epochs that settling may ask for.
-const SETTLING_EPOCHS: u32 = 4;
 
 /// What settling came to: how many collections it completed, how many slots they swept, and how many slots hold objects.
 #[derive(Clone, Copy, Debug, PartialEq, Eq)]
@@ -24,13 +19,6 @@ pub struct Settled {
     pub epochs: u32,
     pub freed: u32,
     pub live: u32,
-}
-
-/// There are fewer than four epochs left after the requested one: 16,777,215 is the last.
-#[derive(Clone, Copy, Debug, Drop, PartialEq, Eq, Error)]
-#[error("fewer than four epochs are left after epoch {requested}")]
-pub struct EpochsSpent {
-    pub requested: u32,
 }
 
 /// Settles the heap, in which no mutator works: afterwards just the slots that registers reach hold objects, each with its true
@@ -59,19 +47,26 @@ pub fn settle(world: &mut World) -> Result<Settled, EpochsSpent>
     ensures made { world.new.made ≡ world.old.made }
     ensures kept { IsWorld world.new }
 {
-    let requested = world.epoch();
-    if LAST_EPOCH - requested < SETTLING_EPOCHS {
-        return Err(EpochsSpent { requested });
-    }
+    let mut settling = Settling::start(world)?;
     let collections = world.collections();
     let swept = world.freed();
-    finish(world);
-    world.offer_all();
-    collect(world);
-    collect(world);
+    while let Some(_) = settling.next(world) {}
     Ok(Settled {
         epochs: world.collections() - collections,
         freed: (world.freed() - swept) as u32,
         live: live(world),
     })
+}
+
+// How many slots hold an object.
+fn live(world: &World) -> u32
+    ensures { result ≡ taken_slots world.now }
+{
+    let mut live = 0;
+    for slot in 0..world.slots() {
+        if world.taken(slot) {
+            live += 1;
+        }
+    }
+    live
 }
