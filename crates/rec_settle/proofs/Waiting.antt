@@ -1,5 +1,5 @@
 -- A collection ends: each turn that goes on counts, and a mutator that was waited for lets the collector turn once it has polled.
-use Rattle.std.proofs.Common.{◌≡◌, ◌↔◌, inl, inr, ℕ, ◌+◌, ◌-◌, ◌*◌, ◌<◌, ◌≤◌, ◌==◌, nat_lt, if◌then◌else◌, Bool, true, false, Option, None, Some, List, length, refl, sym, ap, subst, ◌∙◌, arith}
+use Rattle.std.proofs.Common.{◌≡◌, ◌↔◌, inl, inr, ℕ, ◌+◌, ◌*◌, ◌<◌, ◌≤◌, ◌==◌, nat_lt, if◌then◌else◌, Bool, true, false, Option, None, Some, List, length, refl, sym, ap, subst, ◌∙◌, arith}
 use Rattle.std.proofs.lemmas.Bool.Decides.{nat_tests}
 use Rattle.std.proofs.lemmas.Bool.{cases_eq, cond-true, cond-false, eq-eqb, false≢true, ne_eqb}
 use Rattle.rec_word.specs.Mailbox.{crossing_word}
@@ -12,7 +12,7 @@ use Rattle.rec_mutator.specs.declared.work.Work.TheVariants as works
 use Rattle.rec_collector.specs.Kept.{limit_of}
 use Rattle.rec_collector.specs.Private.{Private}
 use Rattle.rec_collector.specs.declared.phase.Phase.{Phase}
-use Rattle.rec_collector.specs.declared.phase.Phase.TheVariants.{Idle, Looking}
+use Rattle.rec_collector.specs.declared.phase.Phase.TheVariants.{Looking}
 use Rattle.rec_collector.specs.declared.turn.Turn.TheVariants as answers
 use Rattle.rec_collector.proofs.Always.{within_limit}
 use Rattle.rec_core.specs.Config.{IsMutator}
@@ -24,7 +24,6 @@ use Rattle.rec_core.specs.declared.config.Config.{Config}
 use Rattle.rec_core.proofs.Opening.{opened_kept}
 use Rattle.rec_core.proofs.Runs.{looked_is}
 use Rattle.rec_core.proofs.Steps.{actor_of}
-use Rattle.rec_core.proofs.Turns.{now_at}
 use Rattle.rec_world.specs.World.{IsCrossed, IsQuiet, IsWorld, TurnHasCause}
 use Rattle.rec_world.proofs.Calls.{world_kept}
 use Rattle.rec_settle.specs.Collecting.{AreIdle, Follows, HasPolled, HasStepped, IsAwaited, turns_of, waits_at}

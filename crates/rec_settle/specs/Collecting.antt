@@ -1,5 +1,5 @@
 -- What settling does: turns of the collector, with a poll of each mutator that it waits for, collection after collection.
-use Rattle.std.specs.Prelude.{◌≡◌, ◌≢◌, ℕ, ◌+◌, ◌==◌, nat_lt, false, if◌then◌else◌, count_by}
+use Rattle.std.specs.Prelude.{◌≡◌, ◌≢◌, ℕ, ◌==◌, nat_lt, false, if◌then◌else◌, count_by}
 use Rattle.rec_word.specs.Mailbox.{crossing_word}
 use Rattle.rec_word.specs.declared.mailbox.Mailbox.TheVariants.{Retired}
 use Rattle.rec_mutator.specs.Private.{is_busy}

@@ -1,6 +1,5 @@
 -- What was settled is so by the collections that were made.
 use Rattle.std.proofs.Common.{◌≡◌, ◌∙◌, refl, subst, arith}
-use Rattle.rec_core.specs.Core.{Core}
 use Rattle.rec_world.proofs.Calls.{world_kept}
 use Rattle.rec_settle.specs.Collecting.{IsSettling}
 use Rattle.rec_settle.specs.Stages.{Settles}

@@ -1,9 +1,8 @@
 -- A turn of settling was made.
-use Rattle.std.proofs.Common.{◌≡◌, ap, subst, sym, ◌∙◌}
+use Rattle.std.proofs.Common.{ap, subst, sym, ◌∙◌}
 use Rattle.rec_core.specs.Core.{Core}
 use Rattle.rec_world.specs.World.{IsWorld, step_seen}
 use Rattle.rec_settle.specs.Collecting.{Anyone, HasStepped}
-use Rattle.rec_settle.specs.Left.{left_in}
 use Rattle.rec_settle.specs.Stages.{HasCome, begun, offered, stage_turned}
 use Rattle.rec_settle.specs.declared.turns.Settling.{Settling}
 use Rattle.rec_settle.proofs.Coming.{GoesOn, goes_on, offered_config}

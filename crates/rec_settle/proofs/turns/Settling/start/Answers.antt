@@ -1,6 +1,5 @@
 -- Settling begins.
-use Rattle.std.proofs.Common.{◌≡◌, refl, sym, subst, arith}
-use Rattle.rec_core.specs.Core.{Core}
+use Rattle.std.proofs.Common.{refl, arith}
 use Rattle.rec_settle.specs.Collecting.{IsAmid}
 use Rattle.rec_settle.specs.Stages.{IsFinishing}
 use Rattle.rec_settle.proofs.turns.Settling.start.Goals as goal
