@@ -1,9 +1,13 @@
-pub mod Unfinished
-pub mod Turns
-pub mod Orders
-pub mod Commands
+pub mod Due
 pub mod Going
+pub mod Named
+mod OneRun
+mod OneSettling
 pub mod Opened
+pub mod Orders
+pub mod Ready
 pub mod Room
 pub mod Rounds
-pub mod Ready
+pub mod Turns
+pub mod Unfinished
+mod Walks

@@ -1,5 +1,5 @@
 -- The played run, from the opened heap, has the legal order of its moves.
-use Rattle.std.proofs.Common.{◌≡◌, ℕ, ◌+◌, ◌<◌, zero, suc, List, [], ◌∷◌, ◌++◌, length, map, replicate, refl, sym, ap, subst, ◌∙◌, arith}
+use Rattle.std.proofs.Common.{◌≡◌, ℕ, ◌+◌, ◌-◌, ◌<◌, zero, suc, List, [], ◌∷◌, ◌++◌, slice_index_or, length, map, replicate, refl, sym, ap, subst, ◌∙◌, arith}
 use Rattle.std.specs.List.{filter_map}
 use Rattle.std.proofs.lemmas.List.{map_push}
 use Rattle.rec_model.specs.Heap.{Heap, opening}
@@ -22,7 +22,7 @@ use Rattle.rec_order.proofs.Runs.{moves_made}
 use Rattle.rec_script.specs.Script.{Contents}
 use Rattle.rec_play.specs.Played.{config_of, opening_moment, last_moment}
 use Rattle.rec_play.specs.Played as played
-use Rattle.rec_play.proofs.Going.{PlayedSo}
+use Rattle.rec_play.proofs.Going.{Went}
 use Rattle.rec_play.proofs.Ready.{script_config}
 use Rattle.rec_mutator.specs.Private.{is_busy}
 
@@ -81,16 +81,17 @@ ordered_legally script world moves lines all leads =
     }
 
 -- by the law of every run
-pub played_legally : (script : Contents) (world : Core) (lines : List (List Line)) (order : List ℕ) (events : List Event) (n : Naming) → PlayedSo script world lines order events n → IsPlayedLegally script world lines events n
-played_legally script world lines order events n so =
+pub played_legally : (script : Contents) (world : Core) (lines : List (List Line)) (events : List Event) (n : Naming) → length lines ≡ length script.commands
+    → ((t : ℕ) → 0 < t → filter_map (line_by t) events ≡ slice_index_or lines (t - 1) []) → Went script events n world → IsPlayedLegally script world lines events n
+played_legally script world lines events n one_each own so =
     let first : Core = opened (config_of script) in
     let kept : IsKept first = opened_kept (config_of script) (script_config script so.valid) in
-    let all : HasLegalOrder first (heap_of script) opening_number (0 ∷ []) so.moves lines
-    = run_legal first (heap_of script) opening_number (0 ∷ []) so.moves lines kept (λ t is. ap is_busy (mutator_opened (config_of script) t is))
-    (stands_opened script so.valid.heap.some_slots) (unfreed_opened script) so.fit
+    let all : HasLegalOrder first (heap_of script) opening_number (0 ∷ []) so.run.moves lines
+    = run_legal first (heap_of script) opening_number (0 ∷ []) so.run.moves lines kept (λ t is. ap is_busy (mutator_opened (config_of script) t is))
+    (stands_opened script so.valid.heap.some_slots) (unfreed_opened script) so.run.fit
     (record {
-      one_each = so.one_each;
-      lines = λ t is. sym (so.lines_of t is.0) ∙ ap (filter_map (line_by t)) (sym so.tells) ∙ lines_of t first_naming first so.moves;
+      one_each = one_each;
+      lines = λ t is. sym (own t is.0) ∙ ap (filter_map (line_by t)) (sym so.run.tells) ∙ lines_of t first_naming first so.run.moves;
     }) in
-    subst (λ es. IsPlayedLegally script world lines es n) so.tells
-    (subst (IsPlayedLegally script world lines (events_of first_naming first so.moves)) so.names (ordered_legally script world so.moves lines all so.ends))
+    subst (λ es. IsPlayedLegally script world lines es n) so.run.tells
+    (subst (IsPlayedLegally script world lines (events_of first_naming first so.run.moves)) so.run.names (ordered_legally script world so.run.moves lines all so.run.ends))

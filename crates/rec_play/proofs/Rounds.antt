@@ -1,41 +1,102 @@
 -- The played run between two turns: what was played, what is to come, and what room is left.
-use Rattle.std.proofs.Common.{◌≡◌, ◌⊎◌, inl, inr, ℕ, ◌+◌, ◌-◌, ◌<◌, ◌≤◌, zero, suc, List, [], ◌∷◌, ◌++◌, Some, if◌then◌else◌, slice_index_or, slice_set, length, map, take, refl, sym, ap, subst, ◌∙◌, arith}
-use Rattle.std.specs.List.{slice_get, sum}
-use Rattle.std.proofs.lemmas.Bool.{eq-eqb, cases_eq, cases_lt}
-use Rattle.std.proofs.lemmas.List.{append-nil, append_assoc, length_push, length-map, length-append, map-set, take_all, length-take, get_or-set_same, get_or-set_other, get_or-map, get_or_past, ext_get_or}
-use Rattle.std.proofs.lemmas.List.Elements.{All-get_or}
+use Rattle.std.proofs.Common.{◌≡◌, inl, inr, ℕ, ◌+◌, ◌-◌, ◌<◌, ◌≤◌, zero, suc, Option, List, [], ◌∷◌, ◌++◌, Some, slice_index_or, slice_set, length, map, replicate, refl, sym, ap, subst, ◌∙◌, arith}
+use Rattle.std.specs.List.{slice_get, filter_map, sum}
+use Rattle.std.proofs.lemmas.Bool.{cases_eq, cases_lt}
+use Rattle.std.proofs.lemmas.List.{append-nil, append_assoc, length_push, length-map, length-append, length-set, take_all, get_or-set_same, get_or-set_other, get_or-map, get_or_past, ext_get_or}
+use Rattle.std.proofs.lemmas.List.Elements.{All-get_or, filter_map-append}
 use Rattle.std.proofs.lemmas.Option.{slice_get-get_or, get_or_from_slice_get}
+use Rattle.rec_word.specs.declared.op.Op.{Op}
 use Rattle.rec_model.specs.declared.command.Cmd.{Cmd}
 use Rattle.rec_model.specs.declared.told.Told.{Told}
-use Rattle.rec_model.specs.LegalOrder.{Line, Event}
+use Rattle.rec_model.specs.LegalOrder.{actor, actors, Line, Event, line_by}
 use Rattle.rec_model.specs.LegalOrder.Event.{Answers}
 use Rattle.rec_model.specs.Numbering.{times}
-use Rattle.rec_model.proofs.Growing.{with_line}
-use Rattle.rec_core.specs.Core.{opened, Core, sight}
+use Rattle.rec_mutator.specs.declared.work.Work.TheVariants as works
+use Rattle.rec_collector.specs.Next.{next_of}
+use Rattle.rec_collector.specs.declared.phase.Phase.TheVariants.{Looking}
+use Rattle.rec_collector.specs.declared.turn.Turn.{Turn}
+use Rattle.rec_core.specs.Core.{opened, Core}
+use Rattle.rec_core.specs.Kept.{IsKept}
+use Rattle.rec_core.specs.Moves.{turned}
+use Rattle.rec_core.specs.Worked.{AreIdle, IsWorked}
+use Rattle.rec_core.proofs.Runs.{looked_is}
+use Rattle.rec_order.specs.Events.{swept_by}
+use Rattle.rec_order.specs.Naming.{Naming, NamesGoOn, first_naming}
 use Rattle.rec_world.specs.Journal.{Notes, no_notes}
 use Rattle.rec_world.specs.Order.{Turns}
 use Rattle.rec_script.specs.Script.{Contents, IsScript}
+use Rattle.rec_settle.specs.Collecting.{Follows}
 use Rattle.rec_play.specs.declared.actor.Actor.{Actor}
 use Rattle.rec_play.specs.declared.actor.Actor.TheVariants.{Mutator, Collector}
-use Rattle.rec_play.specs.Commanded.{Commanded, Polled, PollsNone, PollsOne, Turned, noted}
+use Rattle.rec_play.specs.Moves.{Carries, IsSpent, MakesCommand, MakesStep, Player, made_by}
 use Rattle.rec_play.specs.Played.{AreReady, IsPlayed, config_of, lengths_of, lines_of}
-use Rattle.rec_play.specs.Playing.{Rest, IsOrderFor, all_turns, generator_of, mutators_of, order, to_come}
+use Rattle.rec_play.specs.Playing.{all_turns, generator_of, mutators_of, number_of_actor, order, to_come}
 use Rattle.rec_play.specs.Run.{IsPlayedRun, EndsTurn, commands_of, made_in}
-use Rattle.rec_play.specs.Run.IsPlayedRun.{starts}
-use Rattle.rec_core.specs.Config.{IsMutator}
-use Rattle.rec_core.proofs.Runs.{looked_is}
-use Rattle.rec_collector.specs.declared.phase.Phase.TheVariants.{Looking}
-use Rattle.rec_collector.specs.Next.{next_of}
-use Rattle.rec_order.specs.Events.{swept_by}
-use Rattle.rec_order.specs.Naming.{Naming, NamesGoOn, first_naming}
-use Rattle.rec_core.specs.declared.config.Config.{Config}
-use Rattle.rec_model.specs.Sight.{Sight, IsTaken}
-use Rattle.rec_model.proofs.Counted.{times-append, times-cons}
-use Rattle.rec_core.specs.Worked.{WaitsFor}
-use Rattle.rec_play.proofs.Going.{PlayedSo, own, commands_at, begun, one_more, poll_more, turn_more, made_is_named, is_mutator, world_kept}
+use Rattle.rec_play.proofs.Due.{HasCommand, commands_are, has_command, is_of_script, lengths_at, none_made, order_is}
+use Rattle.rec_play.proofs.Going.{Went, actors_swept, begun, line_other, line_own, line_swept, runs_kept, turns_are_lines, went_command, went_step}
 use Rattle.rec_play.proofs.Opened.{IsPlayedLegally, played_legally}
 use Rattle.rec_play.proofs.Room.{no_log_full}
-use Rattle.rec_play.proofs.Orders.{order_names, order_length, order_comes, collectors, collectors_few}
+use Rattle.rec_play.proofs.Orders.{order_names, order_length, collectors, collectors_few}
+
+-- each mutator has made as many commands as were answered
+abbrev pub AreCounted : Contents → (made : List ℕ) → List Event → Type 0
+AreCounted script made events = (t : ℕ) → 1 ≤ t → t ≤ length script.commands → made_by made t ≡ made_in events t
+
+-- A command more is counted.
+pub counted_more : (script : Contents) (made : List ℕ) (events : List Event) (t : ℕ) (line : Line) → 1 ≤ t → t - 1 < length made → AreCounted script made events
+    → AreCounted script (slice_set made (t - 1) (made_by made t + 1)) (events ++ Answers t line ∷ [])
+counted_more script made events t line first there so s some most = elim (cases_eq t s) [
+  | inl same ↦
+      let P : ℕ → Type 0 = λ x. made_by (slice_set made (t - 1) (made_by made t + 1)) x ≡ made_in (events ++ Answers t line ∷ []) x in
+      let mine : made_by (slice_set made (t - 1) (made_by made t + 1)) t ≡ made_by made t + 1 = get_or-set_same made (t - 1) (made_by made t + 1) 0 there in
+      let longer : made_in (events ++ Answers t line ∷ []) t ≡ made_in events t + 1 = ap length (line_own events t line) ∙ length_push (filter_map (line_by t) events) line in
+      subst P same (omega (arith, mine, longer, so t first (subst (λ x. x ≤ length script.commands) (sym same) most)))
+  | inr other ↦
+      let stays : made_by (slice_set made (t - 1) (made_by made t + 1)) s ≡ made_by made s = get_or-set_other made (t - 1) (s - 1) (made_by made t + 1) 0 (λ at. other (omega (arith, at, first, some))) in
+      stays ∙ so s some most ∙ sym (ap length (line_other events t s line other))
+]
+
+-- The run goes on with a command,
+pub run_made : (script : Contents) (made : List ℕ) (acted : List Actor) (events : List Event) (n k : Naming) (before after : Core) (t : ℕ) (cmd : Cmd) (told : Told) → AreCounted script made events
+    → Carries script t (made_by made t) before cmd told after → NamesGoOn before after (cmd, told) n k → IsPlayedRun script acted events n before
+    → IsPlayedRun script (acted ++ Mutator t ∷ []) (events ++ Answers t (cmd, told) ∷ []) k after
+run_made script made acted events n k before after t cmd told counted carries names run =
+    let there : HasCommand script t (made_by made t) = has_command script t (made_by made t) cmd carries.next in
+    IsPlayedRun.turn acted events n k before after t cmd told run
+    (record {
+      next = subst (λ m. slice_get (commands_of script t) m ≡ Some cmd) (counted t there.some there.most) carries.next;
+      polled = carries.polled;
+      poll = carries.poll;
+      command = carries.command;
+      answer = carries.answer;
+    })
+    names
+
+-- and with a step of the collector.
+pub run_stepped : (script : Contents) (made : List ℕ) (acted : List Actor) (events : List Event) (n : Naming) (before after : Core) → before.config ≡ config_of script → IsKept before → AreCounted script made events
+    → Follows (IsSpent script made) before after → IsPlayedRun script acted events n before → IsPlayedRun script (acted ++ Collector ∷ []) (events ++ swept_by n (next_of before.collector)) n after
+run_stepped script made acted events n before after config kept counted follows run = IsPlayedRun.collects acted events n before after run (go follows)
+  where
+    go : Follows (IsSpent script made) before after → EndsTurn script (made_in events) before (turned before) after
+    go (Follows.polls t awaited same spent polled) =
+        let (some, most) = is_of_script script before t config awaited.there in
+        EndsTurn.polls t awaited.waits (subst (λ m. length (commands_of script t) ≤ m) (counted t some most) spent) (subst (λ (x : Core). IsWorked x t works.Poll after) (sym same) polled.worked)
+    go (Follows.rests left is) =
+        EndsTurn.rests
+        (λ t waits.
+        let (some, most) = is_of_script script before t config (looked_is before (Looking t) kept waits.looks) in
+        elim (cases_lt (made_in events t) (length (commands_of script t))) [
+          | inl less ↦ less
+          | inr all ↦ absurd (left t waits (subst (λ m. length (commands_of script t) ≤ m) (sym (counted t some most)) all))
+        ]) is
+
+-- The answers of a run stand in the order of its turns.
+pub acts_named : (script : Contents) (acted : List Actor) (events : List Event) (n : Naming) (w : Core) → IsPlayedRun script acted events n w → actors events ≡ mutators_of acted
+acts_named script _ _ _ _ IsPlayedRun.starts = refl
+acts_named script _ _ _ _ (IsPlayedRun.turn acted events n k before after t cmd told run is names) =
+    filter_map-append actor events (Answers t (cmd, told) ∷ []) ∙ ap (λ ts. ts ++ t ∷ []) (acts_named script acted events n before run) ∙ sym (filter_map-append number_of_actor acted (Mutator t ∷ []))
+acts_named script _ _ _ _ (IsPlayedRun.collects acted events n before after run ends) =
+    actors_swept events n before ∙ acts_named script acted events n before run ∙ sym (filter_map-append number_of_actor acted (Collector ∷ []) ∙ append-nil (mutators_of acted))
 
 -- the notes of a mutator, by its index
 abbrev pub notes_at : List Notes → ℕ → Notes
@@ -48,284 +109,222 @@ journal_is journals index t d same some there =
     ∙ get_or_from_slice_get journals (t - 1) (notes_at journals (t - 1)) d (slice_get-get_or journals (t - 1) no_notes (omega arith))
 
 -- what was played so far, what is to come, and what room is left
-pub record Between (script : Contents) (seed turns : ℕ) (world : Core) (journals : List Notes) (made : Turns) (rest : Rest) : Type 0 where
-  pub events : List Event
-  -- which object each slot holds
-  pub names : Naming
-  pub so : PlayedSo script world (lines_of journals) made.list events names
+pub record Between (script : Contents) (seed turns : ℕ) (world : Core) (journals : List Notes) (noted : Turns) (p : Player) : Type 0 where
+  pub of : p.script ≡ script
+  pub idle : AreIdle world
+  pub long : length p.made ≡ 8
+  pub config : world.config ≡ config_of script
   -- the turns so far, and the run that they make up
   pub acted : List Actor
+  pub all : acted ++ to_come p.rest ≡ all_turns (lengths_of script) seed turns
+  pub events : List Event
+  pub names : Naming
   pub run : IsPlayedRun script acted events names world
-  pub all : acted ++ to_come rest ≡ all_turns (lengths_of script) seed turns
-  pub comes : made.list ++ mutators_of (to_come rest) ≡ order (lengths_of script) seed turns
-  pub journal_room : (i : ℕ) → length (commands_at script i) ≤ (notes_at journals i).room + length (notes_at journals i).lines
-  pub order_room : sum (lengths_of script) ≤ made.room + length made.list
+  pub went : Went script events names world
+  pub counted : AreCounted script p.made events
+  -- the journals and the order tell it
+  pub one_each : length journals ≡ length script.commands
+  pub lines : (t : ℕ) → 0 < t → filter_map (line_by t) events ≡ (notes_at journals (t - 1)).lines
+  pub order_so : noted.list ≡ mutators_of acted
+  pub journal_room : (t : ℕ) → length (commands_of script t) ≤ (notes_at journals (t - 1)).room + made_in events t
+  pub order_room : sum (lengths_of script) ≤ noted.room + length noted.list
   -- each turn of the collector that is to come may request one epoch more
-  pub epochs : world.epoch + collectors (to_come rest) ≤ 1 + turns
-
--- the lines of a mutator are those of its notes
-own_notes : (journals : List Notes) (i : ℕ) → own (lines_of journals) i ≡ (notes_at journals i).lines
-own_notes journals i = elim (cases_lt i (length journals)) [
-  | inl there ↦ get_or-map (λ (j : Notes). j.lines) journals i no_notes [] there
-  | inr past ↦
-      get_or_past (lines_of journals) i [] (subst (λ n. n ≤ i) (sym (length-map journals (λ (j : Notes). j.lines))) past)
-      ∙ sym (ap (λ (j : Notes). j.lines) (get_or_past journals i no_notes past))
-]
+  pub epochs : world.epoch + collectors (to_come p.rest) ≤ 1 + turns
 
 -- Before the first turn.
-pub start : (script : Contents) (seed turns : ℕ) (world : Core) (journals : List Notes) (made : Turns) (rest : Rest) → IsScript script
-    → world ≡ opened (config_of script) → AreReady script.commands journals → made.list ≡ [] → sum (lengths_of script) ≤ made.room
-    → rest ≡ record { left = lengths_of script; generator = generator_of seed; turns = turns } → Between script seed turns world journals made rest
-start script seed turns world journals made rest valid is ready none room begins =
-    let lines_are : length (lines_of journals) ≡ length script.commands = length-map journals (λ (j : Notes). j.lines) ∙ ready.one_each in
-    let empty : (i : ℕ) → i < length (lines_of journals) → own (lines_of journals) i ≡ [] = λ i there.
-    own_notes journals i ∙ All-get_or (λ (j : Notes). j.lines ≡ []) journals i no_notes (subst (λ n. i < n) (length-map journals (λ (j : Notes). j.lines)) there) ready.empty in
-    let P : Core → Type 0 = λ w. PlayedSo script w (lines_of journals) made.list [] first_naming in
-    let Q : List ℕ → Type 0 = λ ts. PlayedSo script (opened (config_of script)) (lines_of journals) ts [] first_naming in
-    let R : Core → Type 0 = λ w. IsPlayedRun script [] [] first_naming w in
+pub start : (script : Contents) (seed turns : ℕ) (world : Core) (journals : List Notes) (noted : Turns) (p : Player) → IsScript script → AreIdle world
+    → world ≡ opened (config_of script) → AreReady script.commands journals → noted.list ≡ [] → sum (lengths_of script) ≤ noted.room
+    → p.script ≡ script → p.rest ≡ record { left = lengths_of script; generator = generator_of seed; turns = turns } → p.made ≡ replicate 8 0
+    → Between script seed turns world journals noted p
+start script seed turns world journals noted p valid idle is ready none room of begins made =
+    let P : Core → Type 0 = λ w. IsPlayedRun script [] [] first_naming w in
     record {
+      of = of;
+      idle = idle;
+      long = ap length made;
+      config = ap (λ (w : Core). w.config) is;
+      acted = [];
+      all = ap to_come begins;
       events = [];
       names = first_naming;
-      so = subst P (sym is) (subst Q (sym none) (begun script (lines_of journals) valid lines_are empty));
-      acted = [];
-      run = subst R (sym is) starts;
-      all = ap to_come begins;
-      comes = ap (λ ts. ts ++ mutators_of (to_come rest)) none ∙ ap (λ r. mutators_of (to_come r)) begins ∙ order_comes (lengths_of script) seed turns;
-      journal_room = λ i. let fits : length (commands_at script i) ≤ (notes_at journals i).room = ready.room i in omega arith;
-      order_room = omega arith;
+      run = subst P (sym is) IsPlayedRun.starts;
+      went = subst (Went script [] first_naming) (sym is) (begun script valid);
+      counted = λ t some most. ap (λ ns. made_by ns t) made ∙ none_made t;
+      one_each = ready.one_each;
+      lines = λ t some. sym (elim (cases_lt (t - 1) (length journals)) [
+        | inl there ↦ All-get_or (λ (j : Notes). j.lines ≡ []) journals (t - 1) no_notes there ready.empty
+        | inr past ↦ ap (λ (j : Notes). j.lines) (get_or_past journals (t - 1) no_notes past)
+      ]);
+      order_so = none;
+      journal_room = room_for;
+      order_room = omega (arith, room);
       epochs =
           let first : world.epoch ≡ 1 = ap (λ (w : Core). w.epoch) is in
-          let few : collectors (to_come rest) ≤ turns = subst (λ r. collectors (to_come r) ≤ turns) (sym begins) (collectors_few (lengths_of script) seed turns) in
-          omega arith;
+          let few : collectors (to_come p.rest) ≤ turns = subst (λ r. collectors (to_come r) ≤ turns) (sym begins) (collectors_few (lengths_of script) seed turns) in
+          omega (arith, first, few);
     }
+  where
+    room_for : (t : ℕ) → length (commands_of script t) ≤ (notes_at journals (t - 1)).room + 0
+    room_for zero = omega arith
+    room_for (suc i) = subst (λ n. length (slice_index_or script.commands i []) ≤ (notes_at journals n).room + 0) (let same : i ≡ suc i - 1 = omega arith in same) (omega (arith, ready.room i))
 
--- the mutator whose turn comes has a next command, and there is room to note it
-pub record IsTurnOf (script : Contents) (journals : List Notes) (made : Turns) (t : ℕ) : Type 0 where
+-- the mutator whose turn was made, and the room to note it
+pub record HasRoom (script : Contents) (journals : List Notes) (noted : Turns) (t : ℕ) : Type 0 where
   pub some : 0 < t
-  pub most : t ≤ length script.commands
   pub there : t ≤ length journals
-  pub next : length (notes_at journals (t - 1)).lines < length (commands_at script (t - 1))
   pub journal_room : 0 < (notes_at journals (t - 1)).room
-  pub order_room : 0 < made.room
+  pub order_room : 0 < noted.room
 
--- a named mutator is named once at least
-times-first : (t : ℕ) (before after : List ℕ) → times t (before ++ t ∷ after) ≡ times t before + 1 + times t after
-times-first t before after =
-    let one : times t (t ∷ after) ≡ 1 + times t after = times-cons t t after ∙ ap (λ b. (if b then 1 else 0) + times t after) (eq-eqb t t refl) in
-    times-append t before (t ∷ after) ∙ omega arith
+-- A mutator's turn was made.
+module _ (script : Contents) (seed turns : ℕ) (before after : Core) (journals : List Notes) (noted : Turns) (p q : Player) (t : ℕ) (cmd : Cmd) (told : Told)
+    (so : Between script seed turns before journals noted p) (makes : MakesCommand p q before after t cmd told) where
+  carries : Carries script t (made_by p.made t) before cmd told after
+  carries = subst (λ s. Carries s t (made_by p.made t) before cmd told after) so.of makes.carries
 
--- nobody but a mutator is named
-some_one : (t n : ℕ) (f : ℕ → ℕ) → f 0 ≡ 0 → f t ≡ n + 1 → 0 < t
-some_one zero n f none one = absurd (omega (arith, none, one))
-some_one (suc t) n f none one = omega arith
+  there : HasCommand script t (made_by p.made t)
+  there = has_command script t (made_by p.made t) cmd carries.next
 
-pub turn_of : (script : Contents) (seed turns : ℕ) (world : Core) (journals : List Notes) (made : Turns) (rest : Rest) (t : ℕ) (later : List Actor)
-    → to_come rest ≡ Mutator t ∷ later → Between script seed turns world journals made rest → IsTurnOf script journals made t
-turn_of script seed turns world journals made rest t later is so =
-    let names : IsOrderFor (lengths_of script) (order (lengths_of script) seed turns) = order_names (lengths_of script) seed turns in
-    let comes : made.list ++ t ∷ mutators_of later ≡ order (lengths_of script) seed turns = ap (λ later. made.list ++ mutators_of later) (sym is) ∙ so.comes in
-    let named : times t (order (lengths_of script) seed turns) ≡ times t made.list + 1 + times t (mutators_of later) = ap (times t) (sym comes) ∙ times-first t made.list (mutators_of later) in
-    let some : 0 < t = some_one t (times t made.list + times t (mutators_of later)) (λ n. times n (order (lengths_of script) seed turns)) names.nobody (omega arith) in
-    let all : times t (order (lengths_of script) seed turns) ≡ slice_index_or (lengths_of script) (t - 1) 0 = names.each t some in
-    let most : t - 1 < length (lengths_of script) = elim (cases_lt (t - 1) (length (lengths_of script))) [
-      | inl there ↦ there
-      | inr past ↦ absurd (let none : slice_index_or (lengths_of script) (t - 1) 0 ≡ 0 = get_or_past (lengths_of script) (t - 1) 0 past in omega arith)
-    ] in
-    let mutators : length (lengths_of script) ≡ length script.commands = length-map script.commands (length {A = Cmd}) in
-    let there : length (lines_of journals) ≡ length journals = length-map journals (λ (j : Notes). j.lines) in
-    let one_each : length (lines_of journals) ≡ length script.commands = so.so.one_each in
-    let own_length : slice_index_or (lengths_of script) (t - 1) 0 ≡ length (commands_at script (t - 1)) = get_or-map (length {A = Cmd}) script.commands (t - 1) [] 0 (omega arith) in
-    let made_so_far : times t made.list ≡ length (notes_at journals (t - 1)).lines = made_is_named script world (lines_of journals) made.list so.events so.names so.so t some ∙ ap length (own_notes journals (t - 1)) in
-    let room : length (commands_at script (t - 1)) ≤ (notes_at journals (t - 1)).room + length (notes_at journals (t - 1)).lines = so.journal_room (t - 1) in
-    let long : length (made.list ++ t ∷ mutators_of later) ≡ sum (lengths_of script) = ap length comes ∙ order_length (lengths_of script) seed turns in
-    let parts : length (made.list ++ t ∷ mutators_of later) ≡ length made.list + length (t ∷ mutators_of later) = length-append made.list (t ∷ mutators_of later) in
-    let order_room : sum (lengths_of script) ≤ made.room + length made.list = so.order_room in
+  counted : made_by p.made t ≡ made_in so.events t
+  counted = so.counted t there.some there.most
+
+  -- there is room to note it
+  pub has_room : HasRoom script journals noted t
+  has_room =
+      let long : length (mutators_of so.acted ++ mutators_of (to_come p.rest)) ≡ sum (lengths_of script) = ap length (order_is (lengths_of script) seed turns so.acted (to_come p.rest) so.all) ∙ order_length (lengths_of script) seed turns in
+      let more : length (mutators_of (to_come p.rest)) ≡ suc (length (mutators_of (to_come q.rest))) = ap (λ actors. length (mutators_of actors)) makes.turn in
+      record {
+        some = there.some;
+        there = omega (arith, there.most, so.one_each);
+        journal_room = omega (arith, so.journal_room t, there.next, counted);
+        order_room = omega (arith, so.order_room, ap length so.order_so, long, more, length-append (mutators_of so.acted) (mutators_of (to_come p.rest)));
+      }
+
+  -- It was noted.
+  pub command_made : (notes : Notes) (more : Turns) → notes.lines ≡ (notes_at journals (t - 1)).lines ++ (cmd, told) ∷ [] → notes.room ≡ (notes_at journals (t - 1)).room - 1
+      → more.list ≡ noted.list ++ t ∷ [] → more.room ≡ noted.room - 1 → q.script ≡ p.script → length q.made ≡ 8 → AreIdle after → after.config ≡ config_of script → Between script seed turns after (slice_set journals (t - 1) notes) more q
+  command_made notes more line room list less same long idle config =
+      let (k, names, went) = went_command script so.events so.names before after t cmd told so.idle (subst (λ m. Carries script t m before cmd told after) counted carries) so.went in
+      let index : t - 1 < length journals = omega (arith, there.some, there.most, so.one_each) in
+      let mine : made_in (so.events ++ Answers t (cmd, told) ∷ []) t ≡ made_in so.events t + 1 = ap length (line_own so.events t (cmd, told)) ∙ length_push (filter_map (line_by t) so.events) (cmd, told) in
+      let here : notes_at (slice_set journals (t - 1) notes) (t - 1) ≡ notes = get_or-set_same journals (t - 1) notes no_notes index in
+      let room_for : HasRoom script journals noted t = has_room in
+      record {
+        of = same ∙ so.of;
+        idle = idle;
+        long = long;
+        config = config;
+        acted = so.acted ++ Mutator t ∷ [];
+        all = append_assoc so.acted (Mutator t ∷ []) (to_come q.rest) ∙ ap (λ later. so.acted ++ later) (sym makes.turn) ∙ so.all;
+        events = so.events ++ Answers t (cmd, told) ∷ [];
+        names = k;
+        run = run_made script p.made so.acted so.events so.names k before after t cmd told so.counted carries names so.run;
+        went = went;
+        counted = subst (λ made. AreCounted script made (so.events ++ Answers t (cmd, told) ∷ [])) (sym makes.made) (counted_more script p.made so.events t (cmd, told) there.some (omega (arith, there.some, there.most, so.went.valid.most_mutators, so.long)) so.counted);
+        one_each = length-set journals (t - 1) notes ∙ so.one_each;
+        lines = λ s some. elim (cases_eq t s) [
+          | inl at ↦
+              let P : ℕ → Type 0 = λ x. filter_map (line_by x) (so.events ++ Answers t (cmd, told) ∷ []) ≡ (notes_at (slice_set journals (t - 1) notes) (x - 1)).lines in
+              subst P at (line_own so.events t (cmd, told) ∙ ap (λ ls. ls ++ (cmd, told) ∷ []) (so.lines t there.some) ∙ sym line ∙ ap (λ (j : Notes). j.lines) (sym here))
+          | inr other ↦
+              line_other so.events t s (cmd, told) other ∙ so.lines s some
+              ∙ ap (λ (j : Notes). j.lines) (sym (get_or-set_other journals (t - 1) (s - 1) notes no_notes (λ at. other (omega (arith, at, there.some, some)))))
+        ];
+        order_so = list ∙ ap (λ ts. ts ++ t ∷ []) so.order_so ∙ sym (filter_map-append number_of_actor so.acted (Mutator t ∷ []));
+        journal_room = λ s. elim (cases_eq (t - 1) (s - 1)) [
+          | inl at ↦ rooms s at
+          | inr other ↦
+              subst (λ (j : Notes). length (commands_of script s) ≤ j.room + made_in (so.events ++ Answers t (cmd, told) ∷ []) s) (sym (get_or-set_other journals (t - 1) (s - 1) notes no_notes (λ at. other (sym at))))
+              (omega (arith, so.journal_room s, ap length (line_other so.events t s (cmd, told) (λ at. other (ap (λ n. n - 1) at)))))
+        ];
+        order_room = omega (arith, so.order_room, room_for.order_room, less, ap length list, length_push noted.list t);
+        epochs = omega (arith, so.epochs, ap collectors makes.turn, makes.requested);
+      }
+    where
+      rooms : (s : ℕ) → t - 1 ≡ s - 1 → length (commands_of script s) ≤ (notes_at (slice_set journals (t - 1) notes) (s - 1)).room + made_in (so.events ++ Answers t (cmd, told) ∷ []) s
+      rooms zero at = omega arith
+      rooms (suc i) at =
+          let P : ℕ → Type 0 = λ x. length (commands_of script x) ≤ (notes_at (slice_set journals (t - 1) notes) (x - 1)).room + made_in (so.events ++ Answers t (cmd, told) ∷ []) x in
+          let here : notes_at (slice_set journals (t - 1) notes) (t - 1) ≡ notes = get_or-set_same journals (t - 1) notes no_notes (omega (arith, there.some, there.most, so.one_each)) in
+          let longer : made_in (so.events ++ Answers t (cmd, told) ∷ []) t ≡ made_in so.events t + 1 = ap length (line_own so.events t (cmd, told)) ∙ length_push (filter_map (line_by t) so.events) (cmd, told) in
+          subst P (let same : t ≡ suc i = omega (arith, at, there.some) in same)
+          (subst (λ (j : Notes). length (commands_of script t) ≤ j.room + made_in (so.events ++ Answers t (cmd, told) ∷ []) t) (sym here) (omega (arith, so.journal_room t, has_room.journal_room, room, longer)))
+
+-- A turn of the collector was made.
+pub step_made : (script : Contents) (seed turns : ℕ) (before after : Core) (journals : List Notes) (noted : Turns) (p q : Player) (seen : Option (Op × ℕ)) (turn : Turn) → MakesStep p q before after seen turn
+    → q.script ≡ p.script → AreIdle after → after.config ≡ config_of script → Between script seed turns before journals noted p → Between script seed turns after journals noted q
+step_made script seed turns before after journals noted p q seen turn makes same idle config so =
+    let follows : Follows (IsSpent script p.made) before after = subst (λ s. Follows (IsSpent s p.made) before after) so.of makes.steps.follows in
+    let kept : IsKept before = runs_kept script before so.events so.names so.went.valid so.went.run in
     record {
-      some = some;
-      most = omega arith;
-      there = omega arith;
-      next = omega arith;
-      journal_room = omega arith;
-      order_room = omega arith;
-    }
-
--- a mutator's commands, by its index
-pub commands_are : (script : Contents) (t : ℕ) → 0 < t → commands_of script t ≡ commands_at script (t - 1)
-commands_are script zero some = absurd (omega (arith, some))
-commands_are script (suc i) some = ap (commands_at script) (let same : i ≡ suc i - 1 = omega arith in same)
-
--- as many commands were answered as its journal holds
-made_is_noted : (script : Contents) (seed turns : ℕ) (world : Core) (journals : List Notes) (made : Turns) (rest : Rest) → (so : Between script seed turns world journals made rest)
-    → (t : ℕ) → 0 < t → made_in so.events t ≡ noted journals t
-made_is_noted script seed turns world journals made rest so t some = ap length (so.so.lines_of t some ∙ own_notes journals (t - 1))
-
--- the naming goes on over a command and the poll before it
-names_from : (before mid after : Core) (line : Line) (n k : Naming) → sight mid ≡ sight before → NamesGoOn mid after line n k → NamesGoOn before after line n k
-names_from before mid after line n k seen (NamesGoOn.born slot birth free taken) = NamesGoOn.born slot birth (λ was. free (subst (λ (x : Sight). IsTaken x slot) (sym seen) was)) taken
-names_from before mid after line n k seen (NamesGoOn.same unborn) = NamesGoOn.same unborn
-
--- A mutator's turn: it polls, and makes its next command.
-pub turn_made : (script : Contents) (seed turns : ℕ) (before mid after : Core) (journals : List Notes) (notes : Notes) (made more : Turns) (rest next : Rest) (t : ℕ) (cmd : Cmd) (told : Told)
-    → to_come rest ≡ Mutator t ∷ to_come next
-    → slice_get (commands_at script (t - 1)) (length (notes_at journals (t - 1)).lines) ≡ Some cmd → Polled before mid t → Commanded mid after t cmd told
-    → notes.lines ≡ (notes_at journals (t - 1)).lines ++ (cmd, told) ∷ [] → notes.room ≡ (notes_at journals (t - 1)).room - 1
-    → more.list ≡ made.list ++ t ∷ [] → more.room ≡ made.room - 1
-    → Between script seed turns before journals made rest → Between script seed turns after (slice_set journals (t - 1) notes) more next
-turn_made script seed turns before mid after journals notes made more rest next t cmd told is cmd_is polled done lines room list order_less so =
-    let turn : IsTurnOf script journals made t = turn_of script seed turns before journals made rest t (to_come next) is so in
-    let index : t - 1 < length journals = (let some : 0 < t = turn.some in let there : t ≤ length journals = turn.there in omega arith) in
-    let mine : own (lines_of journals) (t - 1) ≡ (notes_at journals (t - 1)).lines = own_notes journals (t - 1) in
-    let now : with_line (lines_of journals) t (cmd, told) ≡ lines_of (slice_set journals (t - 1) notes) =
-    ap (λ xs. slice_set (lines_of journals) (t - 1) (xs ++ (cmd, told) ∷ [])) mine
-    ∙ ap (slice_set (lines_of journals) (t - 1)) (sym lines)
-    ∙ sym (map-set (λ (j : Notes). j.lines) journals (t - 1) notes) in
-    let (waited, seen) = poll_more script before mid (lines_of journals) made.list so.events so.names t (is_mutator script before t so.so.config turn.some turn.most) polled so.so in
-    let (k, names, step) =
-    one_more script mid after (lines_of journals) made.list so.events so.names t cmd told
-    (record { some = turn.some; most = turn.most; is = ap (λ xs. slice_get (commands_at script (t - 1)) (length xs)) mine ∙ cmd_is }) done waited in
-    let P : List (List Line) → Type 0 = λ ls. PlayedSo script after ls more.list (so.events ++ Answers t (cmd, told) ∷ []) k in
-    let Q : List ℕ → Type 0 = λ ts. PlayedSo script after (with_line (lines_of journals) t (cmd, told)) ts (so.events ++ Answers t (cmd, told) ∷ []) k in
-    record {
-      events = so.events ++ Answers t (cmd, told) ∷ [];
-      names = k;
-      so = subst P now (subst Q (sym list) step);
-      acted = so.acted ++ Mutator t ∷ [];
-      run = IsPlayedRun.turn so.acted so.events so.names k before after t cmd told so.run
-          (record {
-            next = ap (slice_get (commands_of script t)) (made_is_noted script seed turns before journals made rest so t turn.some) ∙ ap (λ cmds. slice_get cmds (noted journals t)) (commands_are script t turn.some) ∙ cmd_is;
-            polled = mid;
-            poll = polled.worked;
-            command = done.worked;
-            answer = done.answer;
-          })
-          (names_from before mid after (cmd, told) so.names k seen names);
-      all = append_assoc so.acted (Mutator t ∷ []) (to_come next) ∙ ap (λ later. so.acted ++ later) (sym is) ∙ so.all;
-      comes = ap (λ ts. ts ++ mutators_of (to_come next)) list ∙ append_assoc made.list (t ∷ []) (mutators_of (to_come next)) ∙ ap (λ later. made.list ++ mutators_of later) (sym is) ∙ so.comes;
-      journal_room = λ i. elim (cases_eq (t - 1) i) [
-        | inl same ↦
-            let R : ℕ → Type 0 = λ n. length (commands_at script n) ≤ (notes_at (slice_set journals (t - 1) notes) n).room + length (notes_at (slice_set journals (t - 1) notes) n).lines in
-            let here : notes_at (slice_set journals (t - 1) notes) (t - 1) ≡ notes = get_or-set_same journals (t - 1) notes no_notes index in
-            let old : length (commands_at script (t - 1)) ≤ (notes_at journals (t - 1)).room + length (notes_at journals (t - 1)).lines = so.journal_room (t - 1) in
-            let some : 0 < (notes_at journals (t - 1)).room = turn.journal_room in
-            let longer : length notes.lines ≡ length (notes_at journals (t - 1)).lines + 1 = ap length lines ∙ length_push (notes_at journals (t - 1)).lines (cmd, told) in
-            let fits : length (commands_at script (t - 1)) ≤ notes.room + length notes.lines = omega arith in
-            subst R same (subst (λ (j : Notes). length (commands_at script (t - 1)) ≤ j.room + length j.lines) (sym here) fits)
-        | inr other ↦
-            let stays : notes_at (slice_set journals (t - 1) notes) i ≡ notes_at journals i = get_or-set_other journals (t - 1) i notes no_notes (λ same. other (sym same)) in
-            subst (λ (j : Notes). length (commands_at script i) ≤ j.room + length j.lines) (sym stays) (so.journal_room i)
-      ];
-      order_room =
-          let old : sum (lengths_of script) ≤ made.room + length made.list = so.order_room in
-          let some : 0 < made.room = turn.order_room in
-          let longer : length more.list ≡ length made.list + 1 = ap length list ∙ length_push made.list t in
-          omega arith;
-      epochs =
-          let old : before.epoch + collectors (to_come rest) ≤ 1 + turns = so.epochs in
-          let fewer : collectors (to_come rest) ≡ collectors (to_come next) = ap collectors is in
-          let requested : after.epoch ≡ before.epoch = done.requested ∙ polled.requested in
-          omega arith;
-    }
-
--- no mutator has more commands noted than it has
-pub few_noted : (script : Contents) (seed turns : ℕ) (world : Core) (journals : List Notes) (made : Turns) (rest : Rest) → Between script seed turns world journals made rest
-    → (t : ℕ) → noted journals t ≤ length (commands_at script (t - 1))
-few_noted script seed turns world journals made rest so t =
-    let i : ℕ = t - 1 in
-    let mine : length (own (lines_of journals) i) ≡ noted journals t = ap length (own_notes journals i) in
-    let named : length (map (λ (line : Line). line.0) (own (lines_of journals) i)) ≡ length (own (lines_of journals) i) = length-map (own (lines_of journals) i) (λ (line : Line). line.0) in
-    let first : length (map (λ (line : Line). line.0) (own (lines_of journals) i)) ≡ length (take (length (own (lines_of journals) i)) (commands_at script i)) = ap length (so.so.commands i) in
-    omega (arith, length-take (length (own (lines_of journals) i)) (commands_at script i))
-
--- How the collector's turn ends, by what was answered.
-ends_by : (script : Contents) (seed turns : ℕ) (before mid after : Core) (journals : List Notes) (made : Turns) (rest : Rest)
-    → PollsOne script journals before mid after ⊎ PollsNone script journals before mid after
-    → (so : Between script seed turns before journals made rest) → EndsTurn script (made_in so.events) before mid after
-ends_by script seed turns before mid after journals made rest (inl one) so = EndsTurn.polls one.t one.waited (spent one.t one.spent) one.polled.worked
-  where
-    spent : (t : ℕ) → length (commands_of script t) ≤ noted journals t → length (commands_of script t) ≤ made_in so.events t
-    spent zero few = omega arith
-    spent (suc i) few = subst (λ n. length (commands_of script (suc i)) ≤ n) (sym (made_is_noted script seed turns before journals made rest so (suc i) (omega arith))) few
-ends_by script seed turns before mid after journals made rest (inr none) so = EndsTurn.rests (λ t waits. left t (none.left t waits)) none.same
-  where
-    left : (t : ℕ) → noted journals t < length (commands_of script t) → made_in so.events t < length (commands_of script t)
-    left zero more = absurd (omega (arith, more))
-    left (suc i) more = subst (λ n. n < length (commands_of script (suc i))) (sym (made_is_noted script seed turns before journals made rest so (suc i) (omega arith))) more
-
--- a poll, or none
-poll_or_none : (script : Contents) (before mid after : Core) (journals : List Notes) (order : List ℕ) (events : List Event) (n : Naming) → ((t : ℕ) → WaitsFor before t → IsMutator mid.config t)
-    → PollsOne script journals before mid after ⊎ PollsNone script journals before mid after
-    → PlayedSo script mid (lines_of journals) order events n → PlayedSo script after (lines_of journals) order events n × (after.epoch ≡ mid.epoch)
-poll_or_none script before mid after journals order events n is (inl one) so = ((poll_more script mid after (lines_of journals) order events n one.t (is one.t one.waited) one.polled so).0, one.polled.requested)
-poll_or_none script before mid after journals order events n is (inr none) so =
-    let P : Core → Type 0 = λ w. PlayedSo script w (lines_of journals) order events n in
-    (subst P (sym none.same) so, ap (λ (w : Core). w.epoch) none.same)
-
--- The collector's turn.
-pub turn_of_collector : (script : Contents) (seed turns : ℕ) (before mid after : Core) (journals : List Notes) (made : Turns) (rest next : Rest) → to_come rest ≡ Collector ∷ to_come next → Turned before mid
-    → PollsOne script journals before mid after ⊎ PollsNone script journals before mid after
-    → Between script seed turns before journals made rest → Between script seed turns after journals made next
-turn_of_collector script seed turns before mid after journals made rest next is done polls so =
-    let told : List Event = swept_by so.names (next_of before.collector) in
-    let (polled, same) = poll_or_none script before mid after journals made.list (so.events ++ told) so.names
-    (λ t waits. subst (λ (c : Config). IsMutator c t) (sym done.config) (looked_is before (Looking t) (world_kept script before (lines_of journals) made.list so.events so.names so.so) waits.looks)) polls
-    (turn_more script before mid (lines_of journals) made.list so.events so.names done so.so) in
-    record {
-      events = so.events ++ told;
-      names = so.names;
-      so = polled;
+      of = same ∙ so.of;
+      idle = idle;
+      long = ap length makes.made ∙ so.long;
+      config = config;
       acted = so.acted ++ Collector ∷ [];
-      run = IsPlayedRun.collects so.acted so.events so.names before after so.run
-          (subst (λ (w : Core). EndsTurn script (made_in so.events) before w after) done.step (ends_by script seed turns before mid after journals made rest polls so));
-      all = append_assoc so.acted (Collector ∷ []) (to_come next) ∙ ap (λ later. so.acted ++ later) (sym is) ∙ so.all;
-      comes = ap (λ later. made.list ++ mutators_of later) (sym is) ∙ so.comes;
-      journal_room = so.journal_room;
+      all = append_assoc so.acted (Collector ∷ []) (to_come q.rest) ∙ ap (λ later. so.acted ++ later) (sym makes.turn_so) ∙ so.all;
+      events = so.events ++ swept_by so.names (next_of before.collector);
+      names = so.names;
+      run = run_stepped script p.made so.acted so.events so.names before after so.config kept so.counted follows so.run;
+      went = went_step script (IsSpent script p.made) so.events so.names before after so.idle follows so.went;
+      counted = λ t some most. ap (λ made. made_by made t) makes.made ∙ so.counted t some most ∙ sym (ap length (line_swept so.events so.names before t));
+      one_each = so.one_each;
+      lines = λ t some. line_swept so.events so.names before t ∙ so.lines t some;
+      order_so = so.order_so ∙ sym (filter_map-append number_of_actor so.acted (Collector ∷ []) ∙ append-nil (mutators_of so.acted));
+      journal_room = λ t. omega (arith, so.journal_room t, ap length (line_swept so.events so.names before t));
       order_room = so.order_room;
-      epochs =
-          let old : before.epoch + collectors (to_come rest) ≤ 1 + turns = so.epochs in
-          let fewer : collectors (to_come rest) ≡ 1 + collectors (to_come next) = ap collectors is in
-          let requested : mid.epoch ≤ before.epoch + 1 = done.requested in
-          let ended : after.epoch ≡ mid.epoch = same in
-          omega arith;
+      epochs = omega (arith, so.epochs, ap collectors makes.turn_so, makes.requested);
     }
 
 -- After the last turn.
-pub order_made : (script : Contents) (seed turns : ℕ) (world : Core) (journals : List Notes) (made : Turns) (rest : Rest) → to_come rest ≡ [] → Between script seed turns world journals made rest
-    → made.list ≡ order (lengths_of script) seed turns
-order_made script seed turns world journals made rest none so = sym (append-nil made.list) ∙ ap (λ later. made.list ++ mutators_of later) (sym none) ∙ so.comes
+module _ (script : Contents) (seed turns : ℕ) (world : Core) (journals : List Notes) (noted : Turns) (p : Player) (none : to_come p.rest ≡ []) (so : Between script seed turns world journals noted p) where
+  -- the order is the rule's
+  named : mutators_of so.acted ≡ order (lengths_of script) seed turns
+  named = sym (append-nil (mutators_of so.acted)) ∙ ap (λ later. mutators_of so.acted ++ mutators_of later) (sym none) ∙ order_is (lengths_of script) seed turns so.acted (to_come p.rest) so.all
 
--- no more epochs were requested than turns were told, after the first
-pub epochs_made : (script : Contents) (seed turns : ℕ) (world : Core) (journals : List Notes) (made : Turns) (rest : Rest) → to_come rest ≡ [] → Between script seed turns world journals made rest → world.epoch ≤ 1 + turns
-epochs_made script seed turns world journals made rest none so =
-    let all : world.epoch + collectors (to_come rest) ≤ 1 + turns = so.epochs in
-    let nobody : collectors (to_come rest) ≡ 0 = ap collectors none in
-    omega arith
+  pub order_made : noted.list ≡ order (lengths_of script) seed turns
+  order_made = so.order_so ∙ named
 
--- all commands were played
-pub all_played : (script : Contents) (seed turns : ℕ) (world : Core) (journals : List Notes) (made : Turns) (rest : Rest) → to_come rest ≡ [] → (so : Between script seed turns world journals made rest)
-    → IsPlayed script seed turns (lines_of journals) so.events world
-all_played script seed turns world journals made rest none so =
-    let order_is : made.list ≡ order (lengths_of script) seed turns = order_made script seed turns world journals made rest none so in
-    let names : IsOrderFor (lengths_of script) (order (lengths_of script) seed turns) = order_names (lengths_of script) seed turns in
-    let all_lines : length (map (map (λ (line : Line). line.0)) (lines_of journals)) ≡ length (lines_of journals) = length-map (lines_of journals) (map (λ (line : Line). line.0)) in
-    let one_each : length (lines_of journals) ≡ length script.commands = so.so.one_each in
-    let commands : map (map (λ (line : Line). line.0)) (lines_of journals) ≡ script.commands
-    = ext_get_or [] (map (map (λ (line : Line). line.0)) (lines_of journals)) script.commands (all_lines ∙ one_each)
-    (λ i there.
-    let within : i < length (lines_of journals) = omega arith in
-    let next : i ≡ i + 1 - 1 = omega arith in
-    let made_all : length (own (lines_of journals) i) ≡ length (commands_at script i) =
-    ap (λ n. length (own (lines_of journals) n)) next
-    ∙ sym (made_is_named script world (lines_of journals) made.list so.events so.names so.so (i + 1) (omega arith))
-    ∙ ap (times (i + 1)) order_is ∙ names.each (i + 1) (omega arith) ∙ ap (λ n. slice_index_or (lengths_of script) n 0) (sym next)
-    ∙ get_or-map (length {A = Cmd}) script.commands i [] 0 (omega arith) in
-    get_or-map (map (λ (line : Line). line.0)) (lines_of journals) i [] [] within ∙ so.so.commands i ∙ take_all (length (own (lines_of journals) i)) (commands_at script i) (omega arith)) in
-    let legally : IsPlayedLegally script world (lines_of journals) so.events so.names = played_legally script world (lines_of journals) made.list so.events so.names so.so in
-    record {
-      commands = commands;
-      legal = legally.legal;
-      in_order = sym so.so.in_order ∙ order_is;
-      names = so.names;
-      run = subst (λ actors. IsPlayedRun script actors so.events so.names world) (sym (append-nil so.acted) ∙ ap (λ later. so.acted ++ later) (sym none) ∙ so.all) so.run;
-      stands = legally.stands;
-      no_log_full = no_log_full script (lines_of journals) so.events commands legally.legal;
-    }
+  -- all commands were made
+  all_commands : (t : ℕ) → 1 ≤ t → t ≤ length script.commands → made_in so.events t ≡ length (commands_of script t)
+  all_commands t some most =
+      sym (turns_are_lines t so.events) ∙ ap (times t) (acts_named script so.acted so.events so.names world so.run ∙ named) ∙ (order_names (lengths_of script) seed turns).each t some ∙ lengths_at script t some most
+
+  one_each : length (lines_of journals) ≡ length script.commands
+  one_each = length-map journals (λ (j : Notes). j.lines) ∙ so.one_each
+
+  -- the lines of a mutator are those of its journal
+  own : (t : ℕ) → 0 < t → filter_map (line_by t) so.events ≡ slice_index_or (lines_of journals) (t - 1) []
+  own t some = so.lines t some ∙ sym (elim (cases_lt (t - 1) (length journals)) [
+    | inl there ↦ get_or-map (λ (j : Notes). j.lines) journals (t - 1) no_notes [] there
+    | inr past ↦
+        get_or_past (lines_of journals) (t - 1) [] (subst (λ n. n ≤ t - 1) (sym (length-map journals (λ (j : Notes). j.lines))) past)
+        ∙ sym (ap (λ (j : Notes). j.lines) (get_or_past journals (t - 1) no_notes past))
+  ])
+
+  pub legally : IsPlayedLegally script world (lines_of journals) so.events so.names
+  legally = played_legally script world (lines_of journals) so.events so.names one_each own so.went
+
+  commands : map (map (λ (line : Line). line.0)) (lines_of journals) ≡ script.commands
+  commands =
+      ext_get_or [] (map (map (λ (line : Line). line.0)) (lines_of journals)) script.commands (length-map (lines_of journals) (map (λ (line : Line). line.0)) ∙ one_each)
+      (λ i within.
+      let there : i < length (lines_of journals) = omega (arith, within, length-map (lines_of journals) (map (λ (line : Line). line.0))) in
+      let same : i ≡ i + 1 - 1 = omega arith in
+      get_or-map (map (λ (line : Line). line.0)) (lines_of journals) i [] [] there
+      ∙ ap (λ n. map (λ (line : Line). line.0) (slice_index_or (lines_of journals) n [])) same
+      ∙ ap (map (λ (line : Line). line.0)) (sym (own (i + 1) (omega arith)))
+      ∙ so.went.commands (i + 1)
+      ∙ take_all (made_in so.events (i + 1)) (commands_of script (i + 1)) (omega (arith, all_commands (i + 1) (omega arith) (omega (arith, there, one_each))))
+      ∙ commands_are script (i + 1) (omega arith)
+      ∙ ap (λ n. slice_index_or script.commands n []) (sym same))
+
+  pub all_played : IsPlayed script seed turns (lines_of journals) so.events world
+  all_played = record {
+    commands = commands;
+    legal = legally.legal;
+    in_order = acts_named script so.acted so.events so.names world so.run ∙ named;
+    names = so.names;
+    run = subst (λ actors. IsPlayedRun script actors so.events so.names world) (sym (append-nil so.acted) ∙ ap (λ later. so.acted ++ later) (sym none) ∙ so.all) so.run;
+    stands = legally.stands;
+    no_log_full = no_log_full script (lines_of journals) so.events commands legally.legal;
+  }

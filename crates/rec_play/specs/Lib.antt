@@ -1,6 +1,10 @@
-pub mod Commanded
 pub mod Inside
+pub mod InsidePlaying
+pub mod InsideWalk
+pub mod Left
+pub mod Moves
 pub mod Numbers
 pub mod Played
 pub mod Playing
 pub mod Run
+pub mod Watched

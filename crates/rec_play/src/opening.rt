@@ -4,7 +4,10 @@ ghost use Rattle.std.specs.Prelude.{◌≡◌, ◌≤◌, [], IfOk};
 ghost use Rattle.std.specs.List.{sum};
 ghost use Rattle.rec_core.specs.Config.{IsConfig};
 ghost use Rattle.rec_play.specs.Played.{AreReady, config_of, lengths_of};
+ghost use Rattle.rec_script.specs.Script.{IsScript};
 
+use crate::schedule::MOST_MUTATORS;
+use arrayvec::ArrayVec;
 use rec_script::Script;
 use rec_world::{Config, Journal, Order};
 use std::alloc::{AllocError as NoMemory, Global};
@@ -46,4 +49,16 @@ pub fn order_for(alloc: Global, script: &Script) -> Result<Order, NoMemory>
         room += script.commands(index + 1).len() as u32;
     }
     Order::open(alloc, room)
+}
+
+/// How many commands each mutator has.
+pub fn lengths_of(script: &Script) -> ArrayVec<u32, MOST_MUTATORS>
+    ensures lengths { result.items ≡ lengths_of script.now }
+    ensures valid { IsScript script.now }
+{
+    let mut lengths = ArrayVec::new();
+    for index in 0..script.mutators() {
+        lengths.push(script.commands(index + 1).len() as u32);
+    }
+    lengths
 }

@@ -54,6 +54,7 @@ impl Schedule {
     pub fn next_turn(&mut self) -> Option<Actor>
         ensures turn { IfSome result (λ actor. to_come self.old ≡ actor ∷ to_come self.new) }
         ensures ended { IsNone result → to_come self.old ≡ [] }
+        ensures stays { IsNone result → self.new ≡ self.old }
     {
         if self.unfinished.is_empty() {
             return None;

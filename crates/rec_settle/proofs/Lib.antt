@@ -1,4 +1,5 @@
 pub mod Amid
-pub mod Stays
+pub mod Coming
 pub mod Settles
+pub mod Stays
 pub mod Waiting

@@ -33,7 +33,7 @@ pub was_busy : (before after : Core) → IsKept before → AreIdle before → Is
 was_busy before after kept idle c same none = omega (arith, collection_epoch before after kept idle c, same, ap under_way none)
 
 -- to offer every slot changes nothing else
-offering_quiet : (first : ℕ) (w : Core) → AreQuiet first w → AreQuiet first (offering w)
+pub offering_quiet : (first : ℕ) (w : Core) → AreQuiet first w → AreQuiet first (offering w)
 offering_quiet first w quiet t is = let own = quiet t is in record { idle = own.idle; log = own.log; box = own.box; newer = own.newer; older = own.older }
 
 -- Where a part of settling has come to: no collection is under way, and mutators did nothing since a first epoch. So many collections
@@ -82,6 +82,20 @@ pub record HasSettled (before after : Core) : Type 0 where
   pub epoch : after.epoch ≡ before.epoch + 3
   pub settled : IsSettled after
 
+-- from a world in which no mutator works
+module _ (before : Core) (kept : IsKept before) (idle : AreIdle before) where
+  -- the collection of the requested epoch is complete
+  pub one : (collected : Core) → Finishes before collected → HasCollected (before.epoch + 1) (1 + under_way before.collector.phase) before collected
+  one collected finishes = finished (before.epoch + 1) before collected kept (quiet_begun before kept idle) finishes
+
+  -- and the one whose trial is offered every slot
+  pub two : (collected tried : Core) → Finishes before collected → IsCollection (offering collected) tried → HasCollected (before.epoch + 1) (1 + under_way before.collector.phase + 1) before tried
+  two collected tried finishes tries =
+      let h = one collected finishes in
+      collected_more (before.epoch + 1) (1 + under_way before.collector.phase) before (offering collected) tried (offering_kept collected h.kept) (offering_quiet (before.epoch + 1) collected h.quiet) h.config h.collections
+      (stays_then h.stays (record { registers = refl; stands = λ heap number s. s; made = refl; freed = omega arith })) h.few tries
+
+-- Settling to its end.
 module _ (before after : Core) (kept : IsKept before) (idle : AreIdle before) (settling : IsSettling before after) where
   abbrev first : ℕ
   first = before.epoch + 1
@@ -95,42 +109,34 @@ module _ (before after : Core) (kept : IsKept before) (idle : AreIdle before) (s
   abbrev way : ℕ
   way = under_way before.collector.phase
 
-  -- the collection of the requested epoch is complete
-  one : HasCollected first (1 + way) before collected
-  one = finished first before collected kept (quiet_begun before kept idle) settling.finishes
+  one_ : HasCollected first (1 + way) before collected
+  one_ = one before kept idle collected settling.finishes
 
-  offered_kept : IsKept (offering collected)
-  offered_kept = offering_kept collected one.kept
-
-  offered_quiet : AreQuiet first (offering collected)
-  offered_quiet = offering_quiet first collected one.quiet
-
-  -- and the one whose trial is offered every slot
-  two : HasCollected first (1 + way + 1) before tried
-  two = collected_more first (1 + way) before (offering collected) tried offered_kept offered_quiet one.config one.collections (stays_then one.stays (record { registers = refl; stands = λ heap number h. h; made = refl; freed = omega arith })) one.few settling.tries
+  two_ : HasCollected first (1 + way + 1) before tried
+  two_ = two before kept idle collected tried settling.finishes settling.tries
 
   -- and the one that frees its sets
   three : HasCollected first (1 + way + 1 + 1) before after
-  three = collected_more first (1 + way + 1) before tried after two.kept two.quiet two.config two.collections two.stays two.few settling.frees
+  three = collected_more first (1 + way + 1) before tried after two_.kept two_.quiet two_.config two_.collections two_.stays two_.few settling.frees
 
   begun : before.config.first_epoch + before.collector.collections + way ≡ before.epoch
   begun = kept.collector.begun
 
   epoch_one : collected.epoch ≡ before.epoch + 1
-  epoch_one = omega (arith, idle_epoch collected one.kept one.idle, one.collections, ap (λ c. c.first_epoch) one.config, begun)
+  epoch_one = omega (arith, idle_epoch collected one_.kept one_.idle, one_.collections, ap (λ c. c.first_epoch) one_.config, begun)
 
   epoch_two : tried.epoch ≡ before.epoch + 2
-  epoch_two = omega (arith, idle_epoch tried two.kept two.idle, two.collections, ap (λ c. c.first_epoch) two.config, begun)
+  epoch_two = omega (arith, idle_epoch tried two_.kept two_.idle, two_.collections, ap (λ c. c.first_epoch) two_.config, begun)
 
   epoch_three : after.epoch ≡ before.epoch + 3
   epoch_three = omega (arith, idle_epoch after three.kept three.idle, three.collections, ap (λ c. c.first_epoch) three.config, begun)
 
   tried_rests : RestsIn Round.Second tried tried.words tried.collector Idle
-  tried_rests = rests_after first Round.First (offering collected) offered_kept offered_quiet one.idle (omega (arith, epoch_one)) (λ is. cc)
-      (subst (RestsIn Round.First (offering collected) collected.words (offering collected).collector) (sym one.idle) refl) tried settling.tries
+  tried_rests = rests_after first Round.First (offering collected) (offering_kept collected one_.kept) (offering_quiet first collected one_.quiet) one_.idle (omega (arith, epoch_one)) (λ is. cc)
+      (subst (RestsIn Round.First (offering collected) collected.words (offering collected).collector) (sym one_.idle) refl) tried settling.tries
 
   all_rests : RestsIn Round.Over after after.words after.collector Idle
-  all_rests = rests_after first Round.Second tried two.kept two.quiet two.idle (omega (arith, epoch_two)) (λ is. cc) (subst (RestsIn Round.Second tried tried.words tried.collector) (sym two.idle) tried_rests) after settling.frees
+  all_rests = rests_after first Round.Second tried two_.kept two_.quiet two_.idle (omega (arith, epoch_two)) (λ is. cc) (subst (RestsIn Round.Second tried tried.words tried.collector) (sym two_.idle) tried_rests) after settling.frees
 
   pub settling_settles : HasSettled before after
   settling_settles = record {

@@ -1,5 +1,5 @@
 -- A collection ends: each turn that goes on counts, and a mutator that was waited for lets the collector turn once it has polled.
-use Rattle.std.proofs.Common.{◌≡◌, ◌↔◌, inl, inr, ℕ, ◌+◌, ◌-◌, ◌*◌, ◌<◌, ◌≤◌, ◌==◌, nat_lt, if◌then◌else◌, Bool, true, false, Option, None, Some, List, length, refl, sym, ap, subst, ◌∙◌, arith}
+use Rattle.std.proofs.Common.{◌≡◌, ◌↔◌, inl, inr, ℕ, ◌+◌, ◌*◌, ◌<◌, ◌≤◌, ◌==◌, nat_lt, if◌then◌else◌, Bool, true, false, Option, None, Some, List, length, refl, sym, ap, subst, ◌∙◌, arith}
 use Rattle.std.proofs.lemmas.Bool.Decides.{nat_tests}
 use Rattle.std.proofs.lemmas.Bool.{cases_eq, cond-true, cond-false, eq-eqb, false≢true, ne_eqb}
 use Rattle.rec_word.specs.Mailbox.{crossing_word}
@@ -12,34 +12,39 @@ use Rattle.rec_mutator.specs.declared.work.Work.TheVariants as works
 use Rattle.rec_collector.specs.Kept.{limit_of}
 use Rattle.rec_collector.specs.Private.{Private}
 use Rattle.rec_collector.specs.declared.phase.Phase.{Phase}
-use Rattle.rec_collector.specs.declared.phase.Phase.TheVariants.{Idle, Looking}
+use Rattle.rec_collector.specs.declared.phase.Phase.TheVariants.{Looking}
 use Rattle.rec_collector.specs.declared.turn.Turn.TheVariants as answers
 use Rattle.rec_collector.proofs.Always.{within_limit}
 use Rattle.rec_core.specs.Config.{IsMutator}
-use Rattle.rec_core.specs.Core.{Core, mutator, box, crossing_of}
+use Rattle.rec_core.specs.Core.{Core, mutator, opened, box, crossing_of}
 use Rattle.rec_core.specs.Kept.{Stand, stand_at, IsHandshake, IsKept}
+use Rattle.rec_core.specs.Moves.{turned}
 use Rattle.rec_core.specs.Worked.{IsWorked}
 use Rattle.rec_core.specs.declared.config.Config.{Config}
+use Rattle.rec_core.proofs.Opening.{opened_kept}
 use Rattle.rec_core.proofs.Runs.{looked_is}
 use Rattle.rec_core.proofs.Steps.{actor_of}
-use Rattle.rec_core.proofs.Turns.{now_at}
-use Rattle.rec_world.specs.World.{IsCrossed, IsQuiet, TurnHasCause}
-use Rattle.rec_settle.specs.Collecting.{AreIdle, IsAwaited, HasPolled, turns_of, waits_at}
-
--- a turn that goes on leaves a collection under way
-pub moved_busy : (w v : Core) → IsKept v → TurnHasCause w v answers.Moved → v.collector.phase ≡ Idle → ⊥
-moved_busy w v kept cause idle = omega (arith, cause.0, (now_at v Idle kept idle).2)
+use Rattle.rec_world.specs.World.{IsCrossed, IsQuiet, IsWorld, TurnHasCause}
+use Rattle.rec_world.proofs.Calls.{world_kept}
+use Rattle.rec_settle.specs.Collecting.{AreIdle, Follows, HasPolled, HasStepped, IsAwaited, turns_of, waits_at}
+use Rattle.rec_settle.specs.Left.{left_of}
 
 -- the turns of a collection are limited
 few_turns : (w : Core) → IsKept w → w.collector.turns ≤ turns_of w.config
+unfolding turns_of
 few_turns w kept =
-    let slots : length w.collector.counts.slots ≡ w.config.slots = kept.collector.slots in
-    let fields : w.collector.fields ≡ w.config.fields = kept.collector.fields in
-    let mutators : length w.collector.newer ≡ w.config.mutators = kept.collector.mutators in
-    let limit : limit_of w.collector ≡ turns_of w.config = ap (λ n. 6 * (n * w.collector.fields) + 2 * n + 3 * length w.collector.newer + 16) slots ∙ ap (λ n. 6 * (w.config.slots * n) + 2 * w.config.slots + 3 * length w.collector.newer + 16) fields ∙ ap (λ n. 6 * (w.config.slots * w.config.fields) + 2 * w.config.slots + 3 * n + 16) mutators in
-    subst (λ n. w.collector.turns ≤ n) limit (within_limit w.collector kept.collector.machine)
+    let first : IsKept (opened w.config) = opened_kept w.config kept.config in
+    subst (λ n. w.collector.turns ≤ n) (same_limit w.collector (opened w.config).collector (kept.collector.slots ∙ sym first.collector.slots) (kept.collector.fields ∙ sym first.collector.fields) (kept.collector.mutators ∙ sym first.collector.mutators))
+    (within_limit w.collector kept.collector.machine)
+  where
+    same_limit : (c d : Private) → length c.counts.slots ≡ length d.counts.slots → c.fields ≡ d.fields → length c.newer ≡ length d.newer → limit_of c ≡ limit_of d
+    same_limit c d slots fields mutators =
+        ap (λ n. 6 * (n * c.fields) + 2 * n + 3 * length c.newer + 16) slots
+        ∙ ap (λ n. 6 * (length d.counts.slots * n) + 2 * length d.counts.slots + 3 * length c.newer + 16) fields
+        ∙ ap (λ n. 6 * (length d.counts.slots * d.fields) + 2 * length d.counts.slots + 3 * n + 16) mutators
 
-few_waits : (w : Core) (phase : Phase) → waits_at w phase ≤ 1
+-- the collector waits for one mutator at most
+pub few_waits : (w : Core) (phase : Phase) → waits_at w phase ≤ 1
 few_waits w (Looking t) = go (crossing_of w t == crossing_word w.epoch Retired)
   where
     go : (b : Bool) → (if b then 0 else 1) ≤ 1
@@ -47,11 +52,7 @@ few_waits w (Looking t) = go (crossing_of w t == crossing_word w.epoch Retired)
     go false = omega arith
 few_waits w _ = omega arith
 
--- what is left of a collection
-abbrev pub left_of : Core → ℕ
-left_of w = 2 * (turns_of w.config + 1 - w.collector.turns) + waits_at w w.collector.phase
-
--- is less after a turn that goes on
+-- what is left of a collection is less after a turn that goes on
 pub moved_nearer : (w v : Core) → IsKept w → IsKept v → v.config ≡ w.config → TurnHasCause w v answers.Moved → left_of v < left_of w
 moved_nearer w v before after config cause =
     let same : turns_of v.config ≡ turns_of w.config = ap turns_of config in
@@ -66,6 +67,15 @@ pub has_polled : (w v : Core) (t : ℕ) (crossed : Option ℕ) → IsWorked w t 
     → HasPolled w t v
 has_polled w v t None worked quiet idle crossed none some = record { worked = worked; quiet = quiet; idle = idle; epoch = crossed.0 ∙ sym (none.0 refl) }
 has_polled w v t (Some e) worked quiet idle crossed none some = record { worked = worked; quiet = quiet; idle = idle; epoch = crossed.1 ∙ some e refl }
+
+-- The collector waited for a mutator that had nothing else to do, and it polled.
+pub polled_behind : (done : ℕ → Type 0) (w u v : Core) (t : ℕ) → done t → u ≡ turned w → IsWorld u → TurnHasCause w u (answers.Waiting t) → HasPolled u t v → HasStepped done w (answers.Waiting t) v
+polled_behind done w u v t nothing is world cause polled =
+    let kept : IsKept w = subst IsKept cause.2 (world_kept u world) in
+    record {
+      cause = subst (λ (x : Core). TurnHasCause w x (answers.Waiting t)) is cause;
+      follows = Follows.polls t (awaited w u t kept cause) (sym is ∙ cause.2) nothing (subst (λ (x : Core). HasPolled x t v) cause.2 polled);
+    }
 
 -- no mutator that is idle holds its mailbox
 idle_holds : (phase : mutator_phases.Phase) → mutators.is_busy_at phase ≡ false → phase ≡ Giving → ⊥
@@ -99,10 +109,6 @@ polled_nearer w v t kept awaits polled =
     let now : waits_at v v.collector.phase ≡ 0 = ap (waits_at v) phase ∙ cond-true (crossing_of v t == crossing_word v.epoch Retired) 0 1 (eq-eqb (crossing_of v t) (crossing_word v.epoch Retired) (polled_over w v t kept awaits polled)) in
     let earlier : waits_at w w.collector.phase ≡ 1 = ap (waits_at w) awaits.waits.looks ∙ cond-false (crossing_of w t == crossing_word w.epoch Retired) 0 1 (ne_eqb (crossing_of w t) (crossing_word w.epoch Retired) awaits.waits.behind) in
     omega (arith, now, earlier, ap turns_of polled.quiet.config, ap (λ (c : Private). c.turns) polled.quiet.collector)
-
--- the collection is still under way
-pub polled_busy : (w v : Core) (t : ℕ) → IsAwaited w t → HasPolled w t v → v.collector.phase ≡ Idle → ⊥
-polled_busy w v t awaits polled idle = let is : Looking t ≡ Idle = sym awaits.waits.looks ∙ sym (ap (λ (c : Private). c.phase) polled.quiet.collector) ∙ idle in cc
 
 -- a turn leaves the mutators idle,
 pub idle_turned : (w v : Core) → v.mutators ≡ w.mutators → v.config ≡ w.config → AreIdle w → AreIdle v

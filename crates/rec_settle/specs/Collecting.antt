@@ -1,14 +1,16 @@
 -- What settling does: turns of the collector, with a poll of each mutator that it waits for, collection after collection.
-use Rattle.std.specs.Prelude.{◌≡◌, ◌≢◌, ℕ, ◌+◌, ◌*◌, ◌==◌, nat_lt, false, if◌then◌else◌, count_by}
+use Rattle.std.specs.Prelude.{◌≡◌, ◌≢◌, ℕ, ◌==◌, nat_lt, false, if◌then◌else◌, count_by}
 use Rattle.rec_word.specs.Mailbox.{crossing_word}
 use Rattle.rec_word.specs.declared.mailbox.Mailbox.TheVariants.{Retired}
 use Rattle.rec_mutator.specs.Private.{is_busy}
 use Rattle.rec_mutator.specs.declared.work.Work.TheVariants as works
+use Rattle.rec_collector.specs.Kept.{limit_of}
 use Rattle.rec_collector.specs.declared.phase.Phase.{Phase}
 use Rattle.rec_collector.specs.declared.phase.Phase.TheVariants.{Idle, Looking}
+use Rattle.rec_collector.specs.declared.turn.Turn.{Turn}
 use Rattle.rec_collector.specs.declared.turn.Turn.TheVariants as answers
 use Rattle.rec_core.specs.Config.{IsMutator}
-use Rattle.rec_core.specs.Core.{Core, mutator, crossing_of}
+use Rattle.rec_core.specs.Core.{Core, mutator, opened, crossing_of}
 use Rattle.rec_core.specs.Moves.{offering, turned}
 use Rattle.rec_core.specs.Worked.{IsWorked, WaitsFor}
 pub use Rattle.rec_core.specs.Worked.{AreIdle}
@@ -26,6 +28,20 @@ pub record HasPolled (w : Core) (t : ℕ) (v : Core) : Type 0 where
   pub quiet : IsQuiet w v t
   pub idle : is_busy (mutator v t) ≡ false
   pub epoch : (mutator v t).epoch ≡ w.epoch
+
+-- What follows a step of the collector. The mutator for which it waited polls, where it has nothing else to do; else nothing comes.
+pub data Follows (done : ℕ → Type 0) (before after : Core) : Type 0 where
+  polls : (t : ℕ) → IsAwaited before t → turned before ≡ before → done t → HasPolled before t after → Follows done before after
+  rests : ((t : ℕ) → WaitsFor before t → done t → ⊥) → after ≡ turned before → Follows done before after
+
+-- The collector made a step, and this came of it.
+pub record HasStepped (done : ℕ → Type 0) (before : Core) (turn : Turn) (after : Core) : Type 0 where
+  pub cause : TurnHasCause before (turned before) turn
+  pub follows : Follows done before after
+
+-- where no mutator works, each has nothing else to do
+abbrev pub Anyone : ℕ → Type 0
+Anyone t = Unit {0}
 
 -- The states of a collection that goes on from `before`. The collector turns, and whoever it waits for polls.
 pub data IsAmid (before : Core) : Core → Type 0 where
@@ -64,6 +80,6 @@ abbrev pub waits_at : Core → Phase → ℕ
 waits_at w (Looking t) = if crossing_of w t == crossing_word w.epoch Retired then 0 else 1
 waits_at w _ = 0
 
--- the most turns that a collection takes
-abbrev pub turns_of : Config → ℕ
-turns_of config = 6 * (config.slots * config.fields) + 2 * config.slots + 3 * config.mutators + 16
+-- the most turns that a collection takes, in a heap with these numbers
+unfoldable pub turns_of : Config → ℕ
+turns_of config = limit_of (opened config).collector

@@ -1,1 +1,3 @@
 pub mod Collecting
+pub mod Left
+pub mod Stages

@@ -2,7 +2,7 @@
 use Rattle.std.proofs.Common.{◌≡◌, ◌≤◌, ◌++◌, ◌∷◌, ℕ, Bool, true, false, Option, None, List, [], Bor, codes, drop, length, map, refl, sym, ◌∙◌, ap, append-nil}
 use Rattle.std.specs.Prelude.{if◌then◌else◌}
 use Rattle.std.proofs.Math.ListN.{drop_of_length-le}
-use Rattle.rec_watch.specs.declared.moves.Move.{Move}
+use Rattle.rec_play.specs.declared.moves.Move.{Move}
 use Rattle.recycler_watch.specs.Seen.{Seen, SeenCollector, SeenSlot, slot_seen}
 use Rattle.recycler_watch.specs.Sentence.{is_same_slot, sentence}
 use Rattle.recycler_watch.specs.Data.{DataLine, answered_words, asked_words, asker, data_line, first_line, others}

@@ -1,8 +1,8 @@
 -- A run, one move after another.
 use Rattle.std.proofs.Common.{◌≡◌, ◌+◌, ◌++◌, ◌∷◌, ℕ, ◌≤◌, Bool, true, false, true≢false, inl, inr, max, Option, None, Some, add-zero, append-nil, append_assoc, List, [], length, refl, sym, ◌∙◌, ap, subst, arith, length-append}
 use Rattle.std.specs.Io.KnownBytes.{Appends, Keeps}
-use Rattle.rec_watch.specs.Watched.{Watched}
-use Rattle.rec_watch.specs.declared.moves.Move.{Move}
+use Rattle.rec_play.specs.Watched.{Watched}
+use Rattle.rec_play.specs.declared.moves.Move.{Move}
 use Rattle.recycler_watch.specs.Told.{HasPassed, HasTold, IsMade, IsNext, IsTold, IsTrace, before_of, before_window, move_text}
 use Rattle.recycler_watch.specs.declared.request.Asked.{Asked}
 use Rattle.recycler_watch.specs.declared.request.Request.TheVariants.{Text}

@@ -1,7 +1,7 @@
 -- What a line of data has of a move.
 use Rattle.std.specs.Prelude.{ℕ, Bool, if◌then◌else◌, Option, None, Some, option_map, List, [], ◌∷◌, map, codes, string_bytes}
-use Rattle.rec_watch.specs.declared.moves.Move.{Move}
-use Rattle.rec_watch.specs.declared.moves.Move.TheVariants.{Command, Step}
+use Rattle.rec_play.specs.declared.moves.Move.{Move}
+use Rattle.rec_play.specs.declared.moves.Move.TheVariants.{Command, Step}
 use Rattle.rec_report.specs.Text.{answer_word}
 use Rattle.recycler_watch.specs.Seen.{Seen, SeenCollector, SeenSlot, collector_seen, slot_seen}
 use Rattle.recycler_watch.specs.Sentence.{command_words, is_same_slot, sentence}

@@ -12,9 +12,9 @@ use Rattle.rec_collector.specs.declared.phase.Phase.{Phase}
 use Rattle.rec_collector.specs.declared.phase.Phase.TheVariants.{Idle, Looking, Swapping, Returning, Releasing, Freeing, Trying, Preparing, Opening, Sweeping, Closing}
 use Rattle.rec_world.specs.World.{Core, label_of, sight}
 use Rattle.rec_core.specs.Core.{mutator}
-use Rattle.rec_watch.specs.Watched.{Watched}
-use Rattle.rec_watch.specs.declared.stage.Stage.{Stage}
-use Rattle.rec_watch.specs.declared.stage.Stage.TheVariants.{Playing}
+use Rattle.rec_play.specs.Watched.{Watched}
+use Rattle.rec_play.specs.declared.stage.Stage.{Stage}
+use Rattle.rec_play.specs.declared.stage.Stage.TheVariants.{Playing}
 use Rattle.recycler_watch.specs.declared.state.Slot.{Slot}
 use Rattle.recycler_watch.specs.declared.state.Mutator.{Mutator}
 use Rattle.recycler_watch.specs.declared.state.Collector.{Collector}

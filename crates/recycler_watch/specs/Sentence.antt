@@ -13,8 +13,8 @@ use Rattle.rec_model.specs.declared.command.Cmd.{Cmd}
 use Rattle.rec_model.specs.declared.command.Cmd.TheVariants as commands
 use Rattle.rec_collector.specs.declared.turn.Turn.{Turn}
 use Rattle.rec_collector.specs.declared.turn.Turn.TheVariants as turns
-use Rattle.rec_watch.specs.declared.moves.Move.{Move}
-use Rattle.rec_watch.specs.declared.moves.Move.TheVariants.{Command, Step}
+use Rattle.rec_play.specs.declared.moves.Move.{Move}
+use Rattle.rec_play.specs.declared.moves.Move.TheVariants.{Command, Step}
 use Rattle.rec_report.specs.Text.{answer_word}
 use Rattle.recycler_watch.specs.Seen.{Seen, SeenSlot, SeenMutator, SeenCollector}
 

@@ -7,11 +7,11 @@ use Rattle.rec_script.specs.Script.{Contents}
 use Rattle.rec_play.specs.Numbers.{config_of}
 use Rattle.rec_play.specs.Played.{lengths_of}
 use Rattle.rec_play.specs.Playing.{generator_of}
-use Rattle.rec_watch.specs.Watched.{Watched, IsWatched, Tells}
-use Rattle.rec_watch.specs.declared.stage.Stage.TheVariants.{Playing}
-use Rattle.rec_watch.specs.Stages.{IsOver}
-use Rattle.rec_watch.specs.declared.moves.Move.{Move}
-use Rattle.rec_watch.specs.declared.moves.Move.TheVariants.{Command, Step}
+use Rattle.rec_play.specs.Watched.{Watched, IsWatched, Tells}
+use Rattle.rec_play.specs.declared.stage.Stage.TheVariants.{Playing}
+use Rattle.rec_play.specs.Watched.{IsOver}
+use Rattle.rec_play.specs.declared.moves.Move.{Move}
+use Rattle.rec_play.specs.declared.moves.Move.TheVariants.{Command, Step}
 use Rattle.recycler_watch.specs.Seen.{Seen, SeenCollector, seen_of}
 use Rattle.recycler_watch.specs.Sentence.{sentence}
 use Rattle.recycler_watch.specs.declared.request.Asked.{Asked}

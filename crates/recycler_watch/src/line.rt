@@ -7,7 +7,7 @@ ghost use Rattle.recycler_watch.specs.Told.{actor_words, headings, move_text, ph
 
 use crate::state::{Collector, State};
 use crate::words::says;
-use rec_watch::Move;
+use rec_play::Move;
 use std::alloc::{AllocError as NoMemory, Global};
 use std::fmt::Write;
 

@@ -1,5 +1,5 @@
 //! See the collector work: a script is played as `recycler play` does, and what happens is shown, move by move.
-//! The run is that of `rec_watch`, which proves it to be the one that `play` and `settle` make, and `Teller::open` opens it as it is
+//! The run is that of `rec_play`, which proves it to be the one that `play` and `settle` make, and `Teller::open` opens it as it is
 //! asked.
 //! What `trace` writes of it is a function of its moves (`Teller::tell`). Of data, graphs and pages no more is promised than that they
 //! are written safely, and that the program ends.

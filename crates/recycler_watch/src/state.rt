@@ -10,7 +10,7 @@ ghost use Rattle.recycler_watch.specs.Sentence.{field_words, register_of, target
 use rec_collector::Phase;
 use rec_counts::{Colour, Counts};
 use rec_log::{Buffer, Entry};
-use rec_watch::{Stage, Walk};
+use rec_play::{Stage, Walk};
 use rec_word::target;
 use rec_world::World;
 use serde::Serialize;

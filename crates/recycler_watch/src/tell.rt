@@ -4,7 +4,7 @@
 
 ghost use Rattle.std.specs.Prelude.{◌≡◌, ◌≢◌, ◌+◌, ◌-◌, ◌^◌, ◌<◌, ◌≤◌, ◌↔◌, ◌∷◌, ◌++◌, [], ℕ, IsTrue, List, length, max, IfOk, IfSome, IsNone, OnOk, map, option_map, string_bytes};
 ghost use Rattle.std.specs.Io.KnownBytes.{Appends};
-ghost use Rattle.rec_watch.specs.Stages.{IsOver};
+ghost use Rattle.rec_play.specs.Watched.{IsOver};
 ghost use Rattle.recycler_watch.specs.Seen.{seen, seen_of};
 ghost use Rattle.recycler_watch.specs.Data.{answered_words, asked_words, asker, data_line, first_line, line_seen, others};
 ghost use Rattle.recycler_watch.specs.Told.{before_window, HasPassed, HasTold, IsAsked, IsMade, IsNext, IsTrace, move_text};
@@ -16,8 +16,8 @@ use crate::page_text::{HEAD, TAIL};
 use crate::request::{Asked, Request};
 use crate::state::{Collector, Lists, Mutator, Slot, State};
 use crate::words::{answer_text, command_text, says};
+use rec_play::{Move, Walk};
 use rec_script::Script;
-use rec_watch::{Move, Walk};
 use rec_world::OpenError;
 use serde::Serialize;
 use std::alloc::{AllocError as NoMemory, Global};

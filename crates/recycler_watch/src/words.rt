@@ -10,7 +10,7 @@ ghost use Rattle.recycler_watch.specs.Sentence.{birth_words, change_words, chang
 
 use crate::state::{Collector, Mutator, Slot, State, add_field, add_target};
 use rec_model::Answer;
-use rec_watch::Move;
+use rec_play::Move;
 use rec_word::{Op, target};
 use rec_world::{Cmd, Told, Turn};
 use std::alloc::{AllocError as NoMemory, Global};

@@ -4,7 +4,7 @@ use Rattle.std.proofs.lemmas.Result.{IfOk-weaker}
 use Rattle.rec_world.specs.Order.{Turns}
 use Rattle.rec_script.specs.Script.{Contents}
 use Rattle.rec_play.specs.Played.{lengths_of}
-use Rattle.rec_play.proofs.Commands.{few_mutators}
+use Rattle.rec_play.proofs.Due.{few_mutators}
 use Rattle.rec_play.proofs.Ready.{lengths_more, lengths_all, sum_more}
 use Rattle.rec_play.proofs.opening.order_for.Goals as goal
 

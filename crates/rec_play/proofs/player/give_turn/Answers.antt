@@ -1,0 +1,29 @@
+-- The mutator polled and made its next command.
+use Rattle.std.proofs.Common.{◌≡◌, ◌-◌, ◌<◌, List, [], length, ap, subst, ◌∙◌}
+use Rattle.std.specs.List.{slice_get}
+use Rattle.std.proofs.lemmas.Option.{slice_get-get_or, get_or_from_slice_get}
+use Rattle.rec_model.specs.declared.command.Cmd.{Cmd}
+use Rattle.rec_play.specs.Run.{commands_of}
+use Rattle.rec_play.proofs.Due.{commands_are, others_idle}
+use Rattle.rec_play.proofs.Named.{names_go}
+use Rattle.rec_play.proofs.player.give_turn.Goals as goal
+
+pub returns-clause-carried : goal.returns-clause-carried
+returns-clause-carried c =
+    let cmds : List Cmd = c.commands.result.now in
+    let own : commands_of c.args.script.now c.args.t ≡ cmds = commands_are c.args.script.now c.args.t c.requires.some ∙ get_or_from_slice_get c.args.script.now.commands (c.args.t - 1) cmds [] c.commands.ensures.value in
+    let next : c.args.made < length cmds = subst (λ (xs : List Cmd). c.args.made < length xs) own c.requires.next in
+    let (slot, seen, lowest) = c.command-told.ensures.changes.seen in
+    record {
+      next = ap (λ xs. slice_get xs c.args.made) own ∙ slice_get-get_or cmds c.args.made _ next;
+      polled = c.poll.new.self;
+      poll = c.poll.ensures.worked;
+      command = c.command-told.ensures.worked;
+      answer = c.command-told.ensures.answer;
+      names = names_go c.args.world.now c.poll.new.self c.command-told.new.self slot c.args.t _ c.command-told.result c.poll.ensures.quiet.seen seen lowest;
+    }
+
+pub returns-clause-idle : goal.returns-clause-idle
+returns-clause-idle c =
+    others_idle c.poll.new.self c.command-told.new.self c.args.t c.command-told.ensures.stays.config c.command-told.ensures.stays.others c.command-told.ensures.stays.idle
+    (others_idle c.args.world.now c.poll.new.self c.args.t c.poll.ensures.quiet.config c.poll.ensures.quiet.others c.poll.ensures.idle c.requires.idle)

@@ -1,7 +1,0 @@
-use Rattle.std.proofs.Common.{◌≡◌, take}
-use Rattle.rec_play.specs.Played.{lengths_of}
-use Rattle.rec_play.proofs.playing.lengths_of.Given as goal
-
--- the numbers so far are written
-abbrev pub invariant-loop-index : goal.invariant-loop-index
-invariant-loop-index l = l.lengths.items ≡ take l.index (lengths_of l.script)

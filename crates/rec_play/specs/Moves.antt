@@ -1,0 +1,74 @@
+-- What the turns of a run make of the heap, and what is told of them.
+use Rattle.std.specs.Prelude.{◌≡◌, ℕ, ◌+◌, ◌-◌, ◌≤◌, Option, Some, List, ◌∷◌, length, slice_index_or, slice_set}
+use Rattle.std.specs.List.{slice_get}
+use Rattle.rec_word.specs.declared.op.Op.{Op}
+use Rattle.rec_model.specs.declared.command.Cmd.{Cmd}
+use Rattle.rec_model.specs.declared.told.Told.{Told}
+use Rattle.rec_model.specs.Numbering.{times}
+use Rattle.rec_mutator.specs.Private.{answer_of}
+use Rattle.rec_mutator.specs.declared.made.Made.TheVariants as makes
+use Rattle.rec_mutator.specs.declared.work.Work.TheVariants as works
+use Rattle.rec_collector.specs.declared.turn.Turn.{Turn}
+use Rattle.rec_core.specs.Core.{Core, mutator}
+use Rattle.rec_core.specs.Worked.{IsWorked}
+use Rattle.rec_order.specs.Naming.{Naming, NamesGoOn}
+use Rattle.rec_world.specs.World.{step_seen}
+use Rattle.rec_script.specs.Script.{Contents, IsScript}
+use Rattle.rec_settle.specs.Collecting.{HasStepped}
+use Rattle.rec_play.specs.Played.{lengths_of}
+use Rattle.rec_play.specs.Playing.{Rest, mutators_of, to_come}
+use Rattle.rec_play.specs.Run.{commands_of}
+use Rattle.rec_play.specs.declared.actor.Actor.TheVariants.{Mutator, Collector}
+use Rattle.rec_play.specs.declared.moves.Move.{Move}
+use Rattle.rec_play.specs.declared.moves.Move.TheVariants.{Command, Step}
+
+-- how many commands a mutator has made; mutators are numbered from 1
+abbrev pub made_by : List ℕ → ℕ → ℕ
+made_by made t = slice_index_or made (t - 1) 0
+
+-- a mutator has no command left
+abbrev pub IsSpent : Contents → (made : List ℕ) → ℕ → Type 0
+IsSpent script made t = length (commands_of script t) ≤ made_by made t
+
+-- a run in the middle: its script, what the rule still has, and how many commands each mutator has made
+pub record Player : Type 0 where
+  pub script : Contents
+  pub rest : Rest
+  pub made : List ℕ
+
+-- The commands that a mutator has made and its turns to come are all its commands, and nobody else has a turn.
+pub record AreDue (p : Player) : Type 0 where
+  pub valid : IsScript p.script
+  pub long : length p.made ≡ 8
+  pub each : (t : ℕ) → 1 ≤ t → made_by p.made t + times t (mutators_of (to_come p.rest)) ≡ slice_index_or (lengths_of p.script) (t - 1) 0
+  pub nobody : times 0 (mutators_of (to_come p.rest)) ≡ 0
+
+-- A mutator that had made so many commands polled, made its next one, and was told this. Whichever object each slot held, each that
+-- is named now is the same, or was born by this.
+pub record Carries (script : Contents) (t made : ℕ) (before : Core) (cmd : Cmd) (told : Told) (after : Core) : Type 0 where
+  pub next : slice_get (commands_of script t) made ≡ Some cmd
+  pub polled : Core
+  pub poll : IsWorked before t works.Poll polled
+  pub command : IsWorked polled t (works.Command cmd) after
+  pub answer : answer_of (mutator after t) ≡ Some (makes.Answered told)
+  pub names : (n : Naming) → (k : Naming) × NamesGoOn before after (cmd, told) n k
+
+-- A command was made that was the mutator's turn of the rule. It requests no epoch.
+pub record MakesCommand (p q : Player) (before after : Core) (t : ℕ) (cmd : Cmd) (told : Told) : Type 0 where
+  pub turn : to_come p.rest ≡ Mutator t ∷ to_come q.rest
+  pub carries : Carries p.script t (made_by p.made t) before cmd told after
+  pub made : q.made ≡ slice_set p.made (t - 1) (made_by p.made t + 1)
+  pub requested : after.epoch ≡ before.epoch
+
+-- A step was made in the collector's turn of the rule. One epoch more is requested at most.
+pub record MakesStep (p q : Player) (before after : Core) (seen : Option (Op × ℕ)) (turn : Turn) : Type 0 where
+  pub turn_so : to_come p.rest ≡ Collector ∷ to_come q.rest
+  pub is : seen ≡ step_seen before
+  pub steps : HasStepped (IsSpent p.script p.made) before turn after
+  pub made : q.made ≡ p.made
+  pub requested : after.epoch ≤ before.epoch + 1
+
+-- what a turn tells is what was done
+abbrev pub Makes : (p q : Player) (before after : Core) → Move → Type 0
+Makes p q before after (Command t cmd told) = MakesCommand p q before after t cmd told
+Makes p q before after (Step seen turn) = MakesStep p q before after seen turn

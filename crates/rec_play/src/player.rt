@@ -1,0 +1,172 @@
+//! The run of a script by the playing rule, turn by turn.
+
+ghost use Rattle.std.specs.Prelude.{◌≡◌, ℕ, ◌+◌, ◌<◌, ◌≤◌, [], IfSome, IsNone, length, replicate};
+ghost use Rattle.rec_core.specs.Worked.{AreIdle};
+ghost use Rattle.rec_script.specs.Script.{IsScript};
+ghost use Rattle.rec_settle.specs.Collecting.{HasStepped};
+ghost use Rattle.rec_world.specs.World.{IsWorld, step_seen};
+ghost use Rattle.rec_play.specs.Moves.{AreDue, Carries, IsSpent, Makes};
+ghost use Rattle.rec_play.specs.Numbers.{config_of};
+ghost use Rattle.rec_play.specs.Played.{lengths_of};
+ghost use Rattle.rec_play.specs.Playing.{generator_of, to_come};
+ghost use Rattle.rec_play.specs.Run.{commands_of};
+
+use crate::opening::lengths_of;
+use crate::schedule::{MOST_MUTATORS, Schedule};
+use crate::{Actor, Move};
+use rec_collector::Turn;
+use rec_script::Script;
+use rec_word::Op;
+use rec_world::{Cmd, Told, World};
+use std::marker::Model;
+
+/// A run of a script in the middle. It is seen as its script, what the rule still has, and how many commands each mutator has made.
+#[derive(Drop)]
+pub struct Playing<'a> {
+    script: &'a Script,
+    schedule: Schedule,
+    made: [usize; MOST_MUTATORS],
+}
+
+impl<'a> Model for Playing<'a> {
+    ghost use Rattle.rec_play.specs.Moves.{Player};
+
+    ghost Value = { Player };
+
+    ghost use Rattle.rec_play.specs.InsidePlaying.{player, AreAllDue};
+
+    ghost view = { player };
+
+    ghost invariant = { AreAllDue };
+}
+
+impl<'a> Playing<'a> {
+    /// The run before its first turn, with this seed and at most so many drawn turns.
+    pub fn start(script: &'a Script, seed: u64, turns: u32) -> Playing<'a>
+        ensures script { result.script ≡ script.now }
+        ensures rest { result.rest ≡ record { left = lengths_of script.now; generator = generator_of seed; turns = turns } }
+        ensures made { result.made ≡ replicate 8 0 }
+        ensures due { AreDue result }
+    {
+        Playing {
+            script,
+            schedule: Schedule::new(lengths_of(script), seed, turns),
+            made: [0; MOST_MUTATORS],
+        }
+    }
+
+    /// Makes the next turn of the rule: a mutator polls and makes its next command, or the collector makes a step. There is none once
+    /// all commands are made.
+    #[inline(always)]
+    pub fn next(&mut self, world: &mut World) -> Option<Move>
+        requires config { world.old.config ≡ config_of self.old.script }
+        requires idle { AreIdle world.old }
+
+        // What is told is what was done.
+        ensures told { IfSome result (Makes self.old self.new world.old world.new) }
+        ensures ended { IsNone result → to_come self.old.rest ≡ [] }
+        ensures stays { IsNone result → (self.new ≡ self.old) × (world.new ≡ world.old) }
+        ensures script { self.new.script ≡ self.old.script }
+        ensures due { AreDue self.old × AreDue self.new }
+        ensures idle { AreIdle world.new }
+        ensures config { world.new.config ≡ config_of self.new.script }
+        ensures kept { IsWorld world.new }
+    {
+        let told = self.turn(world);
+        self.rules();
+        let _epoch = world.epoch();
+        told
+    }
+
+    // The next turn.
+    #[inline(always)]
+    fn turn(&mut self, world: &mut World) -> Option<Move>
+        requires config { world.old.config ≡ config_of self.old.script }
+        requires idle { AreIdle world.old }
+
+        ensures told { IfSome result (Makes self.old self.new world.old world.new) }
+        ensures ended { IsNone result → to_come self.old.rest ≡ [] }
+        ensures stays { IsNone result → (self.new ≡ self.old) × (world.new ≡ world.old) }
+        ensures script { self.new.script ≡ self.old.script }
+        ensures due { AreDue self.old }
+        ensures idle { AreIdle world.new }
+        ensures config { world.new.config ≡ config_of self.new.script }
+    {
+        match self.schedule.next_turn() {
+            Some(Actor::Mutator(mutator)) => {
+                let made = &mut self.made[usize::from(mutator) - 1];
+                let (cmd, told) = give_turn(self.script, mutator, *made, world);
+                *made += 1;
+                Some(Move::Command { mutator, cmd, told })
+            }
+            Some(Actor::Collector) => {
+                let (turn, seen) = turn_collector(self.script, &self.made, world);
+                Some(Move::Step { seen, turn })
+            }
+            None => None,
+        }
+    }
+
+    /// The script whose run it is.
+    pub fn script(&self) -> &Script
+        ensures { result.now ≡ self.now.script }
+    {
+        self.script
+    }
+
+    // What always holds of a run in the middle. It does nothing: its contract is the fact.
+    #[inline(always)]
+    fn rules(&self)
+        ensures { AreDue self.now }
+    {
+        let _script = self.script;
+    }
+}
+
+// Mutator `t`, which has made so many commands, polls and makes its next one.
+#[inline(always)]
+fn give_turn(script: &Script, t: u8, made: usize, world: &mut World) -> (Cmd, Told)
+    requires some { 1 ≤ t }
+    requires most { t ≤ length script.now.commands }
+    requires next { made < length (commands_of script.now t) }
+    requires config { world.old.config ≡ config_of script.now }
+    requires idle { AreIdle world.old }
+
+    ensures carried { Carries script.now t made world.old result.0 result.1 world.new }
+    ensures requested { world.new.epoch ≡ world.old.epoch }
+    ensures idle { AreIdle world.new }
+    ensures config { world.new.config ≡ config_of script.now }
+    ensures kept { IsWorld world.new }
+{
+    let cmd = script.commands(t)[made];
+    world.poll(t);
+    let told = world.command(t, cmd);
+    (cmd, told)
+}
+
+// The collector makes a step. Where it waits for a mutator that has no command left, that mutator polls: no turn of its own comes in
+// which it could cross. The answer is that of the step, with its operation and the word that this found.
+#[inline(always)]
+fn turn_collector(
+    script: &Script,
+    made: &[usize; MOST_MUTATORS],
+    world: &mut World,
+) -> (Turn, Option<(Op, u64)>)
+    requires config { world.old.config ≡ config_of script.now }
+    requires idle { AreIdle world.old }
+
+    ensures seen { result.1 ≡ step_seen world.old }
+    ensures stepped { HasStepped (IsSpent script.now made.now) world.old result.0 world.new }
+    ensures requested { world.new.epoch ≤ world.old.epoch + 1 }
+    ensures idle { AreIdle world.new }
+    ensures config { world.new.config ≡ config_of script.now }
+    ensures kept { IsWorld world.new }
+{
+    let (turn, seen) = world.turn_seen();
+    if let Turn::Waiting { mutator } = turn {
+        if made[usize::from(mutator) - 1] >= script.commands(mutator).len() {
+            world.poll(mutator);
+        }
+    }
+    (turn, seen)
+}

@@ -1,0 +1,72 @@
+//! Settling as a whole.
+
+ghost use Rattle.std.specs.Prelude.{◌≡◌, ◌+◌, ◌<◌, ◌≤◌, ◌^◌, ℕ, IfErr, IfOk};
+ghost use Rattle.rec_model.specs.Heap.{Heap};
+ghost use Rattle.rec_model.specs.Sight.{StandsBy};
+ghost use Rattle.rec_collector.specs.Kept.{under_way};
+ghost use Rattle.rec_collector.specs.declared.phase.Phase.TheVariants.{Idle};
+ghost use Rattle.rec_core.specs.Core.{sight};
+ghost use Rattle.rec_core.specs.Settled.{IsSettled};
+ghost use Rattle.rec_world.specs.World.{IsWorld};
+ghost use Rattle.rec_settle.specs.Collecting.{AreIdle, IsSettling, taken_slots};
+
+use crate::turns::{EpochsSpent, Settling};
+use rec_world::World;
+
+/// What settling came to: how many collections it completed, how many slots they swept, and how many slots hold objects.
+#[derive(Clone, Copy, Debug, PartialEq, Eq)]
+pub struct Settled {
+    pub epochs: u32,
+    pub freed: u32,
+    pub live: u32,
+}
+
+/// Settles the heap, in which no mutator works: afterwards just the slots that registers reach hold objects, each with its true
+/// count. Where fewer than four epochs are left, that is the answer, and nothing changes.
+pub fn settle(world: &mut World) -> Result<Settled, EpochsSpent>
+    requires idle { AreIdle world.old }
+
+    ensures spent { IfErr result (λ error. (2 ^ 24 ≤ world.old.epoch + 4) × (error.requested ≡ world.old.epoch) × (world.new ≡ world.old)) }
+    ensures left { IfOk result (λ settled. world.old.epoch + 4 < 2 ^ 24) }
+
+    // Just what registers reach is taken, with true counts.
+    ensures settled { IfOk result (λ settled. IsSettled world.new) }
+
+    // How it came to that: a collection for each of the epochs from the requested one on, and before them the one under way.
+    ensures settles { IfOk result (λ settled. IsSettling world.old world.new) }
+    ensures epochs { IfOk result (λ settled. settled.epochs ≡ 3 + under_way world.old.collector.phase) }
+    ensures requested { IfOk result (λ settled. world.new.epoch ≡ world.old.epoch + 3) }
+    ensures freed { IfOk result (λ settled. world.new.collector.freed ≡ world.old.collector.freed + settled.freed) }
+    ensures live { IfOk result (λ settled. settled.live ≡ taken_slots world.new) }
+
+    // Registers stay, and whatever heap that never frees stood for the world still does, by the same numbers of its objects.
+    ensures registers { (sight world.new).registers ≡ (sight world.old).registers }
+    ensures stands { (heap : Heap) (number : ℕ → ℕ) → StandsBy heap (sight world.old) number → StandsBy heap (sight world.new) number }
+    ensures idle { AreIdle world.new }
+    ensures config { world.new.config ≡ world.old.config }
+    ensures made { world.new.made ≡ world.old.made }
+    ensures kept { IsWorld world.new }
+{
+    let mut settling = Settling::start(world)?;
+    let collections = world.collections();
+    let swept = world.freed();
+    while let Some(_) = settling.next(world) {}
+    Ok(Settled {
+        epochs: world.collections() - collections,
+        freed: (world.freed() - swept) as u32,
+        live: live(world),
+    })
+}
+
+// How many slots hold an object.
+fn live(world: &World) -> u32
+    ensures { result ≡ taken_slots world.now }
+{
+    let mut live = 0;
+    for slot in 0..world.slots() {
+        if world.taken(slot) {
+            live += 1;
+        }
+    }
+    live
+}

@@ -1,6 +1,0 @@
-mod Counting
-mod Ending
-mod OneRun
-mod OneSettling
-mod Playing
-mod Settling

@@ -1,5 +1,0 @@
-pub mod Inside
-pub mod Left
-pub mod Moves
-pub mod Stages
-pub mod Watched
