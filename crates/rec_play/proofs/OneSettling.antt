@@ -15,7 +15,7 @@ use Rattle.rec_core.proofs.Offering.{offering_kept}
 use Rattle.rec_core.proofs.Rest.QuietTurns.{quiet_begun}
 use Rattle.rec_core.proofs.Rest.TurnRules.{turn_is}
 use Rattle.rec_core.proofs.TurnCases.{TurnCase}
-use Rattle.rec_world.specs.World.{TurnHasCause}
+use Rattle.rec_core.specs.Turn.{TurnHasCause}
 use Rattle.rec_settle.specs.Collecting.{Finishes, HasPolled, IsAmid, IsAwaited, IsCollection, IsSettling}
 use Rattle.rec_settle.proofs.Amid.{quiet_after, quiet_amid}
 use Rattle.rec_play.proofs.OneRun.{waits_once, worked_once}

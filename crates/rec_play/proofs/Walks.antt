@@ -9,7 +9,8 @@ use Rattle.rec_core.specs.Core.{Core, opened}
 use Rattle.rec_core.specs.Worked.{AreIdle}
 use Rattle.rec_order.specs.Events.{swept_by}
 use Rattle.rec_order.specs.Naming.{first_naming}
-use Rattle.rec_world.specs.World.{IsWorld, step_seen}
+use Rattle.rec_core.specs.Turn.{step_seen}
+use Rattle.rec_world.specs.World.{IsWorld}
 use Rattle.rec_world.proofs.Calls.{world_kept}
 use Rattle.rec_script.specs.Script.{Contents}
 use Rattle.rec_settle.specs.Collecting.{Anyone, Follows, HasStepped}

@@ -12,7 +12,7 @@ use Rattle.rec_collector.specs.declared.turn.Turn.{Turn}
 use Rattle.rec_core.specs.Core.{Core, mutator}
 use Rattle.rec_core.specs.Worked.{IsWorked}
 use Rattle.rec_order.specs.Naming.{Naming, NamesGoOn}
-use Rattle.rec_world.specs.World.{step_seen}
+use Rattle.rec_core.specs.Turn.{step_seen}
 use Rattle.rec_script.specs.Script.{Contents, IsScript}
 use Rattle.rec_settle.specs.Collecting.{HasStepped}
 use Rattle.rec_play.specs.Played.{lengths_of}

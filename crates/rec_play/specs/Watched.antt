@@ -8,7 +8,8 @@ use Rattle.rec_collector.specs.declared.turn.Turn.{Turn}
 use Rattle.rec_core.specs.Core.{Core}
 use Rattle.rec_core.specs.Worked.{AreIdle}
 use Rattle.rec_order.specs.Naming.{Naming}
-use Rattle.rec_world.specs.World.{IsWorld, step_seen}
+use Rattle.rec_core.specs.Turn.{step_seen}
+use Rattle.rec_world.specs.World.{IsWorld}
 use Rattle.rec_script.specs.Script.{Contents}
 use Rattle.rec_settle.specs.Collecting.{HasStepped}
 use Rattle.rec_settle.specs.Stages as settling

@@ -4,7 +4,8 @@ ghost use Rattle.std.specs.Prelude.{◌≡◌, ℕ, ◌+◌, ◌<◌, ◌≤◌,
 ghost use Rattle.rec_core.specs.Worked.{AreIdle};
 ghost use Rattle.rec_script.specs.Script.{IsScript};
 ghost use Rattle.rec_settle.specs.Collecting.{HasStepped};
-ghost use Rattle.rec_world.specs.World.{IsWorld, step_seen};
+ghost use Rattle.rec_core.specs.Turn.{step_seen};
+ghost use Rattle.rec_world.specs.World.{IsWorld};
 ghost use Rattle.rec_play.specs.Moves.{AreDue, Carries, IsSpent, Makes};
 ghost use Rattle.rec_play.specs.Numbers.{config_of};
 ghost use Rattle.rec_play.specs.Played.{lengths_of};

@@ -14,7 +14,8 @@ use Rattle.rec_core.specs.Kept.{IsKept}
 use Rattle.rec_core.specs.Moves.{offering, turned}
 use Rattle.rec_core.specs.declared.config.Config.{Config}
 use Rattle.rec_core.proofs.Rest.QuietTurns.{quiet_begun}
-use Rattle.rec_world.specs.World.{IsWorld, TurnHasCause}
+use Rattle.rec_core.specs.Turn.{TurnHasCause}
+use Rattle.rec_world.specs.World.{IsWorld}
 use Rattle.rec_world.proofs.Calls.{world_kept}
 use Rattle.rec_settle.specs.Collecting.{AreIdle, Anyone, Finishes, Follows, HasStepped, IsAmid, IsCollection, waits_at}
 use Rattle.rec_settle.specs.Left.{collections_left, left_in, left_of, most_turns}

@@ -24,7 +24,8 @@ use Rattle.rec_core.specs.declared.config.Config.{Config}
 use Rattle.rec_core.proofs.Opening.{opened_kept}
 use Rattle.rec_core.proofs.Runs.{looked_is}
 use Rattle.rec_core.proofs.Steps.{actor_of}
-use Rattle.rec_world.specs.World.{IsCrossed, IsQuiet, IsWorld, TurnHasCause}
+use Rattle.rec_core.specs.Turn.{TurnHasCause}
+use Rattle.rec_world.specs.World.{IsCrossed, IsQuiet, IsWorld}
 use Rattle.rec_world.proofs.Calls.{world_kept}
 use Rattle.rec_settle.specs.Collecting.{AreIdle, Follows, HasPolled, HasStepped, IsAwaited, turns_of, waits_at}
 use Rattle.rec_settle.specs.Left.{left_of}

@@ -15,7 +15,8 @@ use Rattle.rec_core.specs.Moves.{offering, turned}
 use Rattle.rec_core.specs.Worked.{IsWorked, WaitsFor}
 pub use Rattle.rec_core.specs.Worked.{AreIdle}
 use Rattle.rec_core.specs.declared.config.Config.{Config}
-use Rattle.rec_world.specs.World.{IsQuiet, TurnHasCause}
+use Rattle.rec_core.specs.Turn.{TurnHasCause}
+use Rattle.rec_world.specs.World.{IsQuiet}
 
 -- the collector waits for this mutator, which is one of the heap's
 pub record IsAwaited (w : Core) (t : ℕ) : Type 0 where

@@ -2,7 +2,8 @@
 
 ghost use Rattle.std.specs.Prelude.{◌≡◌, ◌+◌, ◌<◌, ◌≤◌, ◌^◌, IfErr, IfOk, IfSome, IsNone};
 ghost use Rattle.rec_core.specs.Core.{Core};
-ghost use Rattle.rec_world.specs.World.{IsWorld, step_seen};
+ghost use Rattle.rec_core.specs.Turn.{step_seen};
+ghost use Rattle.rec_world.specs.World.{IsWorld};
 ghost use Rattle.rec_settle.specs.Collecting.{Anyone, AreIdle, HasStepped};
 ghost use Rattle.rec_settle.specs.Left.{left_in};
 ghost use Rattle.rec_settle.specs.Stages.{HasCome, begun, offered, stage_after, stage_turned};

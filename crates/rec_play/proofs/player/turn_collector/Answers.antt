@@ -8,7 +8,7 @@ use Rattle.rec_collector.specs.declared.phase.Phase.TheVariants.{Looking}
 use Rattle.rec_collector.specs.declared.turn.Turn.TheVariants.{Waiting}
 use Rattle.rec_core.specs.Core.{Core}
 use Rattle.rec_core.specs.Kept.{IsKept}
-use Rattle.rec_world.specs.World.{TurnHasCause}
+use Rattle.rec_core.specs.Turn.{TurnHasCause}
 use Rattle.rec_world.proofs.Calls.{world_kept}
 use Rattle.rec_settle.specs.Collecting.{Follows, IsAwaited}
 use Rattle.rec_settle.proofs.Waiting.{awaited, has_polled, polled_behind}
@@ -20,7 +20,7 @@ use Rattle.rec_play.proofs.player.turn_collector.Goals.{In-Waiting}
 
 -- the collector waits, and nothing has changed
 waits : (c : In-Waiting) → TurnHasCause c.args.world.now c.turn_seen-turn.new.self (Waiting c.in-Waiting.mutator)
-waits c = subst (TurnHasCause c.args.world.now c.turn_seen-turn.new.self) c.in-Waiting.is c.turn_seen-turn.ensures.cause
+waits c = subst (TurnHasCause c.args.world.now c.turn_seen-turn.new.self) c.in-Waiting.is c.turn_seen-turn.ensures.turn.cause
 
 awaits : (c : In-Waiting) → IsAwaited c.args.world.now c.in-Waiting.mutator
 awaits c = awaited c.args.world.now c.turn_seen-turn.new.self c.in-Waiting.mutator (subst IsKept (waits c).2 (world_kept c.turn_seen-turn.new.self c.turn_seen-turn.ensures.kept)) (waits c)
@@ -34,19 +34,19 @@ returns-then-made-from-clause-stepped c =
     let d : In-Waiting = (goal.at.returns-then-made-from-clause-stepped c).In-Waiting in
     polled_behind (IsSpent c.args.script.now c.args.made.now) c.args.world.now c.turn_seen-turn.new.self c.poll.new.self c.in-Waiting.mutator
     (omega (arith, ap length (theirs d c.commands.result.now c.commands.ensures.value), c.if-made-from.true, ap (λ n. slice_index_or c.args.made.now (n - 1) 0) c.from.ensures))
-    c.turn_seen-turn.ensures.turned c.turn_seen-turn.ensures.kept (waits d)
+    c.turn_seen-turn.ensures.turn.turned c.turn_seen-turn.ensures.kept (waits d)
     (has_polled c.turn_seen-turn.new.self c.poll.new.self c.in-Waiting.mutator c.poll.result c.poll.ensures.worked c.poll.ensures.quiet c.poll.ensures.idle c.poll.ensures.crossed c.poll.ensures.none c.poll.ensures.some)
 
 pub returns-else-made-from-clause-stepped : goal.returns-else-made-from-clause-stepped
 returns-else-made-from-clause-stepped c =
     let d : In-Waiting = (goal.at.returns-else-made-from-clause-stepped c).In-Waiting in
     record {
-      cause = subst (λ (x : Core). TurnHasCause c.args.world.now x (Waiting c.in-Waiting.mutator)) c.turn_seen-turn.ensures.turned (waits d);
+      cause = subst (λ (x : Core). TurnHasCause c.args.world.now x (Waiting c.in-Waiting.mutator)) c.turn_seen-turn.ensures.turn.turned (waits d);
       follows = Follows.rests
           (λ t waiting spent.
           let looks : ◌≡◌ {A = Phase} (Looking c.in-Waiting.mutator) (Looking t) = sym (waits d).0 ∙ waiting.looks in
           let one : c.in-Waiting.mutator ≡ t = cc in
           let its : IsSpent c.args.script.now c.args.made.now c.in-Waiting.mutator = subst (IsSpent c.args.script.now c.args.made.now) (sym one) spent in
           omega (arith, its, ap length (theirs d c.commands.result.now c.commands.ensures.value), c.if-made-from.false, ap (λ n. slice_index_or c.args.made.now (n - 1) 0) c.from.ensures))
-          c.turn_seen-turn.ensures.turned;
+          c.turn_seen-turn.ensures.turn.turned;
     }

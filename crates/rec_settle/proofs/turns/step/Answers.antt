@@ -1,17 +1,17 @@
 -- The collector made its step, and the mutator for which it waited polls.
 use Rattle.std.proofs.Common.{subst}
 use Rattle.rec_collector.specs.declared.turn.Turn.TheVariants.{Waiting}
-use Rattle.rec_world.specs.World.{TurnHasCause}
+use Rattle.rec_core.specs.Turn.{TurnHasCause}
 use Rattle.rec_settle.specs.Collecting.{Anyone}
 use Rattle.rec_settle.proofs.Waiting.{has_polled, polled_behind}
 use Rattle.rec_settle.proofs.turns.step.Goals as goal
 use Rattle.rec_settle.proofs.turns.step.Goals.{In-Waiting}
 
 waits : (c : In-Waiting) → TurnHasCause c.args.world.now c.turn_seen-turn.new.self (Waiting c.in-Waiting.mutator)
-waits c = subst (TurnHasCause c.args.world.now c.turn_seen-turn.new.self) c.in-Waiting.is c.turn_seen-turn.ensures.cause
+waits c = subst (TurnHasCause c.args.world.now c.turn_seen-turn.new.self) c.in-Waiting.is c.turn_seen-turn.ensures.turn.cause
 
 pub returns-in-Waiting-clause-stepped : goal.returns-in-Waiting-clause-stepped
 returns-in-Waiting-clause-stepped c =
     let d : In-Waiting = (goal.at.returns-in-Waiting-clause-stepped c).In-Waiting in
-    polled_behind Anyone c.args.world.now c.turn_seen-turn.new.self c.poll.new.self c.in-Waiting.mutator tt c.turn_seen-turn.ensures.turned c.turn_seen-turn.ensures.kept (waits d)
+    polled_behind Anyone c.args.world.now c.turn_seen-turn.new.self c.poll.new.self c.in-Waiting.mutator tt c.turn_seen-turn.ensures.turn.turned c.turn_seen-turn.ensures.kept (waits d)
     (has_polled c.turn_seen-turn.new.self c.poll.new.self c.in-Waiting.mutator c.poll.result c.poll.ensures.worked c.poll.ensures.quiet c.poll.ensures.idle c.poll.ensures.crossed c.poll.ensures.none c.poll.ensures.some)

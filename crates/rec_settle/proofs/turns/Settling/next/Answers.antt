@@ -1,7 +1,8 @@
 -- A turn of settling was made.
 use Rattle.std.proofs.Common.{ap, subst, sym, ◌∙◌}
 use Rattle.rec_core.specs.Core.{Core}
-use Rattle.rec_world.specs.World.{IsWorld, step_seen}
+use Rattle.rec_core.specs.Turn.{step_seen}
+use Rattle.rec_world.specs.World.{IsWorld}
 use Rattle.rec_settle.specs.Collecting.{Anyone, HasStepped}
 use Rattle.rec_settle.specs.Stages.{HasCome, begun, offered, stage_turned}
 use Rattle.rec_settle.specs.declared.turns.Settling.{Settling}
