@@ -9,12 +9,13 @@ use Rattle.rec_collector.specs.declared.turn.Turn.TheVariants.{Waiting}
 use Rattle.rec_core.specs.Core.{Core}
 use Rattle.rec_core.specs.Kept.{IsKept}
 use Rattle.rec_core.specs.Turn.{TurnHasCause}
+use Rattle.rec_core.specs.Worked.{AreIdle}
 use Rattle.rec_world.proofs.Calls.{world_kept}
 use Rattle.rec_settle.specs.Collecting.{Follows, IsAwaited}
 use Rattle.rec_settle.proofs.Waiting.{awaited, has_polled, polled_behind}
 use Rattle.rec_play.specs.Moves.{IsSpent}
 use Rattle.rec_play.specs.Run.{commands_of}
-use Rattle.rec_play.proofs.Due.{commands_are}
+use Rattle.rec_play.proofs.Due.{commands_are, others_idle}
 use Rattle.rec_play.proofs.player.turn_collector.Goals as goal
 use Rattle.rec_play.proofs.player.turn_collector.Goals.{In-Waiting}
 
@@ -36,6 +37,12 @@ returns-then-made-from-clause-stepped c =
     (omega (arith, ap length (theirs d c.commands.result.now c.commands.ensures.value), c.if-made-from.true, ap (λ n. slice_index_or c.args.made.now (n - 1) 0) c.from.ensures))
     c.turn_seen-turn.ensures.turn.turned c.turn_seen-turn.ensures.kept (waits d)
     (has_polled c.turn_seen-turn.new.self c.poll.new.self c.in-Waiting.mutator c.poll.result c.poll.ensures.worked c.poll.ensures.quiet c.poll.ensures.idle c.poll.ensures.crossed c.poll.ensures.none c.poll.ensures.some)
+
+-- the mutator that polled is idle again, and the others stayed so
+pub returns-then-made-from-clause-idle : goal.returns-then-made-from-clause-idle
+returns-then-made-from-clause-idle c =
+    let d : In-Waiting = (goal.at.returns-then-made-from-clause-idle c).In-Waiting in
+    others_idle c.turn_seen-turn.new.self c.poll.new.self c.in-Waiting.mutator c.poll.ensures.quiet.config c.poll.ensures.quiet.others c.poll.ensures.idle (subst AreIdle (sym (waits d).2) c.requires.idle)
 
 pub returns-else-made-from-clause-stepped : goal.returns-else-made-from-clause-stepped
 returns-else-made-from-clause-stepped c =
