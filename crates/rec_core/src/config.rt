@@ -3,9 +3,7 @@ ghost use Rattle.rec_core.specs.Config.{IsConfig, IsFirstWrong, HasOperands};
 
 use crate::Part;
 use rec_model::Cmd;
-use rec_model::limits::{
-    MOST_FIELDS, MOST_LOG_ENTRIES, MOST_MUTATORS, MOST_REGISTERS, MOST_SLOTS,
-};
+use rec_model::limits::{MOST_FIELDS, MOST_LOG_ENTRIES, MOST_MUTATORS, MOST_REGISTERS, MOST_SLOTS};
 use rec_word::LAST_EPOCH;
 
 /// The numbers of a heap, which never change.
