@@ -1,8 +1,7 @@
 pub mod Due
 pub mod Going
 pub mod Named
-mod OneRun
-mod OneSettling
+mod Once
 pub mod Opened
 pub mod Orders
 pub mod Ready

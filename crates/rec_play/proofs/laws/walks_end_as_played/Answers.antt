@@ -7,8 +7,7 @@ use Rattle.rec_settle.specs.declared.turns.Settling.TheVariants.{Settled}
 use Rattle.rec_play.specs.Playing.{Rest, to_come}
 use Rattle.rec_play.specs.Run.{IsPlayedRun}
 use Rattle.rec_play.specs.Watched.{HasSettled, IsAt}
-use Rattle.rec_play.proofs.OneRun.{run_once}
-use Rattle.rec_play.proofs.OneSettling.{settling_once}
+use Rattle.rec_play.proofs.Once.{run_once, settling_once}
 use Rattle.rec_play.proofs.laws.walks_end_as_played.Goals as goal
 
 pub returns : goal.returns
