@@ -1,5 +1,5 @@
 //! A script is played: its commands are carried out in an order that is drawn.
-ghost use Rattle.std.specs.Prelude.{◌≤◌, IfOk};
+ghost use Rattle.std.specs.Prelude.{◌+◌, ◌≤◌, IfOk};
 ghost use Rattle.rec_model.specs.declared.limits.TheConstants.{MOST_TURNS};
 ghost use Rattle.rec_run.specs.Outcome.{IsOutcome};
 ghost use Rattle.rec_run.specs.declared.command_line.How.TheVariants as hows;

@@ -2,6 +2,7 @@
 
 ghost use Rattle.std.specs.Prelude.{◌≡◌, ◌<◌, ◌++◌, map, slice_index_or, string_bytes, IfOk, OnOk};
 ghost use Rattle.rec_core.specs.Config.{IsMutator};
+ghost use Rattle.rec_core.specs.Core.{mutator};
 ghost use Rattle.rec_counts.specs.Counts.{slot_at};
 ghost use Rattle.rec_word.specs.Word.{target_of};
 ghost use Rattle.recycler_watch.specs.Seen.{collector_of, collector_seen, colour_name, counted_slot, mutator_of, mutator_seen, mutators_of, phase_name, seen, seen_of, slot_of, slot_seen, slots_of};
@@ -195,7 +196,7 @@ fn mutator_of(alloc: Global, world: &World, t: u8, fields: u32) -> Result<Mutato
     let entries = world.mutator(t).entries();
     let crossing = world.crossing().get(place).copied().unwrap_or(0);
     let mailbox = world.mailboxes().get(place).and_then(Option::as_ref);
-    let registers = world.registers(t).to_vec(alloc)?;
+    let registers = registers_of(alloc, world, t)?;
     let log = last_of(alloc, entries, fields)?;
     Ok(Mutator {
         mutator: t,
@@ -208,6 +209,15 @@ fn mutator_of(alloc: Global, world: &World, t: u8, fields: u32) -> Result<Mutato
         logged: entries.len(),
         log,
     })
+}
+
+// What each register of a mutator names.
+fn registers_of(alloc: Global, world: &World, t: u8) -> Result<Vec<Option<u16>>, NoMemory>
+    requires { IsMutator world.now.config t }
+    ensures { IfOk result (λ registers. registers.items ≡ (mutator world.now t).registers) }
+{
+    let registers = world.mutator(t).registers();
+    Ok(registers.to_vec(alloc)?)
 }
 
 fn length_of(buffer: Option<&Buffer>) -> usize {
