@@ -1,3 +1,4 @@
+-- The contract of `learn`: the machine learns the word that the step found; where it has just taken its mailbox, the retired log goes there for the buffer.
 use Rattle.std.proofs.Common.{◌≡◌, ◌-◌, Option, Some, ◌∷◌, [], refl, sym, ap, ◌∙◌, subst, arith}
 use Rattle.atomic_table.specs.Table.{rest}
 use Rattle.rec_log.specs.declared.contents.Contents.{Contents}

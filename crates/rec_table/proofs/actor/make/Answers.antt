@@ -1,3 +1,4 @@
+-- The contract of `make`: makes the atomic operation of a step, and no more.
 use Rattle.std.proofs.Common.{ℕ, sym, ap, ◌∙◌, subst, ◌<◌, ⊎_elim}
 use mathlib.Core.Option.{none}
 use Rattle.rec_word.specs.Op.{written}

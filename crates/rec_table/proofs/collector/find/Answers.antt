@@ -1,3 +1,4 @@
+-- The contract of `find`: the crossing word of mutator `t`, as a turn finds it.
 use Rattle.std.proofs.Common.{◌≡◌, ◌==◌, ◌<◌, ℕ, [], sym, ap, ◌∙◌, subst}
 use mathlib.Core.Option.{none}
 use prog.Atomic.{either}

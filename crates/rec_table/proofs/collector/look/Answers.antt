@@ -1,3 +1,4 @@
+-- The contract of `look`: looks at the mailbox of mutator `t`.
 use Rattle.std.proofs.Common.{◌≡◌, ◌-◌, ℕ, [], ◌∷◌, Some, sym, ap, ◌∙◌}
 use Rattle.atomic_table.specs.Table.{rest}
 use Rattle.rec_word.specs.Mailbox.{crossing_word}

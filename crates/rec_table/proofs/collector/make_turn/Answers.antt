@@ -1,3 +1,4 @@
+-- The contract of `make_turn`: makes the operation of a turn that looks at no mailbox, and no more.
 use Rattle.std.proofs.Common.{◌+◌, ◌%◌, ◌^◌, ◌<◌, ℕ, ⊎_elim, sym, ap, ◌∙◌, subst}
 use mathlib.Core.Option.{none}
 use Rattle.rec_word.specs.Op.{written}

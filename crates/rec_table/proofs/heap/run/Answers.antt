@@ -1,3 +1,4 @@
+-- The contract of `run`: puts the parts of a world on a table, and makes the seats of its mutators.
 use Rattle.std.proofs.Common.{◌≡◌, map, sym, ap, ◌∙◌, subst, arith}
 use mathlib.Core.Option.{some}
 use Rattle.rec_collector.specs.Private as collectors

@@ -1,3 +1,4 @@
+-- The loops of `first_free_of`: the same of a few slots.
 use Rattle.std.proofs.Common.{◌≡◌, ◌+◌, ◌≤◌}
 use Rattle.rec_table.specs.Rule.{seated_of}
 use Rattle.rec_table.specs.Scan.{Passed}

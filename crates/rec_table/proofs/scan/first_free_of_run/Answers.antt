@@ -1,3 +1,4 @@
+-- The contract of `first_free_of_run`: the same within one run of slots.
 use Rattle.std.proofs.Common.{◌≡◌, ◌+◌, ◌-◌, ◌<◌, ℕ, arith, sym, subst, ◌∙◌}
 use Rattle.rec_table.specs.Rule.{seated_of}
 use Rattle.rec_table.specs.Scan.{Passed}

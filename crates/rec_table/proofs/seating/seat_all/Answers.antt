@@ -1,3 +1,4 @@
+-- The contract of `seat_all`: makes a mutator of each machine, in order of number.
 use Rattle.std.proofs.Common.{◌≡◌, ◌≢◌, ℕ, suc, ◌+◌, ◌-◌, ◌<◌, ◌≤◌, List, [], ◌∷◌, ◌++◌, false, drop, length, get_or, refl, sym, ap, ◌∙◌, arith, length-append}
 use Rattle.std.proofs.Common.{vec_len}
 use Rattle.std.proofs.lemmas.Bool.{eqb-true}

@@ -1,3 +1,4 @@
+-- The contract of `take_in_all`: takes in the lists of all mutators, in order of number, and gives their machines back.
 use Rattle.std.proofs.Common.{◌≡◌, ◌≢◌, ℕ, suc, ◌+◌, ◌%◌, ◌^◌, All, List, [], ◌∷◌, ◌++◌, false, drop, length, map, take, get_or, sym, ap, ◌∙◌, subst, arith, length-append}
 use mathlib.Core.Logic.{dite}
 use native.Mathlib.Decide.{ℕ_discrete}

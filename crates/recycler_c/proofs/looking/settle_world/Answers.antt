@@ -1,3 +1,4 @@
+-- The contract of `settle_world`: a heap at rest is settled.
 use Rattle.std.proofs.Common.{◌≡◌, ◌%◌, ◌∙◌, All, Some, refl, sym, ap, subst}
 use Rattle.rec_core.specs.Core.{Core}
 use Rattle.recycler_c.specs.declared.end.End.TheVariants as ends

@@ -1,3 +1,4 @@
+-- The contract of `Actor::scan`: makes the failing probes that come next, if it makes a scan.
 use Rattle.std.proofs.Common.{◌≡◌, ◌<◌, ◌≤◌, ◌+◌, ◌-◌, ◌++◌, ◌%◌, ◌^◌, ℕ, fold, length, Option, sym, ap, subst, ◌∙◌, arith}
 use Rattle.rec_word.specs.declared.op.Op.TheVariants as ops
 use Rattle.rec_mutator.specs.Private.{Private, KeepsSizes, is_busy, work_of}

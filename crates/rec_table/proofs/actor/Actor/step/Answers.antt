@@ -1,3 +1,4 @@
+-- The contract of `Actor::step`: one step, which begins a work first, or goes on with one.
 use Rattle.std.proofs.Common.{◌≡◌, ◌<◌, ◌≤◌, ◌+◌, ◌%◌, ◌^◌, ℕ, length, Option, refl, sym, ap, subst, ◌∙◌, arith}
 use Rattle.rec_word.specs.declared.op.Op.{Op}
 use Rattle.rec_mutator.specs.Next.{next_of}

@@ -1,3 +1,4 @@
+-- The loops of `Actor::step`: one step, which begins a work first, or goes on with one.
 use Rattle.rec_core.specs.Core.{mutator}
 use Rattle.rec_table.specs.Beats.{told}
 use Rattle.rec_table.specs.Rule.{seated_of}

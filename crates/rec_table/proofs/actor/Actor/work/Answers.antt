@@ -1,3 +1,4 @@
+-- The contract of `Actor::work`: begins a work and makes its steps to the end.
 use Rattle.std.proofs.Common.{◌≡◌, ◌+◌, ◌++◌, ℕ, ◌∙◌, ap, sym, subst}
 use Rattle.std.proofs.Common.{Some}
 use Rattle.rec_mutator.specs.Private.{Private, KeepsSizes, IsMachine, IsValid, work_of}

@@ -1,3 +1,4 @@
+-- The contract of `Collector::put_back`: gives back a mailbox that it holds, by a turn.
 use Rattle.std.proofs.Common.{◌≡◌, Option, Some, true, false, sym, ap, ◌∙◌, subst}
 use Rattle.rec_word.specs.declared.op.Op.{Op}
 use Rattle.rec_collector.specs.Next.{next_of}

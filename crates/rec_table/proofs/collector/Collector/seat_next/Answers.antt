@@ -1,3 +1,4 @@
+-- The contract of `Collector::seat_next`: makes the seat of the next mutator.
 use Rattle.std.proofs.Common.{◌≡◌, ◌<◌, ◌+◌, ℕ, refl, sym, ap, ◌∙◌, subst, arith}
 use Rattle.rec_mutator.specs.Private.{is_busy}
 use Rattle.rec_mutator.specs.Step.{NamesSlots}

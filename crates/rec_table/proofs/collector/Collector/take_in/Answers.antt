@@ -1,3 +1,4 @@
+-- The contract of `Collector::take_in`: takes in the list of the next mutator, and gives its machine and its births.
 use Rattle.std.proofs.Common.{◌+◌, length, sym, ap, ◌∙◌, arith}
 use Rattle.rec_table.specs.Held.{Gathers}
 use Rattle.rec_table.specs.Rule.{crew_of, seated_of}

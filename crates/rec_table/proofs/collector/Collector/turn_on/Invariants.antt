@@ -1,3 +1,4 @@
+-- The loops of `Collector::turn_on`: one turn.
 use Rattle.rec_table.specs.Beats.{gathered_all}
 use Rattle.rec_table.specs.Rule.{crew_of}
 use Rattle.rec_table.proofs.collector.Collector.turn_on.Given as goal

@@ -1,3 +1,4 @@
+-- The contract of `Heap::stop`: stops it, with all its mutators in order of number and its collector, and gives the world that it has become.
 use Rattle.std.proofs.Common.{◌≡◌, ◌∙◌, ap, map, subst, sym}
 use Rattle.rec_collector.specs.Private as collectors
 use Rattle.rec_core.specs.Core.{Core}

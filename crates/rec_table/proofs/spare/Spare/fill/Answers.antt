@@ -1,3 +1,4 @@
+-- The contract of `Spare::fill`: takes all off the table, and puts a world together from it.
 use Rattle.std.proofs.Common.{◌≡◌, ℕ, ◌+◌, ◌%◌, ◌^◌, [], slice_index_or, All, List, refl, sym, ap, ◌∙◌, subst}
 use Rattle.std.specs.List.{sum_by}
 use Rattle.rec_collector.specs.Private as collectors
