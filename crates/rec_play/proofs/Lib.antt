@@ -1,3 +1,4 @@
+-- The modules of the proofs.
 pub mod Due
 pub mod Going
 pub mod Named

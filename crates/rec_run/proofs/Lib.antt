@@ -1,3 +1,4 @@
+-- The modules of the proofs.
 pub mod Driven
 pub mod Endings
 pub mod Fronts

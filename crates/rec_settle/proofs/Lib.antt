@@ -1,3 +1,4 @@
+-- The modules of the proofs.
 pub mod Amid
 pub mod Coming
 pub mod Settles

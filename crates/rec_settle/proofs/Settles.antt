@@ -77,7 +77,7 @@ finished first before after kept quiet (Finishes.two w busy c d) =
     subst (λ n. HasCollected first n before after) one (collected_more first 1 before w after h.kept h.quiet h.config h.collections h.stays h.few d)
 
 -- What settling comes to.
-pub record HasSettled (before after : Core) : Type 0 where
+pub record EndsSettling (before after : Core) : Type 0 where
   pub all : HasCollected (before.epoch + 1) (3 + under_way before.collector.phase) before after
   pub epoch : after.epoch ≡ before.epoch + 3
   pub settled : IsSettled after
@@ -138,7 +138,7 @@ module _ (before after : Core) (kept : IsKept before) (idle : AreIdle before) (s
   all_rests : RestsIn Round.Over after after.words after.collector Idle
   all_rests = rests_after first Round.Second tried two_.kept two_.quiet two_.idle (omega (arith, epoch_two)) (λ is. cc) (subst (RestsIn Round.Second tried tried.words tried.collector) (sym two_.idle) tried_rests) after settling.frees
 
-  pub settling_settles : HasSettled before after
+  pub settling_settles : EndsSettling before after
   settling_settles = record {
     all = subst (λ n. HasCollected first n before after) (let sum : 1 + way + 1 + 1 ≡ 3 + way = omega arith in sum) three;
     epoch = epoch_three;
@@ -146,7 +146,7 @@ module _ (before after : Core) (kept : IsKept before) (idle : AreIdle before) (s
   }
 
 -- What four collections sweep fits a number of 32 bits.
-pub few_freed : (before after : Core) → IsKept before → HasSettled before after → after.collector.freed < before.collector.freed + 2 ^ 32
+pub few_freed : (before after : Core) → IsKept before → EndsSettling before after → after.collector.freed < before.collector.freed + 2 ^ 32
 few_freed before after kept h =
     let some : 3 + under_way before.collector.phase ≤ 4 = omega (arith, under_way_most before.collector.phase) in
     let most : (3 + under_way before.collector.phase) * before.config.slots ≤ 4 * before.config.slots = mul-le-mul_right before.config.slots some in

@@ -1,3 +1,4 @@
 pub mod Collecting
 pub mod Left
 pub mod Stages
+pub mod Whole

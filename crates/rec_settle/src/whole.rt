@@ -1,14 +1,12 @@
 //! Settling as a whole.
 
-ghost use Rattle.std.specs.Prelude.{◌≡◌, ◌+◌, ◌<◌, ◌≤◌, ◌^◌, ℕ, IfErr, IfOk};
+ghost use Rattle.std.specs.Prelude.{◌≡◌, ◌+◌, ◌≤◌, ◌^◌, ℕ, IfErr, IfOk};
 ghost use Rattle.rec_model.specs.Heap.{Heap};
 ghost use Rattle.rec_model.specs.Sight.{StandsBy};
-ghost use Rattle.rec_collector.specs.Kept.{under_way};
-ghost use Rattle.rec_collector.specs.declared.phase.Phase.TheVariants.{Idle};
 ghost use Rattle.rec_core.specs.Core.{sight};
-ghost use Rattle.rec_core.specs.Settled.{IsSettled};
 ghost use Rattle.rec_world.specs.World.{IsWorld};
-ghost use Rattle.rec_settle.specs.Collecting.{AreIdle, IsSettling, taken_slots};
+ghost use Rattle.rec_settle.specs.Collecting.{AreIdle, taken_slots};
+ghost use Rattle.rec_settle.specs.Whole.{HasSettled};
 
 use crate::turns::{EpochsSpent, Settling};
 use rec_world::World;
@@ -27,17 +25,8 @@ pub fn settle(world: &mut World) -> Result<Settled, EpochsSpent>
     requires idle { AreIdle world.old }
 
     ensures spent { IfErr result (λ error. (2 ^ 24 ≤ world.old.epoch + 4) × (error.requested ≡ world.old.epoch) × (world.new ≡ world.old)) }
-    ensures left { IfOk result (λ settled. world.old.epoch + 4 < 2 ^ 24) }
-
-    // Just what registers reach is taken, with true counts.
-    ensures settled { IfOk result (λ settled. IsSettled world.new) }
-
-    // How it came to that: a collection for each of the epochs from the requested one on, and before them the one under way.
-    ensures settles { IfOk result (λ settled. IsSettling world.old world.new) }
-    ensures epochs { IfOk result (λ settled. settled.epochs ≡ 3 + under_way world.old.collector.phase) }
-    ensures requested { IfOk result (λ settled. world.new.epoch ≡ world.old.epoch + 3) }
-    ensures freed { IfOk result (λ settled. world.new.collector.freed ≡ world.old.collector.freed + settled.freed) }
-    ensures live { IfOk result (λ settled. settled.live ≡ taken_slots world.new) }
+    // Just what registers reach is taken, with true counts; and how it came to that.
+    ensures done { IfOk result (HasSettled world.old world.new) }
 
     // Registers stay, and whatever heap that never frees stood for the world still does, by the same numbers of its objects.
     ensures registers { (sight world.new).registers ≡ (sight world.old).registers }

@@ -1,17 +1,9 @@
 -- A mutator of a heap, at a step that takes no mailbox.
 use Rattle.std.proofs.Common.{◌≡◌, ℕ, List, [], ◌∷◌, ◌++◌, Option, Some, None, sym, ap, ◌∙◌}
 use Rattle.atomic_table.specs.Seated.{TableId}
-use Rattle.rec_mutator.specs.Private.{Private}
+use Rattle.rec_table.proofs.Common.{Private, begun_of, Core, mutator, told, learnt, Held, held, has, IsOf, ready, beats, Beat, Begins, Saw, Seated}
 use Rattle.rec_mutator.specs.Step.{NamesSlots}
-use Rattle.rec_mutator.specs.Took.{begun_of}
-use Rattle.rec_core.specs.Core.{Core, mutator}
-use Rattle.rec_table.specs.Beats.{told, learnt}
-use Rattle.rec_table.specs.Held.{Held, held, has, IsOf}
-use Rattle.rec_table.specs.Rule.{ready, beats}
 use Rattle.rec_table.specs.declared.start.Start.{Start}
-use Rattle.rec_table.specs.declared.views.Beat.{Beat}
-use Rattle.rec_table.specs.declared.views.Beat.TheVariants.{Begins, Saw}
-use Rattle.rec_table.specs.declared.views.Seated.{Seated}
 use Rattle.rec_table.proofs.Beats.{told_both}
 
 -- the record with which it works is its own in the started world

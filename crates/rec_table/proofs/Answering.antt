@@ -3,6 +3,7 @@ use Rattle.std.proofs.Common.{◌≡◌, ◌↔◌, ℕ, ◌+◌, ◌<◌, ◌==
 use Rattle.std.specs.Prelude.{fold}
 use Rattle.std.proofs.lemmas.List.{length-append, map-append, nil_from_length}
 use Rattle.std.proofs.lemmas.List.Sums.{fold-append}
+use Rattle.rec_table.proofs.Common.{IsAt, IsMachine, Private, answer_at, answer_of, is_busy, is_busy_at, limit_of, work_at, work_of, begun_of, moved, spare, step_of, swapped_at, swapped_of, took_at, took_of, learnt, told, saw_all, Beat, Begins, Saw}
 use Rattle.rec_word.specs.Header.{header_word}
 use Rattle.rec_model.specs.Asking.{allocation}
 use Rattle.rec_model.specs.declared.command.Cmd.{Cmd}
@@ -10,9 +11,7 @@ use Rattle.rec_model.specs.declared.command.Cmd.TheVariants as commands
 use Rattle.rec_model.specs.declared.answer.Answer.TheVariants as answers
 use Rattle.rec_model.specs.declared.told.Told.{Told}
 use Rattle.rec_mutator.specs.Causes.{FindsLeaf, FoundNone, FoundNoneAt, HasCause}
-use Rattle.rec_mutator.specs.Private.{IsAt, IsMachine, Private, answer_at, answer_of, is_busy, is_busy_at, limit_of, work_at, work_of}
 use Rattle.rec_mutator.specs.Scans.{FailsScan, ops_along}
-use Rattle.rec_mutator.specs.Took.{begun_of, moved, spare, step_of, swapped_at, swapped_of, took_at, took_of}
 use Rattle.rec_mutator.specs.declared.made.Made.{Made}
 use Rattle.rec_mutator.specs.declared.made.Made.TheVariants as makes
 use Rattle.rec_mutator.specs.declared.phase.Phase as phases
@@ -22,11 +21,7 @@ use Rattle.rec_mutator.specs.declared.work.Work.TheVariants as works
 use Rattle.rec_mutator.proofs.Refusals.{took_cause}
 use Rattle.rec_mutator.proofs.Steps.{TakesNone, here_same, none_between}
 use Rattle.rec_table.specs.Answered.{FailsProbes, IsAnswered, IsPolled, worked}
-use Rattle.rec_table.specs.Beats.{learnt, told}
-use Rattle.rec_table.specs.Scan.{saw_all}
 use Rattle.rec_table.specs.declared.start.Start.{Start}
-use Rattle.rec_table.specs.declared.views.Beat.{Beat}
-use Rattle.rec_table.specs.declared.views.Beat.TheVariants.{Begins, Saw}
 use Rattle.rec_table.proofs.Beats.{told_both}
 
 -- a work that was begun and went on step by step: the words that were found, and the record before the last step

@@ -2,25 +2,12 @@
 use Rattle.std.proofs.Common.{◌≡◌, ◌⊎◌, inl, inr, ⊎_elim, ℕ, ◌-◌, true, List, [], ◌∷◌, ◌++◌, refl, sym, ap, ◌∙◌, subst, arith, get_or-set_same}
 use Rattle.std.proofs.lemmas.Bool.{cases_eq}
 use Rattle.std.proofs.lemmas.List.Sums.{fold-append}
-use Rattle.rec_mutator.specs.Private.{Private, is_busy}
-use Rattle.rec_mutator.specs.Took.{begun_of, took_of, step_of, swapped_of, spare, IsSwapping}
+use Rattle.rec_table.proofs.Common.{Private, is_busy, begun_of, took_of, step_of, swapped_of, spare, IsSwapping, IsMutator, Core, mutator, nobody, box, IsKept, Move, after_move, after_moves, begun_from, stepped, Fits, AllFit, found_by, IsWorld, moved_world, world_kept, move_stays, mutator_stays, over_both, own_gives, other_gives, in_list, may_step, beats_in, beats_of, learnt, told, Beat, Saw}
 use Rattle.rec_mutator.specs.declared.phase.Phase as phases
 use Rattle.rec_mutator.specs.declared.phase.Phase.TheVariants as at
-use Rattle.rec_core.specs.Config.{IsMutator}
-use Rattle.rec_core.specs.Core.{Core, mutator, nobody, box}
-use Rattle.rec_core.specs.Kept.{IsKept}
-use Rattle.rec_core.specs.Moves.{Move, after_move, after_moves, begun_from, stepped, Fits, AllFit, found_by}
 use Rattle.rec_core.specs.Run.{by_actor, maker}
-use Rattle.rec_world.specs.World.{IsWorld}
 use Rattle.rec_core.specs.declared.config.Config.{Config}
-use Rattle.rec_world.proofs.Calls.{moved_world, world_kept}
-use Rattle.rec_core.proofs.Runs.{move_stays, mutator_stays, over_both, own_gives, other_gives}
-use Rattle.rec_core.proofs.Steps.{in_list}
-use Rattle.rec_core.proofs.Words.{may_step}
 use Rattle.rec_world.proofs.Mailboxes.{machine_stays}
-use Rattle.rec_table.specs.Beats.{beats_in, beats_of, learnt, told}
-use Rattle.rec_table.specs.declared.views.Beat.{Beat}
-use Rattle.rec_table.specs.declared.views.Beat.TheVariants.{Saw}
 
 pub beats_both : (x : ℕ) (w : Core) (ms ns : List Move) → beats_of x w (ms ++ ns) ≡ beats_of x w ms ++ beats_of x (after_moves w ms) ns
 beats_both x = over_both (by_actor x beats_in)

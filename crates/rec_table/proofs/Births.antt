@@ -1,17 +1,10 @@
 -- The births of a run are those of the mutators' lists, added up.
 use Rattle.std.proofs.Common.{◌≡◌, ◌≢◌, inl, inr, ℕ, zero, suc, ◌+◌, ◌<◌, ◌≤◌, arith, List, [], ◌∷◌, refl, sym, ap, ◌∙◌}
 use Rattle.std.proofs.lemmas.Bool.{cases_eq}
-use Rattle.rec_core.specs.Core.{Core, mutator}
-use Rattle.rec_core.specs.Moves.{Move, AllFit, Fits, after_move, after_moves}
+use Rattle.rec_table.proofs.Common.{Core, mutator, Move, AllFit, Fits, after_move, after_moves, Private, IsWorld, world_kept, moved_world, move_stays, other_gives, own_gives, beats_in, beats_of, births_told, told, Beat}
 use Rattle.rec_core.specs.Run.{by_actor, maker}
-use Rattle.rec_mutator.specs.Private.{Private}
-use Rattle.rec_world.specs.World.{IsWorld}
 use Rattle.rec_core.specs.declared.config.Config.{Config}
-use Rattle.rec_world.proofs.Calls.{world_kept, moved_world}
-use Rattle.rec_core.proofs.Runs.{move_stays, other_gives, own_gives}
 use Rattle.rec_order.proofs.Runs.{turned_made}
-use Rattle.rec_table.specs.Beats.{beats_in, beats_of, births_told, told}
-use Rattle.rec_table.specs.declared.views.Beat.{Beat}
 use Rattle.rec_table.proofs.Beats.{told_in}
 use Rattle.rec_table.proofs.Making.{births_both}
 

@@ -3,36 +3,18 @@ use Rattle.std.proofs.Common.{◌≡◌, ℕ, zero, suc, ◌+◌, ◌-◌, ◌%�
 use mathlib.Core.Option.{some, none}
 use lib.ListN.{get_elem?}
 use Rattle.atomic_table.specs.Table.{Step, takes, gives}
-use Rattle.rec_word.specs.Op.{written}
+use Rattle.rec_table.proofs.Common.{written, Op, Contents, Private, is_busy, took_of, took_at, crossed, left_of, spare, IsFound, IsSwapping, Core, cells_of, mutator, box, crossing_of, IsKept, after_moves, found_by, stepped, with_cell, world_kept, actor_of, learns_taken, may_step, told, learnt, Kind, Operates, index_of, beats, TakenBy, GivenBy, Saw, Seated, Mutates}
 use Rattle.rec_word.specs.Mailbox.{crossing_word}
 use Rattle.rec_word.specs.declared.mailbox.Mailbox.TheVariants.{Retired, Spare, WithCollector, WithMutator}
-use Rattle.rec_word.specs.declared.op.Op.{Op}
 use Rattle.rec_word.specs.declared.op.Op.TheVariants as ops
-use Rattle.rec_log.specs.declared.contents.Contents.{Contents}
 use Rattle.rec_mutator.specs.Causes.{is_giving}
 use Rattle.rec_mutator.specs.Next.{next_of, next_at}
-use Rattle.rec_mutator.specs.Private.{Private, is_busy}
-use Rattle.rec_mutator.specs.Took.{took_of, took_at, crossed, left_of, spare, IsFound, IsSwapping}
 use Rattle.rec_mutator.specs.declared.phase.Phase.TheVariants as at
 use Rattle.rec_mutator.proofs.Steps.{TakesNone, learnt_made, step_between, here_same}
 use Rattle.rec_collector.specs.Private as collectors
-use Rattle.rec_core.specs.Core.{Core, cells_of, mutator, box, crossing_of}
-use Rattle.rec_core.specs.Kept.{IsKept}
-use Rattle.rec_core.specs.Moves.{after_moves, found_by, stepped}
-use Rattle.rec_core.specs.Cells.{with_cell}
-use Rattle.rec_world.proofs.Calls.{world_kept}
 use Rattle.rec_core.proofs.Crossings.{behind_of, left_same}
-use Rattle.rec_core.proofs.Steps.{actor_of}
-use Rattle.rec_core.proofs.Words.{learns_taken, may_step}
 use Rattle.rec_world.proofs.Mailboxes.{left_log}
-use Rattle.rec_table.specs.Beats.{told, learnt}
 use Rattle.rec_table.specs.Homes.{home_of, homes_of}
-use Rattle.rec_table.specs.Operations.{Kind, Operates}
-use Rattle.rec_core.specs.Row.{index_of}
-use Rattle.rec_table.specs.Rule.{beats, TakenBy, GivenBy}
-use Rattle.rec_table.specs.declared.views.Beat.TheVariants.{Saw}
-use Rattle.rec_table.specs.declared.views.Seated.{Seated}
-use Rattle.rec_table.specs.declared.views.View.TheVariants.{Mutates}
 use Rattle.rec_table.proofs.Steps.{before, Here, here_at, goes_on, grows_by}
 
 pub homes_set : (ws : List ℕ) (bs : List Contents) (i c : ℕ) (b : Contents) → homes_of (set ws i c) (set bs i b) ≡ set (homes_of ws bs) i (home_of c b)

@@ -1,7 +1,6 @@
 -- The rule at the calls.
 use Rattle.std.proofs.Common.{◌≡◌, ◌⊎◌, inl, inr, ℕ, sym, ap}
-use Rattle.rec_word.specs.Op.{written}
-use Rattle.rec_word.specs.declared.op.Op.{Op}
+use Rattle.rec_table.proofs.Common.{written, Op}
 use Rattle.rec_word.specs.declared.op.Op.TheVariants as ops
 
 -- a load

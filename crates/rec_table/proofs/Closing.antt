@@ -1,31 +1,16 @@
 -- The world that a closed table leaves, part by part.
 use Rattle.std.proofs.Common.{◌≡◌, ⊎_elim, ℕ, zero, suc, ◌+◌, ◌-◌, ◌%◌, ◌<◌, arith, Bool, true, false, true≢false, cond, eqb, eq-eqb, le-ltb, List, [], ◌∷◌, map, length, nat_lt, get_or, All, Option, Some, refl, sym, ap, ◌∙◌, subst}
-use Rattle.rec_log.specs.declared.contents.Contents.{Contents}
-use Rattle.rec_mutator.specs.Private.{Private, is_busy}
 use Rattle.rec_collector.specs.Private as collectors
 use Rattle.rec_collector.specs.Step.{IsBetween}
 use Rattle.rec_collector.specs.declared.phase.Phase.{Phase}
 use Rattle.rec_collector.specs.declared.phase.Phase.TheVariants.{Looking, Swapping, Returning}
-use Rattle.rec_core.specs.Config.{IsMutator}
 use Rattle.std.specs.Option.{IfSome}
-use Rattle.rec_word.specs.declared.op.Op.{Op}
+use Rattle.rec_table.proofs.Common.{Contents, Private, is_busy, IsMutator, Op, actor_of, may_turn, Core, cells_of, mutator, nobody, box, crossing_of, IsKept, IsHandshake, Stand, stand_at, after_moves, IsWorld, world_kept, told, gathered_all, cells_of_row, boxes_at, boxes_out, Crew, config_after}
 use Rattle.rec_word.specs.declared.op.Op.TheVariants as ops
 use Rattle.rec_core.specs.Met.{MayTurn}
-use Rattle.rec_core.proofs.Steps.{actor_of}
-use Rattle.rec_core.proofs.Words.{may_turn}
 use Rattle.rec_table.proofs.Turns.{returns_op}
-use Rattle.rec_core.specs.Core.{Core, cells_of, mutator, nobody, box, crossing_of}
-use Rattle.rec_core.specs.Kept.{IsKept, IsHandshake, Stand, stand_at}
-use Rattle.rec_core.specs.Moves.{after_moves}
-use Rattle.rec_world.specs.World.{IsWorld}
 use Rattle.rec_core.specs.declared.config.Config.{Config}
-use Rattle.rec_world.proofs.Calls.{world_kept}
-use Rattle.rec_table.specs.Beats.{told, gathered_all}
 use Rattle.rec_table.specs.Ends.{IsRunOf}
-use Rattle.rec_core.specs.Row.{cells_of_row}
-use Rattle.rec_table.specs.Rule.{boxes_at, boxes_out}
-use Rattle.rec_table.specs.declared.views.Crew.{Crew}
-use Rattle.rec_core.proofs.Runs.{config_after}
 use Rattle.rec_table.proofs.Ends.{same_boxes}
 use Rattle.rec_core.proofs.Row.{cells_row}
 use Rattle.rec_table.proofs.Seats.{all_home, idle_not_giving}

@@ -4,8 +4,6 @@ use mathlib.Core.Logic.{dite}
 use native.Mathlib.Decide.{ℕ_discrete}
 use Rattle.rec_word.specs.Mailbox.{crossing_word}
 use Rattle.rec_word.specs.declared.mailbox.Mailbox.TheVariants.{Retired}
-use Rattle.rec_word.specs.declared.op.Op.{Op}
-use Rattle.rec_log.specs.declared.contents.Contents.{Contents}
 use Rattle.rec_collector.specs.Given as given
 use Rattle.rec_collector.specs.Next.{next_of}
 use Rattle.rec_collector.specs.Private.{Private, spare}
@@ -13,20 +11,11 @@ use Rattle.rec_collector.specs.Step.{IsBetween}
 use Rattle.rec_collector.specs.Took.{took_of, step_of, left_of, left_at}
 use Rattle.rec_collector.specs.declared.phase.Phase.{Phase}
 use Rattle.rec_collector.specs.declared.phase.Phase.TheVariants.{Looking, Swapping}
-use Rattle.rec_core.specs.Core.{Core, cells_of, box}
-use Rattle.rec_core.specs.Kept.{IsKept}
-use Rattle.rec_core.specs.Moves.{Move, after_move, after_moves, AllFit, Fits, looked_at, left_by, turned_at}
 use Rattle.rec_core.specs.Run.{by_actor}
-use Rattle.rec_core.proofs.Runs.{other_gives}
 use Rattle.std.proofs.lemmas.List.Sums.{fold-append}
-use Rattle.rec_core.specs.Cells.{cell}
-use Rattle.rec_world.specs.World.{IsWorld}
-use Rattle.rec_world.proofs.Calls.{moved_world, world_kept}
+use Rattle.rec_table.proofs.Common.{Op, Contents, Core, cells_of, box, IsKept, Move, after_move, after_moves, AllFit, Fits, looked_at, left_by, turned_at, other_gives, cell, IsWorld, moved_world, world_kept, beats_in, beats_of, looked, turn_at, gathered, gathered_all, OffersNone, Offerless, Beat, Begins, Saw, Took}
 use Rattle.rec_world.proofs.Mailboxes.{collector_stays}
 use Rattle.rec_world.proofs.Turnings.{gathers_so}
-use Rattle.rec_table.specs.Beats.{beats_in, beats_of, looked, turn_at, gathered, gathered_all, OffersNone, Offerless}
-use Rattle.rec_table.specs.declared.views.Beat.{Beat}
-use Rattle.rec_table.specs.declared.views.Beat.TheVariants.{Begins, Saw, Took}
 
 pub gathered_both : (c : Private) (cs bs : List Beat) → gathered_all c (cs ++ bs) ≡ gathered_all (gathered_all c cs) bs
 gathered_both = fold-append gathered

@@ -7,16 +7,8 @@ use native.Mathlib.Decide.{dec_lt}
 use lib.ListN.{get_elem?, take}
 use Rattle.std.proofs.Math.Numerals.{add-one}
 use Rattle.atomic_table.specs.Table.{State, Final, Seen}
-use Rattle.rec_log.specs.declared.contents.Contents.{Contents}
-use Rattle.rec_core.specs.Core.{Core, mutator}
-use Rattle.rec_table.specs.Beats.{told, gathered_all}
+use Rattle.rec_table.proofs.Common.{Contents, Core, mutator, told, gathered_all, Runs, Holds, Beat, Crew, View, Collects}
 use Rattle.rec_table.specs.Ends.{IsRunOf}
-use Rattle.rec_table.specs.Operations.{Runs}
-use Rattle.rec_table.specs.Rule.{Holds}
-use Rattle.rec_table.specs.declared.views.Beat.{Beat}
-use Rattle.rec_table.specs.declared.views.Crew.{Crew}
-use Rattle.rec_table.specs.declared.views.View.{View}
-use Rattle.rec_table.specs.declared.views.View.TheVariants.{Collects}
 use Rattle.rec_table.proofs.Beats.{mutator_after, world_after}
 use Rattle.rec_table.proofs.Collects.{collector_after}
 

@@ -3,12 +3,9 @@ use Rattle.std.proofs.Common.{◌≡◌, ℕ, ◌+◌, ◌-◌, ◌==◌, ◌<�
 use Rattle.std.specs.Option.{IfSome}
 use Rattle.std.proofs.lemmas.Bool.{eqb-true}
 use Rattle.atomic_table.specs.Table.{Me, Step, rest}
-use Rattle.rec_word.specs.Op.{written}
 use Rattle.rec_word.specs.Mailbox.{crossing_word}
 use Rattle.rec_word.specs.declared.mailbox.Mailbox.TheVariants.{Retired}
-use Rattle.rec_word.specs.declared.op.Op.{Op}
 use Rattle.rec_word.specs.declared.op.Op.TheVariants as ops
-use Rattle.rec_log.specs.declared.contents.Contents.{Contents}
 use Rattle.rec_release.specs.CycleFree.{op_at as freeing_op_at, next_of as freeing_next}
 use Rattle.rec_release.specs.Release.{op_at as release_op_at, next_of as release_next}
 use Rattle.rec_release.specs.Sweep.{next_of as sweep_next}
@@ -21,7 +18,7 @@ use Rattle.rec_collector.specs.Given.{IsGiven, IsGivenAt, IsSized, IsSwapping}
 use Rattle.rec_world.specs.Mailbox.{held}
 use Rattle.rec_collector.specs.Kept.{IsMachine, KeepsSizes}
 use Rattle.rec_collector.specs.Next.{next_of, next_at, is_spent}
-use Rattle.rec_collector.specs.Private.{Private, with_parts, spare}
+use Rattle.rec_collector.specs.Private.{Private, spare}
 use Rattle.rec_collector.specs.Step.{IsBetween, NamesWord}
 use Rattle.rec_collector.specs.Took.{came, ended_if, left_of, moved, took_of, took_at, step_of, swapped_of, swapped_at, swept_phase}
 use Rattle.rec_collector.specs.declared.phase.Phase.{Phase}
@@ -29,25 +26,12 @@ use Rattle.rec_collector.specs.declared.phase.Phase.TheVariants.{Idle, Looking, 
 use Rattle.rec_collector.proofs.Always.{names_word}
 use Rattle.rec_collector.proofs.Landing.{IsWorking, work_of, work_phase}
 use Rattle.atomic_table.specs.Seated.{TableId}
-use Rattle.rec_core.specs.Core.{Core, cells_of, box}
-use Rattle.rec_world.specs.World.{IsWorld}
-use Rattle.rec_world.proofs.Calls.{world_kept}
-use Rattle.rec_core.proofs.Words.{collector_within}
+use Rattle.rec_table.proofs.Common.{written, Op, Contents, with_parts, Core, cells_of, box, IsWorld, world_kept, collector_within, Gathers, gathers, gathers_now, looked_at, left_by, gathered, gathered_all, looked, index_of, Operates, IsReturnOp, TurnedBy, LookedBy, Looks, GlancedBy, ReturnedBy, records, crew_of, crew_more, boxes_at, boxes_out, NotLooking, Beat, Saw, Took, Crew, View, Collects}
 use Rattle.rec_table.proofs.Collects.{gathered_both, leaves_spare}
 use Rattle.rec_core.proofs.Row.{row_within}
-use Rattle.rec_table.specs.Held.{Gathers, gathers, gathers_now}
-use Rattle.rec_core.specs.Moves.{looked_at, left_by}
 use Rattle.rec_core.proofs.Trying.{loads_child}
 use Rattle.rec_core.proofs.Turning.{some_op}
-use Rattle.rec_table.specs.Beats.{gathered, gathered_all, looked}
-use Rattle.rec_core.specs.Row.{index_of}
-use Rattle.rec_table.specs.Operations.{Kind as OperationKind, Operates}
-use Rattle.rec_table.specs.Rule.{IsReturnOp, TurnedBy, LookedBy, Looks, GlancedBy, ReturnedBy, records, crew_of, crew_more, boxes_at, boxes_out, NotLooking}
-use Rattle.rec_table.specs.declared.views.Beat.{Beat}
-use Rattle.rec_table.specs.declared.views.Beat.TheVariants.{Saw, Took}
-use Rattle.rec_table.specs.declared.views.Crew.{Crew}
-use Rattle.rec_table.specs.declared.views.View.{View}
-use Rattle.rec_table.specs.declared.views.View.TheVariants.{Collects}
+use Rattle.rec_table.specs.Operations.{Kind as OperationKind}
 use Rattle.rec_table.proofs.Steps.{IsPlainOp}
 use Rattle.rec_table.proofs.Turns.{turns, looks, glances, returns_box}
 

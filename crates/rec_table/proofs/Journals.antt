@@ -5,30 +5,21 @@ use Rattle.std.proofs.Common.{inl, inr}
 use Rattle.std.proofs.lemmas.List.{append-nil}
 use Rattle.std.proofs.lemmas.List.Elements.{filter_map-append}
 use Rattle.std.specs.List.{filter_map, cons_option}
+use Rattle.rec_table.proofs.Common.{Private, work_of, answer_of, IsMutator, Core, sight, mutator, Move, Fits, AllFit, after_move, stepped, found_by, IsWorld, moved_world, world_kept, move_stays, other_gives, own_gives, beats_in, beats_of, learnt, told, Beat, Saw}
 use Rattle.rec_model.specs.Heap.{Heap}
 use Rattle.rec_model.specs.LegalOrder.{Line, line_by}
 use Rattle.rec_model.specs.Sight.{StandsBy}
 use Rattle.rec_model.specs.Unfreed.{AreUnfreed}
-use Rattle.rec_mutator.specs.Private.{Private, work_of, answer_of}
 use Rattle.rec_mutator.specs.declared.made.Made.{Made}
 use Rattle.rec_mutator.specs.declared.made.Made.TheVariants as makes
 use Rattle.rec_mutator.specs.declared.work.Work.{Work}
 use Rattle.rec_mutator.specs.declared.work.Work.TheVariants as works
 use Rattle.rec_core.specs.declared.config.Config.{Config}
-use Rattle.rec_core.specs.Config.{IsMutator}
-use Rattle.rec_core.specs.Core.{Core, sight, mutator}
 use Rattle.rec_core.specs.Asked.{told_by, told_in, told_in_all}
-use Rattle.rec_core.specs.Moves.{Move, Fits, AllFit, after_move, stepped, found_by}
 use Rattle.rec_core.specs.Run.{by_actor, maker}
-use Rattle.rec_world.specs.World.{IsWorld}
-use Rattle.rec_world.proofs.Calls.{moved_world, world_kept}
-use Rattle.rec_core.proofs.Runs.{move_stays, other_gives, own_gives}
 use Rattle.rec_order.specs.Legal.{AreIdle, HasLegalOrder}
 use Rattle.rec_order.proofs.Legal.{run_legal}
-use Rattle.rec_table.specs.Beats.{beats_in, beats_of, learnt, told}
 use Rattle.rec_table.specs.Journals.{line_of, line_in, journal, journals_from}
-use Rattle.rec_table.specs.declared.views.Beat.{Beat}
-use Rattle.rec_table.specs.declared.views.Beat.TheVariants.{Saw}
 use Rattle.rec_table.proofs.Beats as beats
 
 pub journal_both : (p : Private) (cs bs : List Beat) → journal p (cs ++ bs) ≡ journal p cs ++ journal (told p cs) bs

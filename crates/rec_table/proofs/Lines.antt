@@ -1,20 +1,14 @@
 -- The line that a work tells.
 use Rattle.std.proofs.Common.{◌≡◌, ℕ, Bool, true, false, true≢false, List, [], ◌∷◌, ◌++◌, Option, Some, None, refl, sym, ap, ◌∙◌}
 use Rattle.std.proofs.lemmas.List.{append-nil, map-append}
-use Rattle.rec_log.specs.declared.contents.Contents.{Contents}
-use Rattle.rec_mutator.specs.Private.{Private, answer_at, answer_of, is_busy, is_busy_at, work_of}
-use Rattle.rec_mutator.specs.Took.{begun_of, spare, step_of, swapped_at, swapped_of, took_at, took_of}
+use Rattle.rec_table.proofs.Common.{Contents, Private, answer_at, answer_of, is_busy, is_busy_at, work_of, begun_of, spare, step_of, swapped_at, swapped_of, took_at, took_of, learnt, told, saw_all, Beat, Begins, Saw}
 use Rattle.rec_mutator.specs.declared.made.Made.{Made}
 use Rattle.rec_mutator.specs.declared.phase.Phase.{Phase}
 use Rattle.rec_mutator.specs.declared.phase.Phase.TheVariants as at
 use Rattle.rec_mutator.specs.declared.work.Work.{Work}
 use Rattle.rec_mutator.specs.declared.work.Work.TheVariants as works
-use Rattle.rec_table.specs.Beats.{learnt, told}
 use Rattle.rec_table.specs.Journals.{Tells, journal, line_in, line_of}
-use Rattle.rec_table.specs.Scan.{saw_all}
 use Rattle.rec_table.specs.declared.start.Start.{Start}
-use Rattle.rec_table.specs.declared.views.Beat.{Beat}
-use Rattle.rec_table.specs.declared.views.Beat.TheVariants.{Begins, Saw}
 use Rattle.rec_table.proofs.Answering.{Path}
 use Rattle.rec_table.proofs.Journals.{journal_both}
 use Rattle.rec_model.specs.LegalOrder.{Line}

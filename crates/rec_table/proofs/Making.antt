@@ -1,15 +1,11 @@
 -- The calls of a mutator's step, with or without a mailbox.
 use Rattle.std.proofs.Common.{◌≡◌, inl, inr, ℕ, ◌+◌, ◌-◌, ◌%◌, ◌^◌, arith, Bool, true, false, true≢false, List, [], ◌∷◌, ◌++◌, length, Option, Some, None, refl, sym, ap, ◌∙◌, subst, append-nil, append_assoc}
 use Rattle.atomic_table.specs.Table.{Me, Step, rest}
-use Rattle.rec_word.specs.Op.{written}
-use Rattle.rec_word.specs.declared.op.Op.{Op}
+use Rattle.rec_table.proofs.Common.{written, Op, Contents, Private, is_busy, is_busy_at, work_of, KeepsSizes, begun_of, took_of, step_of, swapped_of, swapped_at, left_at, spare, left_of, IsFound, IsBetween, births_of, IsSettledIn, Held, IsTold, Works, HasScanned, saw_all, Beat, Core, mutator, IsOwnOp, learns_taken, own_next, told, learnt, births_told, index_of, Kind, Operates, ready, MayGo, MadeBy, TakenBy, GivenBy, beats, adds, takes_view, seated_of, hands, hands_at, hand_after, taken_by, seated_after, me_after, Saw, Seated, View, Mutates}
 use Rattle.rec_word.specs.declared.op.Op.TheVariants as ops
-use Rattle.rec_log.specs.declared.contents.Contents.{Contents}
 use Rattle.rec_mutator.specs.Causes.{is_giving}
 use Rattle.rec_mutator.specs.Next.{next_of, next_at}
-use Rattle.rec_mutator.specs.Private.{Private, is_busy, is_busy_at, work_of, KeepsSizes}
 use Rattle.rec_mutator.specs.Step.{NamesSlots}
-use Rattle.rec_mutator.specs.Took.{begun_of, took_of, step_of, swapped_of, swapped_at, left_at, spare, left_of, IsFound, IsBetween}
 use Rattle.rec_mutator.specs.declared.phase.Phase as phases
 use Rattle.rec_mutator.specs.declared.phase.Phase.TheVariants as at
 use Rattle.rec_mutator.specs.declared.work.Work.{Work}
@@ -19,22 +15,7 @@ use Rattle.rec_mutator.specs.Step.{Decides, GoesOn, Crosses, Step as MutatorStep
 use Rattle.rec_model.specs.declared.command.Cmd.{Cmd}
 use Rattle.rec_model.specs.declared.told.Told.{Told}
 use Rattle.rec_log.specs.declared.entry.Entry.{Entry}
-use Rattle.rec_core.specs.Cells.{births_of}
-use Rattle.rec_core.specs.Kept.{IsSettledIn}
-use Rattle.rec_table.specs.Held.{Held, IsTold, Works}
-use Rattle.rec_table.specs.Scan.{HasScanned, saw_all}
 use Rattle.rec_table.specs.declared.start.Start.{Start}
-use Rattle.rec_table.specs.declared.views.Beat.{Beat}
-use Rattle.rec_core.specs.Core.{Core, mutator}
-use Rattle.rec_core.proofs.Words.{IsOwnOp, learns_taken, own_next}
-use Rattle.rec_table.specs.Beats.{told, learnt, births_told}
-use Rattle.rec_core.specs.Row.{index_of}
-use Rattle.rec_table.specs.Operations.{Kind, Operates}
-use Rattle.rec_table.specs.Rule.{ready, MayGo, MadeBy, TakenBy, GivenBy, beats, adds, takes_view, seated_of, hands, hands_at, hand_after, taken_by, seated_after, me_after}
-use Rattle.rec_table.specs.declared.views.Beat.TheVariants.{Saw}
-use Rattle.rec_table.specs.declared.views.Seated.{Seated}
-use Rattle.rec_table.specs.declared.views.View.{View}
-use Rattle.rec_table.specs.declared.views.View.TheVariants.{Mutates}
 use Rattle.rec_table.proofs.Boxes.{takes_box, gives_box, crosses, takes_op}
 use Rattle.rec_table.proofs.Calls.{IsLoad}
 use Rattle.rec_table.proofs.Acting.{told_beats}

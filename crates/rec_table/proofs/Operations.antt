@@ -1,15 +1,9 @@
 -- What an operation makes of the run, and that it keeps the rule.
 use Rattle.std.proofs.Common.{◌≡◌, ◌≢◌, ℕ, if◌then◌else◌, Bool, eq-eqb, ne_eqb, Option, None, List, [], ◌∷◌, ◌++◌, get_or, refl, sym, ap, ◌∙◌, subst, append-nil}
 use Rattle.atomic_table.specs.Table.{State, Me, Allows}
+use Rattle.rec_table.proofs.Common.{written, Op, Contents, Core, Move, after_moves, Kind, Operation, Adds, AreMade, Grows, Operates, Ran, Runs, Stays, actor_at, moves_made, operation, steps_in, View}
 use Rattle.rec_word.specs.Mailbox.{crossing_word}
-use Rattle.rec_word.specs.Op.{written}
 use Rattle.rec_word.specs.declared.mailbox.Mailbox.TheVariants.{Retired}
-use Rattle.rec_word.specs.declared.op.Op.{Op}
-use Rattle.rec_log.specs.declared.contents.Contents.{Contents}
-use Rattle.rec_core.specs.Core.{Core}
-use Rattle.rec_core.specs.Moves.{Move, after_moves}
-use Rattle.rec_table.specs.Operations.{Kind, Operation, Adds, AreMade, Grows, Operates, Ran, Runs, Stays, actor_at, moves_made, operation, steps_in}
-use Rattle.rec_table.specs.declared.views.View.{View}
 
 -- Such an operation keeps the rule, and is the last one of those that made the run.
 pub allows : (key : Core) (kind : Kind) (slots id : ℕ) (me : Me (Option Contents) View) (i : ℕ) (f : ℕ → ℕ) (tells : ℕ → Me (Option Contents) View → Type 0) → Operates key kind slots id me i f tells → Allows (Runs key) slots id me i f tells

@@ -5,21 +5,9 @@ use native.Mathlib.Decide.{ℕ_discrete}
 use Rattle.std.proofs.lemmas.List.{set-get_or}
 use Rattle.atomic_table.specs.Table.{State, Step, keeps, stepped}
 use Rattle.atomic_table.proofs.Lists.{set_again}
-use Rattle.rec_word.specs.Op.{written}
-use Rattle.rec_word.specs.declared.op.Op.{Op}
+use Rattle.rec_table.proofs.Common.{written, Op, Contents, Private, is_busy, Core, mutator, IsSettledIn, told, Kind, Grows, Operates, operation, index_of, Holds, PassedBy, Seated, View, Mutates}
 use Rattle.rec_word.specs.declared.op.Op.TheVariants as ops
-use Rattle.rec_log.specs.declared.contents.Contents.{Contents}
 use Rattle.rec_mutator.specs.Next.{next_of}
-use Rattle.rec_mutator.specs.Private.{Private, is_busy}
-use Rattle.rec_core.specs.Core.{Core, mutator}
-use Rattle.rec_core.specs.Kept.{IsSettledIn}
-use Rattle.rec_table.specs.Beats.{told}
-use Rattle.rec_table.specs.Operations.{Kind, Grows, Operates, operation}
-use Rattle.rec_core.specs.Row.{index_of}
-use Rattle.rec_table.specs.Rule.{Holds, PassedBy}
-use Rattle.rec_table.specs.declared.views.Seated.{Seated}
-use Rattle.rec_table.specs.declared.views.View.{View}
-use Rattle.rec_table.specs.declared.views.View.TheVariants.{Mutates}
 use Rattle.rec_table.proofs.Operations.{passes_free, passes_taken}
 use Rattle.rec_table.proofs.Steps.{steps}
 

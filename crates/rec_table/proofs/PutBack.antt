@@ -1,20 +1,14 @@
 -- A mailbox that the collector holds is given back by its next turn.
 use Rattle.std.proofs.Common.{◌≡◌, ℕ, ◌+◌, ◌==◌, if◌then◌else◌, Bool, true, false, [], ◌∷◌, length, Option, Some, refl, sym, ap, ◌∙◌, subst, arith}
-use Rattle.rec_word.specs.declared.op.Op.{Op}
-use Rattle.rec_log.specs.declared.contents.Contents.{Contents}
+use Rattle.rec_table.proofs.Common.{Op, Contents, with_parts, gathered, Gathers, PutsBack, gathers_now, IsReturnOp, NotLooking, boxes_at, boxes_out, crew_more, Beat, Begins, Saw, Took}
 use Rattle.rec_collector.specs.Followed.{Next, followed}
 use Rattle.rec_collector.specs.Next.{next_of}
-use Rattle.rec_collector.specs.Private.{Private, with_parts}
+use Rattle.rec_collector.specs.Private.{Private}
 use Rattle.rec_collector.specs.Step.{IsBetween}
 use Rattle.rec_collector.specs.Testing.{zeros_released}
 use Rattle.rec_collector.specs.Took.{batched, came, ended_if, moved, step_of, swapped_at, swapped_of, took_at, took_of}
 use Rattle.rec_collector.specs.declared.phase.Phase.{Phase}
 use Rattle.rec_collector.specs.declared.phase.Phase.TheVariants.{Closing, Looking, Returning, Swapping}
-use Rattle.rec_table.specs.Beats.{gathered}
-use Rattle.rec_table.specs.Held.{Gathers, PutsBack, gathers_now}
-use Rattle.rec_table.specs.Rule.{IsReturnOp, NotLooking, boxes_at, boxes_out, crew_more}
-use Rattle.rec_table.specs.declared.views.Beat.{Beat}
-use Rattle.rec_table.specs.declared.views.Beat.TheVariants.{Begins, Saw, Took}
 use Rattle.rec_table.proofs.Collects.{gathered_both}
 use Rattle.rec_table.proofs.Gathering.{Kind, kind, lone_boxes, looking_boxes, returns_at}
 

@@ -1,11 +1,8 @@
 -- Every world is safe, by the laws of the core.
+use Rattle.rec_table.proofs.Common.{Core, IsKept, IsWorld, world_kept}
 use Rattle.rec_collector.proofs.Always.{within_limit}
-use Rattle.rec_core.specs.Core.{Core}
-use Rattle.rec_core.specs.Kept.{IsKept}
 use Rattle.rec_core.proofs.Freed.{freed_is_forgotten, given_up_are_gone, passed_are_garbage}
 use Rattle.rec_core.proofs.Reach.{counted_so, reached_stays, steps_keep_taken, turned_keeps}
-use Rattle.rec_world.specs.World.{IsWorld}
-use Rattle.rec_world.proofs.Calls.{world_kept}
 use Rattle.rec_table.specs.Safe.{IsSafe}
 
 pub safe : (w : Core) → IsWorld w → IsSafe w

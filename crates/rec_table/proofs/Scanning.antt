@@ -3,15 +3,12 @@ use Rattle.std.proofs.Common.{◌≡◌, ◌≢◌, ℕ, ◌+◌, ◌-◌, ◌<�
 use Rattle.std.proofs.lemmas.List.{map-append}
 use Rattle.std.proofs.lemmas.List.Elements.{All-nil, All-cons, All-head, All-tail, All-append}
 use Rattle.atomic_table.specs.Table.{Me, Step}
+use Rattle.rec_table.proofs.Common.{Op, Contents, Private, IsAt, IsMachine, register, is_full, probe_of, slot_behind, spare, took_of, skipped_to, skipped_at, IsBetween, births_of, Core, mutator, IsSettledIn, told, learnt, births_told, Kind, Operates, PassedBy, adds, beats, longer, seated_of, hands, hands_at, Passed, ScansFrom, saw_all, Beat, Saw, Seated, View, Mutates}
 use Rattle.rec_word.specs.Header.{header_word}
-use Rattle.rec_word.specs.declared.op.Op.{Op}
 use Rattle.rec_word.specs.declared.op.Op.TheVariants as ops
 use Rattle.rec_model.specs.declared.command.Cmd.TheVariants as commands
-use Rattle.rec_log.specs.declared.contents.Contents.{Contents}
 use Rattle.rec_mutator.specs.Next.{next_of, next_at, begun_op, new_op, read_op, write_op, label_op}
-use Rattle.rec_mutator.specs.Private.{Private, IsAt, IsMachine, register, is_full, probe_of, slot_behind}
 use Rattle.rec_mutator.specs.Step.{NamesSlots}
-use Rattle.rec_mutator.specs.Took.{spare, took_of, skipped_to, skipped_at, IsBetween}
 use Rattle.rec_mutator.specs.declared.phase.Phase as phases
 use Rattle.rec_mutator.specs.declared.phase.Phase.TheVariants as at
 use Rattle.rec_mutator.specs.declared.work.Work.{Work}
@@ -19,18 +16,6 @@ use Rattle.rec_mutator.specs.declared.work.Work.TheVariants as works
 use Rattle.rec_mutator.proofs.Around.{behind_below, behind_further, behind_wraps}
 use Rattle.rec_mutator.proofs.Skips.{skipped_next, skipped_none, skipped_further, skipped_busy}
 use Rattle.rec_mutator.proofs.Steps.{TakesNone, here_same}
-use Rattle.rec_core.specs.Cells.{births_of}
-use Rattle.rec_core.specs.Core.{Core, mutator}
-use Rattle.rec_core.specs.Kept.{IsSettledIn}
-use Rattle.rec_table.specs.Beats.{told, learnt, births_told}
-use Rattle.rec_table.specs.Operations.{Kind, Operates}
-use Rattle.rec_table.specs.Rule.{PassedBy, adds, beats, longer, seated_of, hands, hands_at}
-use Rattle.rec_table.specs.Scan.{Passed, ScansFrom, saw_all}
-use Rattle.rec_table.specs.declared.views.Beat.{Beat}
-use Rattle.rec_table.specs.declared.views.Beat.TheVariants.{Saw}
-use Rattle.rec_table.specs.declared.views.Seated.{Seated}
-use Rattle.rec_table.specs.declared.views.View.{View}
-use Rattle.rec_table.specs.declared.views.View.TheVariants.{Mutates}
 use Rattle.rec_table.proofs.Beats.{told_both}
 use Rattle.rec_table.proofs.Making.{births_both}
 use Rattle.rec_table.proofs.Probes.{probes}

@@ -8,24 +8,11 @@ use Rattle.std.proofs.Math.Seq.{get_or-append_seam}
 use Rattle.std.proofs.lemmas.List.{get_or_append_left}
 use Rattle.atomic_table.specs.Table.{opening}
 use Rattle.atomic_table.proofs.Lists.{at_set}
-use Rattle.rec_log.specs.declared.contents.Contents.{Contents}
-use Rattle.rec_mutator.specs.Private.{Private, is_busy, is_busy_at}
+use Rattle.rec_table.proofs.Common.{Contents, Private, is_busy, is_busy_at, IsMutator, Core, cells_of, mutator, Move, after_moves, IsWorld, beats_of, told, SplitsIdly, JoinsIdly, Ran, Runs, row, Holds, first_view, without, newcomer, joined, Beat, Crew, Seated, View, Collects, Mutates, Spent}
 use Rattle.rec_mutator.specs.declared.phase.Phase.TheVariants as at
 use Rattle.rec_collector.specs.Private as collectors
-use Rattle.rec_core.specs.Config.{IsMutator}
-use Rattle.rec_core.specs.Core.{Core, cells_of, mutator}
-use Rattle.rec_core.specs.Moves.{Move, after_moves}
-use Rattle.rec_world.specs.World.{IsWorld}
-use Rattle.rec_table.specs.Beats.{beats_of, told}
 use Rattle.rec_table.specs.Homes.{homes_of}
-use Rattle.rec_table.specs.Operations.{SplitsIdly, JoinsIdly, Ran, Runs}
-use Rattle.rec_core.specs.Row.{row}
-use Rattle.rec_table.specs.Rule.{Fits, Holds, first_view, without, newcomer, joined}
-use Rattle.rec_table.specs.declared.views.Beat.{Beat}
-use Rattle.rec_table.specs.declared.views.Crew.{Crew}
-use Rattle.rec_table.specs.declared.views.Seated.{Seated}
-use Rattle.rec_table.specs.declared.views.View.{View}
-use Rattle.rec_table.specs.declared.views.View.TheVariants.{Collects, Mutates, Spent}
+use Rattle.rec_table.specs.Rule.{Fits}
 use Rattle.rec_table.proofs.Beats.{mutator_after}
 use Rattle.rec_table.proofs.Boxes.{home_even}
 use Rattle.rec_table.proofs.Steps.{fits_set}

@@ -6,17 +6,12 @@ use lib.ListN.{get_elem?}
 use Rattle.atomic_table.specs.Table.{State, Step, keeps}
 use Rattle.atomic_table.proofs.Lists.{at_set}
 use Rattle.rec_word.specs.Header.{is_leaf}
-use Rattle.rec_word.specs.Op.{written}
-use Rattle.rec_word.specs.declared.op.Op.{Op}
 use Rattle.rec_word.specs.declared.op.Op.TheVariants as ops
 use Rattle.rec_model.specs.declared.command.Cmd.{Cmd}
 use Rattle.rec_model.specs.declared.command.Cmd.TheVariants as commands
-use Rattle.rec_log.specs.declared.contents.Contents.{Contents}
 use Rattle.rec_mutator.specs.Next.{next_of, next_at, read_op, write_op, label_op, new_op}
-use Rattle.rec_mutator.specs.Private.{Private, is_busy, is_full, register, probe_of}
 use Rattle.rec_mutator.specs.Step.{NamesSlots}
 use Rattle.rec_model.specs.Asking.{plain as plain_told}
-use Rattle.rec_mutator.specs.Took.{begun_of, took_of, took_at, read_by, allowed_by, written_by, answered, moved, born_in, spare, left_of, step_of, IsFound}
 use Rattle.rec_mutator.specs.declared.phase.Phase as phases
 use Rattle.rec_mutator.specs.declared.phase.Phase.TheVariants as at
 use Rattle.rec_mutator.specs.declared.work.Work.{Work}
@@ -26,31 +21,15 @@ use Rattle.rec_mutator.specs.declared.made.Made.TheVariants as makes
 use Rattle.rec_mutator.specs.Causes.{is_giving}
 use Rattle.rec_mutator.proofs.Steps.{TakesNone, here_same, learnt_made, step_between}
 use Rattle.rec_collector.specs.Private as collectors
-use Rattle.rec_core.specs.Config.{IsMutator}
-use Rattle.rec_core.specs.Core.{Core, cells_of, mutator, nobody, box}
-use Rattle.rec_core.specs.Kept.{IsKept, IsSettledIn}
 use Rattle.rec_core.specs.Met.{MayStep}
-use Rattle.rec_core.specs.Moves.{Move, AllFit, after_moves, found_by, stepped, begun_from}
-use Rattle.rec_core.specs.Cells.{Cells, IsWithin, cell, with_cell}
-use Rattle.rec_world.specs.World.{IsWorld}
 use Rattle.rec_core.specs.declared.config.Config.{Config}
-use Rattle.rec_world.proofs.Calls.{world_kept, moved_world}
 use Rattle.rec_core.proofs.Crossings.{left_same}
-use Rattle.rec_core.proofs.Steps.{actor_of, in_list, fields_many}
-use Rattle.rec_core.proofs.Words.{may_step, names_slots}
 use Rattle.std.proofs.lemmas.List.{set-get_or}
-use Rattle.rec_table.specs.Beats.{beats_of, told, learnt, OffersNone, Offerless}
+use Rattle.rec_table.proofs.Common.{written, Op, Contents, Private, is_busy, is_full, register, probe_of, begun_of, took_of, took_at, read_by, allowed_by, written_by, answered, moved, born_in, spare, left_of, step_of, IsFound, IsMutator, Core, cells_of, mutator, nobody, box, IsKept, IsSettledIn, Move, AllFit, after_moves, found_by, stepped, begun_from, Cells, IsWithin, cell, with_cell, IsWorld, world_kept, moved_world, actor_of, in_list, fields_many, may_step, names_slots, beats_of, told, learnt, OffersNone, Offerless, Kind, Performed, Adds, Grows, Operates, moves_of, operation, performed, step_in, steps_in, row, index_of, Holds, ready, MayGo, beats, longer, MadeBy, Begins, Saw, Seated, View, Collects, Mutates, Spent, after_both, config_after, every_both, fit_both, over_both}
 use Rattle.rec_table.specs.Homes.{homes_of}
-use Rattle.rec_table.specs.Operations.{Kind, Performed, Adds, Grows, Operates, moves_of, operation, performed, step_in, steps_in}
-use Rattle.rec_core.specs.Row.{row, index_of}
-use Rattle.rec_table.specs.Rule.{Fits, Holds, ready, MayGo, beats, longer, MadeBy}
+use Rattle.rec_table.specs.Rule.{Fits}
 use Rattle.rec_table.specs.declared.start.Start.{Start}
-use Rattle.rec_table.specs.declared.views.Beat.TheVariants.{Begins, Saw}
-use Rattle.rec_table.specs.declared.views.Seated.{Seated}
-use Rattle.rec_table.specs.declared.views.View.{View}
-use Rattle.rec_table.specs.declared.views.View.TheVariants.{Collects, Mutates, Spent}
 use Rattle.rec_core.proofs.Row.{row_read, row_write}
-use Rattle.rec_core.proofs.Runs.{after_both, config_after, every_both, fit_both, over_both}
 use Rattle.rec_table.proofs.Beats.{beats_both, world_after, mutator_after, step_same}
 
 -- the state in which the step is made

@@ -1,16 +1,9 @@
 -- What stopping promises, from the run of all lists.
 use Rattle.std.proofs.Common.{◌≡◌, List, length, map, sym, ap, ◌∙◌, subst}
 use Rattle.std.proofs.lemmas.List.{length-map}
-use Rattle.rec_core.specs.Core.{Core}
-use Rattle.rec_core.proofs.Runs.{fit_first}
-use Rattle.rec_core.specs.Moves.{AllFit, after_moves}
+use Rattle.rec_table.proofs.Common.{Core, fit_first, AllFit, after_moves, IsWorld, gathered_all, boxes_out, AreMutatorsOf, Gathers, Held, PutsBack, Started, Beat}
 use Rattle.rec_core.specs.Worked.{AreIdle}
-use Rattle.rec_world.specs.World.{IsWorld}
-use Rattle.rec_table.specs.Beats.{gathered_all}
-use Rattle.rec_table.specs.Rule.{boxes_out}
 use Rattle.rec_table.specs.Ends.{Interleaves, IsStopped}
-use Rattle.rec_table.specs.Held.{AreMutatorsOf, Gathers, Held, PutsBack, Started}
-use Rattle.rec_table.specs.declared.views.Beat.{Beat}
 use Rattle.rec_table.proofs.Beats.{world_after}
 use Rattle.rec_table.proofs.Journals.{lists_legal}
 use Rattle.rec_table.proofs.Safe.{safe}

@@ -2,23 +2,13 @@
 use Rattle.std.proofs.Common.{◌≡◌, ℕ, zero, suc, ◌+◌, ◌-◌, ◌%◌, ◌^◌, ◌<◌, ◌≤◌, All, false, List, [], length, map, take, get_or, Option, refl, sym, ap, ◌∙◌, arith}
 use Rattle.std.specs.List.{sum_by}
 use Rattle.std.proofs.lemmas.List.{get_or-map, length-map, take_all}
-use Rattle.rec_log.specs.declared.contents.Contents.{Contents}
-use Rattle.rec_mutator.specs.Private.{Private, is_busy}
+use Rattle.rec_table.proofs.Common.{Contents, Private, is_busy, Core, mutator, nobody, after_moves, IsWorld, made_small, world_kept, beats_of, births_told, gathered_all, told, AreMutatorsOf, Held, Started, fresh, has, boxes_out, Beat, Crew}
 use Rattle.rec_collector.specs.Private as collectors
-use Rattle.rec_core.specs.Core.{Core, mutator, nobody}
-use Rattle.rec_core.specs.Moves.{after_moves}
 use Rattle.rec_core.specs.Worked.{AreIdle}
 use Rattle.rec_core.specs.declared.config.Config.{Config}
 use Rattle.rec_world.specs.Parts.{AreParts}
-use Rattle.rec_world.specs.World.{IsWorld}
 use Rattle.rec_world.specs.declared.parts.Parts.{Parts}
-use Rattle.rec_world.proofs.Calls.{made_small, world_kept}
-use Rattle.rec_table.specs.Beats.{beats_of, births_told, gathered_all, told}
 use Rattle.rec_table.specs.Ends.{IsRunOf}
-use Rattle.rec_table.specs.Held.{AreMutatorsOf, Held, Started, fresh, has}
-use Rattle.rec_table.specs.Rule.{boxes_out}
-use Rattle.rec_table.specs.declared.views.Beat.{Beat}
-use Rattle.rec_table.specs.declared.views.Crew.{Crew}
 use Rattle.rec_table.proofs.Births.{births_add_up, births_all}
 use Rattle.rec_table.proofs.Closing.{Ends, all_even, ends}
 use Rattle.rec_table.proofs.Lists.{sum_more, take_next}

@@ -1,6 +1,6 @@
 -- What makes a turn of the collector on the table one.
 use Rattle.std.proofs.Common.{◌≡◌, ℕ, Option, None, Some, refl, sym, ap, subst, ◌∙◌}
-use Rattle.rec_word.specs.declared.op.Op.{Op}
+use Rattle.rec_table.proofs.Common.{Op, cell, Core, cells_of, turned, IsWorld, world_kept, gathered, Gathers, gathers_now, crew_more, word_of, Beat}
 use Rattle.rec_collector.specs.Causes.{HasCause}
 use Rattle.rec_collector.specs.Kept.{IsMachine}
 use Rattle.rec_collector.specs.Next.{next_of}
@@ -9,18 +9,9 @@ use Rattle.rec_collector.specs.Took.{took_of, turn_of}
 use Rattle.rec_collector.specs.declared.turn.Turn.{Turn}
 use Rattle.rec_collector.specs.declared.turn.Turn.TheVariants as turns
 use Rattle.rec_collector.proofs.Steps.{has_cause}
-use Rattle.rec_core.specs.Cells.{cell}
-use Rattle.rec_core.specs.Core.{Core, cells_of}
-use Rattle.rec_core.specs.Moves.{turned}
 use Rattle.rec_core.specs.Turn.{IsTurn, told_at, turn_told}
 use Rattle.rec_core.proofs.Turn.{turn_is_one}
-use Rattle.rec_world.specs.World.{IsWorld}
-use Rattle.rec_world.proofs.Calls.{world_kept}
-use Rattle.rec_table.specs.Beats.{gathered}
-use Rattle.rec_table.specs.Held.{Gathers, gathers_now}
-use Rattle.rec_table.specs.Rule.{crew_more, word_of}
 use Rattle.rec_table.specs.Turn.{MakesTurn}
-use Rattle.rec_table.specs.declared.views.Beat.{Beat}
 
 -- a world's turn, with the answer that was told
 told : (w : Core) (answer : Turn) → IsWorld w → turn_told w ≡ answer → IsTurn w (turned w) answer

@@ -8,45 +8,25 @@ use lib.ListN.{get_elem?}
 use Rattle.std.proofs.lemmas.List.{set-get_or}
 use Rattle.atomic_table.specs.Table.{State, Step, keeps, takes, gives, stepped}
 use Rattle.atomic_table.proofs.Lists.{set_again}
-use Rattle.rec_word.specs.Op.{written}
+use Rattle.rec_table.proofs.Common.{written, Op, Contents, blank, IsMutator, Core, cells_of, mutator, box, crossing_of, IsKept, IsHandshake, Stand, stand_at, Move, after_moves, looked_at, left_by, turned_at, cell, IsWorld, world_kept, actor_of, may_turn, beats_of, looked, turn_at, gathered_all, OffersNone, Kind, Grows, Operates, operation, performed, step_in, steps_in, turned_by, row, index_of, Holds, TurnedBy, LookedBy, GlancedBy, ReturnedBy, Beat, Saw, Took, Crew, View, Collects, Mutates, Spent, after_both, config_after, every_both, fit_both, over_both}
 use Rattle.rec_word.specs.Mailbox.{crossing_word}
 use Rattle.rec_word.specs.declared.mailbox.Mailbox.TheVariants.{Retired, Spare, WithCollector, WithMutator}
-use Rattle.rec_word.specs.declared.op.Op.{Op}
 use Rattle.rec_word.specs.declared.op.Op.TheVariants as ops
-use Rattle.rec_log.specs.declared.contents.Contents.{Contents}
 use Rattle.rec_mutator.specs.declared.phase.Phase.TheVariants as at
 use Rattle.rec_collector.specs.Given.{IsGiven, IsSized}
 use Rattle.rec_collector.specs.Next.{next_of, next_at}
-use Rattle.rec_collector.specs.Private.{Private, spare, blank}
+use Rattle.rec_collector.specs.Private.{Private, spare}
 use Rattle.rec_collector.specs.declared.phase.Phase.{Phase}
 use Rattle.rec_collector.specs.declared.phase.Phase.TheVariants.{Looking, Returning}
-use Rattle.rec_core.specs.Config.{IsMutator}
-use Rattle.rec_core.specs.Core.{Core, cells_of, mutator, box, crossing_of}
-use Rattle.rec_core.specs.Kept.{IsKept, IsHandshake, Stand, stand_at}
 use Rattle.rec_core.specs.Met.{MayTurn}
-use Rattle.rec_core.specs.Moves.{Move, after_moves, looked_at, left_by, turned_at}
-use Rattle.rec_core.specs.Cells.{cell}
-use Rattle.rec_world.specs.World.{IsWorld}
 use Rattle.rec_core.specs.declared.config.Config.{Config}
-use Rattle.rec_world.proofs.Calls.{world_kept}
 use Rattle.rec_core.proofs.Crossings.{giving_of}
 use Rattle.rec_core.proofs.Turning.{some_op}
 use Rattle.rec_core.proofs.Turns.{its_spare}
 use Rattle.rec_core.proofs.Shapes.{same_boxes}
-use Rattle.rec_core.proofs.Steps.{actor_of}
-use Rattle.rec_core.proofs.Words.{may_turn}
-use Rattle.rec_table.specs.Beats.{beats_of, looked, turn_at, gathered_all, OffersNone}
 use Rattle.rec_table.specs.Homes.{homes_of}
-use Rattle.rec_table.specs.Operations.{Kind, Grows, Operates, operation, performed, step_in, steps_in, turned_by}
-use Rattle.rec_core.specs.Row.{row, index_of}
-use Rattle.rec_table.specs.Rule.{Fits, Holds, TurnedBy, LookedBy, GlancedBy, ReturnedBy}
-use Rattle.rec_table.specs.declared.views.Beat.{Beat}
-use Rattle.rec_table.specs.declared.views.Beat.TheVariants.{Saw, Took}
-use Rattle.rec_table.specs.declared.views.Crew.{Crew}
-use Rattle.rec_table.specs.declared.views.View.{View}
-use Rattle.rec_table.specs.declared.views.View.TheVariants.{Collects, Mutates, Spent}
+use Rattle.rec_table.specs.Rule.{Fits}
 use Rattle.rec_core.proofs.Row.{row_read, row_write}
-use Rattle.rec_core.proofs.Runs.{after_both, config_after, every_both, fit_both, over_both}
 use Rattle.rec_table.proofs.Beats.{beats_both, world_after}
 use Rattle.rec_table.proofs.Boxes.{homes_set, homes_at, home_even, home_odd, even_zero, even_two, odd_three}
 use Rattle.rec_table.proofs.Collects.{collector_after}

@@ -1,20 +1,10 @@
 -- The word of a mutator's operation is there.
 use Rattle.std.proofs.Common.{◌≡◌, ℕ, ◌+◌, ◌*◌, ◌<◌, ◌≤◌, length, sym, ap, ◌∙◌, subst, arith}
-use Rattle.rec_word.specs.declared.op.Op.{Op}
+use Rattle.rec_table.proofs.Common.{Op, Private, IsMachine, KeepsSizes, IsMutator, Core, cells_of, mutator, IsKept, IsWithin, IsWorld, world_kept, actor_of, fields_many, IsOwnOp, own_next, index_of}
 use Rattle.rec_word.specs.declared.op.Op.TheVariants as ops
 use Rattle.rec_mutator.specs.Next.{next_of}
-use Rattle.rec_mutator.specs.Private.{Private, IsMachine, KeepsSizes}
 use Rattle.rec_mutator.specs.Step.{NamesSlots, NamesWord}
 use Rattle.rec_mutator.proofs.Words.{names_word}
-use Rattle.rec_core.specs.Config.{IsMutator}
-use Rattle.rec_core.specs.Core.{Core, cells_of, mutator}
-use Rattle.rec_core.specs.Kept.{IsKept}
-use Rattle.rec_core.specs.Cells.{IsWithin}
-use Rattle.rec_world.specs.World.{IsWorld}
-use Rattle.rec_world.proofs.Calls.{world_kept}
-use Rattle.rec_core.proofs.Steps.{actor_of, fields_many}
-use Rattle.rec_core.proofs.Words.{IsOwnOp, own_next}
-use Rattle.rec_core.specs.Row.{index_of}
 use Rattle.rec_core.proofs.Row.{row_within}
 
 record Sized (key : Core) (t : ℕ) (p : Private) : Type 0 where

@@ -1,3 +1,4 @@
+-- The modules of the proofs.
 pub mod Lists
 pub mod Works
 pub mod Requests

@@ -97,44 +97,48 @@ impl Memory {
         ensures left { self.new ≡ with_cell self.old op (written op result) }
     {
         match op {
-            Op::LoadField(_) | Op::LoadChild(_) => self.load(op),
-            Op::SwapField(_, _) | Op::ClearField(_) => self.exchange(op),
-            Op::LoadHeader(_) => self.load(op),
+            Op::LoadField(place) | Op::LoadChild(place) => self.load(Cell::Field(place), op),
+            Op::SwapField(place, _) | Op::ClearField(place) => {
+                self.exchange(Cell::Field(place), op)
+            }
+            Op::LoadHeader(slot) => self.load(Cell::Header(slot), op),
             Op::ClaimHeader(slot, header) => self.claim(slot, header),
             Op::FreeHeader(slot) => self.clear(slot),
-            Op::LoadEpoch => self.load(op),
-            Op::StoreEpoch(_) => self.exchange(op),
-            Op::LoadFreed => self.load(op),
-            Op::AddFreed => self.exchange(op),
-            Op::LoadCross(_) => self.load(op),
-            Op::TakeBox(_, _) | Op::GiveBox(_, _) => self.exchange(op),
-            Op::LookBox(_, _) => self.exchange(op),
-            Op::ReturnBox(_, _) => self.exchange(op),
+            Op::LoadEpoch => self.load(Cell::Epoch, op),
+            Op::StoreEpoch(_) => self.exchange(Cell::Epoch, op),
+            Op::LoadFreed => self.load(Cell::Freed, op),
+            Op::AddFreed => self.exchange(Cell::Freed, op),
+            Op::LoadCross(t) => self.load(Cell::Crossing(t), op),
+            Op::TakeBox(t, _) | Op::GiveBox(t, _) => self.exchange(Cell::Crossing(t), op),
+            Op::LookBox(t, _) => self.exchange(Cell::Crossing(t), op),
+            Op::ReturnBox(t, _) => self.exchange(Cell::Crossing(t), op),
         }
     }
 
     // The word that a load names, which it leaves.
     #[inline(always)]
-    fn load(&self, op: Op) -> u64
+    fn load(&self, at: Cell, op: Op) -> u64
         requires within { IsWithin self.now op }
+        requires names { at ≡ cell_of op }
         requires load { atom_of op ≡ Load }
 
         ensures found { result ≡ cell self.now op }
         ensures left { self.now ≡ with_cell self.now op (written op result) }
     {
-        self.row[self.layout.index(op.cell())]
+        self.row[self.layout.index(at)]
     }
 
     // Carries out an operation on a word that is no header.
     #[inline(always)]
-    fn exchange(&mut self, op: Op) -> u64
+    fn exchange(&mut self, at: Cell, op: Op) -> u64
         requires within { IsWithin self.old op }
-        requires other { IsNoHeader (cell_of op) }
+        requires names { at ≡ cell_of op }
+        requires other { IsNoHeader at }
 
         ensures found { result ≡ cell self.old op }
         ensures left { self.new ≡ with_cell self.old op (written op result) }
     {
-        exchange(&mut self.row[self.layout.index(op.cell())], op)
+        exchange(&mut self.row[self.layout.index(at)], op)
     }
 
     // Claims a slot, where it is free.

@@ -1,3 +1,4 @@
+-- The modules of the proofs.
 pub mod Opened
 pub mod Runs
 pub mod Sends

@@ -1,11 +1,9 @@
 -- What each call comes to, code by code: why that code came, and what the call left.
 use Rattle.std.specs.Prelude.{◌≡◌, ℕ, ◌+◌, ◌%◌, ◌^◌, ◌<◌, ◌≤◌, All, Option, Some, None, IsSome, List, [], ◌∷◌, length, map, slice_index_or, unwrap_or}
 use Rattle.std.specs.Arc.{arc_value}
-use Rattle.rec_collector.specs.Kept.{under_way}
 use Rattle.rec_collector.specs.declared.turn.Turn.{Turn}
 use Rattle.rec_core.specs.Config.{IsConfig}
 use Rattle.rec_core.specs.Core.{Core, opened, sight}
-use Rattle.rec_core.specs.Settled.{IsSettled}
 use Rattle.rec_core.specs.declared.config.Config.{Config}
 use Rattle.rec_counts.specs.Counts.{slot_at}
 use Rattle.rec_model.specs.Heap.{Heap}
@@ -15,7 +13,8 @@ use Rattle.rec_model.specs.declared.told.Told.{Told}
 use Rattle.rec_mutator.specs.Private.{IsValid, answer_of}
 use Rattle.rec_mutator.specs.declared.made.Made.TheVariants as makes
 use Rattle.rec_mutator.specs.declared.work.Work.TheVariants as works
-use Rattle.rec_settle.specs.Collecting.{IsSettling, taken_slots}
+use Rattle.rec_settle.specs.Collecting.{taken_slots}
+use Rattle.rec_settle.specs.Whole as whole
 use Rattle.rec_table.specs.Answered.{IsAnswered, IsPolled}
 use Rattle.rec_table.specs.Ends.{IsStopped}
 use Rattle.rec_table.specs.Held.{Gathers, Held, Started, Works, fresh, fresh_collector, gathers_now, has}
@@ -191,13 +190,7 @@ pub record HasSettled (h h' : Option End) (told : Settled) : Type 0 where
   pub after : Core
   pub is : rests_in h' ≡ Some after
   pub config : after.config ≡ before.config
-  pub left : before.epoch + 4 < 2 ^ 24
-  pub settled : IsSettled after
-  pub settles : IsSettling before after
-  pub epochs : told.epochs ≡ 3 + under_way before.collector.phase
-  pub requested : after.epoch ≡ before.epoch + 3
-  pub freed : after.collector.freed ≡ before.collector.freed + told.freed
-  pub live : told.live ≡ taken_slots after
+  pub done : whole.HasSettled before after (record { epochs = told.epochs; freed = told.freed; live = told.live })
   pub registers : (sight after).registers ≡ (sight before).registers
   pub stands : (heap : Heap) (number : ℕ → ℕ) → StandsBy heap (sight before) number → StandsBy heap (sight after) number
   pub made : after.made ≡ before.made

@@ -1,3 +1,4 @@
+-- The contract of `config_for`: the numbers of the heap that a script is played on.
 use Rattle.std.proofs.Common.{◌≡◌, max, length, sym, ap, subst, ◌∙◌}
 use Rattle.rec_core.specs.Config.{IsConfig}
 use Rattle.rec_core.specs.declared.config.Config.{Config}

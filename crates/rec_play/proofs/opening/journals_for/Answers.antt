@@ -1,3 +1,4 @@
+-- The contract of `journals_for`: an empty journal for each mutator, with room for its commands.
 use Rattle.std.proofs.Common.{◌≡◌, ℕ, ◌++◌, ◌∷◌, [], List, map, length, take, sym, ap, subst, ◌∙◌, arith}
 use Rattle.std.proofs.lemmas.List.{map_push}
 use Rattle.rec_world.specs.Journal.{Notes}

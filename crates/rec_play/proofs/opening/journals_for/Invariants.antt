@@ -1,3 +1,4 @@
+-- The loops of `journals_for`: an empty journal for each mutator, with room for its commands.
 use Rattle.std.proofs.Common.{◌≡◌, map, take}
 use Rattle.rec_play.specs.Played.{lengths_of}
 use Rattle.rec_play.proofs.Ready.{journal_with}

@@ -1,3 +1,4 @@
+-- The contract of `lengths_of`: how many commands each mutator has.
 use Rattle.std.proofs.Common.{◌≡◌, ◌≤◌, ◌<◌, ◌+◌, ◌-◌, ◌++◌, ◌∷◌, [], ℕ, List, Some, map, slice_index_or, length, take, sym, ap, subst, ◌∙◌, arith}
 use Rattle.std.specs.List.{slice_get}
 use Rattle.std.proofs.lemmas.List.{length-take-le, take_more, take_all, length-map, get_or-map}

@@ -1,3 +1,4 @@
+-- The loops of `lengths_of`: how many commands each mutator has.
 use Rattle.std.proofs.Common.{◌≡◌, take}
 use Rattle.rec_play.specs.Played.{lengths_of}
 use Rattle.rec_play.proofs.opening.lengths_of.Given as goal

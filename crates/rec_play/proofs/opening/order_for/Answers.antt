@@ -1,3 +1,4 @@
+-- The contract of `order_for`: an empty order with room for all commands.
 use Rattle.std.proofs.Common.{◌≡◌, ℕ, ◌+◌, ◌*◌, ◌≤◌, List, length, take, sym, ap, ◌∙◌, arith}
 use Rattle.std.specs.List.{sum}
 use Rattle.std.proofs.lemmas.Result.{IfOk-weaker}

@@ -1,3 +1,4 @@
+-- The loops of `order_for`: an empty order with room for all commands.
 use Rattle.std.proofs.Common.{◌≡◌, ◌≤◌, ◌*◌, take}
 use Rattle.std.specs.List.{sum}
 use Rattle.rec_play.specs.Played.{lengths_of}

@@ -1,3 +1,4 @@
+-- The contract of `unfinished_of`: the mutators with commands left.
 use Rattle.std.proofs.Common.{◌≡◌, ℕ, ◌+◌, ◌<◌, List, [], ◌∷◌, ◌++◌, slice_index_or, length, take, sym, ap, ◌∙◌, arith}
 use Rattle.arrayvec.specs.ArrayVec.{ArrayVec}
 use Rattle.rec_play.specs.Playing.{unfinished}

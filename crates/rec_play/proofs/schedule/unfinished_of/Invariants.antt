@@ -1,3 +1,4 @@
+-- The loops of `unfinished_of`: the mutators with commands left.
 use Rattle.std.proofs.Common.{◌≡◌, ◌≤◌, length, take}
 use Rattle.rec_play.specs.Playing.{unfinished}
 use Rattle.rec_play.proofs.schedule.unfinished_of.Given as goal

@@ -1,3 +1,4 @@
+-- The loops of `go_on`: makes these steps, up to one of which something else is told.
 use Rattle.rec_table.specs.Held.{AreMutatorsOf, IsCollectorOf}
 use Rattle.rec_rows.proofs.running.go_on.Given as goal
 

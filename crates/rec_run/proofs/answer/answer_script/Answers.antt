@@ -39,7 +39,7 @@ returns g c =
     let number : ℕ → ℕ = is.has_run.names.number in
     if_ok c.write_text.result _ (λ text. Answers script how (flat_map (λ line. line) text))
     (λ text (rows, listed, told). answers_script script how journals is.events o.world world rows (flat_map (λ line. line) text) is.has_run
-    c.in-Ok.ensures.settles c.in-Ok.ensures.settled (number, c.settle.ensures.stands (last_moment script is.events).heap number is.has_run.stands)
+    c.in-Ok.ensures.done.settles c.in-Ok.ensures.done.settled (number, c.settle.ensures.stands (last_moment script is.events).heap number is.has_run.stands)
     (c.settle.ensures.kept.shaped.headers ∙ ap (λ (k : Config). k.slots) (c.settle.ensures.config ∙ is.config))
     listed
     (told ∙ ap (λ (s : Bool). printed script.version s journals (option_map (λ (turns : Turns). turns.list) o.order) rows world.made world) c.wants_summary.ensures

@@ -1,3 +1,4 @@
+-- The contract of `open_world`: the heap of a script.
 use Rattle.std.proofs.Common.{subst}
 use Rattle.rec_world.specs.OpenError.{IsRefused}
 use Rattle.rec_run.proofs.Opening.{none_wrong}

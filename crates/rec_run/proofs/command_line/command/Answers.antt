@@ -1,3 +1,4 @@
+-- The contract of `command`: the program's command.
 use Rattle.std.proofs.Common.{rules, ap, ap₂, refl, codes, Bool, true, false, not, ◌≡◌, ◌∙◌}
 use Rattle.std.proofs.lemmas.Result.{IfOk-weaker}
 use Rattle.clap.specs.Words.{App, Shape, app_of, new_app, with_subcommand}

@@ -1,3 +1,4 @@
+-- The contract of `make_options`: what the options of `make` ask for, where their numbers are in range.
 use Rattle.std.proofs.Common.{◌≡◌, ◌≢◌, ◌≤◌, codes, arith}
 use Rattle.clap.specs.Words.{found_of}
 use Rattle.rec_run.proofs.Options.{by_row, by_text, says_once}

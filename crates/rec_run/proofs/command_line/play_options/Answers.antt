@@ -1,3 +1,4 @@
+-- The contract of `play_options`: what the options of `play` ask for, where their numbers are in range.
 use Rattle.std.proofs.Common.{◌∙◌, ap, codes}
 use Rattle.clap.specs.Words.{found_of}
 use Rattle.clap.proofs.WalkLemmas.{first_value-rows}

@@ -1,3 +1,4 @@
+-- The contract of `read_all`: reads a source to its end, or past the limit.
 use Rattle.std.proofs.Common.{◌≡◌, ℕ, List, ◌++◌, Result, Ok, Err, sym, subst, ◌∙◌, arith}
 use Rattle.rec_io.specs.Source.{Passes}
 use Rattle.rec_io.proofs.Reading.{passes_more}

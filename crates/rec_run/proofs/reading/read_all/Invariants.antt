@@ -1,3 +1,4 @@
+-- The loops of `read_all`: reads a source to its end, or past the limit.
 use Rattle.std.proofs.Common.{◌≡◌, ◌+◌, ◌≤◌, ◌-◌, vec_len}
 use Rattle.rec_io.specs.Source.{Passes}
 use Rattle.rec_run.proofs.reading.read_all.Given as goal

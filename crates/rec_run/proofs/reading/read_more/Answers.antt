@@ -1,3 +1,4 @@
+-- The contract of `read_more`: reads once, and keeps what came.
 use Rattle.std.proofs.Common.{ℕ, ◌++◌, take, ap, ◌∙◌, List}
 use Rattle.rec_io.proofs.Reading.{passes_given}
 use Rattle.rec_run.proofs.reading.read_more.Goals as goal

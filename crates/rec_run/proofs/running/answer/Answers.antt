@@ -1,3 +1,4 @@
+-- The contract of `answer`: the answer of the script in the bytes.
 use Rattle.std.proofs.Common.{◌≡◌, sym, ap, subst, ◌∙◌, Result, Err}
 use Rattle.std.proofs.lemmas.Result.{err_from_is_err_and}
 use Rattle.rec_script.specs.declared.script.Script.{Script}

@@ -1,3 +1,4 @@
+-- The contract of `answer_source`: reads a script to its end, runs it, and writes its answer.
 use Rattle.std.proofs.Common.{refl}
 use Rattle.rec_run.proofs.Endings.{bad_same, no_script, wrote_answer, wrote_front}
 use Rattle.rec_run.proofs.Fronts.{joined}

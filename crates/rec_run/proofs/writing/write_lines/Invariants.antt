@@ -1,3 +1,4 @@
+-- The loops of `write_lines`: writes the lines of a text in order.
 use Rattle.std.proofs.Common.{◌≡◌, length, take}
 use Rattle.std.specs.List.{flat_map}
 use Rattle.rec_io.specs.Sink.{Appends}

@@ -1,3 +1,4 @@
+-- The contract of `write_piece`: offers a piece, and its rest again, until all of it is taken.
 use Rattle.std.proofs.Common.{ℕ, ◌++◌, take, append_assoc, sym, ap, ◌∙◌, List}
 use Rattle.std.proofs.lemmas.List.{take-append-drop}
 use Rattle.rec_io.proofs.Writing.{appends_more}

@@ -1,3 +1,4 @@
+-- The loops of `write_piece`: offers a piece, and its rest again, until all of it is taken.
 use Rattle.std.proofs.Common.{◌≡◌, ◌++◌, ℕ, List, length}
 use Rattle.rec_io.specs.Sink.{Appends}
 use Rattle.rec_run.proofs.writing.write_piece.Given as goal

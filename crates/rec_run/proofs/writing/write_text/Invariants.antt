@@ -1,3 +1,4 @@
+-- The loops of `write_text`: writes a text, line by line.
 use Rattle.std.proofs.Common.{◌≡◌, ◌++◌, ℕ, List, length}
 use Rattle.rec_io.specs.Sink.{Appends}
 use Rattle.rec_run.proofs.writing.write_text.Given as goal

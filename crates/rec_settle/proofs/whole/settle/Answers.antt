@@ -4,7 +4,7 @@ use Rattle.rec_world.proofs.Calls.{world_kept}
 use Rattle.rec_settle.specs.Collecting.{IsSettling}
 use Rattle.rec_settle.specs.Stages.{Settles}
 use Rattle.rec_settle.specs.declared.turns.Settling.TheVariants.{Settled}
-use Rattle.rec_settle.proofs.Settles.{HasSettled, few_freed, settling_settles}
+use Rattle.rec_settle.proofs.Settles.{EndsSettling, few_freed, settling_settles}
 use Rattle.rec_settle.proofs.whole.settle.Goals as goal
 use Rattle.rec_settle.proofs.whole.settle.Goals.{In_default}
 
@@ -22,7 +22,7 @@ settling c =
     let ended : c.loop.settling ≡ Settled = c.in_default.ensures.ended refl in
     subst (λ s. Settles s c.args.world.now c.next.new.world) ((c.next.ensures.stays ended).1 ∙ ended) (c.next.ensures.comes c.args.world.now c.loop.invariant.comes).settles
 
-has_settled : (c : In_default) → HasSettled c.args.world.now c.next.new.world
+has_settled : (c : In_default) → EndsSettling c.args.world.now c.next.new.world
 has_settled c = settling_settles c.args.world.now c.next.new.world (world_kept c.args.world.now c.start.ensures.kept) c.requires.idle (settling c)
 
 pub overflow_sub-result : goal.overflow_sub-result
@@ -40,24 +40,19 @@ overflow_cast-result c =
     let d = (goal.at.overflow_cast-result c).In_default in
     omega (arith, few_freed c.args.world.now d.next.new.world (world_kept c.args.world.now c.start.ensures.kept) (has_settled d), c.freed.ensures.freed, c.freed-swept.ensures.freed)
 
-pub returns-clause-settled : goal.returns-clause-settled
-returns-clause-settled c = (has_settled (goal.at.returns-clause-settled c).In_default).settled
-
-pub returns-clause-settles : goal.returns-clause-settles
-returns-clause-settles c = settling (goal.at.returns-clause-settles c).In_default
-
-pub returns-clause-epochs : goal.returns-clause-epochs
-returns-clause-epochs c =
-    let h = has_settled (goal.at.returns-clause-epochs c).In_default in
-    omega (arith, h.all.collections, c.collections.ensures.collections, c.collections-collections.ensures.collections)
-
-pub returns-clause-requested : goal.returns-clause-requested
-returns-clause-requested c = (has_settled (goal.at.returns-clause-requested c).In_default).epoch
-
-pub returns-clause-freed : goal.returns-clause-freed
-returns-clause-freed c =
-    let h = has_settled (goal.at.returns-clause-freed c).In_default in
-    omega (arith, h.all.stays.freed, c.freed.ensures.freed, c.freed-swept.ensures.freed)
+pub returns-clause-done : goal.returns-clause-done
+returns-clause-done c =
+    let d = (goal.at.returns-clause-done c).In_default in
+    let h = has_settled d in
+    record {
+      left = c.in_ok-settling.ensures.left;
+      settled = h.settled;
+      settles = settling d;
+      epochs = omega (arith, h.all.collections, c.collections.ensures.collections, c.collections-collections.ensures.collections);
+      requested = h.epoch;
+      freed = omega (arith, h.all.stays.freed, c.freed.ensures.freed, c.freed-swept.ensures.freed);
+      live = c.live.ensures;
+    }
 
 pub returns-clause-registers : goal.returns-clause-registers
 returns-clause-registers c = (has_settled (goal.at.returns-clause-registers c).In_default).all.stays.registers

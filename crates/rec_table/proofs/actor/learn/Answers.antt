@@ -1,11 +1,9 @@
+-- The contract of `learn`: the machine learns the word that the step found; where it has just taken its mailbox, the retired log goes there for the buffer.
 use Rattle.std.proofs.Common.{◌≡◌, ◌-◌, Option, Some, ◌∷◌, [], refl, sym, ap, ◌∙◌, subst, arith}
 use Rattle.atomic_table.specs.Table.{rest}
-use Rattle.rec_log.specs.declared.contents.Contents.{Contents}
-use Rattle.rec_mutator.specs.Private.{Private, KeepsSizes}
-use Rattle.rec_mutator.specs.Took.{spare, took_of, swapped_of, left_of}
+use Rattle.rec_table.proofs.Common.{Contents, Private, KeepsSizes, spare, took_of, swapped_of, left_of, seated_of}
 use Rattle.rec_mutator.specs.declared.phase.Phase.TheVariants as at
 use Rattle.rec_world.specs.Mailbox.{held}
-use Rattle.rec_table.specs.Rule.{seated_of}
 use Rattle.rec_table.proofs.Making.{IsTakeOp, crossing_phase, takes_own, out_at, first_is, learns_box, learns_word, takes_none, crossing_takes, Boxed}
 use Rattle.rec_table.proofs.actor.learn.Goals as goal
 use Rattle.rec_table.proofs.actor.learn.Goals.{After-from}

@@ -1,9 +1,8 @@
+-- The contract of `make`: makes the atomic operation of a step, and no more.
 use Rattle.std.proofs.Common.{ℕ, sym, ap, ◌∙◌, subst, ◌<◌, ⊎_elim}
 use mathlib.Core.Option.{none}
-use Rattle.rec_word.specs.Op.{written}
-use Rattle.rec_word.specs.declared.op.Op.{Op}
 use Rattle.atomic_table.specs.Table.{step}
-use Rattle.rec_table.specs.Rule.{ready, seated_of}
+use Rattle.rec_table.proofs.Common.{written, Op, ready, seated_of}
 use Rattle.rec_table.proofs.Calls.{load_leaves, IsLoad}
 use Rattle.rec_table.proofs.Steps.{IsPlainOp}
 use Rattle.rec_table.proofs.Making.{IsTakeOp, IsGiveOp, allows_plain, allows_taking, allows_giving, made_plain, made_taking, made_giving, plain_phase, crossing_phase, giving_phase, is_plain_load, no_else}

@@ -1,12 +1,11 @@
+-- The contract of `find`: the crossing word of mutator `t`, as a turn finds it.
 use Rattle.std.proofs.Common.{◌≡◌, ◌==◌, ◌<◌, ℕ, [], sym, ap, ◌∙◌, subst}
 use mathlib.Core.Option.{none}
 use prog.Atomic.{either}
 use Rattle.atomic_table.specs.Table.{step}
+use Rattle.rec_table.proofs.Common.{gathered_all, crew_of, Looks, Collects}
 use Rattle.rec_word.specs.Mailbox.{crossing_word}
 use Rattle.rec_word.specs.declared.mailbox.Mailbox.TheVariants.{Retired}
-use Rattle.rec_table.specs.Beats.{gathered_all}
-use Rattle.rec_table.specs.Rule.{crew_of, Looks}
-use Rattle.rec_table.specs.declared.views.View.TheVariants.{Collects}
 use Rattle.rec_table.proofs.Gathering.{allows_glance, allows_look}
 use Rattle.rec_table.proofs.collector.find.Goals as goal
 

@@ -1,11 +1,10 @@
+-- The contract of `look`: looks at the mailbox of mutator `t`.
 use Rattle.std.proofs.Common.{◌≡◌, ◌-◌, ℕ, [], ◌∷◌, Some, sym, ap, ◌∙◌}
 use Rattle.atomic_table.specs.Table.{rest}
 use Rattle.rec_word.specs.Mailbox.{crossing_word}
 use Rattle.rec_word.specs.declared.mailbox.Mailbox.TheVariants.{Retired}
 use Rattle.std.specs.Option.{is_some}
-use Rattle.rec_table.specs.Rule.{crew_of, crew_more}
-use Rattle.rec_table.specs.declared.views.Beat.TheVariants.{Saw, Took}
-use Rattle.rec_table.specs.declared.views.View.TheVariants.{Collects}
+use Rattle.rec_table.proofs.Common.{crew_of, crew_more, Saw, Took, Collects}
 use Rattle.rec_collector.specs.Private.{Private}
 use Rattle.rec_table.proofs.Making.{first_is}
 use Rattle.rec_table.proofs.Gathering.{given_looking, look_hits, look_misses, hit_sized, hit_swaps, hit_turn, miss_turn}

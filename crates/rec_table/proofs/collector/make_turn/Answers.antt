@@ -1,10 +1,9 @@
+-- The contract of `make_turn`: makes the operation of a turn that looks at no mailbox, and no more.
 use Rattle.std.proofs.Common.{◌+◌, ◌%◌, ◌^◌, ◌<◌, ℕ, ⊎_elim, sym, ap, ◌∙◌, subst}
 use mathlib.Core.Option.{none}
-use Rattle.rec_word.specs.Op.{written}
-use Rattle.rec_word.specs.declared.op.Op.{Op}
 use Rattle.atomic_table.specs.Table.{step}
+use Rattle.rec_table.proofs.Common.{written, Op, IsReturnOp}
 use Rattle.rec_table.proofs.Gathering.{IsLoneOp, allows_lone, allows_return, made_lone, made_return, no_else_turn}
-use Rattle.rec_table.specs.Rule.{IsReturnOp}
 use Rattle.rec_table.proofs.collector.make_turn.Goals as goal
 
 pub load-requires : goal.load-requires

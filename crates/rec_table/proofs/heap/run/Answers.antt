@@ -1,11 +1,9 @@
+-- The contract of `run`: puts the parts of a world on a table, and makes the seats of its mutators.
 use Rattle.std.proofs.Common.{◌≡◌, map, sym, ap, ◌∙◌, subst, arith}
 use mathlib.Core.Option.{some}
+use Rattle.rec_table.proofs.Common.{Core, IsKept, world_kept, boxes_out}
 use Rattle.rec_collector.specs.Private as collectors
 use Rattle.rec_collector.specs.Step.{IsBetween}
-use Rattle.rec_core.specs.Core.{Core}
-use Rattle.rec_core.specs.Kept.{IsKept}
-use Rattle.rec_world.proofs.Calls.{world_kept}
-use Rattle.rec_table.specs.Rule.{boxes_out}
 use Rattle.rec_table.proofs.Closing.{none_out_where_even}
 use Rattle.rec_table.proofs.Seats.{all_home}
 use Rattle.rec_table.proofs.heap.run.Goals as goal

@@ -1,3 +1,4 @@
+-- The contract of `fetch_add`: the operation keeps the rule of the table, and is the last of those that made the run.
 use Rattle.std.proofs.Common.{◌+◌, ◌%◌, ◌^◌}
 use mathlib.Core.Option.{none}
 use Rattle.atomic_table.specs.Table.{step}

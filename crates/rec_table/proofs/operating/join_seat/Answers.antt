@@ -1,3 +1,4 @@
+-- The contract of `join_seat`: takes in a seat, which is none either.
 use Rattle.rec_table.proofs.Operations.{stays}
 use Rattle.rec_table.proofs.operating.join_seat.Goals as goal
 

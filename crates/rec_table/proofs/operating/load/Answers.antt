@@ -1,3 +1,4 @@
+-- The contract of `load`: the operation keeps the rule of the table, and is the last of those that made the run.
 use mathlib.Core.Option.{none}
 use Rattle.atomic_table.specs.Table.{step}
 use Rattle.rec_table.proofs.Operations.{allows}

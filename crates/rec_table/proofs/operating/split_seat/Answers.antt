@@ -1,3 +1,4 @@
+-- The contract of `split_seat`: makes a seat, which is no move of the run.
 use Rattle.rec_table.proofs.Operations.{stays}
 use Rattle.rec_table.proofs.operating.split_seat.Goals as goal
 

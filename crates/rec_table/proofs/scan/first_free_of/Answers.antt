@@ -1,11 +1,8 @@
+-- The contract of `first_free_of`: the same of a few slots.
 use Rattle.std.proofs.Common.{◌≡◌, ◌+◌, ◌-◌, ◌<◌, ℕ, arith, sym, subst, ◌∙◌}
 use mathlib.Core.Option.{none}
 use Rattle.atomic_table.specs.Table.{step}
-use Rattle.rec_table.specs.Rule.{seated_of}
-use Rattle.rec_table.specs.Scan.{Passed}
-use Rattle.rec_mutator.specs.Private.{probe_of}
-use Rattle.rec_core.specs.Core.{mutator}
-use Rattle.rec_table.specs.Beats.{told}
+use Rattle.rec_table.proofs.Common.{seated_of, Passed, probe_of, mutator, told}
 use Rattle.rec_table.proofs.Scanning.{allows_pass, comes_to, passed_one}
 use Rattle.rec_table.proofs.scan.first_free_of.Goals as goal
 

@@ -1,6 +1,6 @@
+-- The loops of `first_free_of`: the same of a few slots.
 use Rattle.std.proofs.Common.{◌≡◌, ◌+◌, ◌≤◌}
-use Rattle.rec_table.specs.Rule.{seated_of}
-use Rattle.rec_table.specs.Scan.{Passed}
+use Rattle.rec_table.proofs.Common.{seated_of, Passed}
 use Rattle.rec_table.proofs.scan.first_free_of.Given as goal
 
 abbrev pub invariant-loop-index : goal.invariant-loop-index

@@ -1,6 +1,6 @@
+-- The contract of `first_free_of_run`: the same within one run of slots.
 use Rattle.std.proofs.Common.{◌≡◌, ◌+◌, ◌-◌, ◌<◌, ℕ, arith, sym, subst, ◌∙◌}
-use Rattle.rec_table.specs.Rule.{seated_of}
-use Rattle.rec_table.specs.Scan.{Passed}
+use Rattle.rec_table.proofs.Common.{seated_of, Passed}
 use Rattle.rec_table.proofs.Scanning.{comes_to, passed_both, scans_on}
 use Rattle.rec_table.proofs.scan.first_free_of_run.Goals as goal
 

@@ -1,6 +1,6 @@
+-- The loops of `first_free_of_run`: the same within one run of slots.
 use Rattle.std.proofs.Common.{◌≡◌, ◌+◌, ◌<◌, ◌-◌}
-use Rattle.rec_table.specs.Rule.{seated_of}
-use Rattle.rec_table.specs.Scan.{Passed}
+use Rattle.rec_table.proofs.Common.{seated_of, Passed}
 use Rattle.rec_table.proofs.scan.first_free_of_run.Given as goal
 
 abbrev pub invariant-loop-done : goal.invariant-loop-done

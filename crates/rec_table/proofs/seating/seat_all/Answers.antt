@@ -1,3 +1,4 @@
+-- The contract of `seat_all`: makes a mutator of each machine, in order of number.
 use Rattle.std.proofs.Common.{◌≡◌, ◌≢◌, ℕ, suc, ◌+◌, ◌-◌, ◌<◌, ◌≤◌, List, [], ◌∷◌, ◌++◌, false, drop, length, get_or, refl, sym, ap, ◌∙◌, arith, length-append}
 use Rattle.std.proofs.Common.{vec_len}
 use Rattle.std.proofs.lemmas.Bool.{eqb-true}
@@ -5,9 +6,7 @@ use mathlib.Core.Logic.{dite}
 use native.Mathlib.Decide.{ℕ_discrete}
 use Rattle.std.proofs.Math.Seq.{get_or-append_seam}
 use Rattle.std.proofs.lemmas.List.{get_or_append_left}
-use Rattle.rec_mutator.specs.Private.{Private, is_busy}
-use Rattle.rec_core.specs.Core.{Core, mutator, nobody}
-use Rattle.rec_table.specs.Held.{Gathers, Held, Started, fresh, has, started}
+use Rattle.rec_table.proofs.Common.{Private, is_busy, Core, mutator, nobody, Gathers, Held, Started, fresh, has, started}
 use Rattle.rec_table.proofs.Lists.{Next, none_left, taken_off}
 use Rattle.rec_table.proofs.seating.seat_all.Goals as goal
 use Rattle.rec_table.proofs.seating.seat_all.Goals.{After-loop-machines, After-of-opened}

@@ -1,6 +1,6 @@
 -- The mutators so far are the first ones, and the machines that are left are those behind them.
 use Rattle.std.proofs.Common.{◌≡◌, ℕ, ◌+◌, ◌<◌, ◌≤◌, drop, length, slice_index_or, vec_capacity}
-use Rattle.rec_table.specs.Held.{Held, fresh, started}
+use Rattle.rec_table.proofs.Common.{Held, fresh, started}
 use Rattle.rec_table.proofs.seating.seat_all.Given as goal
 
 abbrev pub invariant-loop-machines : goal.invariant-loop-machines

@@ -1,12 +1,11 @@
+-- The contract of `take_in_all`: takes in the lists of all mutators, in order of number, and gives their machines back.
 use Rattle.std.proofs.Common.{◌≡◌, ◌≢◌, ℕ, suc, ◌+◌, ◌%◌, ◌^◌, All, List, [], ◌∷◌, ◌++◌, false, drop, length, map, take, get_or, sym, ap, ◌∙◌, subst, arith, length-append}
 use mathlib.Core.Logic.{dite}
 use native.Mathlib.Decide.{ℕ_discrete}
 use Rattle.std.specs.List.{sum_by}
 use Rattle.std.proofs.Math.Seq.{get_or-append_seam}
 use Rattle.std.proofs.lemmas.List.{get_or_append_left, map-append}
-use Rattle.rec_mutator.specs.Private.{Private, is_busy}
-use Rattle.rec_table.specs.Beats.{births_told}
-use Rattle.rec_table.specs.Held.{Held, has}
+use Rattle.rec_table.proofs.Common.{Private, is_busy, births_told, Held, has}
 use Rattle.rec_table.proofs.Lists.{Next, sum_more, taken_off}
 use Rattle.rec_table.proofs.seating.take_in_all.Goals as goal
 

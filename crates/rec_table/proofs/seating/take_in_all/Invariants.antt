@@ -1,9 +1,7 @@
 -- The lists of the mutators that were taken in are known, and their machines and births are at hand; those behind them are left.
 use Rattle.std.proofs.Common.{◌≡◌, ◌+◌, ◌≤◌, ◌%◌, ◌^◌, All, false, drop, length, map, take, vec_capacity}
 use Rattle.std.specs.List.{sum_by}
-use Rattle.rec_mutator.specs.Private.{Private, is_busy}
-use Rattle.rec_table.specs.Beats.{births_told}
-use Rattle.rec_table.specs.Held.{Held, has}
+use Rattle.rec_table.proofs.Common.{Private, is_busy, births_told, Held, has}
 use Rattle.rec_table.proofs.seating.take_in_all.Given as goal
 
 abbrev pub invariant-loop-mutators : goal.invariant-loop-mutators

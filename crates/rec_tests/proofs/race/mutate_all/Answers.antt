@@ -1,3 +1,4 @@
+-- The contract of `mutate_all`: each mutator goes through its task on a thread of its own.
 use denote.Param.Send.{sendable}
 use Rattle.rec_table.proofs.Sends.{mutator_send}
 use Rattle.rec_tests.proofs.race.mutate_all.Goals as goal

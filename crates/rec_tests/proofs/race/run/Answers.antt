@@ -1,3 +1,4 @@
+-- The contract of `run`: the mutators go through their tasks, and the collector makes its turns beside them.
 use denote.Param.Send.{IsSend, sendable}
 use Rattle.std.proofs.Crossing.{crosses}
 use Rattle.rec_table.proofs.Sends.{collector_send}

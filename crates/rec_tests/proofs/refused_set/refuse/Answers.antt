@@ -1,3 +1,4 @@
+-- The contract of `refuse`: the set is refurbished.
 use Rattle.std.proofs.Common.{◌≡◌, ℕ, arith, ap, ◌∙◌}
 use Rattle.rec_counts.specs.Lists.{times}
 use Rattle.rec_counts.proofs.Times.{times-nil}

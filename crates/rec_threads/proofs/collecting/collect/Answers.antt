@@ -1,3 +1,4 @@
+-- The contract of `collect`: makes turns, each behind the gate, until every mutator's last command is answered, or its turns are spent.
 use Rattle.std.proofs.Common.{◌+◌, arith}
 use Rattle.rec_threads.proofs.Requests.{no_turn, one_turn}
 use Rattle.rec_threads.proofs.collecting.collect.Goals as goal

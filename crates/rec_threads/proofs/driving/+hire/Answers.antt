@@ -1,3 +1,4 @@
+-- The contract of `+hire`: starts a worker for each mutator.
 use Rattle.std.proofs.Common.{rules, ◌≡◌, ◌≤◌, ℕ, All, Bool, MatchBool, List, length, refl, sym, subst, ◌∙◌}
 use contract.Lifetimes.{Lfts}
 use denote.Param.Send.{IsSend, IsSync, given_sync, param_send, sendable}

@@ -1,3 +1,4 @@
+-- The loops of `+hire`: starts a worker for each mutator.
 use Rattle.std.proofs.Common.{vec_len}
 use Rattle.rec_threads.proofs.driving.+hire.Given as goal
 

@@ -1,3 +1,4 @@
+-- The contract of `follow`: what the thread of a mutator's worker does.
 use Rattle.std.proofs.Common.{rules, ◌≡◌, ℕ, ◌++◌, [], List, MatchBool, replicate, true, sym, subst}
 use Rattle.std.proofs.lemmas.List.{append-nil}
 use Rattle.rec_model.specs.declared.command.Cmd.{Cmd}

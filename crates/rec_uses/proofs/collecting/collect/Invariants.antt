@@ -1,3 +1,4 @@
+-- The loops of `collect`: where it waits for a mutator, others get a chance to run.
 use Rattle.rec_table.specs.Held.{IsCollectorOf}
 use Rattle.rec_uses.proofs.collecting.collect.Given as goal
 

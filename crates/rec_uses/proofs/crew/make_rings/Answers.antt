@@ -1,3 +1,4 @@
+-- The contract of `make_rings`: each mutator makes its rings.
 use denote.Param.Send.{sendable}
 use Rattle.rec_table.proofs.Sends.{mutator_send}
 use Rattle.rec_uses.proofs.crew.make_rings.Goals as goal

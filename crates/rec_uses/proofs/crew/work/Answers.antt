@@ -1,3 +1,4 @@
+-- The contract of `work`: all ends come back once their threads have ended.
 use contract.Lifetimes.{Lfts}
 use denote.Param.Send.{IsSend, param_send, sendable}
 use Rattle.rec_table.proofs.Sends.{collector_send}

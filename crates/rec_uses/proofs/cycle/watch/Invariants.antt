@@ -1,3 +1,4 @@
+-- The loops of `watch`: the collector turns until it has swept two slots in one collection, and the mutator polls where the collector waits for it.
 use Rattle.rec_uses.specs.Ready.{IsReady}
 use Rattle.rec_uses.proofs.cycle.watch.Given as goal
 

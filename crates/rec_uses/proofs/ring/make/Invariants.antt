@@ -1,3 +1,4 @@
+-- The loops of `make`: mutator 1 of a world makes the cycle.
 use Rattle.std.proofs.Common.{◌≡◌}
 use Rattle.rec_uses.specs.Ready.{IsReady}
 use Rattle.rec_uses.proofs.ring.make.Given as goal

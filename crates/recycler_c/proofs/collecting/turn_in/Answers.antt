@@ -1,3 +1,4 @@
+-- The contract of `turn_in`: a turn, where the handle has a collector.
 use Rattle.std.proofs.Common.{Some, ap, refl}
 use Rattle.recycler_c.specs.Standing.{collects_in}
 use Rattle.recycler_c.specs.declared.end.End.{End}

@@ -1,3 +1,4 @@
+-- The contract of `ask_in`: a command, where the handle has a mutator.
 use Rattle.std.proofs.Common.{◌≡◌, Some, ap, refl, sym, subst, rules}
 use Rattle.rec_model.specs.declared.command.Cmd.{Cmd}
 use Rattle.rec_mutator.specs.Private.{IsValid}

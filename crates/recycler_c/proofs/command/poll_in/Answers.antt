@@ -1,3 +1,4 @@
+-- The contract of `poll_in`: a poll, where the handle has a mutator.
 use Rattle.std.proofs.Common.{Some, ap, refl}
 use Rattle.recycler_c.specs.Standing.{mutates_in}
 use Rattle.recycler_c.specs.declared.end.End.{End}

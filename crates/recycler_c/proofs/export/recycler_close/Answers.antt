@@ -1,3 +1,4 @@
+-- The contract of `recycler_close`: closes a heap at rest.
 use Rattle.recycler_c.proofs.export.recycler_close.Goals as goal
 
 pub returns : goal.returns

@@ -1,3 +1,4 @@
+-- The contract of `recycler_copy`: lets `dst` name what `src` names.
 use Rattle.recycler_c.proofs.export.recycler_copy.Goals as goal
 
 pub returns : goal.returns

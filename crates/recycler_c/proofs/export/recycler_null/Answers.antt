@@ -1,3 +1,4 @@
+-- The contract of `recycler_null`: lets a register be null.
 use Rattle.recycler_c.proofs.export.recycler_null.Goals as goal
 
 pub returns : goal.returns

@@ -1,3 +1,4 @@
+-- The contract of `recycler_poll`: a mutator crosses into the requested epoch, if it isn't in it.
 use Rattle.recycler_c.proofs.export.recycler_poll.Goals as goal
 
 pub returns : goal.returns

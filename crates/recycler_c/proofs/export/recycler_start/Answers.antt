@@ -1,3 +1,4 @@
+-- The contract of `recycler_start`: sets a heap at rest running.
 use Rattle.recycler_c.proofs.export.recycler_start.Goals as goal
 
 pub returns : goal.returns

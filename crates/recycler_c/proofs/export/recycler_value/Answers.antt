@@ -1,3 +1,4 @@
+-- The contract of `recycler_value`: tells the label of the object in a register.
 use Rattle.recycler_c.proofs.export.recycler_value.Goals as goal
 
 pub returns : goal.returns

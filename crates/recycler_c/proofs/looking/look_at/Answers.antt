@@ -1,3 +1,4 @@
+-- The contract of `look_at`: what is seen of a slot.
 use Rattle.std.proofs.Common.{refl, arith}
 use Rattle.recycler_c.proofs.looking.look_at.Goals as goal
 

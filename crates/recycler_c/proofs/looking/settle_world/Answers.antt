@@ -1,3 +1,4 @@
+-- The contract of `settle_world`: a heap at rest is settled.
 use Rattle.std.proofs.Common.{◌≡◌, ◌%◌, ◌∙◌, All, Some, refl, sym, ap, subst}
 use Rattle.rec_core.specs.Core.{Core}
 use Rattle.recycler_c.specs.declared.end.End.TheVariants as ends
@@ -5,7 +6,7 @@ use Rattle.recycler_c.proofs.Settles.{settled_home}
 use Rattle.recycler_c.proofs.looking.settle_world.Goals as goal
 
 pub of-requires-clause-home : goal.of-requires-clause-home
-of-requires-clause-home c = settled_home c.into_world-world.result c.settle.new.world c.in-Ok.ensures.settles c.settle.ensures.kept c.settle.ensures.idle
+of-requires-clause-home c = settled_home c.into_world-world.result c.settle.new.world c.in-Ok.ensures.done.settles c.settle.ensures.kept c.settle.ensures.idle
 
 pub of-requires-in-Err-clause-home : goal.of-requires-in-Err-clause-home
 of-requires-in-Err-clause-home c = subst (λ (w : Core). All (λ word. word % 2 ≡ 0) w.crossing) (sym c.in-Err.ensures.spent.2) c.into_world-world.ensures.home
@@ -17,13 +18,7 @@ returns-in-Ok c = record {
   after = c.settle.new.world;
   is = ap Some c.of.ensures;
   config = c.settle.ensures.config;
-  left = c.in-Ok.ensures.left;
-  settled = c.in-Ok.ensures.settled;
-  settles = c.in-Ok.ensures.settles;
-  epochs = c.in-Ok.ensures.epochs;
-  requested = c.in-Ok.ensures.requested;
-  freed = c.in-Ok.ensures.freed;
-  live = c.in-Ok.ensures.live;
+  done = c.in-Ok.ensures.done;
   registers = c.settle.ensures.registers;
   stands = c.settle.ensures.stands;
   made = c.settle.ensures.made;

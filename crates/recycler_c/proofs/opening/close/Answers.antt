@@ -1,3 +1,4 @@
+-- The contract of `close`: closes a heap at rest, and gives back its memory and that of its handles.
 use Rattle.std.proofs.Common.{◌∙◌, Some, Option, IsSome, is_some, refl, sym, ap, subst, rules}
 use Rattle.recycler_c.specs.Standing.{can_collect, collects_in, rests_in, seat_beside}
 use Rattle.recycler_c.specs.declared.end.End.{End}

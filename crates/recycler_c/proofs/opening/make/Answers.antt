@@ -1,3 +1,4 @@
+-- The contract of `make`: a heap in its box, and a vacant box for each of its mutators.
 use Rattle.recycler_c.proofs.Settles.{opened_home, opened_idle}
 use Rattle.recycler_c.proofs.opening.make.Goals as goal
 

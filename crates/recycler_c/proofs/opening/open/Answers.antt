@@ -1,3 +1,4 @@
+-- The contract of `open`: opens a heap at rest, with one object in slot 0 and in register 0 of each mutator.
 use Rattle.std.proofs.Common.{◌≡◌, ◌∙◌, Some, None, Option, refl, sym, ap, subst, arith, rules}
 use Rattle.rec_core.specs.Core.{opened}
 use Rattle.recycler_c.specs.Calls.{Opens}

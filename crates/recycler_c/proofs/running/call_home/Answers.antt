@@ -1,3 +1,4 @@
+-- The contract of `call_home`: the mutators that are out come home.
 use Rattle.std.proofs.Common.{◌≡◌, ◌<◌, ◌∙◌, Some, List, [], ◌∷◌, length, vec_len, refl, sym, ap, arith}
 use Rattle.std.proofs.lemmas.Bool.{eqb-false, eqb-true}
 use Rattle.rec_table.specs.Held.{Held}

@@ -1,3 +1,4 @@
+-- The contract of `rest`: takes all ends of a heap back.
 use Rattle.std.proofs.Common.{◌≡◌, ◌%◌, All, subst, sym}
 use Rattle.rec_core.specs.Core.{Core}
 use Rattle.recycler_c.proofs.running.rest.Goals as goal

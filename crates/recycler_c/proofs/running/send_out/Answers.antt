@@ -1,3 +1,4 @@
+-- The contract of `send_out`: all mutators go out.
 use Rattle.std.proofs.Common.{List, length, refl, sym, ap, subst, arith}
 use Rattle.std.specs.Arc.{arc_value}
 use Rattle.rec_table.specs.Held.{Held}

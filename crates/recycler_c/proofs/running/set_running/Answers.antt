@@ -1,3 +1,4 @@
+-- The contract of `set_running`: the heap with all its mutators home, and a pointer to it for each of them.
 use Rattle.std.proofs.Common.{◌≡◌, ◌%◌, All, sym, subst}
 use Rattle.rec_core.specs.Core.{Core}
 use Rattle.rec_core.specs.Worked.{AreIdle}

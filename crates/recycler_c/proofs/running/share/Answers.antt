@@ -1,3 +1,4 @@
+-- The contract of `share`: the heap is shared by its collector and its mutators.
 use Rattle.std.proofs.Common.{◌≡◌, ◌+◌, ◌%◌, ◌∙◌, All, map, refl, sym, ap, subst, arith}
 use Rattle.rec_core.specs.Core.{Core}
 use Rattle.rec_table.specs.Ends.{IsStopped}

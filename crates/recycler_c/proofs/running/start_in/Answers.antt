@@ -1,3 +1,4 @@
+-- The contract of `start_in`: a heap at rest is set running.
 use Rattle.std.proofs.Common.{◌≡◌, ℕ, ◌+◌, ◌<◌, ◌∙◌, Some, length, refl, sym, ap, subst, arith}
 use Rattle.std.specs.Arc.{arc_value}
 use Rattle.rec_core.specs.Core.{Core}

@@ -1,3 +1,4 @@
+-- The contract of `stop_in`: a running heap is stopped.
 use Rattle.std.proofs.Common.{◌≡◌, ◌∙◌, Some, length, refl, sym, ap, subst, arith}
 use Rattle.std.specs.Arc.{arc_value}
 use Rattle.rec_core.specs.declared.config.Config.{Config}

@@ -1,3 +1,4 @@
+-- The contract of `unshare`: stops a heap whose mutators are all home, where nothing else holds it.
 use Rattle.std.proofs.Common.{◌∙◌, map, refl, sym, ap, subst}
 use Rattle.std.specs.Arc.{arc_value}
 use Rattle.rec_table.specs.Ends.{IsStopped}

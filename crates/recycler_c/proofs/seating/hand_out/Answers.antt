@@ -1,3 +1,4 @@
+-- The contract of `hand_out`: each mutator goes out into the handle with its number, with a pointer to its heap.
 use Rattle.std.proofs.Common.{◌≡◌, ◌≢◌, ℕ, ◌+◌, ◌<◌, All, Some, List, [], ◌∷◌, ◌++◌, length, get_or, option_to_list, sym, ap, ◌∙◌, subst, arith, length-append}
 use Rattle.std.proofs.Math.Seq.{get_or-append_seam}
 use Rattle.std.proofs.lemmas.List.{get_or_append_left}

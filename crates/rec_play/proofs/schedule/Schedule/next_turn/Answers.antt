@@ -1,3 +1,4 @@
+-- The contract of `Schedule::next_turn`: whose turn comes next; none where no mutator has commands left.
 use Rattle.std.proofs.Common.{◌≡◌, inl, inr, ℕ, ◌+◌, ◌-◌, ◌<◌, ◌≤◌, Some, ◌∷◌, List, slice_index_or, slice_set, length, sym, ap, subst, ◌∙◌, arith}
 use Rattle.std.specs.List.{slice_get, slice_index}
 use Rattle.std.proofs.lemmas.Option.{slice_get-get_or}

@@ -1,3 +1,4 @@
+-- The contract of `Schedule::take`: takes one command off those that a mutator, by its index, has left.
 use Rattle.std.proofs.Common.{◌≡◌, ℕ, ◌-◌, ◌<◌, ◌++◌, zero, suc, List, slice_index_or, slice_set, length, take, drop, refl, sym, ap, subst, ◌∙◌, arith}
 use Rattle.std.specs.List.{refill, slice_index}
 use Rattle.std.proofs.Math.Seq.{take-append_seam}

@@ -1,20 +1,8 @@
+-- The contract of `Actor::scan`: makes the failing probes that come next, if it makes a scan.
 use Rattle.std.proofs.Common.{◌≡◌, ◌<◌, ◌≤◌, ◌+◌, ◌-◌, ◌++◌, ◌%◌, ◌^◌, ℕ, fold, length, Option, sym, ap, subst, ◌∙◌, arith}
 use Rattle.rec_word.specs.declared.op.Op.TheVariants as ops
-use Rattle.rec_mutator.specs.Private.{Private, KeepsSizes, is_busy, work_of}
-use Rattle.rec_mutator.specs.Took.{took_of, skipped_to, IsAhead}
-use Rattle.rec_log.specs.declared.contents.Contents.{Contents}
 use Rattle.atomic_table.specs.Table.{Me}
-use Rattle.rec_core.specs.Config.{IsMutator}
-use Rattle.rec_core.specs.Core.{Core, mutator}
-use Rattle.rec_core.proofs.Steps.{actor_of}
-use Rattle.rec_world.proofs.Calls.{world_kept}
-use Rattle.rec_table.specs.Held.{Held, held, has}
-use Rattle.rec_table.specs.Beats.{told}
-use Rattle.rec_table.specs.Rule.{seated_of, hands_at}
-use Rattle.rec_table.specs.Scan.{Passed, ScansFrom, saw_all}
-use Rattle.rec_table.specs.declared.views.Seated.{Seated}
-use Rattle.rec_table.specs.declared.views.View.{View}
-use Rattle.rec_table.specs.declared.views.View.TheVariants.{Mutates}
+use Rattle.rec_table.proofs.Common.{Private, KeepsSizes, is_busy, work_of, took_of, skipped_to, IsAhead, Contents, IsMutator, Core, mutator, actor_of, world_kept, Held, held, has, told, seated_of, hands_at, Passed, ScansFrom, saw_all, Seated, View, Mutates}
 use Rattle.rec_table.proofs.Acting.{opened_is}
 use Rattle.rec_table.proofs.Making.{keeps_on}
 use Rattle.rec_table.proofs.Scanning.{Claims, Ends, claims, claims_slot, ends}

@@ -1,13 +1,6 @@
 -- The cursor is a slot of the heap, or slot 0 is taken in its place.
 use Rattle.std.proofs.Common.{◌≡◌, ℕ, arith, sym, ap, subst, ◌∙◌}
-use Rattle.rec_mutator.specs.Private.{Private}
-use Rattle.rec_core.specs.Config.{IsMutator}
-use Rattle.rec_core.specs.Core.{Core, mutator}
-use Rattle.rec_core.proofs.Steps.{actor_of}
-use Rattle.rec_world.proofs.Calls.{world_kept}
-use Rattle.rec_table.specs.Held.{Held, has}
-use Rattle.rec_table.specs.Rule.{seated_of}
-use Rattle.rec_table.specs.declared.views.Seated.{Seated}
+use Rattle.rec_table.proofs.Common.{Private, IsMutator, Core, mutator, actor_of, world_kept, Held, has, seated_of, Seated}
 use Rattle.rec_table.proofs.Acting.{opened_is}
 use Rattle.rec_table.proofs.actor.Actor.start.Goals as goal
 

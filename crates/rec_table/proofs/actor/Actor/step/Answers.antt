@@ -1,25 +1,10 @@
+-- The contract of `Actor::step`: one step, which begins a work first, or goes on with one.
 use Rattle.std.proofs.Common.{◌≡◌, ◌<◌, ◌≤◌, ◌+◌, ◌%◌, ◌^◌, ℕ, length, Option, refl, sym, ap, subst, ◌∙◌, arith}
-use Rattle.rec_word.specs.declared.op.Op.{Op}
 use Rattle.rec_mutator.specs.Next.{next_of}
-use Rattle.rec_mutator.specs.Private.{Private, IsMachine, KeepsSizes, work_of, limit_of}
 use Rattle.std.specs.Option.{IfSome}
-use Rattle.rec_table.specs.Held.{IsTold}
 use Rattle.rec_mutator.specs.Step.{NamesSlots}
-use Rattle.rec_mutator.specs.Took.{IsFound, IsBetween}
-use Rattle.rec_core.specs.Config.{IsMutator}
-use Rattle.rec_core.specs.Core.{Core, mutator}
-use Rattle.rec_world.proofs.Calls.{world_kept}
-use Rattle.rec_core.proofs.Steps.{actor_of}
 use Rattle.atomic_table.specs.Table.{Me}
-use Rattle.rec_log.specs.declared.contents.Contents.{Contents}
-use Rattle.rec_core.specs.Cells.{births_of}
-use Rattle.rec_table.specs.declared.views.View.{View}
-use Rattle.rec_table.specs.Beats.{told, learnt, births_told}
-use Rattle.rec_table.specs.Held.{Held, has}
-use Rattle.rec_core.specs.Row.{index_of}
-use Rattle.rec_table.specs.Rule.{me_after, ready, MayGo, seated_of, hands}
-use Rattle.rec_table.specs.declared.views.Beat.TheVariants.{Saw}
-use Rattle.rec_table.specs.declared.views.View.TheVariants.{Mutates}
+use Rattle.rec_table.proofs.Common.{Op, Private, IsMachine, KeepsSizes, work_of, limit_of, IsTold, IsFound, IsBetween, IsMutator, Core, mutator, world_kept, actor_of, Contents, births_of, View, told, learnt, births_told, Held, has, index_of, me_after, ready, MayGo, seated_of, hands, Saw, Mutates}
 use Rattle.rec_table.proofs.Acting.{own_record, opened_is, seen_record, ready_names}
 use Rattle.rec_table.proofs.Making.{births_more, Counted, counted, ready_hands, ready_between, made_out, made_hand, made_me, made_told}
 use Rattle.rec_table.proofs.Within.{there}

@@ -1,6 +1,5 @@
-use Rattle.rec_core.specs.Core.{mutator}
-use Rattle.rec_table.specs.Beats.{told}
-use Rattle.rec_table.specs.Rule.{seated_of}
+-- The loops of `Actor::step`: one step, which begins a work first, or goes on with one.
+use Rattle.rec_table.proofs.Common.{mutator, told, seated_of}
 use Rattle.rec_table.proofs.actor.Actor.step.Given as goal
 
 abbrev pub ghosts-make : goal.ghosts-make

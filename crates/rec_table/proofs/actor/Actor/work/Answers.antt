@@ -1,19 +1,13 @@
+-- The contract of `Actor::work`: begins a work and makes its steps to the end.
 use Rattle.std.proofs.Common.{◌≡◌, ◌+◌, ◌++◌, ℕ, ◌∙◌, ap, sym, subst}
 use Rattle.std.proofs.Common.{Some}
-use Rattle.rec_mutator.specs.Private.{Private, KeepsSizes, IsMachine, IsValid, work_of}
+use Rattle.rec_table.proofs.Common.{Private, KeepsSizes, IsMachine, IsValid, work_of, HasLabel, Saw, beats, ready, Held, told, learnt, has, HasScanned, saw_all}
 use Rattle.rec_mutator.specs.declared.made.Made.{Made}
 use Rattle.rec_mutator.specs.declared.work.Work.{Work}
 use Rattle.rec_mutator.specs.declared.work.Work.TheVariants as works
-use Rattle.rec_core.specs.Config.{HasLabel}
 use Rattle.rec_table.specs.declared.start.Start.{Start}
-use Rattle.rec_table.specs.declared.views.Beat.TheVariants.{Saw}
-use Rattle.rec_table.specs.Rule.{beats, ready}
-use Rattle.rec_table.specs.Held.{Held}
 use Rattle.rec_table.proofs.Steps.{begun_busy}
 use Rattle.rec_table.proofs.Answering.{Path, answered, begun_slots, busy_still, path_first, path_on, polled}
-use Rattle.rec_table.specs.Beats.{told, learnt}
-use Rattle.rec_table.specs.Held.{has}
-use Rattle.rec_table.specs.Scan.{HasScanned, saw_all}
 use Rattle.rec_table.proofs.Beats.{told_both}
 use Rattle.rec_table.proofs.Lines.{tells}
 use Rattle.rec_table.proofs.Making.{begun_work, keeps_on, works_first, works_on}

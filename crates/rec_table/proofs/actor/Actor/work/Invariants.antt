@@ -1,7 +1,6 @@
 -- The steps so far are the work's, and a work ends in time.
 use Rattle.std.proofs.Common.{◌≡◌, ◌-◌, ℕ, Some}
-use Rattle.rec_mutator.specs.Private.{KeepsSizes, work_of, limit_of}
-use Rattle.rec_table.specs.Held.{has, IsTold, Works}
+use Rattle.rec_table.proofs.Common.{KeepsSizes, work_of, limit_of, has, IsTold, Works}
 use Rattle.rec_table.proofs.Answering.{Path}
 use Rattle.rec_table.proofs.actor.Actor.work.Given as goal
 

@@ -1,3 +1,4 @@
+-- The contract of `Board::close`: takes the words and the mailboxes off the table.
 use Rattle.std.proofs.Common.{◌≡◌, ◌≢◌, ◌≤◌, ◌<◌, ◌+◌, ◌++◌, ◌∷◌, [], ℕ, List, Bool, false, length, take, get_or, set, sym, ap, ◌∙◌, subst, arith, get_or-set_same, get_or-set_other}
 use mathlib.Core.Logic.{dite}
 use native.Mathlib.Decide.{ℕ_discrete}

@@ -1,3 +1,4 @@
+-- The loops of `Board::close`: takes the words and the mailboxes off the table.
 use Rattle.std.proofs.Common.{◌≡◌, ◌≤◌, ◌<◌, take, vec_capacity, ℕ, true, false, get_or}
 use Rattle.std.specs.Mem.Slots.{slots_items, slots_filled, slots_len}
 use Rattle.rec_table.proofs.board.Board.close.Given as goal

@@ -1,3 +1,4 @@
+-- The contract of `Board::open`: puts the words and the mailboxes of a world on a table.
 use Rattle.rec_table.proofs.Seats.{starts}
 use Rattle.rec_table.proofs.board.Board.open.Goals as goal
 

@@ -1,9 +1,9 @@
+-- The contract of `Collector::put_back`: gives back a mailbox that it holds, by a turn.
 use Rattle.std.proofs.Common.{◌≡◌, Option, Some, true, false, sym, ap, ◌∙◌, subst}
-use Rattle.rec_word.specs.declared.op.Op.{Op}
+use Rattle.rec_table.proofs.Common.{Op, gathers_now}
 use Rattle.rec_collector.specs.Next.{next_of}
 use Rattle.rec_collector.specs.Private.{Private}
 use Rattle.rec_collector.specs.Step.{IsBetween}
-use Rattle.rec_table.specs.Held.{gathers_now}
 use Rattle.rec_table.proofs.PutBack.{none_held, puts_back, returning_looks_none}
 use Rattle.rec_table.proofs.collector.Collector.put_back.Goals as goal
 use Rattle.rec_table.proofs.collector.Collector.put_back.Goals.{In-Some}

@@ -1,12 +1,7 @@
+-- The contract of `Collector::seat_next`: makes the seat of the next mutator.
 use Rattle.std.proofs.Common.{◌≡◌, ◌<◌, ◌+◌, ℕ, refl, sym, ap, ◌∙◌, subst, arith}
-use Rattle.rec_mutator.specs.Private.{is_busy}
+use Rattle.rec_table.proofs.Common.{is_busy, mutator, world_kept, names_slots, Gathers, crew_of, Crew}
 use Rattle.rec_mutator.specs.Step.{NamesSlots}
-use Rattle.rec_core.specs.Core.{mutator}
-use Rattle.rec_world.proofs.Calls.{world_kept}
-use Rattle.rec_core.proofs.Words.{names_slots}
-use Rattle.rec_table.specs.Held.{Gathers}
-use Rattle.rec_table.specs.Rule.{crew_of}
-use Rattle.rec_table.specs.declared.views.Crew.{Crew}
 use Rattle.rec_table.proofs.Seats.{splits_as}
 use Rattle.rec_table.proofs.collector.Collector.seat_next.Goals as goal
 

@@ -1,7 +1,6 @@
+-- The contract of `Collector::take_in`: takes in the list of the next mutator, and gives its machine and its births.
 use Rattle.std.proofs.Common.{◌+◌, length, sym, ap, ◌∙◌, arith}
-use Rattle.rec_table.specs.Held.{Gathers}
-use Rattle.rec_table.specs.Rule.{crew_of, seated_of}
-use Rattle.rec_table.specs.declared.views.Crew.{Crew}
+use Rattle.rec_table.proofs.Common.{Gathers, crew_of, seated_of, Crew}
 use Rattle.rec_table.proofs.Seats.{joins_as}
 use Rattle.rec_table.proofs.collector.Collector.take_in.Goals as goal
 

@@ -1,5 +1,6 @@
+-- The contract of `Collector::turn_on`: one turn.
 use Rattle.std.proofs.Common.{◌≡◌, ◌<◌, ℕ, length, Option, Some, refl, sym, ap, ◌∙◌, subst, arith}
-use Rattle.rec_word.specs.declared.op.Op.{Op}
+use Rattle.rec_table.proofs.Common.{Op, Core, gathered, gathered_all, Gathers, gathers_now, index_of, crew_of, crew_more, boxes_out, word_of, NotLooking, Saw, Crew, Collects}
 use Rattle.rec_word.specs.declared.op.Op.TheVariants as ops
 use Rattle.rec_collector.specs.Given.{IsGiven}
 use Rattle.rec_collector.specs.Kept.{IsMachine, KeepsSizes}
@@ -9,14 +10,6 @@ use Rattle.rec_collector.specs.Step.{IsBetween}
 use Rattle.rec_collector.specs.Took.{turn_of}
 use Rattle.rec_collector.specs.declared.phase.Phase.{Phase}
 use Rattle.rec_collector.specs.declared.phase.Phase.TheVariants.{Looking}
-use Rattle.rec_core.specs.Core.{Core}
-use Rattle.rec_table.specs.Beats.{gathered, gathered_all}
-use Rattle.rec_table.specs.Held.{Gathers, gathers_now}
-use Rattle.rec_core.specs.Row.{index_of}
-use Rattle.rec_table.specs.Rule.{crew_of, crew_more, boxes_out, word_of, NotLooking}
-use Rattle.rec_table.specs.declared.views.Beat.TheVariants.{Saw}
-use Rattle.rec_table.specs.declared.views.Crew.{Crew}
-use Rattle.rec_table.specs.declared.views.View.TheVariants.{Collects}
 use Rattle.rec_table.proofs.Gathering.{turn_there, turn_names, looking_of, not_looking, looking_boxes, turn_me, turn_log, turn_end, lone_out}
 use Rattle.rec_table.proofs.Turn.{makes_none, makes_one}
 use Rattle.rec_table.proofs.collector.Collector.turn_on.Goals as goal

@@ -1,5 +1,5 @@
-use Rattle.rec_table.specs.Beats.{gathered_all}
-use Rattle.rec_table.specs.Rule.{crew_of}
+-- The loops of `Collector::turn_on`: one turn.
+use Rattle.rec_table.proofs.Common.{gathered_all, crew_of}
 use Rattle.rec_table.proofs.collector.Collector.turn_on.Given as goal
 
 abbrev pub ghosts-look : goal.ghosts-look

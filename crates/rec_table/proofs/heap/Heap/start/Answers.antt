@@ -1,7 +1,7 @@
 -- A started heap's mutators are its own.
 use Rattle.std.proofs.Common.{◌≡◌, ◌+◌, refl, subst, sym, arith}
 use Rattle.std.proofs.lemmas.Result.{IfOk-weaker}
-use Rattle.rec_table.specs.Held.{Held, IsMutatorOf}
+use Rattle.rec_table.proofs.Common.{Held, IsMutatorOf}
 use Rattle.rec_table.proofs.heap.Heap.start.Goals as goal
 
 pub returns-in-Ok-clause-mutators : goal.returns-in-Ok-clause-mutators

@@ -1,12 +1,9 @@
+-- The contract of `Heap::stop`: stops it, with all its mutators in order of number and its collector, and gives the world that it has become.
 use Rattle.std.proofs.Common.{◌≡◌, ◌∙◌, ap, map, subst, sym}
+use Rattle.rec_table.proofs.Common.{Core, IsKept, IsWorld, world_kept, Held, Started}
 use Rattle.rec_collector.specs.Private as collectors
-use Rattle.rec_core.specs.Core.{Core}
-use Rattle.rec_core.specs.Kept.{IsKept}
 use Rattle.rec_core.specs.Worked.{AreIdle}
-use Rattle.rec_world.specs.World.{IsWorld}
-use Rattle.rec_world.proofs.Calls.{world_kept}
 use Rattle.rec_table.specs.Ends.{Interleaves}
-use Rattle.rec_table.specs.Held.{Held, Started}
 use Rattle.rec_table.proofs.Stopped.{stopped}
 use Rattle.rec_table.proofs.heap.Heap.stop.Goals as goal
 

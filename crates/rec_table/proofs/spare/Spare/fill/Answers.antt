@@ -1,17 +1,12 @@
+-- The contract of `Spare::fill`: takes all off the table, and puts a world together from it.
 use Rattle.std.proofs.Common.{◌≡◌, ℕ, ◌+◌, ◌%◌, ◌^◌, [], slice_index_or, All, List, refl, sym, ap, ◌∙◌, subst}
 use Rattle.std.specs.List.{sum_by}
+use Rattle.rec_table.proofs.Common.{Private, Core, after_moves, births_told, gathered_all, Gathers, Held, Started, gathers_now, started, boxes_out, Beat}
 use Rattle.rec_collector.specs.Private as collectors
-use Rattle.rec_mutator.specs.Private.{Private}
-use Rattle.rec_core.specs.Core.{Core}
-use Rattle.rec_core.specs.Moves.{after_moves}
 use Rattle.rec_core.specs.Worked.{AreIdle}
 use Rattle.rec_world.specs.Parts.{AreParts}
 use Rattle.rec_world.specs.declared.parts.Parts.{Parts}
-use Rattle.rec_table.specs.Beats.{births_told, gathered_all}
 use Rattle.rec_table.specs.Ends.{IsRunOf}
-use Rattle.rec_table.specs.Held.{Gathers, Held, Started, gathers_now, started}
-use Rattle.rec_table.specs.Rule.{boxes_out}
-use Rattle.rec_table.specs.declared.views.Beat.{Beat}
 use Rattle.rec_table.proofs.Stopping.{InHand, all_idle, boxes_even, made_right, parts_right}
 use Rattle.rec_table.proofs.spare.Spare.fill.Goals as goal
 use Rattle.rec_table.proofs.spare.Spare.fill.Goals.{After-close-collector}

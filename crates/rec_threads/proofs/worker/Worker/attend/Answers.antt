@@ -1,3 +1,4 @@
+-- The contract of `Worker::attend`: polls where the collector waits for it, and lets others run, until the collector's worker has ended.
 use Rattle.std.proofs.Common.{List, [], replicate, subst, arith}
 use Rattle.std.proofs.lemmas.List.{replicate-append-replicate}
 use Rattle.rec_mutator.specs.declared.work.Work.{Work}

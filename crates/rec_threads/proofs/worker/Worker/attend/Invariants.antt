@@ -1,3 +1,4 @@
+-- The loops of `Worker::attend`: polls where the collector waits for it, and lets others run, until the collector's worker has ended.
 use Rattle.std.proofs.Common.{◌≤◌, [], replicate}
 use Rattle.rec_mutator.specs.declared.work.Work.TheVariants as works
 use Rattle.rec_threads.specs.Done.{HasMade}

@@ -1,3 +1,4 @@
+-- The contract of `Worker::carry_out`: carries out the commands, each behind the gate and a poll, and notes what is told.
 use Rattle.std.proofs.Common.{◌≡◌, ◌+◌, ◌<◌, ℕ, List, [], ◌∷◌, ◌++◌, length, slice_index_or, take, sym, subst, arith}
 use Rattle.std.proofs.lemmas.List.{length-take-le, take_all, take_more}
 use Rattle.std.proofs.lemmas.Grind.{flat_map-append}

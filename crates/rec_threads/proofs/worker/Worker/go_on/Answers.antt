@@ -1,3 +1,4 @@
+-- The contract of `Worker::go_on`: polls, carries out a command, and notes what is told.
 use Rattle.std.proofs.Common.{[], ◌∷◌, refl}
 use Rattle.rec_mutator.specs.declared.work.Work.TheVariants as works
 use Rattle.rec_threads.specs.declared.worker.Worker.{Worker}

@@ -1,3 +1,4 @@
+-- The contract of `Worker::poll_if_awaited`: polls if the collector waits for it, and tells how often it did.
 use Rattle.std.proofs.Common.{refl}
 use Rattle.rec_threads.specs.declared.worker.Worker.{Worker}
 use Rattle.rec_threads.proofs.Lists.{together}

@@ -8,5 +8,5 @@ use Rattle.rec_world.proofs.memory.Memory.exchange.Goals as goal
 pub returns-clause-left : goal.returns-clause-left
 returns-clause-left c =
     let m = c.self.inside in
-    let at : c.index.result ≡ index_of m.layout.places m.layout.slots c.args.op = c.index.ensures ∙ ap (index_at m.layout.places m.layout.slots) c.cell.ensures in
+    let at : c.index.result ≡ index_of m.layout.places m.layout.slots c.args.op = c.index.ensures ∙ ap (index_at m.layout.places m.layout.slots) c.requires.names in
     left_is m c.self.invariant c.args.self.now c.self.view_is c.args.op c.requires.within c.index.result at c.exchange.new.word c.exchange.result (c.exchange.ensures.left ∙ ap (written c.args.op) (sym c.exchange.ensures.found))
