@@ -1,3 +1,4 @@
+-- The modules of the proofs.
 pub mod Falling
 pub mod Kept
 pub mod Greening

@@ -3,17 +3,15 @@
 use Rattle.std.proofs.Common.{true, false, cond, ◌≡◌, [], arith, ap, ℕ, ◌+◌, ◌*◌, ◌^◌, ◌<◌, ◌≤◌, Option, List, length, None, Some, IfSome, slice_get, refl, sym}
 use Rattle.std.proofs.Math.Nat.{mul-le-mul}
 use Rattle.std.proofs.lemmas.Bool.{eqb-false}
-use Rattle.rec_word.specs.declared.op.Op.{Op}
+use Rattle.rec_collector.proofs.Common.{Op, State, IsKept, times, times-nil, in_range_once, times_at, IsAtWork, IsHeld, Machine, op_at, IsTidy, IsAt, IsMachine, all_fields, limit_of, IsPreparing, IsTesting, IsTrying, Private, parts_of, Phase, Looking, Swapping, Returning, Releasing, Freeing, Trying, Preparing, Idle, Opening, Sweeping, Closing}
 use Rattle.rec_word.specs.declared.op.Op.TheVariants.{StoreEpoch, LoadChild}
 use Rattle.rec_word.proofs.FieldPlaces.{place_within}
-use Rattle.rec_counts.specs.Counts.{State, IsKept as IsKeptCounts, IsKept}
-use Rattle.rec_counts.specs.Lists.{times}
-use Rattle.rec_counts.proofs.Times.{times-nil, in_range_once, times_at}
+use Rattle.rec_counts.specs.Counts.{IsKept as IsKeptCounts}
 use Rattle.rec_walk.specs.Load.{Load}
 use Rattle.rec_walk.specs.declared.member.Member.{Member}
 use Rattle.rec_walk.specs.Walk.{IsOf}
 use Rattle.rec_release.specs.declared.at.At.{At}
-use Rattle.rec_release.specs.Release.{IsAtWork, IsHeld, Machine, next_of as release_next, op_at}
+use Rattle.rec_release.specs.Release.{next_of as release_next}
 use Rattle.rec_release.specs.Sweep.{next_of as sweep_next}
 use Rattle.rec_counts.proofs.Front.{first_in}
 use Rattle.rec_sigma.specs.Prepared.{PreparedTo, LoadsWithin}
@@ -21,12 +19,7 @@ use Rattle.rec_sigma.proofs.Bounds.{few_loads, names_place}
 use Rattle.rec_trial.proofs.Keeps.{at_work_few}
 use Rattle.rec_trial.specs.Trial.{Machine as Trial, next_of as trial_next, op_at as trial_op_at}
 use Rattle.rec_trial.proofs.AtWork.{at_work_place}
-use Rattle.rec_collector.specs.Clearing.{IsTidy}
-use Rattle.rec_collector.specs.Kept.{IsAt, IsMachine, all_fields, limit_of, IsPreparing, IsTesting, IsTrying}
-use Rattle.rec_collector.specs.Private.{Private, parts_of}
 use Rattle.rec_collector.specs.Zeros.{AreCounted, AreTheZeros}
-use Rattle.rec_collector.specs.declared.phase.Phase.{Phase}
-use Rattle.rec_collector.specs.declared.phase.Phase.TheVariants.{Looking, Swapping, Returning, Releasing, Freeing, Trying, Preparing, Idle, Opening, Sweeping, Closing}
 use Rattle.rec_collector.specs.Next.{is_spent, next_at, next_of}
 use Rattle.rec_collector.specs.Step.{NamesWord}
 use Rattle.rec_collector.proofs.Exchanging.{exchanged_few}

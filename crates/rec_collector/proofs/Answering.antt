@@ -1,28 +1,18 @@
 -- What follows a word, as the calls that make it tell.
 use Rattle.std.proofs.Common.{◌≡◌, ◌≢◌, ℕ, zero, suc, ◌-◌, ◌<◌, true, false, cond, is_some, Option, None, Some, length, refl, arith, sym, ◌∙◌, ap, subst, List, ◌+◌}
 use Rattle.std.proofs.lemmas.Bool.{false≢true}
-use Rattle.rec_word.specs.declared.op.Op.{Op}
-use Rattle.rec_counts.specs.Counts.{IsKept, State}
+use Rattle.rec_collector.proofs.Common.{Op, IsKept, State, IsClear, IsFewTold, IsCleared, followed, going_on, gone_on, next_in, prep_started, prepared, prepared_at, sweep_phase, tried, tried_at, trial_started, relieved, relieved_at, with_freed, with_released, Parts, new_freeing, Begun, last_tested, releasing_at, tested, with_release, counted_by, tested_as, verdict_of, with_freeing, zeros_released, Held, Passed, Touched, Phase, Preparing, Releasing, Trying, Freeing, Contents, NoneReleased}
 use Rattle.rec_release.specs.declared.at.At.{At}
-use Rattle.rec_collector.specs.Clearing.{IsClear, IsFewTold, IsCleared}
-use Rattle.rec_collector.specs.Followed.{followed, going_on, gone_on, next_in, prep_started, prepared, prepared_at, sweep_phase, tried, tried_at, trial_started, relieved, relieved_at, with_freed, with_released}
-use Rattle.rec_collector.specs.Parts.{Parts, new_freeing}
-use Rattle.rec_collector.specs.Testing.{Begun, last_tested, releasing_at, tested, with_release, counted_by, tested_as, verdict_of, with_freeing, zeros_released}
 use Rattle.rec_collector.specs.declared.sets.Sets.{Sets}
 use Rattle.rec_collector.specs.declared.verdict.Verdict.{Verdict}
-use Rattle.rec_collector.specs.declared.verdict.Verdict.TheVariants.{Held, Passed, Touched}
 use Rattle.rec_sigma.specs.Settling.{refurbished_of}
-use Rattle.rec_collector.specs.declared.phase.Phase.{Phase}
-use Rattle.rec_collector.specs.declared.phase.Phase.TheVariants.{Preparing, Releasing, Trying, Freeing}
 use Rattle.rec_collector.proofs.Clearing.{Clears, released_clears}
 use Rattle.rec_collector.proofs.Counting.{KeepsTold, last_told, Counted, freed_told, released_told, same_told, told_on, zeros_told}
 use Rattle.rec_collector.proofs.Goings.{last_sets, still, with_counts}
 use Rattle.rec_collector.proofs.Steps.{prep_next, release_next, freeing_next}
 use Rattle.rec_collector.proofs.Testing.{last_clear}
-use Rattle.rec_log.specs.declared.contents.Contents.{Contents}
 use Rattle.rec_counts.specs.Rest.{KeepsRest}
 use Rattle.rec_walk.specs.declared.member.Member.{Member}
-use Rattle.rec_collector.specs.Kept.{NoneReleased}
 use Rattle.rec_apply.specs.Batch.{batch, IsCovered}
 use Rattle.rec_collector.proofs.Following.{batch_clears}
 use Rattle.rec_apply.proofs.Whole.{is_batch}

@@ -1,20 +1,11 @@
 -- From a batch to the next trial: what holds where the next of the zeros is released, and where a word came out of a released slot.
 use Rattle.std.proofs.Common.{◌≡◌, ℕ, ◌+◌, ◌<◌, Bool, None, Some, List, [], ◌∷◌, refl, arith, ◌∙◌, ap, subst, true, false, Option, IsNone, length, leb, ◌≤◌, ◌*◌}
+use Rattle.rec_collector.proofs.Common.{Slot, State, IsKept, slot_at, times, one, times-nil, emptied, next_from, without_first, IsReady, ready_off, KeepsMost, release_left, HasExchanged, IsClearing, IsReleasing, IsTidy, with_released, Parts, Begun, zeros_released, with_release, Releasing}
 use Rattle.rec_word.specs.Word.{target_of}
-use Rattle.rec_counts.specs.declared.slot.Slot.{Slot}
-use Rattle.rec_counts.specs.Counts.{State, IsKept, slot_at}
-use Rattle.rec_counts.specs.Lists.{times, one}
-use Rattle.rec_counts.proofs.Times.{times-nil}
-use Rattle.rec_release.specs.Release.{started_of as zeros_started, emptied, next_from, without_first, IsReady}
+use Rattle.rec_release.specs.Release.{started_of as zeros_started}
 use Rattle.rec_release.specs.declared.at.At.{At}
 use Rattle.rec_release.proofs.Keeping.{each_next, emptied_length, first_length, first_zero, none_left, FirstZero, held_off, ready_emptied, work_next, work_on}
 use Rattle.rec_release.proofs.Kept.{off_kept, emptied_kept, first_kept}
-use Rattle.rec_release.proofs.TakenOff.{ready_off, KeepsMost}
-use Rattle.rec_collector.specs.Clearing.{release_left, HasExchanged, IsClearing, IsReleasing, IsTidy}
-use Rattle.rec_collector.specs.Followed.{with_released}
-use Rattle.rec_collector.specs.Parts.{Parts}
-use Rattle.rec_collector.specs.Testing.{Begun, zeros_released, with_release}
-use Rattle.rec_collector.specs.declared.phase.Phase.TheVariants.{Releasing}
 use Rattle.rec_collector.proofs.Counting.{Counted}
 use Rattle.rec_collector.proofs.Exchanging.{exchanged_as, first_are}
 use Rattle.rec_collector.proofs.Goings.{emptied_same, next_begun, released_by, released_emptied, released_last, released_more, released_most, released_off}

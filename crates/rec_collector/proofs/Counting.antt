@@ -1,19 +1,14 @@
 -- Each test of a set is counted, nothing else counts one, and the numbers of slots and fields stay, while slots are released and sets are
 -- freed and tested.
 use Rattle.std.proofs.Common.{◌≡◌, ℕ, ◌<◌, Bool, true, IfSome, IsSome, length, refl, ◌∙◌, ap, ◌+◌, ◌≤◌, arith}
+use Rattle.rec_collector.proofs.Common.{State, slot_at, emptied, KeepsMost, with_freed, with_released, Parts, Begun, last_tested, zeros_released, counted_by, tested, told, Passed, Touched, Held}
 use Rattle.rec_word.specs.Word.{target_of}
-use Rattle.rec_counts.specs.Counts.{State, slot_at}
-use Rattle.rec_release.specs.Release.{emptied, started_of as zeros_started}
+use Rattle.rec_release.specs.Release.{started_of as zeros_started}
 use Rattle.rec_release.proofs.Keeping.{emptied_length, emptied_sets, next_length, next_sets}
-use Rattle.rec_release.proofs.TakenOff.{KeepsMost}
-use Rattle.rec_collector.specs.Followed.{with_freed, with_released}
-use Rattle.rec_collector.specs.Parts.{Parts}
-use Rattle.rec_collector.specs.Testing.{Begun, last_tested, zeros_released, counted_by, tested, told}
 use Rattle.rec_collector.proofs.Goings.{freed_by, freed_listed, freed_off, last_by, last_refused, released_by, released_off, last_sets, refurbished_many, tested_all, released_most, freed_most, with_counts}
 use Rattle.rec_release.proofs.Giving.{given_many}
 use Rattle.rec_collector.specs.declared.sets.Sets.{Sets}
 use Rattle.rec_collector.specs.declared.verdict.Verdict.{Verdict}
-use Rattle.rec_collector.specs.declared.verdict.Verdict.TheVariants.{Passed, Touched, Held}
 use Rattle.rec_release.specs.CycleFree as frees
 use Rattle.rec_release.specs.Release as releases
 

@@ -4,18 +4,10 @@ use Rattle.std.proofs.Math.Nat.{mul-le-mul_left}
 use Rattle.std.proofs.lemmas.List.{get_or_past}
 use Rattle.std.proofs.lemmas.Bool.{cases_lt, le-leb, lt-leb, lt-ltb}
 use Rattle.std.proofs.lemmas.Bool.Decides.{eqb_tells}
-use Rattle.rec_counts.specs.declared.slot.Slot.{Slot}
-use Rattle.rec_counts.specs.Counts.{State, IsKept, slot_at, with_slot}
-use Rattle.rec_counts.specs.Lists.{one, times, EachOnce}
-use Rattle.rec_counts.specs.Slot.{absent}
-use Rattle.rec_counts.proofs.Times.{length-once, one-le, times-cons, times-nil}
+use Rattle.rec_collector.proofs.Common.{Slot, State, IsKept, slot_at, with_slot, one, times, EachOnce, absent, length-once, one-le, times-cons, times-nil, without_first, IsReady, fields_left, freeing_left, HasExchanged, Parts, Phase}
 use Rattle.rec_counts.proofs.Front.{first_and_rest}
 use Rattle.rec_walk.specs.Walk.{first_member}
-use Rattle.rec_release.specs.Release.{without_first, IsReady}
 use Rattle.rec_release.proofs.Keeping.{first_zero, first_length, released_first, released_same, FirstZero}
-use Rattle.rec_collector.specs.Clearing.{fields_left, freeing_left, HasExchanged}
-use Rattle.rec_collector.specs.Parts.{Parts}
-use Rattle.rec_collector.specs.declared.phase.Phase.{Phase}
 use Rattle.rec_collector.proofs.Goings.{with_counts}
 
 -- no more fields were exchanged than there are

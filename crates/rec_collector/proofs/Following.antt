@@ -4,27 +4,12 @@ use Rattle.std.proofs.Common.{◌≡◌, ℕ, ◌<◌, true, false, Option, None
 use Rattle.std.specs.List.{concat}
 use Rattle.std.proofs.lemmas.List.{get_or_past}
 use Rattle.std.proofs.lemmas.Bool.{cases_Bool, cases_lt, false≢true}
-use Rattle.rec_log.specs.declared.contents.Contents.{Contents}
-use Rattle.rec_counts.specs.declared.slot.Slot.{Slot}
-use Rattle.rec_counts.specs.Counts.{IsKept, State, slot_at}
-use Rattle.rec_counts.specs.Lists.{times}
+use Rattle.rec_collector.proofs.Common.{Contents, Slot, IsKept, State, slot_at, times, absent, times-nil, IsReady, IsTidy, HasExchanged, IsCleared, IsClearingIn, AreResting, IsAtRest, NoneReleased, IsAt, IsMachine, IsTesting, Parts, followed, next_in, trial_started, with_freed, with_offers, with_released, going_on, Private, parts_of, tested, told, zeros_released, Begun, batched, Phase, Returning, Releasing, Freeing, listed}
 use Rattle.rec_counts.specs.Rest.{KeepsRest}
-use Rattle.rec_counts.specs.Slot.{absent}
-use Rattle.rec_counts.proofs.Times.{times-nil}
 use Rattle.rec_apply.specs.Batch.{batch, IsBatch, IsCovered}
 use Rattle.rec_apply.proofs.Whole.{is_batch}
-use Rattle.rec_release.specs.Release.{IsReady}
 use Rattle.rec_release.specs.TakenOff.{IsMember}
-use Rattle.rec_collector.specs.Clearing.{IsTidy, HasExchanged, IsCleared, IsClearingIn}
-use Rattle.rec_collector.specs.Kept.{AreResting, IsAtRest, NoneReleased, IsAt, IsMachine, IsTesting}
-use Rattle.rec_collector.specs.Parts.{Parts}
-use Rattle.rec_collector.specs.Followed.{followed, next_in, trial_started, with_freed, with_offers, with_released, going_on}
 use Rattle.rec_collector.specs.Offered.{KeepsOffered}
-use Rattle.rec_collector.specs.Private.{Private, parts_of}
-use Rattle.rec_collector.specs.Testing.{tested, told, zeros_released, Begun}
-use Rattle.rec_collector.specs.Took.{batched}
-use Rattle.rec_collector.specs.declared.phase.Phase.{Phase}
-use Rattle.rec_collector.specs.declared.phase.Phase.TheVariants.{Returning, Releasing, Freeing}
 use Rattle.rec_collector.proofs.Clearing.{Clears, released_clears, zeros_clear}
 use Rattle.rec_collector.proofs.Outside.{Lowers, batch_lowers, batch_same, outside_on, untried_moved}
 use Rattle.rec_collector.proofs.Counting.{Counted, KeepsTold, released_told, same_told, tested_told, told_on, zeros_told, freed_told}
@@ -33,7 +18,6 @@ use Rattle.rec_collector.proofs.Landing.{Fits, Lands, fits_all, now_at, told_at}
 use Rattle.rec_collector.proofs.Offering.{where_keeps, where_kept, where_listed, where_ready, where_uncoloured}
 use Rattle.rec_collector.proofs.Trying.{started_tried, tried_lands}
 use Rattle.rec_collector.proofs.Freeing.{freed_clears}
-use Rattle.rec_release.specs.CycleFree.{listed}
 use Rattle.rec_collector.proofs.Goings.{still}
 use Rattle.rec_collector.proofs.Testing.{tested_clear, clear_counted, clear_listed, clear_ready, clear_uncoloured, ends_after}
 use Rattle.rec_release.specs.CycleFree as frees

@@ -1,20 +1,12 @@
 -- From a batch to the next trial: what holds where a word came out of a member of the set that is freed.
 use Rattle.std.proofs.Common.{◌≡◌, ℕ, ◌+◌, ◌-◌, ◌*◌, ◌<◌, ◌≤◌, true, None, Some, length, refl, arith, ◌∙◌, ap, subst, inl, inr}
 use Rattle.std.proofs.lemmas.Bool.{cases_lt}
+use Rattle.rec_collector.proofs.Common.{State, IsKept, times, times-append, IsReady, KeepsMost, freeing_left, HasExchanged, IsFreeing, IsTidy, with_freed, Parts, Freeing}
 use Rattle.rec_word.specs.Word.{target_of}
-use Rattle.rec_counts.specs.Counts.{State, IsKept}
-use Rattle.rec_counts.specs.Lists.{times}
-use Rattle.rec_counts.proofs.Times.{times-append}
-use Rattle.rec_release.specs.Release.{IsReady}
 use Rattle.rec_release.proofs.Freeing.{off_work}
 use Rattle.rec_release.proofs.Kept.{off_kept, members_listed}
-use Rattle.rec_release.proofs.TakenOff.{KeepsMost}
 use Rattle.rec_walk.specs.declared.member.Member.{Member}
 use Rattle.rec_walk.specs.Walk.{IsOf}
-use Rattle.rec_collector.specs.Clearing.{freeing_left, HasExchanged, IsFreeing, IsTidy}
-use Rattle.rec_collector.specs.Followed.{with_freed}
-use Rattle.rec_collector.specs.Parts.{Parts}
-use Rattle.rec_collector.specs.declared.phase.Phase.TheVariants.{Freeing}
 use Rattle.rec_collector.proofs.Counting.{Counted}
 use Rattle.rec_collector.proofs.Exchanging.{exchanged_as}
 use Rattle.rec_collector.proofs.Goings.{field_behind, freed_by, freed_last, freed_listed, freed_most, freed_off, freed_on, member_behind}

@@ -2,32 +2,23 @@
 use Rattle.std.proofs.Common.{◌≡◌, ℕ, zero, suc, ◌+◌, ◌-◌, ◌<◌, ◌≤◌, min, Bool, true, false, cond, ltb, is_some, Option, None, Some, IsSome, List, [], ◌∷◌, length, get_or, slice_get, refl, arith, sym, ◌∙◌, ap, subst}
 use Rattle.std.proofs.lemmas.List.{length-map, length-set, length-take}
 use Rattle.std.proofs.lemmas.Bool.{false≢true, ltb-true, ltb-false}
+use Rattle.rec_collector.proofs.Common.{State, slot_at, out_of_set, emptied, first_of, with_next, without_first, KeepsMost, off_most, coloured, fate_at, relieved, with_freed, with_released, Parts, Begun, counted_by, last_tested, tested, tested_as, verdict_of, with_freeing, with_release, zeros_released, Phase, Freeing, Releasing, Passed, Touched, Held}
 use Rattle.rec_word.specs.Word.{target_of}
-use Rattle.rec_counts.specs.Counts.{State, slot_at}
 use Rattle.rec_counts.specs.Groups.{earlier_sets, last_set}
-use Rattle.rec_counts.specs.Slot.{out_of_set}
 use Rattle.rec_release.specs.CycleFree as frees
 use Rattle.rec_release.specs.CycleFree.{started_of as freeing_started, took_of as freed_of}
 use Rattle.rec_release.specs.Release as releases
-use Rattle.rec_release.specs.Release.{started_of as zeros_started, took_of as released_of, emptied, first_of, with_next, without_first}
+use Rattle.rec_release.specs.Release.{started_of as zeros_started, took_of as released_of}
 use Rattle.rec_release.specs.TakenOff.{taken_off}
 use Rattle.rec_release.specs.declared.at.At.{At}
 use Rattle.rec_walk.specs.declared.member.Member.{Member}
 use Rattle.rec_walk.specs.Walk as walks
 use Rattle.rec_release.proofs.Keeping.{next_sets}
-use Rattle.rec_release.proofs.TakenOff.{KeepsMost, off_most}
 use Rattle.rec_sigma.specs.declared.fate.Fate.{Fate}
 use Rattle.rec_sigma.specs.declared.fate.Fate.TheVariants.{Free}
-use Rattle.rec_sigma.specs.Refurbish.{coloured, fate_at}
 use Rattle.rec_sigma.specs.Settling.{refurbished_of, settled, settled_all}
 use Rattle.rec_sigma.proofs.Renewals.{dropped}
-use Rattle.rec_collector.specs.Followed.{relieved, with_freed, with_released}
-use Rattle.rec_collector.specs.Parts.{Parts}
-use Rattle.rec_collector.specs.Testing.{Begun, counted_by, last_tested, tested, tested_as, verdict_of, with_freeing, with_release, zeros_released}
-use Rattle.rec_collector.specs.declared.phase.Phase.{Phase}
-use Rattle.rec_collector.specs.declared.phase.Phase.TheVariants.{Freeing, Releasing}
 use Rattle.rec_collector.specs.declared.verdict.Verdict.{Verdict}
-use Rattle.rec_collector.specs.declared.verdict.Verdict.TheVariants.{Passed, Touched, Held}
 
 -- nothing is at work, or something is
 pub none_some : {A : Type 0} {P : Type 0} (o : Option A) → o ≡ None → IsSome o → P

@@ -1,20 +1,12 @@
 -- A slot becomes Green only by a batch: no other move makes one Green.
 use Rattle.std.proofs.Common.{◌≡◌, inl, inr, ℕ, ◌-◌, Bool, true, false, List, ◌∷◌, length, refl, sym, ap, ◌∙◌, arith}
 use Rattle.std.proofs.lemmas.Bool.{cases_lt, false≢true}
-use Rattle.rec_counts.specs.declared.slot.Slot.{Slot}
+use Rattle.rec_collector.proofs.Common.{Slot, Green, State, slot_at, with_slot, times, is_in, unbuffered_if, dead_if, given_up, without_first, written, refurbished, LastRefurbished}
 use Rattle.rec_counts.specs.declared.colour.Colour.{Colour}
-use Rattle.rec_counts.specs.declared.colour.Colour.TheVariants.{Green}
 use Rattle.rec_counts.specs.Colour.{in_use, is_green}
-use Rattle.rec_counts.specs.Counts.{State, slot_at, with_slot}
 use Rattle.rec_counts.specs.Groups.{last_set}
-use Rattle.rec_counts.specs.Lists.{times}
-use Rattle.rec_counts.specs.Slot.{is_in, unbuffered_if}
-use Rattle.rec_release.specs.CycleFree.{dead_if, given_up}
-use Rattle.rec_release.specs.Release.{without_first}
 use Rattle.rec_release.proofs.Giving.{given_slot}
-use Rattle.rec_release.proofs.TakenOff.{written}
 use Rattle.rec_sigma.specs.Prepared.{KeepsOthers}
-use Rattle.rec_sigma.specs.Refurbish.{refurbished, LastRefurbished}
 use Rattle.rec_sigma.specs.declared.fate.Fate.{Fate}
 use Rattle.rec_sigma.specs.declared.fate.Fate.TheVariants as fates
 

@@ -5,26 +5,15 @@ use Rattle.std.proofs.lemmas.List.Sums.{sum_by-cons}
 use Rattle.std.proofs.lemmas.Bool.{cases_lt, eqb-true, eq-eqb, ne_eqb, false≢true}
 use Rattle.std.proofs.lemmas.Bool.Decides.{eqb_tells}
 use Rattle.std.proofs.lemmas.List.{same_lists, get_or_default}
+use Rattle.rec_collector.proofs.Common.{Orange, State, slot_at, IsKept, one, times, one-none, one-same, times-cons, times-nil, times_part, absent, Slot, IsFreeable, IsRefusable, LastRefurbished, Begun, touched, verdict_if, verdict_of, counted_by, last_tested, tested_as, zeros_released, Passed, Touched, Held, IsCleared, Parts}
 use Rattle.rec_counts.specs.declared.colour.Colour.{Colour}
-use Rattle.rec_counts.specs.declared.colour.Colour.TheVariants.{Orange}
-use Rattle.rec_counts.specs.Counts.{State, slot_at, IsKept}
-use Rattle.rec_counts.specs.Lists.{one, times}
 use Rattle.rec_counts.specs.Colour.{is_orange}
-use Rattle.rec_counts.proofs.Times.{one-none, one-same, times-cons, times-nil, times_part}
 use Rattle.rec_counts.specs.Groups.{last_set}
-use Rattle.rec_counts.specs.Slot.{absent}
-use Rattle.rec_counts.specs.declared.slot.Slot.{Slot}
-use Rattle.rec_release.specs.CycleFree.{IsFreeable}
 use Rattle.rec_sigma.specs.Judged.{AreOrange, cyclic_sum}
 use Rattle.rec_sigma.specs.Prepare.{members_of}
-use Rattle.rec_sigma.specs.Refurbish.{IsRefusable, LastRefurbished}
 use Rattle.rec_sigma.specs.Settling.{refurbished_of}
 use Rattle.rec_sigma.proofs.Renewals.{refurbished_last}
-use Rattle.rec_collector.specs.Testing.{Begun, touched, verdict_if, verdict_of, counted_by, last_tested, tested_as, zeros_released}
 use Rattle.rec_collector.specs.declared.verdict.Verdict.{Verdict}
-use Rattle.rec_collector.specs.declared.verdict.Verdict.TheVariants.{Passed, Touched, Held}
-use Rattle.rec_collector.specs.Clearing.{IsCleared}
-use Rattle.rec_collector.specs.Parts.{Parts}
 use Rattle.rec_collector.specs.Step.{IsTested}
 
 -- where none of a list passes, it has none that does, and the other way round

@@ -3,21 +3,13 @@
 use Rattle.std.proofs.Common.{◌≡◌, ◌≢◌, ℕ, ◌+◌, ◌-◌, ◌^◌, ◌<◌, ◌==◌, true, false, Bool, cond, inl, inr, length, set, refl, arith, sym, ◌∙◌, ap, subst, List}
 use Rattle.std.proofs.lemmas.List.{length-set, get_or-set_same, get_or-set_other}
 use Rattle.std.proofs.lemmas.Bool.{eqb-false, cases_eq, eqb-true}
+use Rattle.rec_collector.proofs.Common.{Contents, IsWork, IsSized, IsGiven, IsGivenAt, AreSized, AreSpare, IsAt, IsMachine, IsTold, swept_at, under_way, KeepsSizes, IsGathering, IsSweeping, Private, blank, buffer_at, parts_of, moved, swapped_at, took_at, batched, came, came_turn, ended_if, took_of, turn_at, turn_of, step_of, swapped_of, Phase, Idle, Looking, Swapping, Returning, Releasing, Freeing, Trying, Preparing, Sweeping, Closing, Opening, worked, Next, followed, with_freed, with_released, zeros_released, told}
 use Rattle.rec_word.specs.Mailbox.{crossing_word}
 use Rattle.rec_word.specs.declared.mailbox.Mailbox.TheVariants.{Retired}
-use Rattle.rec_log.specs.declared.contents.Contents.{Contents}
 use Rattle.rec_apply.specs.Batch.{batch}
 use Rattle.rec_release.proofs.Kept.{sweep_kept}
 use Rattle.rec_collector.specs.Works.{MayWork}
-use Rattle.rec_collector.specs.Given.{IsWork, IsSized, IsGiven, IsGivenAt}
-use Rattle.rec_collector.specs.Kept.{AreSized, AreSpare, IsAt, IsMachine, IsTold, swept_at, under_way, KeepsSizes, IsGathering, IsSweeping}
 use Rattle.rec_collector.specs.Next.{is_spent}
-use Rattle.rec_collector.specs.Private.{Private, blank, buffer_at, parts_of}
-use Rattle.rec_collector.specs.Took.{moved, swapped_at, took_at, batched, came, came_turn, ended_if, took_of, turn_at, turn_of, step_of, swapped_of}
-use Rattle.rec_collector.specs.declared.phase.Phase.{Phase}
-use Rattle.rec_collector.specs.declared.phase.Phase.TheVariants.{Idle, Looking, Swapping, Returning, Releasing, Freeing, Trying, Preparing, Sweeping, Closing, Opening}
-use Rattle.rec_collector.specs.Followed.{worked, Next, followed, with_freed, with_released}
-use Rattle.rec_collector.specs.Testing.{zeros_released, told}
 use Rattle.rec_collector.specs.declared.turn.Turn.{Turn}
 use Rattle.rec_collector.specs.declared.turn.Turn.TheVariants.{Moved}
 use Rattle.rec_collector.specs.Step.{IsBetween}

@@ -1,17 +1,9 @@
 -- Where a turn lands that works on the parts of the machine: the phase that it came to, and what holds there.
 use Rattle.std.proofs.Common.{◌≡◌, ℕ, ◌+◌, ◌*◌, ◌^◌, ◌<◌, ◌≤◌, false, Option, None, Some, List, [], ◌∷◌, length, refl, arith, ap, subst, ◌∙◌, IfSome, Bool, slice_get, true}
-use Rattle.rec_counts.specs.Counts.{State, IsKept as IsKeptCounts}
+use Rattle.rec_collector.proofs.Common.{State, Next, followed, prepared, prepared_at, tried, tried_at, with_freed, with_released, going_on, gone_on, relieved_at, with_offers, worked, prep_started, all_fields, IsAt, IsMachine, IsTold, KeepsSizes, swept_at, under_way, Parts, new_release, Private, parts_of, with_parts, tested, zeros_released, Begun, freeing_at, last_tested, releasing_at, batched, moved, Phase, Idle, Releasing, Freeing, Trying, Preparing, Opening, Closing, Returning, IsWork}
+use Rattle.rec_counts.specs.Counts.{IsKept as IsKeptCounts}
 use Rattle.rec_release.specs.declared.at.At.{At}
 use Rattle.rec_trial.specs.Trial.{Machine as Trial}
-use Rattle.rec_collector.specs.Followed.{Next, followed, prepared, prepared_at, tried, tried_at, with_freed, with_released, going_on, gone_on, relieved_at, with_offers, worked, prep_started}
-use Rattle.rec_collector.specs.Kept.{all_fields, IsAt, IsMachine, IsTold, KeepsSizes, swept_at, under_way}
-use Rattle.rec_collector.specs.Parts.{Parts, new_release}
-use Rattle.rec_collector.specs.Private.{Private, parts_of, with_parts}
-use Rattle.rec_collector.specs.Testing.{tested, zeros_released, Begun, freeing_at, last_tested, releasing_at}
-use Rattle.rec_collector.specs.Took.{batched, moved}
-use Rattle.rec_collector.specs.declared.phase.Phase.{Phase}
-use Rattle.rec_collector.specs.declared.phase.Phase.TheVariants.{Idle, Releasing, Freeing, Trying, Preparing, Opening, Closing, Returning}
-use Rattle.rec_collector.specs.Given.{IsWork}
 use Rattle.rec_collector.proofs.Goings.{last_by, tested_all, still, last_refused}
 use Rattle.rec_release.specs.Sweep.{swept}
 use Rattle.rec_walk.specs.declared.member.Member.{Member}

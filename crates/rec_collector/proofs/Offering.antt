@@ -5,21 +5,14 @@ use Rattle.std.proofs.lemmas.Bool.{cases_Bool, cases_eq, cases_lt, eq-eqb, ne_eq
 use Rattle.std.proofs.lemmas.List.FromFn.{filter_of_map_range_with_len_more}
 use Rattle.std.proofs.lemmas.List.{map-id, get_or_past, length-map, append-nil, append_assoc, drop_all, get_or-append_right, get_or-drop, get_or-set_same, get_or_default, length-append, length-drop, length-take, set-set, take_all}
 use Rattle.std.proofs.lemmas.List.Edits.{map_over_more}
+use Rattle.rec_collector.proofs.Common.{Purple, Orange, Slot, State, IsKept, slot_at, with_slot, one, times, absent, is_in, times-append, times-cons, times-nil, with_offers, IsListed, Parts}
 use Rattle.rec_counts.specs.declared.colour.Colour.{Colour}
-use Rattle.rec_counts.specs.declared.colour.Colour.TheVariants.{Purple, Orange}
-use Rattle.rec_counts.specs.declared.slot.Slot.{Slot}
-use Rattle.rec_counts.specs.Counts.{State, IsKept, slot_at, with_slot}
-use Rattle.rec_counts.specs.Lists.{one, times}
-use Rattle.rec_counts.specs.Slot.{absent, is_in, stays as keeps_colour}
+use Rattle.rec_counts.specs.Slot.{stays as keeps_colour}
 use Rattle.rec_counts.specs.Colour.{is_gray, is_white, is_green}
 use Rattle.rec_counts.proofs.Decrementing.{rest_same, stays_green}
-use Rattle.rec_counts.proofs.Times.{times-append, times-cons, times-nil}
 use Rattle.rec_counts.proofs.Keeping.{map_at}
 use Rattle.rec_trial.specs.Rules.{IsReady}
-use Rattle.rec_collector.specs.Followed.{with_offers}
-use Rattle.rec_collector.specs.Kept.{IsListed}
 use Rattle.rec_collector.specs.Offered.{offered, offered_if, offered_slot, offered_where, is_missing, is_missing_if, missing, AreOffered, KeepsOffered, offered_one, rooted_if}
-use Rattle.rec_collector.specs.Parts.{Parts}
 
 -- a slot that is offered
 offered_at : (s : State) (x : ℕ) → slot_at (offered s) x ≡ offered_slot (slot_at s x)

@@ -2,15 +2,10 @@
 use Rattle.std.proofs.Common.{◌≡◌, ◌⊎◌, ℕ, ◌≤◌, ◌-◌, ◌^◌, ◌<◌, false, Option, None, length, replicate, refl, arith, sym, subst, ap, ◌∙◌, inl, inr}
 use Rattle.std.proofs.lemmas.Bool.{cases_lt, false≢true}
 use Rattle.std.proofs.lemmas.List.{get_or-replicate, get_or_past, length-replicate, length-set}
-use Rattle.rec_counts.specs.declared.slot.Slot.{Slot}
-use Rattle.rec_counts.specs.Counts.{opened as opened_counts, slot_at, IsKept as IsKeptCounts}
-use Rattle.rec_counts.specs.Slot.{absent, fresh}
+use Rattle.rec_collector.proofs.Common.{Slot, slot_at, absent, fresh, times-nil, written, AreTried, IsMachine, Private, blank, first_registers, opened, retired}
+use Rattle.rec_counts.specs.Counts.{opened as opened_counts, IsKept as IsKeptCounts}
 use Rattle.rec_counts.specs.Colour.{is_gray, is_white, is_orange}
-use Rattle.rec_counts.proofs.Times.{times-nil}
-use Rattle.rec_release.proofs.TakenOff.{written}
 use Rattle.rec_trial.specs.Trial.{next_of}
-use Rattle.rec_collector.specs.Kept.{AreTried, IsMachine}
-use Rattle.rec_collector.specs.Private.{Private, blank, first_registers, opened, retired}
 use Rattle.rec_collector.proofs.Outside.{none_outside}
 use Rattle.rec_collector.proofs.Rows.{row_sized}
 

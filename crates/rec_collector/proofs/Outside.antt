@@ -5,39 +5,25 @@ use Rattle.std.specs.List.{concat}
 use Rattle.std.proofs.lemmas.Bool.{cases_lt, false≢true}
 use Rattle.std.proofs.lemmas.List.{append-nil, get_or_past}
 use Rattle.std.proofs.lemmas.Option.{none-some}
+use Rattle.rec_collector.proofs.Common.{Contents, Black, Orange, Purple, Green, Slot, State, IsKept, slot_at, with_slot, sent, times, is_in, lessened, lessened_if, lowered, due_of, swept_clean, unbuffered_if, absent, stays, dead_if, given_up, without_first, listed_if, next_from, written, refurbished, LastRefurbished, IsUntried, IsAt, IsMachine, NoneReleased, Private, Phase, Looking, Swapping, Returning, Releasing, Freeing, Trying, Preparing}
 use Rattle.rec_word.specs.Place.{places_of}
-use Rattle.rec_log.specs.declared.contents.Contents.{Contents}
-use Rattle.rec_counts.specs.declared.colour.Colour.TheVariants.{Black, Orange, Purple, Green}
 use Rattle.rec_counts.specs.declared.colour.Colour.{Colour}
 use Rattle.rec_counts.specs.Colour.{is_gray, is_white, in_use}
-use Rattle.rec_counts.specs.declared.slot.Slot.{Slot}
 use Rattle.rec_counts.specs.declared.slot.Due.{Due}
 use Rattle.rec_counts.specs.declared.slot.Due.TheVariants.{Nothing, Zero, Root}
-use Rattle.rec_counts.specs.Counts.{State, IsKept, slot_at, with_slot, sent}
 use Rattle.rec_counts.specs.Groups.{last_set}
-use Rattle.rec_counts.specs.Lists.{times}
-use Rattle.rec_counts.specs.Slot.{is_in, lessened, lessened_if, lowered, due_of, swept_clean, unbuffered_if, absent, stays}
 use Rattle.rec_counts.proofs.Keeping.{set_there}
 use Rattle.rec_counts.proofs.Decrementing.{stays_released}
 use Rattle.rec_walk.specs.Load.{Load}
 use Rattle.rec_apply.specs.Batch.{is_touched, names, IsBatch}
 use Rattle.rec_apply.proofs.Touching.{touched_orange}
-use Rattle.rec_release.specs.CycleFree.{dead_if, given_up}
-use Rattle.rec_release.specs.Release.{without_first, listed_if, next_from}
 use Rattle.rec_release.specs.Sweep.{swept}
 use Rattle.rec_release.specs.TakenOff.{down_if, is_lowered, taken_off, IsApart, IsMember}
 use Rattle.rec_release.proofs.Giving.{given_slot}
-use Rattle.rec_release.proofs.TakenOff.{written}
 use Rattle.rec_sigma.specs.declared.fate.Fate.{Fate}
 use Rattle.rec_sigma.specs.declared.fate.Fate.TheVariants as fates
-use Rattle.rec_sigma.specs.Refurbish.{refurbished, LastRefurbished}
 use Rattle.rec_sigma.specs.Prepared.{PreparedTo, seen}
-use Rattle.rec_collector.specs.Clearing.{IsUntried}
 use Rattle.rec_collector.specs.Outside.{AreOutside, IsOutside, HasSets}
-use Rattle.rec_collector.specs.Kept.{IsAt, IsMachine, NoneReleased}
-use Rattle.rec_collector.specs.Private.{Private}
-use Rattle.rec_collector.specs.declared.phase.Phase.{Phase}
-use Rattle.rec_collector.specs.declared.phase.Phase.TheVariants.{Looking, Swapping, Returning, Releasing, Freeing, Trying, Preparing}
 use Rattle.rec_release.proofs.Keeping.{each_zero}
 
 -- the member was one before, and so many references were taken off its counts

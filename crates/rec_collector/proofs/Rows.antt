@@ -1,11 +1,7 @@
 -- Rows of buffers.
 use Rattle.std.proofs.Common.{◌≡◌, ℕ, suc, zero, ◌+◌, ◌-◌, ◌<◌, None, Some, List, [], ◌∷◌, ◌++◌, length, map, take, drop, get_or, set, replicate, refl, arith, ◌∙◌, ap}
 use Rattle.std.proofs.lemmas.List.{get_or-map, get_or-replicate, length-map, length-replicate}
-use Rattle.rec_log.specs.declared.contents.Contents.{Contents}
-use Rattle.rec_collector.specs.Given.{IsSized}
-use Rattle.rec_collector.specs.Kept.{AreSized, AreSpare}
-use Rattle.rec_collector.specs.Private.{Private, blank, first_registers, spare, buffer_at}
-use Rattle.rec_collector.specs.Took.{cleared, ended}
+use Rattle.rec_collector.proofs.Common.{Contents, IsSized, AreSized, AreSpare, Private, blank, first_registers, spare, buffer_at, cleared, ended}
 
 -- the first of these are cleared
 abbrev pub cleared_to : List Contents → ℕ → List Contents

@@ -3,31 +3,19 @@
 use Rattle.std.proofs.Common.{◌≡◌, ◌≢◌, ℕ, zero, suc, ◌+◌, ◌-◌, ◌^◌, ◌<◌, ◌==◌, true, false, Bool, cond, Option, None, Some, List, [], ◌∷◌, length, refl, arith, sym, ap, subst, ◌∙◌, inl, inr, ◌≤◌, IsSome, IsNone, is_some}
 use Rattle.std.proofs.lemmas.Bool.{eqb-false, eq-eqb, eqb-true, false≢true, cases_eq, ne_eqb, cond-false}
 use Rattle.std.proofs.lemmas.List.{nil_from_length}
+use Rattle.rec_collector.proofs.Common.{Op, Contents, LastRefurbished, Next, followed, next_in, prep_started, prepared, prepared_at, sweep_phase, tried, tried_at, with_freed, with_released, going_on, gone_on, with_offers, IsGiven, IsGivenAt, IsMachine, swept_at, IsAt, Parts, Private, parts_of, with_parts, last_tested, tested, tested_as, verdict_of, zeros_released, Begun, batched, came, came_turn, moved, step_of, swapped_of, swapped_at, swept_phase, took_at, took_of, turn_at, turn_of, ended_if, left_at, left_of, Phase, Idle, Looking, Swapping, Returning, Releasing, Freeing, Trying, Preparing, Opening, Sweeping, Closing, Passed, Touched, Held, IsClearingIn}
 use Rattle.rec_word.specs.Mailbox.{crossing_word}
 use Rattle.rec_word.specs.declared.mailbox.Mailbox.TheVariants.{Retired}
-use Rattle.rec_word.specs.declared.op.Op.{Op}
 use Rattle.rec_word.specs.declared.op.Op.TheVariants.{StoreEpoch, LookBox, ReturnBox}
-use Rattle.rec_log.specs.declared.contents.Contents.{Contents}
 use Rattle.rec_release.specs.Sweep.{next_of as sweep_next}
-use Rattle.rec_sigma.specs.Refurbish.{LastRefurbished}
 use Rattle.rec_sigma.specs.Settling.{refurbished_of}
 use Rattle.rec_sigma.proofs.Renewals.{refurbished_last}
 use Rattle.rec_trial.specs.Trial.{next_of as trial_next}
-use Rattle.rec_collector.specs.Followed.{Next, followed, next_in, prep_started, prepared, prepared_at, sweep_phase, tried, tried_at, with_freed, with_released, going_on, gone_on, with_offers}
 use Rattle.rec_apply.specs.Batch.{IsCovered}
-use Rattle.rec_collector.specs.Given.{IsGiven, IsGivenAt}
-use Rattle.rec_collector.specs.Kept.{IsMachine, swept_at, IsAt}
 use Rattle.rec_collector.specs.Next.{is_spent, next_at, next_of}
-use Rattle.rec_collector.specs.Parts.{Parts}
-use Rattle.rec_collector.specs.Private.{Private, parts_of, with_parts}
 use Rattle.rec_collector.specs.Step.{Step, ClearsOn, IsTested, PreparesOn, TriesOn, IsNext, IsBetween, LeavesBox, WholeStep}
-use Rattle.rec_collector.specs.Testing.{last_tested, tested, tested_as, verdict_of, zeros_released, Begun}
-use Rattle.rec_collector.specs.Took.{batched, came, came_turn, moved, step_of, swapped_of, swapped_at, swept_phase, took_at, took_of, turn_at, turn_of, ended_if, left_at, left_of}
-use Rattle.rec_collector.specs.declared.phase.Phase.{Phase}
-use Rattle.rec_collector.specs.declared.phase.Phase.TheVariants.{Idle, Looking, Swapping, Returning, Releasing, Freeing, Trying, Preparing, Opening, Sweeping, Closing}
 use Rattle.rec_collector.specs.declared.turn.Turn.TheVariants.{Moved, Waiting, EpochsSpent}
 use Rattle.rec_collector.specs.declared.verdict.Verdict.{Verdict}
-use Rattle.rec_collector.specs.declared.verdict.Verdict.TheVariants.{Passed, Touched, Held}
 use Rattle.rec_collector.specs.Causes.{HasCause}
 use Rattle.rec_collector.proofs.Clearing.{Clears}
 use Rattle.rec_collector.proofs.Following.{HasCleared, begun_has, freed_has, released_has}
@@ -35,7 +23,6 @@ use Rattle.rec_collector.proofs.Goings.{last_sets, still}
 use Rattle.rec_collector.proofs.Judging.{Says, verdict_says, last_refusable}
 use Rattle.rec_collector.proofs.Landing.{work_none, work_of, work_phase, landed, now_at, under_way_at, IsWorking}
 use Rattle.rec_collector.proofs.Sweeping.{due_slot}
-use Rattle.rec_collector.specs.Clearing.{IsClearingIn}
 use Rattle.rec_collector.proofs.Testing.{last_clear}
 use Rattle.rec_release.specs.Sweep as sweeps
 use Rattle.rec_release.specs.CycleFree as frees

@@ -3,22 +3,13 @@ use Rattle.std.proofs.Common.{◌≡◌, ap, sym, subst, ◌∙◌, ℕ, ◌+◌
 use Rattle.std.proofs.lemmas.List.{length-set, length-map, get_or-set_same, get_or-set_other}
 use Rattle.std.proofs.lemmas.Bool.{false≢true}
 use Rattle.std.proofs.lemmas.Bool.Decides.{eqb_tells}
-use Rattle.rec_counts.specs.declared.slot.Slot.{Slot}
-use Rattle.rec_counts.specs.Lists.{one, times}
-use Rattle.rec_counts.specs.Counts.{State, slot_at, IsKept as IsKeptCounts}
-use Rattle.rec_counts.specs.Slot.{absent, swept_clean}
-use Rattle.rec_counts.proofs.Times.{times-cons}
+use Rattle.rec_collector.proofs.Common.{Slot, one, times, State, slot_at, absent, swept_clean, times-cons, written, IsMachine, ArePrepared, IsAt, IsSweeping, AreTried, Private, Phase, cleared, ended, moved, swept_phase, swept_one, took_at, Opening, Sweeping, Closing}
+use Rattle.rec_counts.specs.Counts.{IsKept as IsKeptCounts}
 use Rattle.rec_release.specs.Sweep.{swept, took_of, started_of, next_of}
 use Rattle.rec_release.proofs.Sweeping.{unbuffered_swept}
-use Rattle.rec_release.proofs.TakenOff.{written}
 use Rattle.rec_collector.specs.Inside.{private}
-use Rattle.rec_collector.specs.Kept.{IsMachine, ArePrepared, IsAt, IsSweeping, AreTried}
-use Rattle.rec_collector.specs.Private.{Private}
 use Rattle.rec_collector.specs.declared.machine.Machine.TheInside.{Inside}
-use Rattle.rec_collector.specs.declared.phase.Phase.{Phase}
 use Rattle.rec_collector.specs.Zeros.{AreCounted}
-use Rattle.rec_collector.specs.Took.{cleared, ended, moved, swept_phase, swept_one, took_at}
-use Rattle.rec_collector.specs.declared.phase.Phase.TheVariants.{Opening, Sweeping, Closing}
 use Rattle.rec_collector.proofs.Landing.{machine_on, freed_at, now_at, told_at, under_way_at}
 use Rattle.rec_collector.proofs.Outside.{apart_on, unlike_was, untried_moved, outside_on, swept_lowers}
 use Rattle.rec_collector.proofs.Rows.{cleared_sized, cleared_spares}

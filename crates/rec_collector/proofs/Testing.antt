@@ -3,32 +3,19 @@ use Rattle.std.proofs.Common.{◌≡◌, ◌≢◌, ℕ, zero, suc, ◌-◌, ◌
 use Rattle.std.specs.List.{concat}
 use Rattle.std.proofs.lemmas.Bool.{cases_Bool, cases_lt}
 use Rattle.std.proofs.lemmas.List.{length-append, nil_from_length}
-use Rattle.rec_counts.specs.declared.colour.Colour.TheVariants.{Orange}
-use Rattle.rec_counts.specs.Counts.{State, IsKept, slot_at}
+use Rattle.rec_collector.proofs.Common.{Orange, State, IsKept, slot_at, one, times, times-append, times-nil, given_up, listed, IsReady, IsRefusable, LastRefurbished, fields_left, freeing_left, HasExchanged, IsCleared, IsTidy, IsListed, Parts, freeing_at, Begun, last_tested, tested, verdict_of, zeros_released, Phase, Freeing, Passed}
 use Rattle.rec_counts.specs.Groups.{last_set}
-use Rattle.rec_counts.specs.Lists.{one, times}
-use Rattle.rec_counts.proofs.Times.{times-append, times-nil}
 use Rattle.rec_counts.proofs.Front.{nothing_first}
-use Rattle.rec_release.specs.CycleFree.{given_up, listed}
-use Rattle.rec_release.specs.Release.{IsReady}
 use Rattle.rec_release.proofs.Giving.{given_is_work, given_many, given_released}
 use Rattle.rec_release.proofs.Kept.{given_kept}
 use Rattle.rec_walk.specs.declared.member.Member.{Member}
 use Rattle.rec_walk.specs.Walk.{first_member}
 use Rattle.rec_walk.proofs.Walks.{first_none}
-use Rattle.rec_sigma.specs.Refurbish.{IsRefusable, LastRefurbished}
 use Rattle.rec_sigma.specs.Settling.{refurbished_of}
 use Rattle.rec_sigma.proofs.Kept.{refurbished_kept}
 use Rattle.rec_sigma.proofs.Renewals.{refurbished_last, released_after, same_released, zeros_after}
-use Rattle.rec_collector.specs.Clearing.{fields_left, freeing_left, HasExchanged, IsCleared, IsTidy}
-use Rattle.rec_collector.specs.Kept.{IsListed}
-use Rattle.rec_collector.specs.Parts.{Parts}
-use Rattle.rec_collector.specs.Testing.{freeing_at, Begun, last_tested, tested, verdict_of, zeros_released}
 use Rattle.rec_collector.specs.Zeros.{AreCounted}
-use Rattle.rec_collector.specs.declared.phase.Phase.{Phase}
-use Rattle.rec_collector.specs.declared.phase.Phase.TheVariants.{Freeing}
 use Rattle.rec_collector.specs.declared.verdict.Verdict.{Verdict}
-use Rattle.rec_collector.specs.declared.verdict.Verdict.TheVariants.{Passed}
 use Rattle.rec_collector.proofs.Exchanging.{members_left}
 use Rattle.rec_collector.proofs.Goings.{last_by, last_given, last_refused, last_sets, still, tested_all}
 use Rattle.rec_collector.proofs.Judging.{last_freeable, last_refusable}

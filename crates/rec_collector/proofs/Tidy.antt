@@ -5,30 +5,20 @@ use Rattle.std.specs.List.{concat}
 use Rattle.std.proofs.lemmas.Bool.{true≢false, cases_Bool, cases_lt, eq-eqb, false≢true}
 use Rattle.std.proofs.lemmas.List.{length-set}
 use Rattle.std.proofs.lemmas.Bool.Decides.{eqb_tells}
+use Rattle.rec_collector.proofs.Common.{Orange, Slot, State, IsKept, slot_at, with_slot, one, times, is_in, unbuffered_if, times-nil, times-cons, times-append, times_push, dead_if, given_up, listed, IsFreeable, emptied, first_of, listed_if, without_first, IsReady, off_most, KeepsMost, fate_at, fate_if, is_root, is_zero, refurbished, LastRefurbished, is_free, IsRefusable, IsTidy}
 use Rattle.rec_word.specs.Word.{is_slot}
-use Rattle.rec_counts.specs.declared.colour.Colour.TheVariants.{Orange}
-use Rattle.rec_counts.specs.declared.slot.Slot.{Slot}
-use Rattle.rec_counts.specs.Counts.{State, IsKept, slot_at, with_slot}
 use Rattle.rec_counts.specs.Groups.{last_set, earlier_sets}
-use Rattle.rec_counts.specs.Lists.{one, times}
-use Rattle.rec_counts.specs.Slot.{is_in, unbuffered_if}
-use Rattle.rec_counts.proofs.Times.{times-nil, times-cons, times-append, times_push}
 use Rattle.rec_counts.specs.Rest.{AreZeros}
 use Rattle.rec_counts.proofs.Keeping.{field_kept}
 use Rattle.rec_release.specs.TakenOff.{IsMember, IsApart, taken_off, AllZerosButOrange}
 use Rattle.rec_release.specs.declared.at.At.{At}
-use Rattle.rec_release.specs.CycleFree.{dead_if, given_up, listed, IsFreeable}
-use Rattle.rec_release.specs.Release.{emptied, first_of, listed_if, without_first, IsReady}
 use Rattle.rec_release.proofs.Giving.{given_many, given_slot}
 use Rattle.rec_release.proofs.Keeping.{released_same}
 use Rattle.rec_release.proofs.Orange.{given_apart, given_zeros, first_keeps, lists_keep, off_keeps}
-use Rattle.rec_release.proofs.TakenOff.{off_most, KeepsMost}
 use Rattle.rec_sigma.specs.declared.fate.Fate.{Fate}
 use Rattle.rec_sigma.specs.declared.fate.Fate.TheVariants.{Free}
-use Rattle.rec_sigma.specs.Refurbish.{fate_at, fate_if, is_root, is_zero, refurbished, LastRefurbished, is_free, IsRefusable}
 use Rattle.rec_sigma.specs.declared.fate.Fate.TheVariants as fates
 use Rattle.rec_sigma.proofs.Renewals.{released_after, same_count, same_released}
-use Rattle.rec_collector.specs.Clearing.{IsTidy}
 use Rattle.rec_collector.proofs.Outside.{in_use_orange, untried_moved, first_lowers, given_lowers, off_lowers, outside_on, refurbished_lowers, same_lowers}
 
 -- what the sets have, the earlier ones and the last have

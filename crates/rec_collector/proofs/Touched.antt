@@ -2,33 +2,18 @@
 use Rattle.std.proofs.Common.{◌≡◌, ◌⊎◌, ℕ, ◌+◌, ◌-◌, ◌<◌, ◌==◌, ◌&&◌, not, Bool, true, false, Option, None, Some, IfSome, IsSome, List, length, refl, sym, ap, subst, ◌∙◌, arith, inl, inr}
 use Rattle.std.proofs.lemmas.Bool.{cond-true, cond-false, eq-eqb, ne_eqb}
 use Rattle.std.proofs.lemmas.Bool.Decides.{eqb_tells}
+use Rattle.rec_collector.proofs.Common.{Op, Contents, Orange, Slot, State, slot_at, one, emptied, next_from, prep_started, with_freed, with_released, relieved_at, IsGiven, IsGivenAt, IsAtRest, IsMachine, under_way, Parts, new_freeing, new_release, Private, parts_of, zeros_released, Begun, counted_by, freeing_at, releasing_at, tested, step_of, swapped_of, took_at, took_of, turn_of, Phase, Returning, Releasing, Freeing, Trying, Preparing, Held, Touched}
 use Rattle.rec_word.specs.Word.{target_of}
-use Rattle.rec_word.specs.declared.op.Op.{Op}
-use Rattle.rec_log.specs.declared.contents.Contents.{Contents}
 use Rattle.rec_apply.specs.Batch.{batch, counted_down, names, IsBatch, IsCovered}
 use Rattle.rec_apply.specs.declared.way.Way.TheVariants.{Down}
 use Rattle.rec_apply.specs.Targets.{added, taken, named, leaves as leaf_births}
 use Rattle.rec_apply.proofs.Touching.{counted_touches, touched_orange}
 use Rattle.rec_apply.proofs.Whole.{is_batch}
-use Rattle.rec_counts.specs.declared.colour.Colour.TheVariants.{Orange}
-use Rattle.rec_counts.specs.declared.slot.Slot.{Slot}
-use Rattle.rec_counts.specs.Counts.{State, slot_at}
-use Rattle.rec_counts.specs.Lists.{one}
-use Rattle.rec_release.specs.Release.{emptied, next_from}
 use Rattle.rec_release.specs.TakenOff.{down_if, IsApart, is_lowered, taken_off}
 use Rattle.rec_walk.specs.Load.{Load}
-use Rattle.rec_collector.specs.Followed.{prep_started, with_freed, with_released, relieved_at}
-use Rattle.rec_collector.specs.Given.{IsGiven, IsGivenAt}
-use Rattle.rec_collector.specs.Kept.{IsAtRest, IsMachine, under_way}
 use Rattle.rec_collector.specs.Outside.{HasSets, IsOutside}
-use Rattle.rec_collector.specs.Parts.{Parts, new_freeing, new_release}
-use Rattle.rec_collector.specs.Private.{Private, parts_of}
 use Rattle.rec_collector.specs.Step.{Step, GoesOn, PreparesOn, TriesOn, ClearsOn, IsNext, IsTested, IsBetween}
-use Rattle.rec_collector.specs.Testing.{zeros_released, Begun, counted_by, freeing_at, releasing_at, tested}
-use Rattle.rec_collector.specs.Took.{step_of, swapped_of, took_at, took_of, turn_of}
 use Rattle.rec_collector.specs.Touched.{decrements, IsOrangeIn, named_at, named_by, tried_at, WasUntouched}
-use Rattle.rec_collector.specs.declared.phase.Phase.{Phase}
-use Rattle.rec_collector.specs.declared.phase.Phase.TheVariants.{Returning, Releasing, Freeing, Trying, Preparing}
 use Rattle.rec_collector.specs.declared.turn.Turn.{Turn}
 use Rattle.rec_collector.proofs.Following.{none_released}
 use Rattle.rec_collector.proofs.Goings.{emptied_same, freed_by, freed_off, released_by, released_off, freed_listed}
@@ -36,7 +21,6 @@ use Rattle.rec_collector.proofs.Outside.{Lowers, next_lowers, given_lowers, off_
 use Rattle.rec_collector.proofs.Steps.{prepared_on, step_made, tried_on}
 use Rattle.rec_collector.proofs.Landing.{now_at}
 use Rattle.rec_release.specs.declared.at.At.{At}
-use Rattle.rec_collector.specs.declared.verdict.Verdict.TheVariants.{Held, Touched}
 use Rattle.rec_walk.specs.declared.member.Member.{Member}
 use Rattle.rec_collector.proofs.Keeping.{turned}
 use Rattle.rec_release.specs.CycleFree as frees

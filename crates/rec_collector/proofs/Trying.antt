@@ -4,14 +4,10 @@ use Rattle.std.proofs.Common.{Bool, ◌≡◌, ℕ, ◌+◌, ◌*◌, ◌^◌, �
 use Rattle.std.proofs.lemmas.List.{length-append, length_push}
 use Rattle.std.specs.List.{concat}
 use Rattle.std.proofs.lemmas.Bool.{cases_Bool, cases_lt, false≢true}
-use Rattle.rec_word.specs.declared.op.Op.{Op}
-use Rattle.rec_counts.specs.declared.slot.Slot.{Slot}
-use Rattle.rec_counts.specs.Counts.{State, IsKept as IsKeptCounts, slot_at}
-use Rattle.rec_counts.specs.Lists.{times, one}
+use Rattle.rec_collector.proofs.Common.{Op, Slot, State, slot_at, times, one, length-once, one-le, times-append, times-nil, one-none, Orange, next_in, prep_started, prepared, prepared_at, sweep_phase, tried, tried_at, AreInPreparation, IsMachine, IsPreparing, IsSweeping, all_fields, AreOnTrial, IsListed, IsTrying, AreTried, Parts, Private, parts_of, Phase, Preparing, Opening, Closing, Trying, told, listed}
+use Rattle.rec_counts.specs.Counts.{IsKept as IsKeptCounts}
 use Rattle.rec_counts.specs.Colour.{is_black}
-use Rattle.rec_counts.proofs.Times.{length-once, one-le, times-append, times-nil, one-none}
 use Rattle.rec_counts.specs.declared.colour.Colour.{Colour}
-use Rattle.rec_counts.specs.declared.colour.Colour.TheVariants.{Orange}
 use Rattle.rec_release.specs.TakenOff.{IsApart}
 use Rattle.rec_sigma.specs.declared.at.At.{At}
 use Rattle.rec_sigma.specs.Prepared.{KeepsOthers, PreparedTo, loaded_at}
@@ -27,19 +23,11 @@ use Rattle.rec_trial.proofs.Counted.{started_counted, took_counted}
 use Rattle.rec_trial.proofs.Keeps.{KeepsCounts, LeavesNothing, at_work_few, at_work_keeps, at_work_over, started_keeps, took_keeps}
 use Rattle.rec_trial.proofs.Midway.{times_released}
 use Rattle.rec_trial.proofs.Whole.{whole_over}
-use Rattle.rec_collector.specs.Followed.{next_in, prep_started, prepared, prepared_at, sweep_phase, tried, tried_at}
-use Rattle.rec_collector.specs.Kept.{AreInPreparation, IsMachine, IsPreparing, IsSweeping, all_fields, AreOnTrial, IsListed, IsTrying, AreTried}
-use Rattle.rec_collector.specs.Parts.{Parts}
-use Rattle.rec_collector.specs.Private.{Private, parts_of}
-use Rattle.rec_collector.specs.declared.phase.Phase.{Phase}
-use Rattle.rec_collector.specs.declared.phase.Phase.TheVariants.{Preparing, Opening, Closing, Trying}
 use Rattle.rec_collector.specs.Zeros.{AreCounted}
-use Rattle.rec_collector.specs.Testing.{told}
 use Rattle.rec_collector.proofs.Landing.{Fits, Lands, fits_all, landed, now_at, told_at}
 use Rattle.rec_collector.proofs.Always.{loads_few}
 use Rattle.rec_collector.proofs.Outside.{apart_on, untried_on, prepared_outside}
 use Rattle.rec_collector.specs.Outside.{AreOutside}
-use Rattle.rec_release.specs.CycleFree.{listed}
 use Rattle.rec_sigma.specs.Prepare as preps
 
 -- What a trial has left holds still where no more than cyclic counts change.

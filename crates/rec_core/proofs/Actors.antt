@@ -3,27 +3,12 @@ use Rattle.std.proofs.Common.{◌≡◌, ◌≢◌, ◌⊎◌, inl, inr, ℕ, �
 use Rattle.std.proofs.lemmas.Bool.{false≢true, cases_eq}
 use Rattle.std.proofs.lemmas.List.{length-set, set-get_or, get_or-set_same, get_or-set_other, length-replicate}
 use Rattle.std.proofs.lemmas.List.Elements.{All-append, All-cons, All-nil}
-use Rattle.rec_word.specs.Mailbox.{crossing_word}
-use Rattle.rec_word.specs.declared.mailbox.Mailbox.TheVariants.{Spare}
-use Rattle.rec_word.specs.declared.op.Op.{Op}
+use Rattle.rec_core.proofs.Common.{crossing_word, Spare, Op, Contents, Entry, Private, KeepsSizes, Step, IsFound, step_between, blank, Phase, IsMutator, spare_of, nobody, IsSettledIn, HasLabelAt, IsOwn, IsMadeIn, IsBufferOf, Handshake, stand_at, IsBehind, IsCrossing, IsHandshake, IsActor, HasMutators, epoch_at, Config}
 use Rattle.rec_model.specs.Reach.{named}
-use Rattle.rec_log.specs.declared.contents.Contents.{Contents}
-use Rattle.rec_log.specs.declared.entry.Entry.{Entry}
 use Rattle.rec_mutator.specs.Causes.{is_giving}
-use Rattle.rec_mutator.specs.Private.{Private, KeepsSizes}
-use Rattle.rec_mutator.specs.Step.{Step}
-use Rattle.rec_mutator.specs.Took.{IsFound}
 use Rattle.rec_mutator.specs.declared.phase.Phase as phases
 use Rattle.rec_mutator.specs.declared.phase.Phase.TheVariants as at
 use Rattle.rec_mutator.proofs.Sizes.{step_keeps}
-use Rattle.rec_mutator.proofs.Steps.{step_between}
-use Rattle.rec_collector.specs.Private.{blank}
-use Rattle.rec_collector.specs.declared.phase.Phase.{Phase}
-use Rattle.rec_core.specs.Config.{IsMutator}
-use Rattle.rec_core.specs.Core.{spare_of, nobody}
-use Rattle.rec_core.specs.Kept.{IsSettledIn, HasLabelAt, IsOwn, IsMadeIn, IsBufferOf, Stand, stand_at, IsBehind, IsCrossing, IsHandshake, IsActor, HasMutators}
-use Rattle.rec_core.specs.Pending.{epoch_at}
-use Rattle.rec_core.specs.declared.config.Config.{Config}
 use Rattle.rec_mutator.proofs.Machines.{IsBox, step_machine}
 
 -- the machine of a mutator after its step
@@ -53,35 +38,35 @@ pub epoch_here : (p : Private) → is_giving p.phase ≡ false → epoch_at p �
 epoch_here p here = ap (λ (b : Bool). if b then p.epoch + 1 else p.epoch) here
 
 -- a handshake stays where the mutator stays in its epoch, and goes on to a phase that is settled
-pub handshake_stays : (config : Config) (requested : ℕ) (p q : Private) (crossing : ℕ) (box : Contents) (stand : Stand)
+pub handshake_stays : (config : Config) (requested : ℕ) (p q : Private) (crossing : ℕ) (box : Contents) (stand : Handshake)
     → is_giving p.phase ≡ false → IsSettledIn q.phase → q.epoch ≡ p.epoch → IsHandshake config requested p crossing box stand → IsHandshake config requested q crossing box stand
-handshake_stays config requested p q crossing box Stand.Done here settled epoch is =
+handshake_stays config requested p q crossing box Handshake.Done here settled epoch is =
     (record { epoch = epoch ∙ is.0.epoch; word = is.0.word; settled = settled }, is.1)
-handshake_stays config requested p q crossing box Stand.Held here settled epoch is =
+handshake_stays config requested p q crossing box Handshake.Held here settled epoch is =
     (record { epoch = epoch ∙ is.0.epoch; word = is.0.word; settled = settled }, is.1)
-handshake_stays config requested p q crossing box Stand.Due here settled epoch (inl behind) =
+handshake_stays config requested p q crossing box Handshake.Due here settled epoch (inl behind) =
     inl (record { epoch = ap (λ n. n + 1) epoch ∙ behind.epoch; word = behind.word ∙ ap (λ n. crossing_word n Spare) (sym epoch); here = settled_here q.phase settled; spare = behind.spare })
-handshake_stays config requested p q crossing box Stand.Due here settled epoch (inr (inl crosses)) = absurd (false≢true (sym here ∙ ap is_giving crosses.phase))
-handshake_stays config requested p q crossing box Stand.Due here settled epoch (inr (inr crossed)) =
+handshake_stays config requested p q crossing box Handshake.Due here settled epoch (inr (inl crosses)) = absurd (false≢true (sym here ∙ ap is_giving crosses.phase))
+handshake_stays config requested p q crossing box Handshake.Due here settled epoch (inr (inr crossed)) =
     inr (inr (record { epoch = epoch ∙ crossed.epoch; word = crossed.word; settled = settled }))
 
 -- a mutator in the epoch before the requested one is due, and its mailbox is home with a spare, unless it is crossing
-pub behind_due : (config : Config) (requested : ℕ) (p : Private) (crossing : ℕ) (box : Contents) (stand : Stand)
-    → is_giving p.phase ≡ false → p.epoch ≢ requested → IsHandshake config requested p crossing box stand → (stand ≡ Stand.Due) × IsBehind config requested p crossing box
-behind_due config requested p crossing box Stand.Done here other is = absurd (other is.0.epoch)
-behind_due config requested p crossing box Stand.Held here other is = absurd (other is.0.epoch)
-behind_due config requested p crossing box Stand.Due here other (inl behind) = (refl, behind)
-behind_due config requested p crossing box Stand.Due here other (inr (inl crosses)) = absurd (false≢true (sym here ∙ ap is_giving crosses.phase))
-behind_due config requested p crossing box Stand.Due here other (inr (inr crossed)) = absurd (other crossed.epoch)
+pub behind_due : (config : Config) (requested : ℕ) (p : Private) (crossing : ℕ) (box : Contents) (stand : Handshake)
+    → is_giving p.phase ≡ false → p.epoch ≢ requested → IsHandshake config requested p crossing box stand → (stand ≡ Handshake.Due) × IsBehind config requested p crossing box
+behind_due config requested p crossing box Handshake.Done here other is = absurd (other is.0.epoch)
+behind_due config requested p crossing box Handshake.Held here other is = absurd (other is.0.epoch)
+behind_due config requested p crossing box Handshake.Due here other (inl behind) = (refl, behind)
+behind_due config requested p crossing box Handshake.Due here other (inr (inl crosses)) = absurd (false≢true (sym here ∙ ap is_giving crosses.phase))
+behind_due config requested p crossing box Handshake.Due here other (inr (inr crossed)) = absurd (other crossed.epoch)
 
 -- one that isn't settled isn't across yet: it is behind, or crossing
-pub unsettled_due : (config : Config) (requested : ℕ) (p : Private) (crossing : ℕ) (box : Contents) (stand : Stand)
-    → (IsSettledIn p.phase → ⊥) → IsHandshake config requested p crossing box stand → (stand ≡ Stand.Due) × (IsBehind config requested p crossing box ⊎ IsCrossing config requested p crossing)
-unsettled_due config requested p crossing box Stand.Done not is = absurd (not is.0.settled)
-unsettled_due config requested p crossing box Stand.Held not is = absurd (not is.0.settled)
-unsettled_due config requested p crossing box Stand.Due not (inl behind) = (refl, inl behind)
-unsettled_due config requested p crossing box Stand.Due not (inr (inl crosses)) = (refl, inr crosses)
-unsettled_due config requested p crossing box Stand.Due not (inr (inr crossed)) = absurd (not crossed.settled)
+pub unsettled_due : (config : Config) (requested : ℕ) (p : Private) (crossing : ℕ) (box : Contents) (stand : Handshake)
+    → (IsSettledIn p.phase → ⊥) → IsHandshake config requested p crossing box stand → (stand ≡ Handshake.Due) × (IsBehind config requested p crossing box ⊎ IsCrossing config requested p crossing)
+unsettled_due config requested p crossing box Handshake.Done not is = absurd (not is.0.settled)
+unsettled_due config requested p crossing box Handshake.Held not is = absurd (not is.0.settled)
+unsettled_due config requested p crossing box Handshake.Due not (inl behind) = (refl, inl behind)
+unsettled_due config requested p crossing box Handshake.Due not (inr (inl crosses)) = (refl, inr crosses)
+unsettled_due config requested p crossing box Handshake.Due not (inr (inr crossed)) = absurd (not crossed.settled)
 
 -- an actor whose step leaves its log, its epoch and its mailbox
 pub actor_stays : {config : Config} {requested : ℕ} {phase : Phase} {t : ℕ} {p q : Private} {crossing : ℕ} {box : Contents}

@@ -6,41 +6,23 @@ use Rattle.std.proofs.lemmas.Bool.{cases_eq, cases_lt, eq-eqb, lt-ltb, lt-leb, c
 use Rattle.std.proofs.lemmas.List.{get_or_past, get_or_default}
 use Rattle.std.proofs.lemmas.List.Concat.{length-flat_map}
 use Rattle.std.proofs.lemmas.List.Sums.{sum_by-cons, sum_by-append}
-use Rattle.rec_word.specs.declared.mailbox.Mailbox.TheVariants.{Spare, WithCollector}
-use Rattle.rec_model.specs.Accounted.{is_dead, is_leaf_from}
-use Rattle.rec_model.specs.Moves.{Applies, is_up_to, puts_in, replaces_in, added, taken}
-use Rattle.rec_model.specs.Pending.{Write, Dated, dated, is_at}
-use Rattle.rec_model.proofs.Sums.{sum_by-flat_map, sum_by-map}
-use Rattle.rec_model.proofs.Consequences.{counts_bounded}
+use Rattle.rec_core.proofs.Common.{Spare, WithCollector, is_dead, is_leaf_from, Applies, is_up_to, puts_in, replaces_in, Write, Dated, dated, is_at, sum_by-flat_map, sum_by-map, counts_bounded, only_if, Contents, Entry, State, slot_at, fresh, absent, Slot, Private, Returning, IsMutator, Core, mutator, box, crossing_of, spare_of, nobody, IsBufferOf, Handshake, stand_at, HasCrossed, IsHandshake, IsKept, Filed, filed, code, writes_in, births_in, dated_names, dated_all, older_at, applied_at, epoch_at, buffers, writes_of, births_of, snapshots_of, registers_of, pending, Config, is_leaf}
+use Rattle.rec_model.specs.Moves.{added, taken}
 use Rattle.rec_model.proofs.CollectorMoves.{unnamed_uncounted}
 use Rattle.rec_model.proofs.Ledgers.{batch_covered}
-use Rattle.rec_model.specs.Sums.{only_if}
-use Rattle.rec_log.specs.declared.contents.Contents.{Contents}
-use Rattle.rec_log.specs.declared.entry.Entry.{Entry}
 use Rattle.rec_log.specs.declared.entry.Entry.TheVariants as entries
-use Rattle.rec_counts.specs.Counts.{State, slot_at}
-use Rattle.rec_counts.specs.Slot.{fresh, absent}
-use Rattle.rec_counts.specs.declared.slot.Slot.{Slot}
 use Rattle.rec_apply.specs.Batch.{batch, IsBatch, IsCovered}
 use Rattle.rec_apply.specs.Targets as targets
 use Rattle.rec_apply.proofs.Whole.{is_batch}
-use Rattle.rec_mutator.specs.Private.{Private}
 use Rattle.rec_collector.specs.Private as collectors
 use Rattle.rec_collector.specs.Kept as collector_kept
-use Rattle.rec_collector.specs.declared.phase.Phase.TheVariants.{Returning}
 use Rattle.rec_word.proofs.Headers.{leaf_taken}
-use Rattle.rec_core.specs.Config.{IsMutator}
-use Rattle.rec_core.specs.Core.{Core, mutator, box, crossing_of, spare_of, nobody}
-use Rattle.rec_core.specs.Kept.{IsBufferOf, Stand, stand_at, HasCrossed, IsHandshake, IsKept}
-use Rattle.rec_core.specs.Pending.{Filed, filed, code, writes_in, births_in, dated_names, dated_all, older_at, applied_at, epoch_at, buffers, writes_of, births_of, snapshots_of, registers_of, pending}
-use Rattle.rec_core.specs.declared.config.Config.{Config}
 use Rattle.rec_core.proofs.Actors.{epoch_here, settled_here}
 use Rattle.rec_core.proofs.Batches.{buffer_there, gain, loss, gain_named, gain_none, loss_named, loss_none, same_at, none_of, sum_parts, leaves_named}
 use Rattle.rec_core.proofs.Counts.{slot_in, accounts_with}
 use Rattle.rec_core.proofs.Moves.{spare_names}
 use Rattle.rec_core.proofs.Sums.{share, log_share, buffers_sum}
 use Rattle.rec_core.proofs.Turns.{now_at, returned_home}
-use Rattle.rec_word.specs.Header.{is_leaf}
 
 -- a spare adds nothing, and takes nothing
 gain_spare : (config : Config) (epoch node of : ℕ) → gain epoch node of (spare_of config) ≡ 0
@@ -129,8 +111,8 @@ module _ (w : Core) (t : ℕ) (kept : IsKept w) (phase : w.collector.phase ≡ R
     | inr other ↦
         let up : s ≤ t = omega (arith, there.1, many) in
         let below : s < t = omega arith in
-        let done : stand_at c.phase s ≡ Stand.Done = ap (λ p. stand_at p s) phase ∙ cond-true (nat_lt s t) Stand.Done (if s == t then Stand.Held else Stand.Due) (lt-ltb s t below) in
-        let home : IsHandshake w.config w.epoch (mutator w s) (crossing_of w s) (box w s) Stand.Done = subst (IsHandshake w.config w.epoch (mutator w s) (crossing_of w s) (box w s)) done (kept.mutators.each s there).handshake in
+        let done : stand_at c.phase s ≡ Handshake.Done = ap (λ p. stand_at p s) phase ∙ cond-true (nat_lt s t) Handshake.Done (if s == t then Handshake.Held else Handshake.Due) (lt-ltb s t below) in
+        let home : IsHandshake w.config w.epoch (mutator w s) (crossing_of w s) (box w s) Handshake.Done = subst (IsHandshake w.config w.epoch (mutator w s) (crossing_of w s) (box w s)) done (kept.mutators.each s there).handshake in
         (inl home.0, home.1)
   ]
 

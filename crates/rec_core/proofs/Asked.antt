@@ -1,10 +1,7 @@
 -- A work that begins is seen by nobody.
 use Rattle.std.proofs.Common.{◌≡◌, ℕ, List, Option, refl, ap}
-use Rattle.rec_model.specs.Sight.{Sight}
-use Rattle.rec_mutator.specs.Took.{begun_of}
+use Rattle.rec_core.proofs.Common.{Sight, begun_of, Core, sight, mutator, begun_from}
 use Rattle.rec_mutator.specs.declared.work.Work.{Work}
-use Rattle.rec_core.specs.Core.{Core, sight, mutator}
-use Rattle.rec_core.specs.Moves.{begun_from}
 use Rattle.rec_core.proofs.Steps.{registers_stay}
 
 -- a work that begins is seen by nobody

@@ -4,24 +4,11 @@ use Rattle.std.specs.List.{All, sum_by}
 use Rattle.std.proofs.lemmas.Bool.{cases_eq, eq-eqb, ne_eqb}
 use Rattle.std.proofs.lemmas.List.Elements.{All-head, All-tail}
 use Rattle.std.proofs.lemmas.List.Sums.{sum_by-cons}
-use Rattle.rec_word.specs.Word.{target_of, is_slot}
-use Rattle.rec_model.specs.Moves.{puts_in, replaces_in}
-use Rattle.rec_model.specs.Pending.{node_of, epoch_of, dated, is_at, dated_birth}
-use Rattle.rec_model.specs.Sums.{only_if, one_if_same}
-use Rattle.rec_model.proofs.Weights.{one_if_self, none_if_differs, only_if_self, none_if_other, only_if_le}
-use Rattle.rec_log.specs.declared.contents.Contents.{Contents}
-use Rattle.rec_log.specs.declared.entry.Entry.{Entry}
+use Rattle.rec_core.proofs.Common.{target_of, is_slot, puts_in, replaces_in, node_of, epoch_of, dated, is_at, dated_birth, only_if, one_if_same, one_if_self, none_if_differs, only_if_self, none_if_other, only_if_le, Contents, Entry, one, new_target, old_target, named, leaf_born, IsMutator, IsMadeIn, IsBufferOf, code, writes_in, births_in, dated_names, Config, is_leaf_from}
 use Rattle.rec_log.specs.declared.entry.Entry.TheVariants as entries
-use Rattle.rec_counts.specs.Lists.{one}
-use Rattle.rec_apply.specs.Targets.{new_target, old_target, named, leaf_born}
 use Rattle.rec_apply.proofs.Naming.{named-nil, named-cons}
 use Rattle.rec_collector.specs.Private as collectors
-use Rattle.rec_core.specs.Config.{IsMutator}
-use Rattle.rec_core.specs.Kept.{IsMadeIn, IsBufferOf}
-use Rattle.rec_core.specs.Pending.{code, writes_in, births_in, dated_names}
-use Rattle.rec_core.specs.declared.config.Config.{Config}
 use Rattle.rec_core.proofs.Moves.{code_target}
-use Rattle.rec_model.specs.Accounted.{is_leaf_from}
 
 -- what is known of each mutator's buffer is known at each place of their row
 pub buffer_there : (config : Config) (epoch : ℕ) (row : List Contents) → length row ≡ config.mutators → ((t : ℕ) → IsMutator config t → IsBufferOf config epoch (collectors.buffer_at row (t - 1))) → (i : ℕ) → i < length row → IsBufferOf config epoch (slice_index_or row i (collectors.blank 0 0))

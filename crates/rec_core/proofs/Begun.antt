@@ -3,34 +3,13 @@ use Rattle.std.proofs.Common.{◌≡◌, inl, inr, ℕ, ◌+◌, ◌-◌, ◌<�
 use Rattle.std.specs.List.{concat}
 use Rattle.std.proofs.lemmas.Bool.{cases_lt, cond-true, false≢true, lt-ltb}
 use Rattle.std.proofs.lemmas.List.{get_or_past}
-use Rattle.rec_word.specs.Mailbox.{crossing_word}
-use Rattle.rec_word.specs.declared.mailbox.Mailbox.TheVariants.{Spare}
-use Rattle.rec_model.specs.Moves.{Move}
-use Rattle.rec_model.proofs.Consequences.{move_uncounted}
-use Rattle.rec_model.proofs.Moving.{move_accounted}
-use Rattle.rec_counts.specs.Counts.{State, slot_at, IsKept as IsKeptCounts}
-use Rattle.rec_counts.specs.Lists.{one, times}
-use Rattle.rec_counts.specs.Slot.{absent}
-use Rattle.rec_counts.specs.declared.slot.Slot.{Slot}
-use Rattle.rec_counts.proofs.Times.{times-nil}
+use Rattle.rec_core.proofs.Common.{crossing_word, Spare, AccountMove, move_uncounted, move_accounted, State, slot_at, one, times, absent, Slot, times-nil, leaves, IsReady, IsCleared, Parts, parts_of, zeros_released, Opening, Returning, still, IsMutator, Core, HasCyclesAt, freeing_due, Handshake, stand_at, one_if_sweeping, IsKept, older_at, pending}
+use Rattle.rec_counts.specs.Counts.{IsKept as IsKeptCounts}
 use Rattle.rec_apply.specs.Batch.{IsBatch}
-use Rattle.rec_apply.specs.Targets.{leaves}
-use Rattle.rec_release.specs.Release.{IsReady}
-use Rattle.rec_collector.specs.Clearing.{IsCleared}
 use Rattle.rec_collector.specs.Kept as collector_kept
-use Rattle.rec_collector.specs.Parts.{Parts}
-use Rattle.rec_collector.specs.Private.{parts_of}
-use Rattle.rec_collector.specs.Testing.{zeros_released}
-use Rattle.rec_collector.specs.declared.phase.Phase.TheVariants.{Opening, Returning}
 use Rattle.rec_collector.proofs.Clearing.{zeros_clear, Clears}
 use Rattle.rec_collector.proofs.Exchanging.{none_exchanged}
 use Rattle.rec_collector.proofs.Following.{batched_clear, none_released, resting_cleared}
-use Rattle.rec_collector.proofs.Goings.{still}
-use Rattle.rec_core.specs.Config.{IsMutator}
-use Rattle.rec_core.specs.Core.{Core}
-use Rattle.rec_core.specs.CyclesAt.{HasCyclesAt}
-use Rattle.rec_core.specs.Kept.{freeing_due, Stand, stand_at, one_if_sweeping, IsKept}
-use Rattle.rec_core.specs.Pending.{older_at, pending}
 use Rattle.rec_core.proofs.Applying.{last_is, counted, is_counted, added_is, applies, leaves_are}
 use Rattle.rec_core.proofs.Counts.{counted_slot}
 use Rattle.rec_core.proofs.CyclesBatch.{is_batch_of, sets_test_begun}
@@ -77,7 +56,7 @@ module _ (w : Core) (t : ℕ) (kept : IsKept w) (phase : w.collector.phase ≡ R
   pub batch_comes : HasCome w (slice_set w.crossing (t - 1) (crossing_word w.epoch Spare)) w.words (still batched)
   batch_comes =
       let there : IsMutator w.config t = last_is w t kept phase last in
-      let move = Move.batch (applies w t kept phase last) in
+      let move = AccountMove.batch (applies w t kept phase last) in
       let many : length c.newer ≡ w.config.mutators = kept.collector.mutators in
       record {
         landed = record {
@@ -87,7 +66,7 @@ module _ (w : Core) (t : ℕ) (kept : IsKept w) (phase : w.collector.phase ≡ R
           older = ap (older_at w.epoch) phase;
           mutators = returned_mutators w t kept phase there {next = Opening} refl (λ s_ own other.
               let up : s_ ≤ t = omega (arith, own.1, many) in
-              sym (ap (λ q. stand_at q s_) phase ∙ cond-true (nat_lt s_ t) Stand.Done (if s_ == t then Stand.Held else Stand.Due) (lt-ltb s_ t (omega arith))));
+              sym (ap (λ q. stand_at q s_) phase ∙ cond-true (nat_lt s_ t) Handshake.Done (if s_ == t then Handshake.Held else Handshake.Due) (lt-ltb s_ t (omega arith))));
           accounted = move_accounted move kept.accounted;
           uncounted = λ _. move_uncounted move kept.accounted (kept.uncounted (ap freeing_due phase));
           sound = kept.sound;

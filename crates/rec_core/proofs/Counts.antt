@@ -3,27 +3,12 @@ use Rattle.std.proofs.Common.{◌≡◌, ◌≢◌, inl, inr, ℕ, ◌+◌, ◌-
 use Rattle.std.proofs.Math.Nat.{mod-lt, div-add-mod, mul_comm}
 use Rattle.std.proofs.lemmas.Bool.{cases_eq, cases_lt, eq-eqb, ne_eqb, cond-true, cond-false}
 use Rattle.std.proofs.lemmas.List.{get_or-set_same, get_or-set_other, get_or_past, get_or_default}
-use Rattle.rec_word.specs.Place.{place_of}
-use Rattle.rec_word.specs.Word.{target_of}
-use Rattle.rec_model.specs.Moves.{Clears, Releases, with_answer, leads_out_of}
-use Rattle.rec_model.specs.Pending.{node_of, home, Pending, word_in}
-use Rattle.rec_model.specs.Sets.{ReleasesSet, with_members}
-use Rattle.rec_model.specs.Sums.{only_if, one_if_same, sum_at}
+use Rattle.rec_core.proofs.Common.{place_of, target_of, Clears, Releases, with_answer, leads_out_of, node_of, home, Pending, ReleasesSet, with_members, only_if, one_if_same, sum_at, sum_at-set, one_if_self, none_if_differs, State, slot_at, with_slot, one, absent, fresh, is_in, unbuffered_if, Slot, dead_if, given_up, emptied, listed_if, without_first, taken_off, is_member_of, code}
+use Rattle.rec_model.specs.Pending.{word_in}
 use Rattle.rec_model.proofs.Ledgers.{node_of_null}
-use Rattle.rec_model.proofs.Sums.{sum_at-set}
-use Rattle.rec_model.proofs.Weights.{one_if_self, none_if_differs}
-use Rattle.rec_counts.specs.Counts.{State, slot_at, with_slot}
-use Rattle.rec_counts.specs.Lists.{one}
-use Rattle.rec_counts.specs.Slot.{absent, fresh, is_in, unbuffered_if}
-use Rattle.rec_counts.specs.declared.slot.Slot.{Slot}
 use Rattle.rec_counts.proofs.Decrementing.{in_range_counted}
-use Rattle.rec_release.specs.CycleFree.{dead_if, given_up}
-use Rattle.rec_release.specs.Release.{emptied, listed_if, without_first}
-use Rattle.rec_release.specs.TakenOff.{taken_off}
 use Rattle.rec_release.proofs.Giving.{given_count, given_many, given_slot}
 use Rattle.rec_release.proofs.TakenOff.{KeepsMost, off_count, off_most}
-use Rattle.rec_core.specs.Cycles.{is_member_of}
-use Rattle.rec_core.specs.Pending.{code}
 use Rattle.rec_core.proofs.Moves.{code_target}
 
 -- what is kept of a node's slot; past the last slot, what is kept of a free one

@@ -5,41 +5,20 @@ use Rattle.std.proofs.Math.Nat.{add-mul}
 use Rattle.std.proofs.lemmas.Bool.{false≢true, cases_Bool}
 use Rattle.std.proofs.lemmas.List.{set-get_or}
 use Rattle.std.proofs.lemmas.List.Elements.{All-get_or}
-use Rattle.rec_word.specs.Mailbox.{crossing_word}
-use Rattle.rec_word.specs.declared.mailbox.Mailbox.TheVariants.{Retired, WithMutator}
+use Rattle.rec_core.proofs.Common.{crossing_word, Retired, WithMutator, IsAccounted, HasUncountedReleased, AccountMove, Pending, IsSound, IsTaken, move_uncounted, move_accounted, Contents, next_of, next_at, Private, is_busy, IsMachine, IsValid, is_busy_at, IsFitting, begun_of, took_of, took_at, swapped_of, swapped_at, left_of, left_at, retired, IsFound, IsRequested, step_made, learnt_made, step_between, TakesNone, blank, Phase, Looking, Swapping, Returning, cell, IsMutator, HasLabel, Core, cells_of, sight, mutator, box, crossing_of, spare_of, with_mutator, HasCyclesAt, IsSettledIn, HasLabelAt, IsOwn, IsBufferOf, Handshake, stand_at, IsBehind, IsCrossing, IsHandshake, IsActor, HasLearnt, entries_made, IsKept, HasMutators, IsMadeIn, freeing_due, IsHeader, performed, found_by, stepped, begun_from, epoch_at, applied_at, pending}
 use Rattle.rec_word.specs.declared.op.Op.TheVariants as ops
-use Rattle.rec_model.specs.Accounted.{IsAccounted, HasUncountedReleased}
-use Rattle.rec_model.specs.Moves.{Move}
-use Rattle.rec_model.specs.Pending.{Pending}
 use Rattle.rec_model.specs.Reach.{named}
-use Rattle.rec_model.specs.Sight.{IsSound, IsTaken}
-use Rattle.rec_model.proofs.Consequences.{move_uncounted}
-use Rattle.rec_model.proofs.Moving.{move_accounted}
-use Rattle.rec_log.specs.declared.contents.Contents.{Contents}
 use Rattle.rec_model.proofs.Opened.{named-nones}
 use Rattle.rec_mutator.specs.Causes.{is_giving}
-use Rattle.rec_mutator.specs.Next.{next_of, next_at}
-use Rattle.rec_mutator.specs.Private.{Private, is_busy, IsMachine, IsValid, is_busy_at}
-use Rattle.rec_mutator.specs.Step.{Crosses, IsFitting}
-use Rattle.rec_mutator.specs.Took.{begun_of, took_of, took_at, swapped_of, swapped_at, left_of, left_at, step_of, retired, IsFound, IsRequested, IsBetween}
+use Rattle.rec_mutator.specs.Step.{Crosses}
+use Rattle.rec_mutator.specs.Took.{step_of, IsBetween}
 use Rattle.rec_mutator.specs.declared.made.Made.TheVariants as makes
 use Rattle.rec_mutator.specs.declared.phase.Phase as phases
 use Rattle.rec_mutator.specs.declared.phase.Phase.TheVariants as at
 use Rattle.rec_mutator.specs.declared.work.Work.{Work}
 use Rattle.rec_mutator.specs.declared.work.Work.TheVariants as works
-use Rattle.rec_mutator.proofs.Steps.{step_made, learnt_made, step_between, TakesNone}
 use Rattle.rec_mutator.proofs.Found.{finds_fitting}
 use Rattle.rec_collector.specs.Kept.{under_way}
-use Rattle.rec_collector.specs.Private.{blank}
-use Rattle.rec_collector.specs.declared.phase.Phase.{Phase}
-use Rattle.rec_collector.specs.declared.phase.Phase.TheVariants.{Looking, Swapping, Returning}
-use Rattle.rec_core.specs.Cells.{cell}
-use Rattle.rec_core.specs.Config.{IsMutator, HasLabel}
-use Rattle.rec_core.specs.Core.{Core, cells_of, sight, mutator, box, crossing_of, spare_of, with_mutator}
-use Rattle.rec_core.specs.CyclesAt.{HasCyclesAt}
-use Rattle.rec_core.specs.Kept.{IsSettledIn, HasLabelAt, IsOwn, IsBufferOf, Stand, stand_at, IsBehind, IsCrossing, IsHandshake, IsActor, HasLearnt, entries_made, IsKept, HasMutators, IsMadeIn, freeing_due, IsHeader}
-use Rattle.rec_core.specs.Moves.{performed, found_by, stepped, begun_from}
-use Rattle.rec_core.specs.Pending.{epoch_at, applied_at, pending}
 use Rattle.rec_core.proofs.Actors.{own_stepped, epoch_here, handshake_stays, unsettled_due, spare_buffer, others_stay}
 use Rattle.rec_core.proofs.Cycling.{cycles_moved, machine_alive}
 use Rattle.rec_core.proofs.Moves.{same_pending, crossing_amid, crossing_drops}
@@ -73,7 +52,7 @@ left_same q b is = same_at q b q.phase is
     same_at r c _ is = refl
 
 -- a mutator whose turn in a gathering is to come: the batch of the epoch before the last is the last one
-due_gathers : (requested t : ℕ) (phase : Phase) → stand_at phase t ≡ Stand.Due → (applied_at requested phase ≡ requested - 2) × (under_way phase ≡ 1)
+due_gathers : (requested t : ℕ) (phase : Phase) → stand_at phase t ≡ Handshake.Due → (applied_at requested phase ≡ requested - 2) × (under_way phase ≡ 1)
 due_gathers requested t (Looking u) is = (refl, refl)
 due_gathers requested t (Swapping u) is = (refl, refl)
 due_gathers requested t (Returning u) is = (refl, refl)
@@ -84,7 +63,7 @@ boxed : (w : Core) (t : ℕ) → IsKept w → IsMutator w.config t → t - 1 < l
 boxed w t kept is = let many : length w.boxes ≡ w.config.mutators = kept.mutators.mailboxes in omega (arith, is.0, is.1)
 
 -- a mutator that is about to take its mailbox is behind, and its turn in the gathering is to come
-pub behind_of : (w : Core) (t : ℕ) → IsKept w → IsMutator w.config t → (mutator w t).phase ≡ at.Crossing → (stand_at w.collector.phase t ≡ Stand.Due) × IsBehind w.config w.epoch (mutator w t) (crossing_of w t) (box w t)
+pub behind_of : (w : Core) (t : ℕ) → IsKept w → IsMutator w.config t → (mutator w t).phase ≡ at.Crossing → (stand_at w.collector.phase t ≡ Handshake.Due) × IsBehind w.config w.epoch (mutator w t) (crossing_of w t) (box w t)
 behind_of w t kept is phase =
     let p : Private = mutator w t in
     let unsettled : IsSettledIn p.phase → ⊥ = λ s. subst IsSettledIn phase s in
@@ -93,7 +72,7 @@ behind_of w t kept is phase =
     (due, elim where_ [ inl behind ↦ behind | inr crosses ↦ absurd (false≢true (sym here ∙ ap is_giving crosses.phase)) ])
 
 -- one that is about to give its mailbox back is crossing, and its turn in the gathering is to come
-pub giving_of : (w : Core) (t : ℕ) → IsKept w → IsMutator w.config t → (mutator w t).phase ≡ at.Giving → (stand_at w.collector.phase t ≡ Stand.Due) × IsCrossing w.config w.epoch (mutator w t) (crossing_of w t)
+pub giving_of : (w : Core) (t : ℕ) → IsKept w → IsMutator w.config t → (mutator w t).phase ≡ at.Giving → (stand_at w.collector.phase t ≡ Handshake.Due) × IsCrossing w.config w.epoch (mutator w t) (crossing_of w t)
 giving_of w t kept is phase =
     let unsettled : IsSettledIn (mutator w t).phase → ⊥ = λ s. subst IsSettledIn phase s in
     let (due, where_) = unsettled_due w.config w.epoch (mutator w t) (crossing_of w t) (box w t) (stand_at w.collector.phase t) unsettled (actor_of w t kept is).handshake in
@@ -141,7 +120,7 @@ taken_kept w t kept is busy may phase =
     } in
     let amid = crossing_amid w t q b crossings (in_list w t kept is) (boxed w t kept is) p.epoch epoch unapplied at_p at_q q_registers behind.spare q_log left in
     let drops = crossing_drops w t q b crossings (in_list w t kept is) (boxed w t kept is) p.epoch last actor.unwritten behind.spare q_log left in
-    let half : IsAccounted _ = move_accounted (Move.crossing amid) kept.accounted in
+    let half : IsAccounted _ = move_accounted (AccountMove.crossing amid) kept.accounted in
     let alive = machine_alive w.collector w.collector.phase kept.collector.machine kept.collector.machine.now in
     let many : length p.log.entries ≤ p.log.capacity = actor.log.few in
     let capacity : p.log.capacity ≡ w.config.log_entries = actor.own.capacity in
@@ -160,10 +139,10 @@ taken_kept w t kept is busy may phase =
       made = subst (λ (n : ℕ). n ≤ 1 + sum_by (entries_made w.config) (slice_set w.mutators (t - 1) q)) (add-zero w.made) (entries_stay w t 0 q kept is more);
       sound = subst (λ (rss : List (List (Option ℕ))). IsSound (record (sight w) { registers = rss })) (sym (registers_stay w t q q_registers)) kept.sound;
       greens = kept.greens;
-      accounted = move_accounted (Move.dropping drops) half;
-      uncounted = λ unfreed. move_uncounted (Move.dropping drops) half (move_uncounted (Move.crossing amid) kept.accounted (kept.uncounted unfreed));
-      cycles = cycles_moved w.collector w.collector.phase (Move.dropping drops) tt (λ done. absurd (omega (arith, unapplied, epoch, done))) half alive
-          (cycles_moved w.collector w.collector.phase (Move.crossing amid) tt (λ _. tt) kept.accounted alive kept.cycles);
+      accounted = move_accounted (AccountMove.dropping drops) half;
+      uncounted = λ unfreed. move_uncounted (AccountMove.dropping drops) half (move_uncounted (AccountMove.crossing amid) kept.accounted (kept.uncounted unfreed));
+      cycles = cycles_moved w.collector w.collector.phase (AccountMove.dropping drops) tt (λ done. absurd (omega (arith, unapplied, epoch, done))) half alive
+          (cycles_moved w.collector w.collector.phase (AccountMove.crossing amid) tt (λ _. tt) kept.accounted alive kept.cycles);
     } in
     after_take IsKept w t p.number (p.epoch + 1) word q b (next_of p) c.operation whole
   where
@@ -292,12 +271,12 @@ fitting w t kept is =
     small : w.epoch < 2 ^ 24
     small = subst (λ n. n < 2 ^ 24) kept.collector.epoch kept.collector.machine.epoch
 
-    requested : (stand : Stand) → IsHandshake w.config w.epoch (mutator w t) (crossing_of w t) (box w t) stand → IsRequested (mutator w t) w.epoch
-    requested Stand.Done h = inl (sym h.0.epoch)
-    requested Stand.Held h = inl (sym h.0.epoch)
-    requested Stand.Due (inl behind) = inr (sym behind.epoch, small)
-    requested Stand.Due (inr (inl crosses)) = inr (sym crosses.epoch, small)
-    requested Stand.Due (inr (inr crossed)) = inl (sym crossed.epoch)
+    requested : (stand : Handshake) → IsHandshake w.config w.epoch (mutator w t) (crossing_of w t) (box w t) stand → IsRequested (mutator w t) w.epoch
+    requested Handshake.Done h = inl (sym h.0.epoch)
+    requested Handshake.Held h = inl (sym h.0.epoch)
+    requested Handshake.Due (inl behind) = inr (sym behind.epoch, small)
+    requested Handshake.Due (inr (inl crosses)) = inr (sym crosses.epoch, small)
+    requested Handshake.Due (inr (inr crossed)) = inl (sym crossed.epoch)
 
 -- what the next step finds is what it may find
 pub next_found : (w : Core) (t : ℕ) → IsKept w → IsMutator w.config t → IsFound (mutator w t) (next_of (mutator w t)) (found_by w t)

@@ -2,23 +2,13 @@
 use Rattle.std.proofs.Common.{◌≡◌, ℕ, ◌+◌, ◌-◌, ◌<◌, true, false, ltb, List, sym, ◌∙◌, ap, subst, arith}
 use Rattle.std.specs.List.{concat}
 use Rattle.std.proofs.lemmas.Bool.{lt-ltb, ltb-true}
-use Rattle.rec_model.specs.Sums.{sum_at}
-use Rattle.rec_model.specs.Pending.{Pending}
+use Rattle.rec_core.proofs.Common.{sum_at, Pending, IsAccounted, HasLoaded, seen_in, Slot, State, slot_at, times, is_in, Contents, added, is_member, is_member_of, word_loaded, word_seen, SetsWait, SetsTest}
 use Rattle.rec_model.specs.Moves as moves
-use Rattle.rec_model.specs.Accounted.{IsAccounted}
-use Rattle.rec_model.specs.Sets.{HasLoaded, seen_in}
 use Rattle.rec_model.proofs.Testing.{batch_testing}
 use Rattle.rec_counts.specs.declared.colour.Colour.TheVariants.{Orange}
-use Rattle.rec_counts.specs.declared.slot.Slot.{Slot}
-use Rattle.rec_counts.specs.Counts.{State, slot_at}
-use Rattle.rec_counts.specs.Lists.{times}
-use Rattle.rec_counts.specs.Slot.{is_in}
-use Rattle.rec_log.specs.declared.contents.Contents.{Contents}
-use Rattle.rec_apply.specs.Targets.{added}
 use Rattle.rec_apply.specs.Batch.{IsBatch}
 use Rattle.rec_collector.specs.Kept.{NoneReleased}
 use Rattle.rec_collector.proofs.Outside.{batch_same}
-use Rattle.rec_core.specs.Cycles.{is_member, is_member_of, word_loaded, word_seen, SetsWait, SetsTest}
 use Rattle.rec_core.proofs.CyclesLess.{TestsLess, member_before}
 use Rattle.rec_core.proofs.CyclesTest.{counted_less}
 

@@ -4,24 +4,16 @@ use Rattle.std.specs.List.{concat}
 use Rattle.std.proofs.lemmas.List.{get_or-set_same, get_or-set_other, set_past}
 use Rattle.std.proofs.lemmas.Bool.{cases_lt, eq-eqb, ne_eqb, false≢true, cases_Bool}
 use Rattle.std.proofs.lemmas.Bool.Decides.{eqb_tells}
+use Rattle.rec_core.proofs.Common.{Slot, State, slot_at, with_slot, sent, decremented, one, times, absent, is_in, lessened, lessened_if, lowered, due_of, stays, field_kept, map_at, times-nil, times-append, given_up, given_up_slot, down_if, is_lowered, taken_off, without_first, is_green}
 use Rattle.rec_counts.specs.declared.colour.Colour.TheVariants.{Orange}
-use Rattle.rec_counts.specs.declared.slot.Slot.{Slot}
 use Rattle.rec_counts.specs.declared.slot.Due.{Due}
 use Rattle.rec_counts.specs.declared.slot.Due.TheVariants.{Nothing, Zero, Root}
-use Rattle.rec_counts.specs.Counts.{State, IsKept, slot_at, with_slot, sent, decremented}
+use Rattle.rec_counts.specs.Counts.{IsKept}
 use Rattle.rec_counts.specs.Groups.{last_set}
-use Rattle.rec_counts.specs.Lists.{one, times}
-use Rattle.rec_counts.specs.Slot.{absent, is_in, lessened, lessened_if, lowered, due_of, stays}
-use Rattle.rec_counts.proofs.Keeping.{field_kept, map_at}
-use Rattle.rec_counts.proofs.Times.{times-nil, times-append}
 use Rattle.rec_sigma.specs.declared.fate.Fate.{Fate}
 use Rattle.rec_sigma.specs.declared.fate.Fate.TheVariants as fates
 use Rattle.rec_sigma.specs.Refurbish.{refurbished, fate_at, LastRefurbished}
 use Rattle.rec_sigma.proofs.Cyclics.{in_set, own_set}
-use Rattle.rec_release.specs.CycleFree.{given_up, given_up_slot}
-use Rattle.rec_release.specs.TakenOff.{down_if, is_lowered, taken_off}
-use Rattle.rec_release.specs.Release.{without_first}
-use Rattle.rec_counts.specs.Colour.{is_green}
 use Rattle.rec_collector.proofs.Outside.{in_use_orange}
 
 -- it was not released, and if its cyclic count was its true count less so many, so it is still

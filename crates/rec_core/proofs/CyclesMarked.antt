@@ -3,16 +3,8 @@ use Rattle.std.proofs.Common.{◌≡◌, ◌≢◌, inl, inr, ℕ, zero, suc, �
 use Rattle.std.specs.List.{range_with_len}
 use Rattle.std.proofs.lemmas.Bool.{cases_eq}
 use Rattle.std.proofs.lemmas.Nat.{div-mul-add, mod-mul-add}
-use Rattle.rec_word.specs.Word.{target_of, predecessor, target_bits}
-use Rattle.rec_counts.specs.Counts.{State, slot_at}
-use Rattle.rec_counts.specs.Lists.{times}
-use Rattle.rec_counts.proofs.Keeping.{unreleased_within}
-use Rattle.rec_model.specs.Sums.{one_if_same, sum_at}
-use Rattle.rec_model.specs.Pending.{node_of, home, Pending}
+use Rattle.rec_core.proofs.Common.{target_of, predecessor, target_bits, State, slot_at, times, unreleased_within, one_if_same, sum_at, node_of, home, Pending, IsMarked, marked_in, none_if_differs, Load, TrialStands, is_member, word_loaded}
 use Rattle.rec_model.specs.References.{closed_at}
-use Rattle.rec_model.specs.Sets.{IsMarked, marked_in}
-use Rattle.rec_model.proofs.Weights.{none_if_differs}
-use Rattle.rec_walk.specs.Load.{Load}
 use Rattle.rec_trial.specs.Loaded.{Run}
 use Rattle.rec_trial.specs.Promised.{IsTrial}
 use Rattle.rec_trial.specs.Tried.{members}
@@ -23,7 +15,6 @@ use Rattle.rec_trial.proofs.Readings.{codes, below_front, references_read}
 use Rattle.rec_trial.proofs.Views.{bits_suc}
 use Rattle.rec_trial.proofs.Totals.{same, total_below}
 use Rattle.rec_trial.proofs.Witnesses.{below_alike, total_range}
-use Rattle.rec_core.specs.Cycles.{TrialStands, is_member, word_loaded}
 
 sum_at_below : {X : Type 0} (f : ℕ → ℕ) (xs : List X) → sum_at (λ i x. f i) xs ≡ total_below f (length xs)
 sum_at_below f [] = refl

@@ -6,25 +6,11 @@ use Rattle.std.proofs.lemmas.Bool.{cases_lt, eq-eqb, lt-ltb}
 use Rattle.std.proofs.lemmas.List.Elements.{All-nil, All-cons, All-head, All-tail, All-append}
 use Rattle.std.proofs.lemmas.List.Sums.{sum_by-cons}
 use Rattle.std.proofs.lemmas.Nat.{div-mul-add}
-use Rattle.rec_word.specs.Word.{target_of, is_slot}
-use Rattle.rec_word.specs.Place.{places_from, places_of}
-use Rattle.rec_model.specs.Sums.{only_if, one_if_same, sum_at}
-use Rattle.rec_model.specs.Pending.{node_of, home, Pending}
-use Rattle.rec_model.specs.Sets.{seen_in}
+use Rattle.rec_core.proofs.Common.{target_of, is_slot, places_from, places_of, only_if, one_if_same, sum_at, node_of, home, Pending, seen_in, sum_at_none, sum_at_same, sum_at_split, none_if_differs, only_if-le, Slot, State, slot_at, one, times, EachOnce, is_in, members_once, set_there, times-nil, times-cons, times-append, one-same, one-le, in_range_once, Load, place_loaded, PreparedTo, loaded_at, seen, AreFields, is_member_of, word_seen, SetsStand, SetsWait}
 use Rattle.rec_model.proofs.Ledgers.{node_of_null}
 use Rattle.rec_model.proofs.Places.{sum_at_only}
-use Rattle.rec_model.proofs.Sums.{sum_at_none, sum_at_same, sum_at_split}
-use Rattle.rec_model.proofs.Weights.{none_if_differs, only_if-le}
-use Rattle.rec_counts.specs.declared.slot.Slot.{Slot}
-use Rattle.rec_counts.specs.Counts.{State, IsKept, slot_at}
-use Rattle.rec_counts.specs.Lists.{one, times, EachOnce}
-use Rattle.rec_counts.specs.Slot.{is_in}
-use Rattle.rec_counts.proofs.Keeping.{members_once, set_there}
-use Rattle.rec_counts.proofs.Times.{times-nil, times-cons, times-append, one-same, one-le, in_range_once}
+use Rattle.rec_counts.specs.Counts.{IsKept}
 use Rattle.rec_sigma.specs.declared.at.At.{At}
-use Rattle.rec_walk.specs.Load.{Load, place_loaded}
-use Rattle.rec_sigma.specs.Prepared.{PreparedTo, loaded_at, seen}
-use Rattle.rec_core.specs.Cycles.{AreFields, is_member_of, word_seen, SetsStand, SetsWait}
 use Rattle.rec_core.proofs.Places.{in_row, within_row}
 
 pub fields_begun : (fields : ℕ) → AreFields fields []

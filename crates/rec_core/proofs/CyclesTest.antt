@@ -3,29 +3,16 @@ use Rattle.std.proofs.Common.{◌≡◌, ℕ, ◌+◌, ◌-◌, ◌<◌, ◌≤�
 use Rattle.std.proofs.lemmas.Bool.{true≢false}
 use Rattle.std.proofs.lemmas.Bool.Decides.{eqb_tells}
 use Rattle.std.proofs.lemmas.List.Sums.{sum_by-cons}
-use Rattle.rec_model.specs.Sums.{only_if, one_if_same, sum_at}
-use Rattle.rec_model.specs.Pending.{node_of, home, Pending}
-use Rattle.rec_model.specs.Moves.Move.{put, register, birth, crossing, request, batch, release, clearing, freeing, dropping}
-use Rattle.rec_model.specs.Moves.{Clears, puts_in, Move}
-use Rattle.rec_model.specs.Accounted.{IsAccounted}
-use Rattle.rec_model.specs.Sets.{HasLoaded, IsStanding, IsTesting, IsAmongTests, IsTested, ReleasesSet, seen_in}
-use Rattle.rec_model.proofs.Sums.{sum_at_same}
+use Rattle.rec_core.proofs.Common.{only_if, one_if_same, sum_at, node_of, home, Pending, Clears, puts_in, AccountMove, IsAccounted, HasLoaded, IsStanding, IsTesting, IsAmongTests, ReleasesSet, seen_in, sum_at_same, State, slot_at, one, times, is_in, some_set, times-nil, times-cons, move_fields, members_of, given_up, IsApart, is_member_of, word_seen, SetsTest}
+use Rattle.rec_model.specs.Moves.AccountMove.{put, register, birth, crossing, request, batch, release, clearing, freeing, dropping}
+use Rattle.rec_model.specs.Sets.{IsTested}
 use Rattle.rec_model.proofs.Since.{loaded_stands}
 use Rattle.rec_model.proofs.Testing.{move_testing, set_accounted}
 use Rattle.rec_counts.specs.declared.colour.Colour.TheVariants.{Orange}
-use Rattle.rec_counts.specs.Counts.{State, IsKept, slot_at}
-use Rattle.rec_counts.specs.Lists.{one, times}
-use Rattle.rec_counts.specs.Slot.{is_in}
-use Rattle.rec_counts.proofs.Keeping.{some_set}
-use Rattle.rec_counts.proofs.Times.{times-nil, times-cons}
-use Rattle.rec_model.proofs.Moving.{move_fields}
+use Rattle.rec_counts.specs.Counts.{IsKept}
 use Rattle.rec_sigma.specs.Judged.{AreOrange, cyclic_sum}
-use Rattle.rec_sigma.specs.Prepare.{members_of}
 use Rattle.rec_sigma.proofs.Cyclics.{in_set, set_in_range}
 use Rattle.rec_sigma.specs.Refurbish.{LastRefurbished}
-use Rattle.rec_release.specs.CycleFree.{given_up}
-use Rattle.rec_release.specs.TakenOff.{IsApart}
-use Rattle.rec_core.specs.Cycles.{is_member_of, word_seen, SetsTest}
 use Rattle.rec_core.proofs.CyclesLess.{TestsLess, member_before, less_given_up, less_refurbished}
 
 -- what was seen in the fields of a set's members is the same where all of them are left
@@ -81,7 +68,7 @@ sets_test_on w v s h testing fields places = record {
   unput = h.unput;
 }
 
-move_places : {w v : Pending} → Move w v → HasSamePlaces w.words v.words
+move_places : {w v : Pending} → AccountMove w v → HasSamePlaces w.words v.words
 move_places (put m) f = omega (arith, m.words (λ p word. f p))
 move_places (register m) f = m.words (λ p word. f p)
 move_places (birth m) f = m.words (λ p word. f p)
@@ -94,11 +81,11 @@ move_places (freeing m) f = m.words (λ p word. f p)
 move_places (dropping m) f = m.words (λ p word. f p)
 
 -- the tests go on over what mutators do, releases and clearings
-pub sets_test_moved : {w v : Pending} (s : State) (m : Move w v) → IsAmongTests m → IsAccounted w → SetsTest w s → SetsTest v s
+pub sets_test_moved : {w v : Pending} (s : State) (m : AccountMove w v) → IsAmongTests m → IsAccounted w → SetsTest w s → SetsTest v s
 sets_test_moved {w} {v} s m among i h = sets_test_on w v s h (move_testing m among i h.testing) (move_fields m) (move_places m)
 
 -- also where the counts change with it
-pub sets_test_stepped : {w v : Pending} (s t : State) (m : Move w v) → IsAmongTests m → TestsLess s t → IsAccounted w → SetsTest w s → SetsTest v t
+pub sets_test_stepped : {w v : Pending} (s t : State) (m : AccountMove w v) → IsAmongTests m → TestsLess s t → IsAccounted w → SetsTest w s → SetsTest v t
 sets_test_stepped {w} {v} s t m among l i h = sets_test_less v s t l (sets_test_moved s m among i h)
 
 -- a word comes out of a field, and its target is lowered or decremented

@@ -4,39 +4,25 @@ use Rattle.std.proofs.lemmas.Bool.{cases_eq, false≢true}
 use Rattle.std.proofs.lemmas.Bool.Decides.{nat_tests, eqb_tells}
 use Rattle.std.proofs.lemmas.List.Sums.{sum_by-cons}
 use Rattle.std.proofs.lemmas.Nat.{div-mul-add, mod-mul-add}
-use Rattle.rec_word.specs.Place.{place_of}
 use Rattle.rec_word.specs.declared.op.Op.TheVariants.{LoadChild}
-use Rattle.rec_counts.specs.Counts.{State, slot_at}
-use Rattle.rec_counts.specs.Lists.{one}
-use Rattle.rec_model.specs.Sums.{one_if_same}
-use Rattle.rec_model.specs.Pending.{node_of, Pending, word_in}
+use Rattle.rec_model.specs.Pending.{word_in}
 use Rattle.rec_model.specs.References.{closed_at}
-use Rattle.rec_model.specs.Moves.Move.{put, register, birth, crossing, request, batch, release, clearing, freeing, dropping}
-use Rattle.rec_model.specs.Moves.{Move}
-use Rattle.rec_model.specs.Accounted.{IsAccounted}
-use Rattle.rec_model.specs.Sets.{HasLoaded, with_load, IsAfterLoads}
-use Rattle.rec_model.proofs.Weights.{only_if-le, one_if_self, none_if_differs}
+use Rattle.rec_model.specs.Moves.AccountMove.{put, register, birth, crossing, request, batch, release, clearing, freeing, dropping}
 use Rattle.rec_model.proofs.Loading.{same_length, replaced_length, nothing_loaded, move_loaded, load_loaded, loaded_replaced, move_replaced}
-use Rattle.rec_model.proofs.Moving.{move_fields}
 use Rattle.rec_trial.specs.declared.phase.Phase.{Phase}
 use Rattle.rec_trial.specs.declared.phase.Phase.TheVariants.{Idle, Marking, Scanning, Collecting}
-use Rattle.rec_walk.specs.Load.{Load}
 use Rattle.rec_trial.specs.Loaded.{Run, load_of, noted_at, noted}
 use Rattle.rec_trial.specs.Promised.{IsTrial, unloaded}
 use Rattle.rec_trial.specs.Tried.{is_of, loaded}
-use Rattle.rec_trial.specs.Trial.{Machine, Work, next_of, took_of}
+use Rattle.rec_trial.specs.Trial.{next_of, took_of}
 use Rattle.rec_trial.proofs.Course.{first_view}
 use Rattle.rec_trial.proofs.Holding.{inv_at}
 use Rattle.rec_trial.proofs.Runs.{Told, seen_in, seen_of, told_run}
 use Rattle.rec_trial.proofs.Views.{view}
 use Rattle.rec_trial.proofs.AtWork.{named_place}
-use Rattle.rec_core.specs.Cycles.{TrialStands, word_loaded}
 use Rattle.std.proofs.lemmas.Option.{same_Some}
-use Rattle.rec_word.specs.Word.{target_of}
-use Rattle.rec_counts.specs.Colour.{is_green}
+use Rattle.rec_core.proofs.Common.{place_of, State, slot_at, one, one_if_same, node_of, Pending, AccountMove, IsAccounted, HasLoaded, with_load, IsAfterLoads, only_if-le, one_if_self, none_if_differs, move_fields, Load, Machine, Work, TrialStands, word_loaded, target_of, is_green, visible, visible_if, code}
 use Rattle.rec_model.proofs.Ledgers.{node_of_null}
-use Rattle.rec_trial.specs.Rules.{visible, visible_if}
-use Rattle.rec_core.specs.Pending.{code}
 use Rattle.rec_core.proofs.Moves.{code_target}
 
 -- where blackening loaded a field that had another target by then, the word that marking loaded there was replaced
@@ -59,7 +45,7 @@ none_replaced w fields marking place node inside pos l = absurd (omega (arith, l
 pub trial_stands_begun : (w : Pending) (k : Work) → TrialStands w (unloaded k)
 trial_stands_begun w k = record { marks = nothing_loaded w; blacks = none_replaced w w.fields []; unmarked = λ place node pos is. absurd (omega (arith, pos, is, node_of_null)) }
 
-move_places : {w v : Pending} → Move w v → length v.words ≡ length w.words
+move_places : {w v : Pending} → AccountMove w v → length v.words ≡ length w.words
 move_places {w} {v} (put {epoch} {place} {new} s) = replaced_length w.words v.words place (word_in w place) new s.words
 move_places {w} {v} (register s) = same_length w.words v.words s.words
 move_places {w} {v} (birth s) = same_length w.words v.words s.words
@@ -71,7 +57,7 @@ move_places {w} {v} (clearing {place} s) = replaced_length w.words v.words place
 move_places {w} {v} (freeing s) = same_length w.words v.words s.words
 move_places {w} {v} (dropping s) = same_length w.words v.words s.words
 
-pub trial_stands_moved : {w v : Pending} (r : Run) (m : Move w v) → IsAfterLoads m → IsAccounted w → TrialStands w r → TrialStands v r
+pub trial_stands_moved : {w v : Pending} (r : Run) (m : AccountMove w v) → IsAfterLoads m → IsAccounted w → TrialStands w r → TrialStands v r
 trial_stands_moved {w} {v} r m after i t = record {
   marks = subst (λ f. HasLoaded v (word_loaded f r.marking)) (sym (move_fields m)) (move_loaded (word_loaded w.fields r.marking) m after i.epochs t.marks);
   blacks = subst (λ f. AreReplaced v f r.marking r.blackening) (sym (move_fields m)) (λ place node inside pos l. omega (arith, t.blacks place node (omega (arith, inside, move_places m)) pos l, move_replaced place node m after));

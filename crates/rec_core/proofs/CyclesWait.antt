@@ -5,31 +5,16 @@ use Rattle.std.proofs.lemmas.Bool.Decides.{eqb_tells}
 use Rattle.std.proofs.lemmas.List.{length-set, get_or-set_same, get_or-set_other, get_or_past}
 use Rattle.std.proofs.lemmas.Bool.{cases_eq, cases_lt, false≢true, true≢false}
 use Rattle.std.proofs.lemmas.Option.{none-some}
-use Rattle.rec_word.specs.Place.{place_of}
-use Rattle.rec_model.specs.Sums.{only_if, one_if_same, sum_at}
-use Rattle.rec_model.specs.Pending.{node_of, home, Pending, word_in}
+use Rattle.rec_core.proofs.Common.{place_of, only_if, one_if_same, sum_at, node_of, home, Pending, AccountMove, IsAccounted, HasLoaded, with_load, IsAfterLoads, IsMarked, seen_in, sum_at_same, none_if_differs, State, slot_at, times, Slot, absent, is_in, times-nil, move_fields, Load, place_loaded, KeepsOthers, loaded_at, is_member, is_member_of, word_loaded, word_seen, SetsStand, SetsWait}
+use Rattle.rec_model.specs.Pending.{word_in}
 use Rattle.rec_model.specs.References.{references_at}
-use Rattle.rec_model.specs.Moves.Move.{put, register, birth, crossing, request, batch, release, clearing, freeing, dropping}
-use Rattle.rec_model.specs.Moves.{Move}
-use Rattle.rec_model.specs.Accounted.{IsAccounted}
-use Rattle.rec_model.specs.Sets.{HasLoaded, with_load, IsAfterLoads, IsMarked, seen_in}
+use Rattle.rec_model.specs.Moves.AccountMove.{put, register, birth, crossing, request, batch, release, clearing, freeing, dropping}
 use Rattle.rec_model.proofs.Ledgers.{node_of_null}
 use Rattle.rec_model.proofs.Loading.{same_length, replaced_length, nothing_loaded, move_loaded, load_loaded, move_replaced}
-use Rattle.rec_model.proofs.Sums.{sum_at_same}
-use Rattle.rec_model.proofs.Weights.{none_if_differs}
-use Rattle.rec_counts.specs.Counts.{State, slot_at}
-use Rattle.rec_counts.specs.Lists.{times}
-use Rattle.rec_counts.specs.declared.slot.Slot.{Slot}
-use Rattle.rec_counts.specs.Slot.{absent, is_in}
-use Rattle.rec_counts.proofs.Times.{times-nil}
-use Rattle.rec_model.proofs.Moving.{move_fields}
 use Rattle.rec_sigma.specs.declared.at.At.{At}
-use Rattle.rec_walk.specs.Load.{Load, place_loaded}
-use Rattle.rec_sigma.specs.Prepared.{KeepsOthers, loaded_at}
-use Rattle.rec_core.specs.Cycles.{is_member, is_member_of, word_loaded, word_seen, SetsStand, SetsWait}
 
 -- how many places,
-move_places : {w v : Pending} → (m : Move w v) → IsAfterLoads m → length v.words ≡ length w.words
+move_places : {w v : Pending} → (m : AccountMove w v) → IsAfterLoads m → length v.words ≡ length w.words
 move_places {w} {v} (put {epoch} {place} {new} s) _ = replaced_length w.words v.words place (word_in w place) new s.words
 move_places {w} {v} (register s) _ = same_length w.words v.words s.words
 move_places {w} {v} (birth s) _ = same_length w.words v.words s.words
@@ -42,7 +27,7 @@ move_places {w} {v} (freeing s) _ = same_length w.words v.words s.words
 move_places {w} {v} (dropping s) _ = same_length w.words v.words s.words
 
 -- what places weigh, whatever stands there,
-move_weight : {w v : Pending} (weight : ℕ → ℕ) → (m : Move w v) → IsAfterLoads m → sum_at (λ p (word : ℕ). weight p) v.words ≡ sum_at (λ p (word : ℕ). weight p) w.words
+move_weight : {w v : Pending} (weight : ℕ → ℕ) → (m : AccountMove w v) → IsAfterLoads m → sum_at (λ p (word : ℕ). weight p) v.words ≡ sum_at (λ p (word : ℕ). weight p) w.words
 move_weight weight (put s) _ = omega (arith, s.words (λ p word. weight p))
 move_weight weight (register s) _ = s.words (λ p word. weight p)
 move_weight weight (birth s) _ = s.words (λ p word. weight p)
@@ -55,7 +40,7 @@ move_weight weight (freeing s) _ = s.words (λ p word. weight p)
 move_weight weight (dropping s) _ = s.words (λ p word. weight p)
 
 -- and the count of a node that isn't given up
-move_count : {w v : Pending} (z : ℕ) → (m : Move w v) → IsAfterLoads m → 0 < z → w.released z ≡ false → v.count z ≡ w.count z
+move_count : {w v : Pending} (z : ℕ) → (m : AccountMove w v) → IsAfterLoads m → 0 < z → w.released z ≡ false → v.count z ≡ w.count z
 move_count z (put s) _ pos alive = s.slots.count z pos
 move_count z (register s) _ pos alive = s.slots.count z pos
 move_count z (birth s) _ pos alive = s.count z pos
@@ -88,7 +73,7 @@ naming_self mark z p = elim (eqb_tells z (node_of (mark p))) [
 ]
 
 -- what a trial left stays so over the moves before the next batch, where no member is given up
-marked_moved : {w v : Pending} (member : ℕ → Bool) (mark : ℕ → ℕ) (m : Move w v) → IsAfterLoads m → IsAccounted w → ((node : ℕ) → 0 < node → member node ≡ true → w.released node ≡ false) → IsMarked w member mark → IsMarked v member mark
+marked_moved : {w v : Pending} (member : ℕ → Bool) (mark : ℕ → ℕ) (m : AccountMove w v) → IsAfterLoads m → IsAccounted w → ((node : ℕ) → 0 < node → member node ≡ true → w.released node ≡ false) → IsMarked w member mark → IsMarked v member mark
 marked_moved {w} {v} member mark m after i alive t = record {
   stands = λ p z inside pos is. omega (arith, naming_self mark z p, move_loaded (naming z mark) m after i.epochs (naming_loaded w mark z (λ q there. t.stands q z there pos is)) p z inside pos);
   counted = λ z pos is. omega (arith, t.counted z pos is, move_count z m after pos (alive z pos is), move_weight (λ p. one_if_same z (node_of (mark p))) m after);
@@ -99,7 +84,7 @@ marked_moved {w} {v} member mark m after i alive t = record {
 }
 
 -- so does what was marked by these loads
-marks_moved : {w v : Pending} (member : ℕ → Bool) (marking : List Load) (m : Move w v) → IsAfterLoads m → IsAccounted w → ((node : ℕ) → 0 < node → member node ≡ true → w.released node ≡ false) → IsMarked w member (word_loaded w.fields marking) → IsMarked v member (word_loaded v.fields marking)
+marks_moved : {w v : Pending} (member : ℕ → Bool) (marking : List Load) (m : AccountMove w v) → IsAfterLoads m → IsAccounted w → ((node : ℕ) → 0 < node → member node ≡ true → w.released node ≡ false) → IsMarked w member (word_loaded w.fields marking) → IsMarked v member (word_loaded v.fields marking)
 marks_moved {w} {v} member marking m after i alive h = subst (λ f. IsMarked v member (word_loaded f marking)) (sym (move_fields m)) (marked_moved member (word_loaded w.fields marking) m after i alive h)
 
 -- the same members by another test
@@ -123,7 +108,7 @@ sets_stand_begun w s t marking k marked = record {
 }
 
 -- it goes on over the moves before the next batch
-pub sets_stand_moved : {w v : Pending} (s : State) (loads : List Load) (m : Move w v) → IsAfterLoads m → IsAccounted w → ((node : ℕ) → 0 < node → is_member s node ≡ true → w.released node ≡ false) → SetsStand w s loads → SetsStand v s loads
+pub sets_stand_moved : {w v : Pending} (s : State) (loads : List Load) (m : AccountMove w v) → IsAfterLoads m → IsAccounted w → ((node : ℕ) → 0 < node → is_member s node ≡ true → w.released node ≡ false) → SetsStand w s loads → SetsStand v s loads
 sets_stand_moved {w} {v} s loads m after i alive h = record {
   marking = h.marking;
   marked = marks_moved (is_member s) h.marking m after i alive h.marked;
@@ -166,7 +151,7 @@ sets_stand_loaded w s t loads a i done within k h = record {
     l = record { slot = a.member.slot; field = a.member.field; word = word_in w place }
 
 -- sets wait over the moves before the next batch
-pub sets_wait_moved : {w v : Pending} (s : State) (m : Move w v) → IsAfterLoads m → IsAccounted w → ((node : ℕ) → 0 < node → is_member s node ≡ true → w.released node ≡ false) → SetsWait w s → SetsWait v s
+pub sets_wait_moved : {w v : Pending} (s : State) (m : AccountMove w v) → IsAfterLoads m → IsAccounted w → ((node : ℕ) → 0 < node → is_member s node ≡ true → w.released node ≡ false) → SetsWait w s → SetsWait v s
 sets_wait_moved {w} {v} s m after i alive h = record {
   marking = h.marking;
   marked = marks_moved (is_member s) h.marking m after i alive h.marked;
@@ -232,7 +217,7 @@ sets_wait_kept w s t k h = record {
         (λ p word. ap (λ o. only_if (is_in number o) (one_if_same (x + 1) (node_of (word_seen w.fields h.loads p)))) (keeps_set s t k (home w.fields p - 1)))
 
 -- both at once, as a slot is swept
-pub sets_wait_swept : {w v : Pending} (s t : State) (m : Move w v) → IsAfterLoads m → IsAccounted w → ((node : ℕ) → 0 < node → is_member s node ≡ true → w.released node ≡ false) → KeepsMembers s t → SetsWait w s → SetsWait v t
+pub sets_wait_swept : {w v : Pending} (s t : State) (m : AccountMove w v) → IsAfterLoads m → IsAccounted w → ((node : ℕ) → 0 < node → is_member s node ≡ true → w.released node ≡ false) → KeepsMembers s t → SetsWait w s → SetsWait v t
 sets_wait_swept {w} {v} s t m after i alive k h = sets_wait_kept v s t k (sets_wait_moved s m after i alive h)
 
 -- no sets wait

@@ -3,28 +3,15 @@ use Rattle.std.proofs.Common.{◌≡◌, ◌⊎◌, inl, inr, ℕ, ◌+◌, ◌-
 use Rattle.std.specs.List.{concat}
 use Rattle.std.proofs.lemmas.Bool.{cases_Bool, cases_lt}
 use Rattle.std.proofs.lemmas.List.{get_or_past, get_or_default}
-use Rattle.rec_model.specs.Accounted.{IsAccounted}
-use Rattle.rec_model.specs.Moves.{Move}
-use Rattle.rec_model.specs.Pending.{Pending}
-use Rattle.rec_model.specs.Sets.{IsAfterLoads, IsAmongTests}
-use Rattle.rec_counts.specs.Counts.{State, slot_at, IsKept as IsKeptCounts}
-use Rattle.rec_counts.specs.Lists.{one, times}
-use Rattle.rec_counts.specs.Slot.{absent, fresh}
-use Rattle.rec_counts.specs.declared.slot.Slot.{Slot}
-use Rattle.rec_model.proofs.Moving.{move_fields}
-use Rattle.rec_release.specs.Sweep.{AreUnbuffered}
+use Rattle.rec_core.proofs.Common.{IsAccounted, AccountMove, Pending, IsAfterLoads, IsAmongTests, State, slot_at, one, times, absent, fresh, Slot, move_fields, AreUnbuffered, Machine, Phase, Idle, Releasing, Freeing, Trying, Preparing, Opening, Sweeping, Closing, is_member, AreFields, IsLoading, AreSeen, HasCyclesAt}
+use Rattle.rec_counts.specs.Counts.{IsKept as IsKeptCounts}
 use Rattle.rec_trial.specs.Promised.{IsTrial}
-use Rattle.rec_trial.specs.Trial.{Machine}
 use Rattle.rec_trial.proofs.Places.{ltb_yes}
 use Rattle.rec_sigma.specs.Prepare as preps
 use Rattle.rec_sigma.specs.Prepared as prepared
 use Rattle.rec_collector.specs.Private.{Private}
 use Rattle.rec_collector.specs.Kept.{IsMachine, IsAt, NoneReleased}
-use Rattle.rec_collector.specs.declared.phase.Phase.{Phase}
 use Rattle.rec_collector.proofs.Following.{none_released}
-use Rattle.rec_collector.specs.declared.phase.Phase.TheVariants.{Idle, Releasing, Freeing, Trying, Preparing, Opening, Sweeping, Closing}
-use Rattle.rec_core.specs.Cycles.{is_member, AreFields}
-use Rattle.rec_core.specs.CyclesAt.{IsLoading, AreSeen, HasCyclesAt}
 use Rattle.rec_core.proofs.Counts.{slot_in}
 use Rattle.rec_core.proofs.CyclesTest.{sets_test_moved}
 use Rattle.rec_core.proofs.CyclesTrial.{trial_stands_moved}
@@ -78,7 +65,7 @@ machine_alive c (Closing n) m now = listed_alive c.counts m.counts now.0.tried.l
 machine_alive c _ m now = none_alive c.counts (none_released now.rest)
 
 -- a trial at work
-loading_moved : {w v : Pending} (s : State) (trial : Machine) (m : Move w v) → IsAfterLoads m → IsAccounted w → IsLoading w s trial → IsLoading v s trial
+loading_moved : {w v : Pending} (s : State) (trial : Machine) (m : AccountMove w v) → IsAfterLoads m → IsAccounted w → IsLoading w s trial → IsLoading v s trial
 loading_moved {w} {v} s trial m after i l = record {
   before = l.before;
   words = l.words;
@@ -89,7 +76,7 @@ loading_moved {w} {v} s trial m after i l = record {
 }
 
 -- sets that are prepared
-seen_moved : {w v : Pending} (s : State) (prep : preps.Machine) (m : Move w v) → IsAfterLoads m → IsAccounted w → AreAlive w.released s → AreSeen w s prep → AreSeen v s prep
+seen_moved : {w v : Pending} (s : State) (prep : preps.Machine) (m : AccountMove w v) → IsAfterLoads m → IsAccounted w → AreAlive w.released s → AreSeen w s prep → AreSeen v s prep
 seen_moved {w} {v} s prep m after i alive l = record {
   before = l.before;
   before_kept = l.before_kept;
@@ -101,7 +88,7 @@ seen_moved {w} {v} s prep m after i alive l = record {
 
 -- What is known of the sets is kept by the moves that mutators make. A move that may not be made while sets are tested is one that is
 -- made before the batch.
-pub cycles_moved : {w v : Pending} (c : Private) (phase : Phase) (m : Move w v) → IsAfterLoads m → (w.applied + 1 ≡ w.requested → IsAmongTests m) → IsAccounted w → AreAliveAt w.released c.counts phase → HasCyclesAt w c phase → HasCyclesAt v c phase
+pub cycles_moved : {w v : Pending} (c : Private) (phase : Phase) (m : AccountMove w v) → IsAfterLoads m → (w.applied + 1 ≡ w.requested → IsAmongTests m) → IsAccounted w → AreAliveAt w.released c.counts phase → HasCyclesAt w c phase → HasCyclesAt v c phase
 cycles_moved c (Releasing release) m after among i alive h = sets_test_moved c.counts m (among h.testing.done) i h
 cycles_moved c (Freeing freeing) m after among i alive h = sets_test_moved c.counts m (among h.testing.done) i h
 cycles_moved c (Trying trial) m after among i alive h = loading_moved c.counts trial m after i h

@@ -1,21 +1,12 @@
 -- The sets that pass both tests are out of reach, and a slot that is freed is named by nothing.
 use Rattle.std.proofs.Common.{◌≡◌, ℕ, ◌+◌, ◌-◌, ◌<◌, ◌≤◌, Bool, true, false, if◌then◌else◌, ltb, Option, None, Some, length, slice_get, refl, sym, ap, subst, ◌∙◌, arith}
-use Rattle.rec_word.specs.declared.op.Op.{Op}
+use Rattle.rec_core.proofs.Common.{Op, is_dead, HasUncountedReleased, uncounted_gone, slot_at, one, times, Slot, in_range_once, one-le, times-nil, IsApart, At, Member, Phase, Idle, Looking, Swapping, Returning, Releasing, Freeing, Trying, Preparing, Opening, Sweeping, Closing, Core, is_member_of, SetsTest, freeing_due, IsKept, slot_of, pending, applied_at}
 use Rattle.rec_word.specs.declared.op.Op.TheVariants as ops
-use Rattle.rec_model.specs.Accounted.{is_dead, HasUncountedReleased}
-use Rattle.rec_model.proofs.Consequences.{uncounted_gone}
 use Rattle.rec_model.proofs.Naming.{dead_out_of_reach}
 use Rattle.rec_model.proofs.Sets.{passed_out_of_reach}
-use Rattle.rec_counts.specs.Counts.{slot_at}
-use Rattle.rec_counts.specs.Lists.{one, times}
-use Rattle.rec_counts.specs.declared.slot.Slot.{Slot}
-use Rattle.rec_counts.proofs.Times.{in_range_once, one-le, times-nil}
 use Rattle.rec_release.specs.CycleFree.{next_of as freeing_next, op_at as freeing_op_at}
 use Rattle.rec_release.specs.Release.{next_of as release_next, op_at as release_op_at}
 use Rattle.rec_release.specs.Sweep.{next_of as sweep_next, op_at as sweep_op_at}
-use Rattle.rec_release.specs.TakenOff.{IsApart}
-use Rattle.rec_release.specs.declared.at.At.{At}
-use Rattle.rec_walk.specs.declared.member.Member.{Member}
 use Rattle.rec_counts.proofs.Front.{first_in}
 use Rattle.rec_sigma.specs.Prepare.{next_of as prep_next, op_at as prep_op_at}
 use Rattle.rec_sigma.specs.declared.at.At as loads
@@ -23,13 +14,7 @@ use Rattle.rec_trial.specs.Trial.{Machine as Trial, next_of as trial_next, op_at
 use Rattle.rec_trial.specs.declared.phase.Phase as trial_phases
 use Rattle.rec_trial.specs.declared.phase.Phase.TheVariants as trial_at
 use Rattle.rec_collector.specs.Next.{is_spent, next_at, next_of}
-use Rattle.rec_collector.specs.declared.phase.Phase.{Phase}
-use Rattle.rec_collector.specs.declared.phase.Phase.TheVariants.{Idle, Looking, Swapping, Returning, Releasing, Freeing, Trying, Preparing, Opening, Sweeping, Closing}
-use Rattle.rec_core.specs.Core.{Core}
-use Rattle.rec_core.specs.Cycles.{is_member_of, SetsTest}
 use Rattle.rec_core.specs.Freed.{IsFreeingSet, TestsSets, Passes, IsProvenGarbage, AreGone, IsForgotten}
-use Rattle.rec_core.specs.Kept.{freeing_due, IsKept}
-use Rattle.rec_core.specs.Pending.{slot_of, pending, applied_at}
 use Rattle.rec_core.proofs.CyclesTest.{IsJudged, set_is_tested}
 use Rattle.rec_core.proofs.Steps.{slot_there}
 use Rattle.rec_core.proofs.Turns.{cycles_in, now_at}

@@ -3,27 +3,12 @@
 use Rattle.std.proofs.Common.{◌≡◌, ◌⊎◌, inl, inr, ℕ, ◌+◌, ◌*◌, ◌<◌, ◌≤◌, true, Option, None, Some, length, slice_index_or, refl, sym, ap, subst, ◌∙◌, arith}
 use Rattle.std.proofs.lemmas.Bool.{cases_eq}
 use Rattle.std.proofs.lemmas.List.{length-set}
-use Rattle.rec_word.specs.Place.{place_of}
-use Rattle.rec_word.specs.Word.{target_of}
-use Rattle.rec_model.specs.Accounted.{HasUncountedReleased}
-use Rattle.rec_counts.specs.Counts.{State, slot_at}
-use Rattle.rec_counts.specs.Lists.{times}
-use Rattle.rec_counts.proofs.Times.{in_range_once, times_at}
-use Rattle.rec_walk.specs.declared.member.Member.{Member}
-use Rattle.rec_release.specs.CycleFree.{Machine, IsAtWork, listed}
-use Rattle.rec_release.specs.Release.{IsReady}
+use Rattle.rec_core.proofs.Common.{place_of, target_of, HasUncountedReleased, State, slot_at, times, in_range_once, times_at, Member, IsAtWork, listed, IsReady, IsFreeing, with_freed, parts_of, Phase, Freeing, field_behind, freed_by, freed_last, freed_on, member_behind, Core, IsLeftOf, IsKept}
+use Rattle.rec_release.specs.CycleFree.{Machine}
 use Rattle.rec_release.proofs.Freeing.{off_work}
 use Rattle.rec_release.proofs.Kept.{members_listed}
-use Rattle.rec_collector.specs.Clearing.{IsFreeing}
-use Rattle.rec_collector.specs.Followed.{with_freed}
 use Rattle.rec_collector.specs.Kept as collector_kept
-use Rattle.rec_collector.specs.Private.{parts_of}
-use Rattle.rec_collector.specs.declared.phase.Phase.{Phase}
-use Rattle.rec_collector.specs.declared.phase.Phase.TheVariants.{Freeing}
 use Rattle.rec_collector.proofs.Freeing.{freed_clears, listed_ready}
-use Rattle.rec_collector.proofs.Goings.{field_behind, freed_by, freed_last, freed_on, member_behind}
-use Rattle.rec_core.specs.Core.{Core}
-use Rattle.rec_core.specs.Kept.{IsLeftOf, IsKept}
 use Rattle.rec_core.proofs.Landed.{landed_pending, HasCleared, applied_pending, begun_freeing}
 use Rattle.rec_core.proofs.Landings.{IsUnswept}
 use Rattle.rec_core.proofs.Taken as taken

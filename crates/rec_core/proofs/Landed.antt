@@ -1,22 +1,9 @@
 -- Where a turn of the collector has come to, before it says in which phase the collection goes on.
 use Rattle.std.specs.Prelude.{◌≡◌, ◌⊎◌, ℕ, ◌-◌, ◌<◌, true, Option, None, Some, List, slice_index_or, length}
-use Rattle.rec_word.specs.Place.{place_of}
-use Rattle.rec_model.specs.Accounted.{IsAccounted, HasUncountedReleased}
-use Rattle.rec_model.specs.Pending.{Pending}
-use Rattle.rec_model.specs.Sight.{IsSound}
-use Rattle.rec_counts.specs.Counts.{State, slot_at, IsKept as IsKeptCounts}
-use Rattle.rec_counts.specs.Lists.{times}
-use Rattle.rec_collector.specs.Testing.{Begun}
-use Rattle.rec_collector.specs.declared.phase.Phase.{Phase}
-use Rattle.rec_release.specs.declared.at.At.{At}
-use Rattle.rec_walk.specs.declared.member.Member.{Member}
+use Rattle.rec_core.proofs.Common.{place_of, IsAccounted, HasUncountedReleased, Pending, IsSound, State, slot_at, times, Begun, Phase, At, Member, Opening, Core, sight, SetsTest, HasMutators, IsLeft, IsLeftOf, freeing_due, one_if_sweeping, release_due, IsKept, HasGreens, older_at, pending}
+use Rattle.rec_counts.specs.Counts.{IsKept as IsKeptCounts}
 use Rattle.rec_collector.specs.Kept as collector_kept
 use Rattle.rec_collector.proofs.Clearing.{Clears}
-use Rattle.rec_collector.specs.declared.phase.Phase.TheVariants.{Opening}
-use Rattle.rec_core.specs.Core.{Core, sight}
-use Rattle.rec_core.specs.Cycles.{SetsTest}
-use Rattle.rec_core.specs.Kept.{HasMutators, IsLeft, IsLeftOf, freeing_due, one_if_sweeping, release_due, IsKept, HasGreens}
-use Rattle.rec_core.specs.Pending.{older_at, pending}
 use Rattle.rec_core.proofs.Counts.{accounts_with}
 
 -- what is to be accounted for once the batch of the last epoch is applied

@@ -7,23 +7,12 @@ use Rattle.std.proofs.lemmas.Bool.{cases_Bool}
 use Rattle.std.proofs.lemmas.List.{get_or_default, length-map, length-replicate}
 use Rattle.std.proofs.lemmas.List.Elements.{All-head, All-tail, All-nil}
 use Rattle.std.proofs.lemmas.List.Sums.{sum_by-cons}
-use Rattle.rec_model.specs.Accounted.{IsAccounted, HasUncountedReleased}
-use Rattle.rec_model.specs.Moves.{Move, Drops}
-use Rattle.rec_model.specs.Pending.{epoch_of, Write, Dated, dated, Pending, dated_birth}
-use Rattle.rec_model.specs.Sets.{IsMarked}
-use Rattle.rec_model.proofs.Consequences.{move_uncounted}
-use Rattle.rec_model.proofs.Moving.{move_accounted}
-use Rattle.rec_log.specs.declared.contents.Contents.{Contents}
-use Rattle.rec_log.specs.declared.entry.Entry.{Entry}
+use Rattle.rec_core.proofs.Common.{IsAccounted, HasUncountedReleased, AccountMove, Drops, epoch_of, Write, Dated, dated, Pending, dated_birth, IsMarked, move_uncounted, move_accounted, Contents, Entry, State, slot_at, times, absent, fresh, Slot, times-append, released_among, KeepsOthers, prep_started, with_offers, Parts, new_prep, Begun, parts_of, with_parts, PreparesOn, TriesOn, IsBetween, cleared, ended, moved, Phase, Idle, Trying, Preparing, Opening, Turn, still, IsMutator, Core, is_member, word_loaded, SetsWait, IsLoading, AreSeen, HasCyclesAt, IsMadeIn, IsBufferOf, Handshake, stand_at, freeing_due, one_if_sweeping, release_due, IsLeft, IsLeftOf, IsSomeSwept, IsKept, Filed, writes_in, births_in, dated_names, applied_at, older_at, buffers, pending, Config}
 use Rattle.rec_log.specs.declared.entry.Entry.TheVariants as entries
-use Rattle.rec_counts.specs.Counts.{State, slot_at, IsKept as IsKeptCounts}
-use Rattle.rec_counts.specs.Lists.{times}
-use Rattle.rec_counts.specs.Slot.{absent, fresh}
-use Rattle.rec_counts.specs.declared.slot.Slot.{Slot}
-use Rattle.rec_counts.proofs.Times.{times-append}
+use Rattle.rec_counts.specs.Counts.{IsKept as IsKeptCounts}
 use Rattle.rec_model.proofs.Opened.{named-nones}
 use Rattle.rec_trial.specs.Promised.{unloaded}
-use Rattle.rec_trial.specs.Rules.{IsReady, released_among}
+use Rattle.rec_trial.specs.Rules.{IsReady}
 use Rattle.rec_trial.specs.Trial as trials
 use Rattle.rec_trial.proofs.Counted.{started_counted}
 use Rattle.rec_trial.proofs.Keeps.{KeepsCounts, started_keeps}
@@ -31,31 +20,13 @@ use Rattle.rec_trial.proofs.Midway.{times_released}
 use Rattle.rec_trial.proofs.Promised.{begun_promised}
 use Rattle.rec_sigma.specs.Prepare as preps
 use Rattle.rec_sigma.specs.Prepared as prepared
-use Rattle.rec_sigma.specs.Prepared.{KeepsOthers}
 use Rattle.rec_sigma.proofs.Runs.{Came, came_first, next_set_others, started_is}
 use Rattle.rec_sigma.proofs.Kept.{others_kept}
-use Rattle.rec_collector.specs.Followed.{prep_started, with_offers}
 use Rattle.rec_collector.specs.Offered.{KeepsOffered}
-use Rattle.rec_collector.specs.Parts.{Parts, new_prep}
-use Rattle.rec_collector.specs.Testing.{Begun}
 use Rattle.rec_collector.specs.Private as collectors
-use Rattle.rec_collector.specs.Private.{parts_of, with_parts}
 use Rattle.rec_collector.specs.Kept as collector_kept
-use Rattle.rec_collector.specs.Step.{PreparesOn, TriesOn, IsBetween}
-use Rattle.rec_collector.specs.Took.{cleared, ended, moved}
-use Rattle.rec_collector.specs.declared.phase.Phase.{Phase}
-use Rattle.rec_collector.specs.declared.phase.Phase.TheVariants.{Idle, Trying, Preparing, Opening}
-use Rattle.rec_collector.specs.declared.turn.Turn.{Turn}
 use Rattle.rec_collector.proofs.Following.{none_released}
-use Rattle.rec_collector.proofs.Goings.{still}
 use Rattle.rec_collector.proofs.Offering.{where_keeps, where_kept, where_ready, where_green}
-use Rattle.rec_core.specs.Config.{IsMutator}
-use Rattle.rec_core.specs.Core.{Core}
-use Rattle.rec_core.specs.Cycles.{is_member, word_loaded, SetsWait}
-use Rattle.rec_core.specs.CyclesAt.{IsLoading, AreSeen, HasCyclesAt}
-use Rattle.rec_core.specs.Kept.{IsMadeIn, IsBufferOf, Stand, stand_at, freeing_due, one_if_sweeping, release_due, IsLeft, IsLeftOf, IsSomeSwept, IsKept}
-use Rattle.rec_core.specs.Pending.{Filed, writes_in, births_in, dated_names, applied_at, older_at, buffers, pending}
-use Rattle.rec_core.specs.declared.config.Config.{Config}
 use Rattle.rec_core.proofs.Batches.{buffer_there, none_of}
 use Rattle.rec_core.proofs.Counts.{slot_in, accounts_with, alike_slots}
 use Rattle.rec_core.proofs.CyclesMarked.{trial_leaves_marked}
@@ -222,7 +193,7 @@ offered_alike s t k greens = record {
 -- Where a collection has come to with nothing begun, it has come to with such counts.
 pub landed_alike : {w : Core} {crossing words : List ℕ} {v : Parts} → HasLanded w crossing words (still v) → (t : State) → IsAlike v.counts t → IsKeptCounts t → HasLanded w crossing words (still (record v { counts = t }))
 landed_alike {w} {crossing} {words} {v} l t same counts =
-    let move : Move (landed_pending w words v.counts) (landed_pending w words t) = Move.dropping (landed_drops w words v.counts t same) in
+    let move : AccountMove (landed_pending w words v.counts) (landed_pending w words t) = AccountMove.dropping (landed_drops w words v.counts t same) in
     record {
       kept = l.kept;
       way = l.way;
@@ -320,7 +291,7 @@ pub record IsUnswept (requested : ℕ) (phase : Phase) : Type 0 where
   pub still : one_if_sweeping phase ≡ 0
   pub applied : applied_at requested phase ≡ requested - 1
   pub older : older_at requested phase ≡ requested - 2
-  pub stands : (s : ℕ) → stand_at phase s ≡ Stand.Done
+  pub stands : (s : ℕ) → stand_at phase s ≡ Handshake.Done
   pub between : IsBetween phase
   pub some : IsSomeSwept phase
 
@@ -437,9 +408,9 @@ module _ (w : Core) (crossing words : List ℕ) (q : collectors.Private) (machin
         made = l.kept.made;
         sound = l.sound;
         greens = l.greens;
-        accounted = move_accounted (Move.dropping drops) l.accounted;
-        uncounted = λ none. move_uncounted (Move.dropping drops) l.accounted (l.uncounted refl);
-        cycles = sets_wait_moved v.counts (Move.dropping drops) tt l.accounted (none_alive v.counts (none_released its.now.0)) waits;
+        accounted = move_accounted (AccountMove.dropping drops) l.accounted;
+        uncounted = λ none. move_uncounted (AccountMove.dropping drops) l.accounted (l.uncounted refl);
+        cycles = sets_wait_moved v.counts (AccountMove.dropping drops) tt l.accounted (none_alive v.counts (none_released its.now.0)) waits;
       } in
       subst (λ (x : collectors.Private). IsKept (record w { crossing = crossing; words = words; collector = x })) (sym is) whole
 

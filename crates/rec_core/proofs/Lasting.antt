@@ -6,50 +6,25 @@ use Rattle.std.proofs.lemmas.Bool.Decides.{nat_tests}
 use Rattle.std.proofs.lemmas.List.{set-get_or, get_or-set_other}
 use Rattle.std.proofs.lemmas.List.Elements.{Contains-append_left, Contains-append_right, Contains-get_or}
 use Rattle.std.proofs.lemmas.List.Sums.{sum_by-cons, sum_by-set}
-use Rattle.rec_word.specs.Mailbox.{crossing_word}
-use Rattle.rec_word.specs.declared.mailbox.Mailbox.TheVariants.{Retired}
+use Rattle.rec_core.proofs.Common.{crossing_word, Retired, place_of, Op, only_if, epoch_of, Write, Cleared, Contents, Private, is_busy, IsMachine, next_stamp, word_for, IsStore, probe_of, next_of, Step, Decides, GoesOn, LeavesBox, HasRoom, begun_of, left_of, took_of, whole_made, Parts, with_parts, Begun, cleared, Phase, Idle, Looking, Swapping, Returning, Turn, Cells, cell, with_cell, IsMutator, Core, cells_of, mutator, box, nobody, crossing_of, IsBufferOf, IsHandshake, IsKept, Handshake, stand_at, Fits, Move, after_move, begun_from, found_by, left_by, looked_at, offering, stepped, turned, turned_by, older_at, writes_in, writes_of, Config, header_word}
 use Rattle.rec_word.specs.Op.{written}
-use Rattle.rec_word.specs.Place.{place_of}
-use Rattle.rec_word.specs.declared.op.Op.{Op}
 use Rattle.rec_word.specs.declared.op.Op.TheVariants as ops
-use Rattle.rec_model.specs.Sums.{only_if}
-use Rattle.rec_model.specs.Pending.{epoch_of, Write}
-use Rattle.rec_model.specs.Sets.{Cleared}
 use Rattle.rec_model.specs.declared.command.Cmd.{Cmd}
 use Rattle.rec_model.specs.declared.told.Told.{Told}
-use Rattle.rec_log.specs.declared.contents.Contents.{Contents}
-use Rattle.rec_mutator.specs.Private.{Private, is_busy, IsMachine, next_stamp, word_for, IsStore, probe_of}
-use Rattle.rec_mutator.specs.Next.{next_of}
-use Rattle.rec_mutator.specs.Step.{Step, Decides, GoesOn, LeavesBox, HasRoom}
-use Rattle.rec_mutator.specs.Took.{begun_of, left_of, step_of, took_of}
+use Rattle.rec_mutator.specs.Took.{step_of}
 use Rattle.rec_mutator.specs.declared.phase.Phase as phases
 use Rattle.rec_mutator.specs.declared.phase.Phase.TheVariants as at
 use Rattle.rec_mutator.specs.declared.work.Work.{Work}
-use Rattle.rec_mutator.proofs.Steps.{whole_made}
 use Rattle.rec_sigma.specs.Prepare as preps
 use Rattle.rec_trial.specs.Trial as trials
 use Rattle.rec_collector.specs.Kept as collector_kept
 use Rattle.rec_collector.specs.Next as collectors_next
-use Rattle.rec_collector.specs.Parts.{Parts}
 use Rattle.rec_collector.specs.Private as collectors
-use Rattle.rec_collector.specs.Private.{with_parts}
 use Rattle.rec_collector.specs.Step as collectors_step
-use Rattle.rec_collector.specs.Testing.{Begun}
 use Rattle.rec_collector.specs.Took as collectors_took
-use Rattle.rec_collector.specs.Took.{cleared}
 use Rattle.rec_collector.specs.Touched.{tried_at}
-use Rattle.rec_collector.specs.declared.phase.Phase.{Phase}
-use Rattle.rec_collector.specs.declared.phase.Phase.TheVariants.{Idle, Looking, Swapping, Returning}
-use Rattle.rec_collector.specs.declared.turn.Turn.{Turn}
 use Rattle.rec_collector.proofs.Always.{names_word}
-use Rattle.rec_core.specs.Cells.{Cells, cell, with_cell}
-use Rattle.rec_core.specs.Config.{IsMutator}
-use Rattle.rec_core.specs.Core.{Core, cells_of, mutator, box, nobody, crossing_of}
-use Rattle.rec_core.specs.Kept.{IsBufferOf, IsHandshake, IsKept, Stand, stand_at}
 use Rattle.rec_core.specs.Loads.{cleared_by, cleared_in, IsKnown, Loaded, tried_in}
-use Rattle.rec_core.specs.Moves.{Fits, Move, after_move, begun_from, found_by, left_by, looked_at, offering, stepped, turned, turned_by}
-use Rattle.rec_core.specs.Pending.{older_at, writes_in, writes_of}
-use Rattle.rec_core.specs.declared.config.Config.{Config}
 use Rattle.rec_core.proofs.Batches.{none_of}
 use Rattle.rec_core.proofs.Landings.{early_writes}
 use Rattle.rec_mutator.proofs.LogStamps.{word_stamp}
@@ -60,7 +35,6 @@ use Rattle.rec_core.proofs.Steps.{actor_of, in_list}
 use Rattle.rec_core.proofs.Sums.{buffers_sum, writes_more, writes_same}
 use Rattle.rec_core.proofs.Turns.{now_at}
 use Rattle.rec_core.proofs.Shapes.{same_boxes}
-use Rattle.rec_word.specs.Header.{header_word}
 use Rattle.rec_mutator.proofs.Refusals.{at_phase}
 
 -- what the writes in a buffer weigh
@@ -223,12 +197,12 @@ step_logs {p} {q} m (Step.give_box d) b =
     inl (plain_as b _ d.operation (λ cells e. refl) other (λ g. ap (λ (x : Private). wrote g x.log) d.after))
 
 -- a mutator is behind the requested epoch by one at most, and not at all unless its turn in a gathering is still to come
-own_late : (config : Config) (requested : ℕ) (p : Private) (crossing : ℕ) (b : Contents) (stand : Stand) → IsHandshake config requested p crossing b stand → requested - 1 ≤ p.epoch
-own_late config requested p crossing b Stand.Done h = omega (arith, h.0.epoch)
-own_late config requested p crossing b Stand.Held h = omega (arith, h.0.epoch)
-own_late config requested p crossing b Stand.Due (inl behind) = omega (arith, behind.epoch)
-own_late config requested p crossing b Stand.Due (inr (inl crosses)) = omega (arith, crosses.epoch)
-own_late config requested p crossing b Stand.Due (inr (inr crossed)) = omega (arith, crossed.epoch)
+own_late : (config : Config) (requested : ℕ) (p : Private) (crossing : ℕ) (b : Contents) (stand : Handshake) → IsHandshake config requested p crossing b stand → requested - 1 ≤ p.epoch
+own_late config requested p crossing b Handshake.Done h = omega (arith, h.0.epoch)
+own_late config requested p crossing b Handshake.Held h = omega (arith, h.0.epoch)
+own_late config requested p crossing b Handshake.Due (inl behind) = omega (arith, behind.epoch)
+own_late config requested p crossing b Handshake.Due (inr (inl crosses)) = omega (arith, crosses.epoch)
+own_late config requested p crossing b Handshake.Due (inr (inr crossed)) = omega (arith, crossed.epoch)
 
 late_at : (config : Config) (requested t : ℕ) (p : Private) (crossing : ℕ) (b : Contents) (phase : Phase) → IsHandshake config requested p crossing b (stand_at phase t) → tried_at requested phase ≤ p.epoch
 late_at config requested t p crossing b (Looking u) h = own_late config requested p crossing b (stand_at (Looking u) t) h

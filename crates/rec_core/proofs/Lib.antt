@@ -1,8 +1,10 @@
+-- The modules of the proofs.
 pub mod Actors
 pub mod Applying
 pub mod Asked
 pub mod Batches
 pub mod Begun
+pub mod Common
 pub mod Counts
 pub mod Crossings
 pub mod CyclesBatch

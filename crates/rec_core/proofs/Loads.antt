@@ -4,26 +4,14 @@ use Rattle.std.specs.List.{Contains}
 use Rattle.std.proofs.lemmas.Bool.{cases_lt}
 use Rattle.std.proofs.lemmas.List.{get_or_past}
 use Rattle.std.proofs.lemmas.List.Elements.{Contains-append_left, Contains-append_right, Contains-append_cases}
-use Rattle.rec_word.specs.declared.op.Op.{Op}
+use Rattle.rec_core.proofs.Common.{Op, epoch_of, is_late_word, Cleared, get_or-le-sum_at, not_lt_from_none, At, Member, Phase, Looking, Swapping, Returning, Releasing, Freeing, Core, IsKept, AllFit, Move, after_move, after_moves}
 use Rattle.rec_word.specs.declared.op.Op.TheVariants as ops
-use Rattle.rec_model.specs.Pending.{epoch_of}
-use Rattle.rec_model.specs.Accounted.{is_late_word}
-use Rattle.rec_model.specs.Sets.{Cleared}
 use Rattle.rec_model.proofs.Ledgers.{epoch_of_null}
-use Rattle.rec_model.proofs.Sums.{get_or-le-sum_at}
-use Rattle.rec_model.proofs.Weights.{not_lt_from_none}
 use Rattle.rec_release.specs.CycleFree.{op_at as freeing_op_at, next_of as freeing_next}
 use Rattle.rec_release.specs.Release.{op_at as release_op_at, next_of as release_next}
-use Rattle.rec_release.specs.declared.at.At.{At}
-use Rattle.rec_walk.specs.declared.member.Member.{Member}
 use Rattle.rec_collector.specs.Next as collectors_next
 use Rattle.rec_collector.specs.Touched.{tried_at}
-use Rattle.rec_collector.specs.declared.phase.Phase.{Phase}
-use Rattle.rec_collector.specs.declared.phase.Phase.TheVariants.{Looking, Swapping, Returning, Releasing, Freeing}
-use Rattle.rec_core.specs.Core.{Core}
-use Rattle.rec_core.specs.Kept.{IsKept}
 use Rattle.rec_core.specs.Loads.{cleared_in, cleared_over, IsKnown, IsReferenceStill, Loaded, loaded_by, loaded_in, loaded_over, tried_in}
-use Rattle.rec_core.specs.Moves.{AllFit, Move, after_move, after_moves}
 use Rattle.rec_core.proofs.Runs.{move_kept}
 use Rattle.rec_core.proofs.Lasting.{Lasts, known_lasts, lasts_on, move_keeps, Keeps}
 use Rattle.rec_core.proofs.Trials.{BeginsNoTrial}

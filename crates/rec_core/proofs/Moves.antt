@@ -6,23 +6,11 @@ use Rattle.std.proofs.lemmas.Bool.{eq-eqb, ne_eqb, cases_eq, cond-true, cond-fal
 use Rattle.std.proofs.lemmas.List.{get_or-set_same, get_or-set_other}
 use Rattle.std.proofs.lemmas.List.Sums.{get_or-le-sum_by, sum_by-append, sum_by-set}
 use Rattle.std.proofs.lemmas.Nat.{div-mul-add}
-use Rattle.rec_word.specs.Place.{place_of}
-use Rattle.rec_word.specs.Word.{target_of}
-use Rattle.rec_model.specs.Moves.{KeepsEpochs, KeepsSlots, Puts, Registers, Bears, Crosses, Drops, Loads, with_answer}
-use Rattle.rec_model.specs.Pending.{node_of, epoch_of, home, Dated, dated, Pending, is_at, Holds}
+use Rattle.rec_core.proofs.Common.{place_of, target_of, KeepsEpochs, KeepsSlots, Puts, Registers, Bears, Crosses, Drops, Loads, with_answer, node_of, epoch_of, home, Dated, dated, Pending, is_at, Holds, one_if_same, sum_at-set, sum_by-map, sum_by-flat_map, only_if_self, one_if_self, Contents, Private, register, Core, mutator, box, spare_of, nobody, with_mutator, Filed, filed, code, writes_in, births_in, dated_names, dated_all, epoch_at, buffers, snapshots_of, registers_of, older_at, pending, Config, header_word, is_leaf, IsHeaderOf}
 use Rattle.rec_model.specs.Reach.{named}
-use Rattle.rec_model.specs.Sums.{one_if_same}
-use Rattle.rec_model.proofs.Sums.{sum_at-set, sum_by-map, sum_by-flat_map}
-use Rattle.rec_model.proofs.Weights.{only_if_self, one_if_self}
-use Rattle.rec_log.specs.declared.contents.Contents.{Contents}
 use Rattle.rec_log.specs.declared.entry.Entry.TheVariants as entries
 use Rattle.rec_model.proofs.Opened.{named-nones}
-use Rattle.rec_mutator.specs.Private.{Private, register}
-use Rattle.rec_core.specs.Core.{Core, mutator, box, spare_of, nobody, with_mutator}
-use Rattle.rec_core.specs.Pending.{Filed, filed, code, writes_in, births_in, dated_names, dated_all, epoch_at, buffers, snapshots_of, registers_of, older_at, pending}
-use Rattle.rec_core.specs.declared.config.Config.{Config}
 use Rattle.rec_core.proofs.Sums.{share, buffers_sum, own_sum, registers_sum, register_sum, writes_more, writes_same, births_more, births_same, names_most, names_all}
-use Rattle.rec_word.specs.Header.{header_word, is_leaf, IsHeaderOf}
 
 -- the node of a word is that of its target
 pub code_target : (word : ℕ) → code (target_of word) ≡ node_of word

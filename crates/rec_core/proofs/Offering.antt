@@ -1,15 +1,8 @@
 -- A heap whose slots are to be offered to the next trial keeps what it kept.
 use Rattle.std.proofs.Common.{true}
-use Rattle.rec_model.specs.Pending.{Pending}
+use Rattle.rec_core.proofs.Common.{Pending, Phase, Idle, Core, HasCyclesAt, IsKept, offering, pending}
 use Rattle.rec_collector.specs.Private.{Private}
-use Rattle.rec_collector.specs.declared.phase.Phase.{Phase}
-use Rattle.rec_collector.specs.declared.phase.Phase.TheVariants.{Idle}
 use Rattle.rec_collector.proofs.Keeping.{offers_kept}
-use Rattle.rec_core.specs.Core.{Core}
-use Rattle.rec_core.specs.CyclesAt.{HasCyclesAt}
-use Rattle.rec_core.specs.Kept.{IsKept}
-use Rattle.rec_core.specs.Moves.{offering}
-use Rattle.rec_core.specs.Pending.{pending}
 
 -- its sets are the same, and so is what is at work on them: its counts stay
 cycles_on : (w : Pending) (c : Private) (phase : Phase) → HasCyclesAt w c phase → HasCyclesAt w (record c { offers = true }) phase

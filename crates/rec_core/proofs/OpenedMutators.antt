@@ -3,18 +3,9 @@ use Rattle.std.proofs.Common.{◌≡◌, inl, inr, ℕ, ◌+◌, ◌-◌, ◌<�
 use Rattle.std.proofs.lemmas.Bool.{cases_lt}
 use Rattle.std.proofs.lemmas.List.{get_or_append_left, get_or-append_right, length-replicate, length_push, map_push}
 use Rattle.std.proofs.lemmas.List.Elements.{All-cons, All-replicate}
-use Rattle.rec_word.specs.Word.{IsTarget}
+use Rattle.rec_core.proofs.Common.{IsTarget, Represents, opening_sight, Private, IsMachine, IsConfig, IsMutator, sight, mutator, nobody, opened, opened_mutator, opened_mutators, Config, IsHeader, is_green, absent, fresh, slot_at}
 use Rattle.rec_model.specs.Heap.{opening}
-use Rattle.rec_model.specs.Sight.{StandsFor, opening_sight}
 use Rattle.rec_model.proofs.Opened.{opening_stands, nulls_at}
-use Rattle.rec_mutator.specs.Private.{Private, IsMachine}
-use Rattle.rec_core.specs.Config.{IsConfig, IsMutator}
-use Rattle.rec_core.specs.Core.{sight, mutator, nobody, opened, opened_mutator, opened_mutators}
-use Rattle.rec_core.specs.declared.config.Config.{Config}
-use Rattle.rec_core.specs.Kept.{IsHeader}
-use Rattle.rec_counts.specs.Colour.{is_green}
-use Rattle.rec_counts.specs.Slot.{absent, fresh}
-use Rattle.rec_counts.specs.Counts.{slot_at}
 
 -- a header at opening
 pub small_header : (slots s : ℕ) → IsHeader (slice_index_or {A = ℕ} (1 ∷ replicate (slots - 1) 0) s 0)
@@ -114,6 +105,6 @@ machine_opened config t is there =
     }
 
 -- the opening heap stands for it
-pub opened_stands : (config : Config) → IsConfig config → StandsFor (opening config.fields config.registers config.mutators) (sight (opened config))
+pub opened_stands : (config : Config) → IsConfig config → Represents (opening config.fields config.registers config.mutators) (sight (opened config))
 opened_stands config is =
-    subst (StandsFor (opening config.fields config.registers config.mutators)) (sym (sight_opened config)) (opening_stands config.slots config.fields config.registers config.mutators is.some_slots)
+    subst (Represents (opening config.fields config.registers config.mutators)) (sym (sight_opened config)) (opening_stands config.slots config.fields config.registers config.mutators is.some_slots)

@@ -7,33 +7,15 @@ use Rattle.std.proofs.lemmas.List.{get_or_past, get_or-replicate, get_or-set_sam
 use Rattle.std.proofs.lemmas.List.Elements.{All-nil, All-from_get_or}
 use Rattle.std.proofs.lemmas.List.Folds.{sum_by-replicate}
 use Rattle.std.proofs.lemmas.List.Sums.{sum_by-cons, sum_by-append}
-use Rattle.rec_word.specs.Mailbox.{crossing_word}
-use Rattle.rec_word.specs.declared.mailbox.Mailbox.TheVariants.{Spare}
-use Rattle.rec_model.specs.Accounted.{is_wrong_register, is_late_snapshot}
+use Rattle.rec_core.proofs.Common.{crossing_word, Spare, is_wrong_register, is_late_snapshot, Write, Dated, dated, opening_uncounted, sum_at-replicate_none, sum_by-flat_map, Contents, State, slot_at, one, times, fresh, is_in, Slot, keep_open, one-same, times-nil, Private, Idle, IsConfig, IsMutator, Core, spare_of, opened, nobody, opened_mutator, opened_mutators, IsOwn, IsBufferOf, IsMadeIn, IsActor, HasCollector, HasLearnt, IsKept, IsHeader, Filed, buffers, writes_in, births_in, dated_names, dated_all, epoch_at, pending, Config}
 use Rattle.rec_model.specs.Opened.{IsOpening}
-use Rattle.rec_model.specs.Pending.{Write, Dated, dated}
 use Rattle.rec_model.proofs.Beginning.{opening_accounted}
-use Rattle.rec_model.proofs.Consequences.{opening_uncounted}
 use Rattle.rec_model.proofs.Opened.{opening_sound, named-nones, nulls_at}
-use Rattle.rec_model.proofs.Sums.{sum_at-replicate_none, sum_by-flat_map}
-use Rattle.rec_log.specs.declared.contents.Contents.{Contents}
-use Rattle.rec_counts.specs.Counts.{State, slot_at, IsKept as IsKeptCounts}
-use Rattle.rec_counts.specs.Lists.{one, times}
-use Rattle.rec_counts.specs.Slot.{fresh, is_in}
-use Rattle.rec_counts.specs.declared.slot.Slot.{Slot}
-use Rattle.rec_counts.proofs.Keeping.{keep_open}
-use Rattle.rec_counts.proofs.Times.{one-same, times-nil}
-use Rattle.rec_mutator.specs.Private.{Private}
+use Rattle.rec_counts.specs.Counts.{IsKept as IsKeptCounts}
 use Rattle.rec_collector.specs.Kept as collector_kept
 use Rattle.rec_collector.specs.Private as collectors
-use Rattle.rec_collector.specs.declared.phase.Phase.TheVariants.{Idle}
 use Rattle.rec_collector.proofs.Opening.{opened_keeps}
 use Rattle.rec_collector.proofs.Following.{none_released}
-use Rattle.rec_core.specs.Config.{IsConfig, IsMutator}
-use Rattle.rec_core.specs.Core.{Core, spare_of, opened, nobody, opened_mutator, opened_mutators}
-use Rattle.rec_core.specs.Kept.{IsOwn, IsBufferOf, IsMadeIn, IsActor, HasCollector, HasLearnt, IsKept, IsHeader}
-use Rattle.rec_core.specs.Pending.{Filed, buffers, writes_in, births_in, dated_names, dated_all, epoch_at, pending}
-use Rattle.rec_core.specs.declared.config.Config.{Config}
 use Rattle.rec_core.proofs.Actors.{spare_buffer}
 use Rattle.rec_core.proofs.Batches.{none_of}
 use Rattle.rec_core.proofs.CyclesWait.{sets_wait_none}

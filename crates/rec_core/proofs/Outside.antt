@@ -4,50 +4,26 @@ use Rattle.std.specs.List.{concat}
 use Rattle.std.proofs.Math.Nat.{div-add-mod, mul_comm}
 use Rattle.std.proofs.lemmas.List.{append-nil, map-append}
 use Rattle.std.proofs.lemmas.Nat.{div-mul-add, mod-mul-add}
-use Rattle.rec_word.specs.Place.{place_of, places_of}
-use Rattle.rec_word.specs.declared.op.Op.{Op}
 use Rattle.rec_word.specs.declared.op.Op.TheVariants as ops
-use Rattle.rec_log.specs.declared.contents.Contents.{Contents}
-use Rattle.rec_counts.specs.Counts.{State, slot_at, IsKept as IsKeptCounts}
-use Rattle.rec_counts.specs.Lists.{one, times}
-use Rattle.rec_counts.specs.Slot.{is_in}
-use Rattle.rec_counts.specs.declared.slot.Slot.{Slot}
-use Rattle.rec_counts.proofs.Times.{one-same}
-use Rattle.rec_counts.proofs.Keeping.{set_there}
+use Rattle.rec_counts.specs.Counts.{IsKept as IsKeptCounts}
 use Rattle.rec_release.specs.CycleFree.{op_at as freeing_op_at, next_of as freeing_next}
 use Rattle.rec_release.specs.Release.{op_at as release_op_at, next_of as release_next}
 use Rattle.rec_release.specs.Sweep.{op_at as sweep_op_at, next_of as sweep_next}
 use Rattle.rec_release.specs.declared.at.At as releases
-use Rattle.rec_walk.specs.declared.member.Member.{Member}
 use Rattle.rec_sigma.specs.declared.at.At.{At}
 use Rattle.rec_sigma.specs.Prepare as preps
-use Rattle.rec_sigma.specs.Prepare.{members_of}
-use Rattle.rec_walk.specs.Load.{Load, place_loaded}
-use Rattle.rec_sigma.specs.Prepared.{PreparedTo, loaded_at, places_left, seen, sets_begun}
 use Rattle.rec_sigma.proofs.Cyclics.{seen-nil}
 use Rattle.rec_sigma.proofs.Runs.{Came, came_first, came_on, started_is}
 use Rattle.rec_trial.specs.Trial as trials
-use Rattle.rec_collector.specs.Followed.{prep_started}
 use Rattle.rec_collector.specs.Given.{IsGiven}
 use Rattle.rec_collector.specs.Next.{next_of, next_at, is_spent}
 use Rattle.rec_collector.specs.Outside.{HasSets, IsOutside}
-use Rattle.rec_collector.specs.Parts.{new_prep}
 use Rattle.rec_collector.specs.Private as collectors
-use Rattle.rec_collector.specs.Private.{parts_of}
-use Rattle.rec_collector.specs.Took.{step_of}
 use Rattle.rec_collector.specs.Touched.{IsOrangeIn, named_by, tried_at, WasUntouched}
-use Rattle.rec_collector.specs.declared.phase.Phase.{Phase}
-use Rattle.rec_collector.specs.declared.phase.Phase.TheVariants.{Idle, Releasing, Freeing, Trying, Preparing, Sweeping}
-use Rattle.rec_collector.proofs.Goings.{still}
 use Rattle.rec_collector.proofs.Touched.{begins_on, has_on, loads_on, LoadsOn, outside_later, untouched, untouched_on, untouched_same}
-use Rattle.rec_core.specs.Cells.{cell}
-use Rattle.rec_core.specs.Core.{Core, cells_of, box}
 use Rattle.rec_core.specs.Freed.{Passes}
-use Rattle.rec_core.specs.Kept.{IsKept}
 use Rattle.rec_core.specs.Loads.{BeginsPreparing, fields_loaded, IsPreparing, IsTrying, load_of, Loaded, loaded_by, loaded_in, loaded_over, named_by_op, named_in, named_over, tried_in}
-use Rattle.rec_core.specs.Moves.{AllFit, Fits, Move, after_move, after_moves, looked_at, turned, turned_at, turned_by}
 use Rattle.rec_core.specs.Run.{Step, steps_of}
-use Rattle.rec_core.specs.declared.config.Config.{Config}
 use Rattle.rec_core.proofs.CyclesTest.{none_of}
 use Rattle.rec_core.proofs.Landed.{HasLanded}
 use Rattle.rec_core.proofs.Trials.{BeginsNoTrial, tried_of}
@@ -55,9 +31,9 @@ use Rattle.rec_core.proofs.Preparing.{loads_due}
 use Rattle.rec_core.proofs.Runs.{given_is, move_kept, move_stays, moves_kept}
 use Rattle.rec_core.proofs.Turning.{turn_case}
 use Rattle.std.proofs.lemmas.List.Sums.{sum_by-cons}
+use Rattle.rec_core.proofs.Common.{place_of, places_of, Op, Contents, State, slot_at, one, times, is_in, Slot, one-same, set_there, Member, members_of, Load, place_loaded, PreparedTo, loaded_at, places_left, seen, sets_begun, prep_started, new_prep, parts_of, step_of, Phase, Idle, Releasing, Freeing, Trying, Preparing, Sweeping, still, cell, Core, cells_of, box, IsKept, AllFit, Fits, Move, after_move, after_moves, looked_at, turned, turned_at, turned_by, Config, visible}
 use Rattle.rec_core.proofs.Trying.{loads_child, trying_lands}
 use Rattle.rec_core.proofs.Turns.{now_at}
-use Rattle.rec_trial.specs.Rules.{visible}
 
 -- a turn with an operation, up to the next trial
 module _ (w : Core) (op : Op) (kept : IsKept w) (later : IsKept (turned_by w op (cell (cells_of w) op))) (named : ◌≡◌ {A = Option Op} (next_of w.collector) (Some op)) where

@@ -2,7 +2,7 @@
 use Rattle.std.proofs.Common.{◌≡◌, ℕ, ◌+◌, ◌-◌, ◌*◌, ◌/◌, ◌<◌, ◌≤◌, arith, ap, ◌∙◌}
 use Rattle.std.proofs.Math.Nat.{mul-le-mul_left}
 use Rattle.std.proofs.lemmas.Nat.{div-mul-add}
-use Rattle.rec_word.specs.Place.{place_of}
+use Rattle.rec_core.proofs.Common.{place_of}
 use Rattle.rec_word.proofs.FieldPlaces as fields_places
 
 -- a field of a slot is one of the words

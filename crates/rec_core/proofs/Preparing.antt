@@ -1,31 +1,17 @@
 -- A preparation at work loads a field of the heap, whose word leads to a slot that is there. Where it has come to is as the landing
 -- of a turn wants it.
 use Rattle.std.proofs.Common.{◌≡◌, ℕ, ◌*◌, ◌<◌, Option, None, Some, ◌++◌, IfSome, length, slice_index_or, refl, sym, ap, subst, ◌∙◌, arith}
-use Rattle.rec_word.specs.Place.{place_of}
-use Rattle.rec_word.specs.Word.{target_of}
-use Rattle.rec_word.specs.declared.op.Op.{Op}
+use Rattle.rec_core.proofs.Common.{place_of, target_of, Op, Drops, Pending, KeepsOthers, LoadsWithin, loaded_at, parts_of, PreparesOn, Preparing, Turn, still, Core, AreFields, SetsStand, AreSeen, IsKept, freeing_due, release_due, pending}
 use Rattle.rec_word.specs.declared.op.Op.TheVariants.{LoadChild}
-use Rattle.rec_model.specs.Moves.{Drops}
-use Rattle.rec_model.specs.Moves.Move.{dropping}
-use Rattle.rec_model.specs.Pending.{Pending}
+use Rattle.rec_model.specs.Moves.AccountMove.{dropping}
 use Rattle.rec_sigma.specs.declared.at.At.{At}
 use Rattle.rec_sigma.specs.Prepare.{Machine, Work, next_of, op_at, took_of}
-use Rattle.rec_sigma.specs.Prepared.{KeepsOthers, LoadsWithin, loaded_at}
 use Rattle.rec_sigma.proofs.Bounds.{names_place}
 use Rattle.rec_sigma.proofs.Runs.{Came, came_on}
 use Rattle.rec_sigma.proofs.Kept.{others_kept}
 use Rattle.rec_collector.specs.Kept as collector_kept
-use Rattle.rec_collector.specs.Private.{Private, parts_of}
-use Rattle.rec_collector.specs.Step.{PreparesOn}
-use Rattle.rec_collector.specs.declared.phase.Phase.TheVariants.{Preparing}
-use Rattle.rec_collector.specs.declared.turn.Turn.{Turn}
-use Rattle.rec_collector.proofs.Goings.{still}
+use Rattle.rec_collector.specs.Private.{Private}
 use Rattle.rec_collector.proofs.Trying.{took_others}
-use Rattle.rec_core.specs.Core.{Core}
-use Rattle.rec_core.specs.Cycles.{AreFields, SetsStand}
-use Rattle.rec_core.specs.CyclesAt.{AreSeen}
-use Rattle.rec_core.specs.Kept.{IsKept, freeing_due, release_due}
-use Rattle.rec_core.specs.Pending.{pending}
 use Rattle.rec_core.proofs.CyclesPrepared.{fields_more}
 use Rattle.rec_core.proofs.CyclesWait.{sets_stand_loaded, sets_stand_moved}
 use Rattle.rec_core.proofs.Landed.{landed_pending, HasLanded}

@@ -4,43 +4,22 @@ use Rattle.std.specs.List.{sum_by}
 use Rattle.std.proofs.lemmas.Bool.{cases_lt, cases_eq, ne_eqb, cond-false, false≢true, true≢false}
 use Rattle.std.proofs.lemmas.List.{get_or-set_other, get_or-set_same, set-get_or, get_or_past, length-set}
 use Rattle.std.proofs.lemmas.List.Sums.{sum_by-cons}
+use Rattle.rec_core.proofs.Common.{place_of, target_of, Op, is_dead, is_node, Dated, is_at, counted_by_formula, Sight, IsTaken, Reaches, StandsBy, field_of, targets_of, one_if_same, reached_is_taken, only_if_self, slot_at, At, Member, Private, IsBetween, Phase, Idle, Looking, Swapping, Returning, Releasing, Freeing, Trying, Preparing, Opening, Sweeping, Closing, cell, with_cell, Core, cells_of, sight, mutator, IsKept, stepped, turned, turned_at, pending, IsHeaderOf}
 use Rattle.rec_word.specs.Op.{written}
-use Rattle.rec_word.specs.Place.{place_of}
-use Rattle.rec_word.specs.Word.{target_of}
-use Rattle.rec_word.specs.declared.op.Op.{Op}
 use Rattle.rec_word.specs.declared.op.Op.TheVariants as ops
-use Rattle.rec_model.specs.Accounted.{is_dead, is_node}
 use Rattle.rec_model.specs.Heap.{Heap, roots, object}
-use Rattle.rec_model.specs.Pending.{Dated, is_at}
 use Rattle.rec_model.specs.Reach.{is_in, named}
 use Rattle.rec_model.specs.References.{count_formula}
-use Rattle.rec_model.proofs.Consequences.{counted_by_formula}
 use Rattle.rec_model.specs.Reach.IsReached.{root, child}
 use Rattle.rec_model.specs.Seen.{IsSightOf}
-use Rattle.rec_model.specs.Sight.{Sight, IsTaken, Reaches, StandsBy, field_of, targets_of}
-use Rattle.rec_model.specs.Sums.{one_if_same}
 use Rattle.rec_model.proofs.Seen.{reached_taken}
-use Rattle.rec_model.proofs.Standing.{reached_is_taken}
-use Rattle.rec_model.proofs.Weights.{only_if_self}
 use Rattle.rec_model.proofs.Within.{all_reached}
 use Rattle.rec_model.proofs.Words.{words_of-set_other}
-use Rattle.rec_counts.specs.Counts.{slot_at}
-use Rattle.rec_release.specs.declared.at.At.{At}
-use Rattle.rec_walk.specs.declared.member.Member.{Member}
 use Rattle.rec_release.specs.CycleFree.{op_at as freeing_op_at, next_of as freeing_next}
 use Rattle.rec_release.specs.Release.{op_at as release_op_at, next_of as release_next}
 use Rattle.rec_release.specs.Sweep.{next_of as sweep_next}
 use Rattle.rec_mutator.specs.Next.{next_of as mutator_next}
-use Rattle.rec_mutator.specs.Private.{Private}
 use Rattle.rec_collector.specs.Next.{is_spent, next_of, next_at}
-use Rattle.rec_collector.specs.Step.{IsBetween}
-use Rattle.rec_collector.specs.declared.phase.Phase.{Phase}
-use Rattle.rec_collector.specs.declared.phase.Phase.TheVariants.{Idle, Looking, Swapping, Returning, Releasing, Freeing, Trying, Preparing, Opening, Sweeping, Closing}
-use Rattle.rec_core.specs.Cells.{cell, with_cell}
-use Rattle.rec_core.specs.Core.{Core, cells_of, sight, mutator}
-use Rattle.rec_core.specs.Kept.{IsKept}
-use Rattle.rec_core.specs.Moves.{stepped, turned, turned_at}
-use Rattle.rec_core.specs.Pending.{pending}
 use Rattle.rec_core.specs.Reach.{KeepsReached}
 use Rattle.rec_core.proofs.Freeing as freeing
 use Rattle.rec_core.proofs.Preparing.{loads_due}
@@ -51,7 +30,6 @@ use Rattle.rec_core.proofs.Trying.{loads_child}
 use Rattle.rec_core.proofs.Turns.{now_at}
 use Rattle.rec_core.proofs.Turning.{some_op, turn_case}
 use Rattle.rec_core.proofs.Words.{IsOwnOp, own_next}
-use Rattle.rec_word.specs.Header.{IsHeaderOf}
 
 -- what is named is named in some epoch
 some_epoch : (n : ℕ) (ds : List Dated) → 0 < sum_by (is_node n) ds → (epoch : ℕ) × (0 < sum_by (is_at epoch n) ds)

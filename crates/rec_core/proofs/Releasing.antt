@@ -2,25 +2,13 @@
 -- of the zeros is released.
 use Rattle.std.proofs.Common.{◌≡◌, ◌⊎◌, inl, inr, ℕ, ◌+◌, ◌<◌, ◌≤◌, true, Option, None, Some, length, slice_index_or, refl, sym, ap, subst, ◌∙◌, arith}
 use Rattle.std.proofs.lemmas.Bool.{cases_eq}
-use Rattle.rec_word.specs.Place.{place_of}
-use Rattle.rec_word.specs.Word.{target_of}
-use Rattle.rec_counts.specs.Counts.{State, slot_at}
-use Rattle.rec_counts.specs.Lists.{times}
-use Rattle.rec_release.specs.declared.at.At.{At}
-use Rattle.rec_release.specs.Release.{Machine, IsAtWork, IsReady, emptied}
+use Rattle.rec_core.proofs.Common.{place_of, target_of, State, slot_at, times, At, IsReady, emptied, IsReleasing, with_released, parts_of, Phase, Releasing, released_by, released_last, released_more, Core, IsLeft, IsKept, freeing_due}
+use Rattle.rec_release.specs.Release.{Machine, IsAtWork}
 use Rattle.rec_release.proofs.Keeping.{emptied_sets, ready_emptied}
 use Rattle.rec_release.proofs.TakenOff.{ready_off}
 use Rattle.rec_release.proofs.Kept.{emptied_kept}
-use Rattle.rec_collector.specs.Clearing.{IsReleasing}
-use Rattle.rec_collector.specs.Followed.{with_released}
 use Rattle.rec_collector.specs.Kept as collector_kept
-use Rattle.rec_collector.specs.Private.{parts_of}
-use Rattle.rec_collector.specs.declared.phase.Phase.{Phase}
-use Rattle.rec_collector.specs.declared.phase.Phase.TheVariants.{Releasing}
 use Rattle.rec_collector.proofs.Clearing.{released_clears}
-use Rattle.rec_collector.proofs.Goings.{released_by, released_last, released_more}
-use Rattle.rec_core.specs.Core.{Core}
-use Rattle.rec_core.specs.Kept.{IsLeft, IsKept, freeing_due}
 use Rattle.rec_core.proofs.Counts.{emptied_alike}
 use Rattle.rec_core.proofs.Landed.{HasCleared, begun_freeing, begun_release}
 use Rattle.rec_core.proofs.Landings.{IsUnswept}

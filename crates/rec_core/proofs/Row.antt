@@ -2,12 +2,12 @@
 use Rattle.std.proofs.Common.{◌≡◌, ℕ, zero, suc, ◌+◌, ◌-◌, ◌<◌, ◌≤◌, List, [], ◌∷◌, ◌++◌, length, get_or, set, take, drop, length-set, refl, sym, ap, ◌∙◌, subst, arith}
 use Rattle.std.proofs.Math.Seq.{take-append_seam, drop-append_seam, drop-append-add, drop-nil}
 use Rattle.std.proofs.lemmas.List.{get_or_append_left, get_or-append-add, set-append_left, length-take-le, length-drop, take-append-drop}
+use Rattle.rec_core.proofs.Common.{Op, Cells, IsThere, IsWithin, cell, with_cell, with_word}
 use Rattle.rec_word.specs.Op.{cell_of}
 use Rattle.rec_word.specs.declared.cell.Cell.{Cell}
 use Rattle.rec_word.specs.declared.cell.Cell.TheVariants.{Field, Header, Epoch, Freed, Crossing}
-use Rattle.rec_word.specs.declared.op.Op.{Op}
 use Rattle.rec_word.specs.declared.op.Op.TheVariants as ops
-use Rattle.rec_core.specs.Cells.{Cells, IsThere, IsWithin, cell, with_cell, with_word, word_at}
+use Rattle.rec_core.specs.Cells.{word_at}
 use Rattle.rec_core.specs.Row.{row, index_at, index_of, cells_of_row}
 
 -- a number behind the first of two lists, read and written

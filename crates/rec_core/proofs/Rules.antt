@@ -4,36 +4,19 @@ use Rattle.std.proofs.lemmas.Bool.{false≢true, cases_eq}
 use Rattle.std.proofs.lemmas.List.{length-set, get_or-set_same, get_or-set_other}
 use Rattle.std.proofs.lemmas.List.Elements.{All-set}
 use Rattle.std.proofs.lemmas.Option.{same_Some}
-use Rattle.rec_word.specs.Place.{place_of}
-use Rattle.rec_word.specs.Word.{target_of, stamp_of}
+use Rattle.rec_core.proofs.Common.{place_of, target_of, stamp_of, Op, Loads, AccountMove, node_of, epoch_of, Holds, Sight, IsTaken, IsSound, word_at, sight_with_header, sight_with_word, register_sound, birth_sound, write_sound, Contents, Entry, Private, register, word_for, next_stamp, IsStore, probe_of, slot_behind, Step, Decides, HasRoom, TakesNone, cell, IsMutator, HasLabel, Core, cells_of, sight, mutator, box, crossing_of, with_mutator, HasLabelAt, HasPassed, HasLearnt, entries_made, IsKept, IsActor, IsHeader, performed, code, epoch_at, pending, header_word, is_leaf}
 use Rattle.rec_word.specs.declared.stamps.Stamp.{Stamp}
-use Rattle.rec_word.specs.declared.op.Op.{Op}
 use Rattle.rec_word.specs.declared.op.Op.TheVariants as ops
-use Rattle.rec_model.specs.Moves.{Loads, Move}
-use Rattle.rec_model.specs.Pending.{node_of, epoch_of, Holds}
-use Rattle.rec_model.specs.Sight.{Sight, IsTaken, IsSound, word_at, sight_with_header, sight_with_word}
 use Rattle.rec_model.specs.declared.answer.Answer.TheVariants as answers_
 use Rattle.rec_model.specs.declared.command.Cmd.TheVariants as commands
-use Rattle.rec_model.proofs.Standing.{register_sound, birth_sound, write_sound}
-use Rattle.rec_log.specs.declared.contents.Contents.{Contents}
-use Rattle.rec_log.specs.declared.entry.Entry.{Entry}
 use Rattle.rec_log.specs.declared.entry.Entry.TheVariants as entries
 use Rattle.rec_model.specs.Asking.{plain, allocation}
 use Rattle.rec_mutator.specs.Causes.{is_giving}
-use Rattle.rec_mutator.specs.Private.{Private, register, word_for, next_stamp, IsStore, probe_of, slot_behind}
-use Rattle.rec_mutator.specs.Step.{Step, Decides, HasRoom}
 use Rattle.rec_mutator.specs.declared.phase.Phase as phases
 use Rattle.rec_mutator.specs.declared.phase.Phase.TheVariants as at
 use Rattle.rec_mutator.specs.declared.work.Work.TheVariants as works
 use Rattle.rec_mutator.proofs.Around.{behind_below}
-use Rattle.rec_mutator.proofs.Steps.{TakesNone}
 use Rattle.rec_mutator.proofs.Refusals.{at_phase}
-use Rattle.rec_core.specs.Cells.{cell}
-use Rattle.rec_core.specs.Config.{IsMutator, HasLabel}
-use Rattle.rec_core.specs.Core.{Core, cells_of, sight, mutator, box, crossing_of, with_mutator}
-use Rattle.rec_core.specs.Kept.{HasLabelAt, HasPassed, HasLearnt, entries_made, IsKept, IsActor, IsHeader}
-use Rattle.rec_core.specs.Moves.{performed}
-use Rattle.rec_core.specs.Pending.{code, epoch_at, pending}
 use Rattle.rec_core.proofs.Actors.{one_entry, epoch_here}
 use Rattle.rec_mutator.proofs.LogStamps.{word_stamp}
 use Rattle.rec_mutator.proofs.Machines.{has_room, register_target}
@@ -42,7 +25,6 @@ use Rattle.rec_core.proofs.Places.{place_within}
 use Rattle.rec_core.proofs.Shapes.{after_cross, after_field, after_header, after_epoch, after_freed, after_probe, after_swap, after_claim}
 use Rattle.rec_word.proofs.Packing.{target_of-packed}
 use Rattle.rec_core.proofs.Steps.{Makes, actor_of, in_list, register_taken, target_taken, taken_slot, held_stays, emptied_stays, changed_kept, moved_accounts, answers, answered_actor, unchanged, sets, goes_on, about_to_cross, registers_stay, registers_set, Answers}
-use Rattle.rec_word.specs.Header.{header_word, is_leaf}
 use Rattle.rec_word.proofs.Headers.{header_is, header_taken}
 
 -- the epoch of a word is that of its stamp
@@ -123,7 +105,7 @@ module _ {w : Core} {t word : ℕ} {op : Op} {q : Private} (m : Makes w t word o
       (let more = entries_grow p.registers _ a in omega (arith, more))
       (subst (λ (rss : List (List (Option ℕ))). IsSound (record (sight_with_word (sight w) slot f left) { registers = rss })) (sym (registers_stay w t q a.registers_are))
       (write_sound (sight w) slot f left in_range taken unmarked (λ n is. register_taken w m.kept t val n (sym leads ∙ is)) m.kept.sound))
-      (moved_accounts w _ m.kept (Move.put (put_moves w t place left slot val q there (place_there w slot f m.kept below in_range) (home_of slot f w.config.fields in_range) holds
+      (moved_accounts w _ m.kept (AccountMove.put (put_moves w t place left slot val q there (place_there w slot f m.kept below in_range) (home_of slot f w.config.fields in_range) holds
       (λ some. subst (Holds (pending w) (epoch_at p)) (sym node) (has_register w t val there of)) in_epoch a.registers_are a.same a.log)) tt tt))
     where
       decided_at : p.fields ≡ w.config.fields → word ≡ slice_index_or w.words (place_of slot f w.config.fields) 0
@@ -154,7 +136,7 @@ module _ {w : Core} {t word : ℕ} {op : Op} {q : Private} (m : Makes w t word o
       (entries_grow (slice_set p.registers reg (Some slot)) (entries.Born slot leaf ∷ []) a)
       (subst (λ (rss : List (List (Option ℕ))). IsSound (record seen { registers = rss })) (sym (registers_set w t reg (Some slot) q a.registers_are))
       (register_sound seen t reg (Some slot) (λ n is. subst (IsTaken seen) (same_Some slot n is) taken) (birth_sound (sight w) slot (header_word leaf label) inside empty m.kept.sound)))
-      (moved_accounts w _ m.kept (Move.birth (birth_moves w t reg slot label leaf q (header_is leaf label fits) (in_list w t m.kept m.is) within inside empty a.registers_are a.same a.log)) tt tt)
+      (moved_accounts w _ m.kept (AccountMove.birth (birth_moves w t reg slot label leaf q (header_is leaf label fits) (in_list w t m.kept m.is) within inside empty a.registers_are a.same a.log)) tt tt)
     where
       kept_headers : length w.headers ≡ w.config.slots
       kept_headers = m.kept.headers

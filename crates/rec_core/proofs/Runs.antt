@@ -3,36 +3,19 @@ use Rattle.std.proofs.Common.{◌≡◌, ◌≢◌, ℕ, ◌-◌, ◌<◌, ◌==
 use Rattle.std.proofs.lemmas.Bool.{cond-true, cond-false, eq-eqb, ne_eqb}
 use Rattle.std.proofs.lemmas.Grind.{flat_map-append}
 use Rattle.std.proofs.lemmas.List.{get_or-set_other}
-use Rattle.rec_word.specs.Place.{place_of}
-use Rattle.rec_word.specs.Word.{target_of}
-use Rattle.rec_word.specs.declared.op.Op.{Op}
+use Rattle.rec_core.proofs.Common.{place_of, target_of, Op, Contents, slot_at, At, Member, LeadsToUnreleased, begun_of, IsBetween, step_of, turn_of, Phase, Looking, Swapping, Returning, Releasing, Freeing, Trying, Preparing, cell, IsConfig, IsMutator, Core, cells_of, box, mutator, nobody, opened, IsKept, looked_at, found_by, turned, Move, after_move, after_moves, Fits, AllFit, IsStart, IsRun, EndsRun, Config}
 use Rattle.rec_word.specs.declared.op.Op.TheVariants as ops
-use Rattle.rec_log.specs.declared.contents.Contents.{Contents}
-use Rattle.rec_counts.specs.Counts.{slot_at}
 use Rattle.rec_release.specs.CycleFree.{op_at as freeing_op_at, next_of as freeing_next}
 use Rattle.rec_release.specs.Release.{op_at as release_op_at, next_of as release_next}
-use Rattle.rec_release.specs.declared.at.At.{At}
-use Rattle.rec_walk.specs.declared.member.Member.{Member}
-use Rattle.rec_trial.specs.Rules.{LeadsToUnreleased}
-use Rattle.rec_mutator.specs.Took.{begun_of}
 use Rattle.rec_mutator.specs.Took as mutators_took
 use Rattle.rec_collector.specs.Given.{IsGivenAt, IsGiven, IsSized}
 use Rattle.rec_collector.specs.Kept as collector_kept
 use Rattle.rec_collector.specs.Next.{next_of, next_at}
-use Rattle.rec_collector.specs.Step.{Step, IsBetween}
-use Rattle.rec_collector.specs.Took.{step_of, turn_of}
-use Rattle.rec_collector.specs.declared.phase.Phase.{Phase}
-use Rattle.rec_collector.specs.declared.phase.Phase.TheVariants.{Looking, Swapping, Returning, Releasing, Freeing, Trying, Preparing}
+use Rattle.rec_collector.specs.Step.{Step}
 use Rattle.rec_collector.proofs.Keeping.{machine_kept}
 use Rattle.rec_collector.proofs.Steps.{step_made}
-use Rattle.rec_core.specs.Cells.{cell}
-use Rattle.rec_core.specs.Config.{IsConfig, IsMutator}
-use Rattle.rec_core.specs.Core.{Core, cells_of, box, mutator, nobody, opened}
-use Rattle.rec_core.specs.Kept.{IsKept}
-use Rattle.rec_core.specs.Moves.{looked_at, found_by, turned, Move, after_move, after_moves, Fits, AllFit, IsStart, IsRun, EndsRun}
 use Rattle.rec_core.specs.Run.{by_actor, Every, maker, over, steps_of}
 use Rattle.rec_core.specs.Run as step
-use Rattle.rec_core.specs.declared.config.Config.{Config}
 use Rattle.rec_core.proofs.Applying.{covered}
 use Rattle.rec_core.proofs.Crossings.{step_kept, begun_kept}
 use Rattle.rec_core.proofs.Freeing as freeing

@@ -1,31 +1,21 @@
 -- An allocation that is answered Full or Busy has claimed each header, and found each taken.
 use Rattle.std.proofs.Common.{◌≡◌, inl, inr, ℕ, true, Option, Some, List, [], ◌∷◌, ◌++◌, fold, refl, arith, sym, ◌∙◌, ap, subst, Bool}
 use Rattle.std.proofs.lemmas.Bool.{cases_eq}
-use Rattle.rec_word.specs.declared.op.Op.{Op}
+use Rattle.rec_core.proofs.Common.{Op, next_of, answer_of, is_busy, work_at, work_of, IsStill, took_of, here_same, TakesNone, IsMutator, box, mutator, Core, IsKept, after_move, after_moves, found_by, stepped, AllFit, Fits, Move, header_word}
 use Rattle.rec_model.specs.Asking.{allocation}
 use Rattle.rec_model.specs.declared.told.Told.{Told}
 use Rattle.rec_mutator.specs.Causes.{FoundNone, HasCause}
-use Rattle.rec_mutator.specs.Next.{next_of}
-use Rattle.rec_mutator.specs.Private.{answer_of, is_busy, work_at, work_of}
 use Rattle.rec_mutator.specs.Scans.{ops_along, FailsScan}
-use Rattle.rec_mutator.specs.Step.{IsStill}
-use Rattle.rec_mutator.specs.Took.{took_of}
 use Rattle.rec_mutator.specs.declared.made.Made.TheVariants as makes
 use Rattle.rec_mutator.specs.declared.phase.Phase.{Phase}
 use Rattle.rec_mutator.specs.declared.phase.Phase.TheVariants.{Begun, Crossing, Swapping}
 use Rattle.rec_mutator.specs.declared.work.Work.TheVariants as works
-use Rattle.rec_mutator.proofs.Steps.{here_same, TakesNone}
-use Rattle.rec_core.specs.Config.{IsMutator}
-use Rattle.rec_core.specs.Core.{box, mutator, Core}
-use Rattle.rec_core.specs.Kept.{IsKept}
-use Rattle.rec_core.specs.Moves.{after_move, after_moves, found_by, stepped, AllFit, Fits, Move}
 use Rattle.rec_core.specs.Run.{maker}
 use Rattle.rec_core.specs.Scans.{op_of, ops_over, word_of, words_over, BeginsNone, BeginsNot, FailsByProbes}
 use Rattle.rec_core.proofs.Runs.{move_kept, move_stays, mutator_stays, other_gives, own_gives}
 use Rattle.rec_core.proofs.Showing.{step_caused, stepped_mutator}
 use Rattle.rec_core.proofs.Steps.{actor_of}
 use Rattle.rec_core.proofs.Unfinished.{work_stays}
-use Rattle.rec_word.specs.Header.{header_word}
 
 -- a command in work takes no mailbox
 command_none : (reg label : ℕ) (leaf : Bool) (phase : Phase) → work_at phase ≡ Some (works.Command (allocation leaf reg label)) → TakesNone phase

@@ -3,17 +3,10 @@
 use Rattle.std.proofs.Common.{◌≡◌, ◌⊎◌, inl, inr, ℕ, suc, ◌+◌, ◌-◌, ◌*◌, ◌<◌, ◌==◌, true, Option, None, Some, List, [], ◌∷◌, length, slice_get, slice_index_or, refl, sym, ap, subst, ◌∙◌, arith}
 use Rattle.std.proofs.lemmas.Bool.{cases_Bool}
 use Rattle.std.proofs.lemmas.Bool.Decides.{eqb_tells}
-use Rattle.rec_counts.specs.Counts.{State, slot_at}
+use Rattle.rec_core.proofs.Common.{State, slot_at, one, times, Slot, times-nil, times-cons, Member, Pending, IsFreeable, given_up, IsReady, Parts, with_parts, ClearsOn, IsTested, IsCleared, IsClearing, Begun, counted_by, freeing_at, last_tested, Phase, Releasing, Freeing, Turn, last_by, last_given, still, Core, SetsTest, HasCyclesAt, IsLeftOf, IsKept}
 use Rattle.rec_counts.specs.Groups.{last_set}
-use Rattle.rec_counts.specs.Lists.{one, times}
-use Rattle.rec_counts.specs.declared.slot.Slot.{Slot}
-use Rattle.rec_counts.proofs.Times.{times-nil, times-cons}
 use Rattle.rec_counts.proofs.Front.{nothing_first}
 use Rattle.rec_walk.specs.Walk.{first_member}
-use Rattle.rec_walk.specs.declared.member.Member.{Member}
-use Rattle.rec_model.specs.Pending.{Pending}
-use Rattle.rec_release.specs.CycleFree.{IsFreeable, given_up}
-use Rattle.rec_release.specs.Release.{IsReady}
 use Rattle.rec_walk.proofs.Walks.{first_none}
 use Rattle.rec_release.proofs.Giving.{given_many, given_released, given_work}
 use Rattle.rec_release.proofs.Kept.{given_kept}
@@ -22,24 +15,11 @@ use Rattle.rec_sigma.specs.Settling.{refurbished_of}
 use Rattle.rec_sigma.specs.Judged.{AreOrange, cyclic_sum}
 use Rattle.rec_sigma.proofs.Renewals.{refurbished_last, same_count, same_released}
 use Rattle.rec_sigma.proofs.Kept.{refurbished_kept}
-use Rattle.rec_collector.specs.Parts.{Parts}
 use Rattle.rec_collector.specs.Private as collectors
-use Rattle.rec_collector.specs.Private.{with_parts}
 use Rattle.rec_collector.specs.Kept as collector_kept
-use Rattle.rec_collector.specs.Step.{ClearsOn, IsTested}
 use Rattle.rec_collector.specs.declared.sets.Sets.{Sets}
-use Rattle.rec_collector.specs.Clearing.{IsCleared, IsClearing}
-use Rattle.rec_collector.specs.Testing.{Begun, counted_by, freeing_at, last_tested}
-use Rattle.rec_collector.specs.declared.phase.Phase.{Phase}
-use Rattle.rec_collector.specs.declared.phase.Phase.TheVariants.{Releasing, Freeing}
-use Rattle.rec_collector.specs.declared.turn.Turn.{Turn}
-use Rattle.rec_collector.proofs.Goings.{last_by, last_given, still}
 use Rattle.rec_collector.proofs.Judging.{is_last_tested, last_freeable, last_refusable, verdict_passed}
 use Rattle.rec_collector.proofs.Testing.{clear_ready, last_clear, refurbished_ready}
-use Rattle.rec_core.specs.Core.{Core}
-use Rattle.rec_core.specs.Cycles.{SetsTest}
-use Rattle.rec_core.specs.CyclesAt.{HasCyclesAt}
-use Rattle.rec_core.specs.Kept.{IsLeftOf, IsKept}
 use Rattle.rec_core.proofs.Counts.{alike_slots, counted_slot, none_release, set_release}
 use Rattle.rec_core.proofs.CyclesTest.{IsJudged, set_given_up, sets_test_alike, sets_test_refurbished}
 use Rattle.rec_core.proofs.Landed.{landed_pending, HasLanded, HasCleared, applied_pending, begun_freeing}

@@ -2,16 +2,8 @@
 use Rattle.std.proofs.Common.{◌≡◌, ◌≢◌, ℕ, ◌+◌, ◌-◌, slice_set, sym, ap, subst, ◌∙◌, add-zero}
 use Rattle.std.proofs.lemmas.Bool.{eq-eqb, ne_eqb}
 use Rattle.std.proofs.lemmas.List.{set-get_or}
-use Rattle.rec_word.specs.Mailbox.{crossing_word}
-use Rattle.rec_word.specs.declared.mailbox.Mailbox.TheVariants.{Retired, WithMutator}
-use Rattle.rec_word.specs.declared.op.Op.{Op}
+use Rattle.rec_core.proofs.Common.{crossing_word, Retired, WithMutator, Op, Contents, Private, blank, cell, Core, cells_of, box, with_mutator, performed}
 use Rattle.rec_word.specs.declared.op.Op.TheVariants as ops
-use Rattle.rec_log.specs.declared.contents.Contents.{Contents}
-use Rattle.rec_mutator.specs.Private.{Private}
-use Rattle.rec_collector.specs.Private.{blank}
-use Rattle.rec_core.specs.Cells.{cell}
-use Rattle.rec_core.specs.Core.{Core, cells_of, box, with_mutator}
-use Rattle.rec_core.specs.Moves.{performed}
 
 -- the mailbox as it was
 pub same_boxes : (w : Core) (t : ℕ) → slice_set w.boxes (t - 1) (box w t) ≡ w.boxes

@@ -2,29 +2,22 @@
 use Rattle.std.proofs.Common.{◌≡◌, ◌%◌, ◌≢◌, inl, inr, ℕ, ◌+◌, ◌-◌, ◌<◌, ◌≤◌, if◌then◌else◌, false, true, Bool, List, [], ◌∷◌, ◌++◌, Option, None, Some, IfSome, length, slice_index_or, slice_set, refl, sym, ap, subst, ◌∙◌, arith, add-zero}
 use Rattle.std.proofs.lemmas.Bool.{false≢true, cases_eq}
 use Rattle.std.proofs.lemmas.List.{get_or-set_same, get_or-set_other, length_push}
-use Rattle.rec_word.specs.Place.{place_of}
-use Rattle.rec_word.specs.Word.{target_of, stamp_of}
-use Rattle.rec_word.specs.declared.op.Op.{Op}
+use Rattle.rec_core.proofs.Common.{place_of, target_of, stamp_of, Op, Sight, IsTaken, word_at, sight_with_register, sight_with_word, sight_with_header, Contents, Entry, Private, word_for, is_busy, work_of, work_at, answer_of, answer_at, IsStore, probe_of, slot_behind, Step, Decides, GoesOn, HasRoom, next_of, took_of, left_of, TakesNone, step_made, learnt_made, step_between, cell, IsMutator, Core, cells_of, sight, mutator, with_mutator, log_length, box, nobody, IsKept, performed, stepped, found_by, header_word, is_leaf, label_of}
 use Rattle.rec_word.specs.declared.stamps.Stamp.{Stamp}
 use Rattle.rec_model.specs.Asking.{allocation, is_done, null_or_object, plain, refuses_new, same, yes_or_no}
 use Rattle.rec_model.specs.Explained.{IsExplained}
 use Rattle.rec_model.specs.Heap.{register}
 use Rattle.rec_model.specs.LegalOrder.{is_birth, word_left}
-use Rattle.rec_model.specs.Sight.{Sight, IsTaken, word_at, sight_with_register, sight_with_word, sight_with_header}
 use Rattle.rec_model.specs.declared.answer.Answer.{Answer}
 use Rattle.rec_model.specs.declared.answer.Answer.TheVariants as answers
 use Rattle.rec_model.specs.declared.command.Cmd.{Cmd}
 use Rattle.rec_model.specs.declared.command.Cmd.TheVariants as commands
 use Rattle.rec_model.specs.declared.told.Told.{Told}
 use Rattle.rec_model.proofs.Answered.{null_explained, copy_explained, same_explained, get_of_null, get_explained, put_of_null, put_refused, put_into_leaf, put_explained, birth_explained, birth_refused, value_of_null, value_explained}
-use Rattle.rec_log.specs.declared.contents.Contents.{Contents}
-use Rattle.rec_log.specs.declared.entry.Entry.{Entry}
 use Rattle.rec_log.specs.declared.entry.Entry.TheVariants as entries_
 use Rattle.rec_mutator.specs.Causes.{HasCause, is_refusal, is_giving}
-use Rattle.rec_mutator.specs.Private.{Private, register as register_of, word_for, is_busy, work_of, work_at, answer_of, answer_at, IsStore, probe_of, slot_behind}
-use Rattle.rec_mutator.specs.Step.{Step, Decides, GoesOn, HasRoom}
-use Rattle.rec_mutator.specs.Next.{next_of}
-use Rattle.rec_mutator.specs.Took.{moved, took_of, step_of, left_of, IsBetween}
+use Rattle.rec_mutator.specs.Private.{register as register_of}
+use Rattle.rec_mutator.specs.Took.{moved, step_of, IsBetween}
 use Rattle.rec_mutator.specs.declared.made.Made.{Made}
 use Rattle.rec_mutator.specs.declared.made.Made.TheVariants as makes
 use Rattle.rec_mutator.specs.declared.phase.Phase as phases
@@ -32,20 +25,13 @@ use Rattle.rec_mutator.specs.declared.phase.Phase.TheVariants as at
 use Rattle.rec_mutator.specs.declared.work.Work.TheVariants as works
 use Rattle.rec_mutator.proofs.Around.{all_round, behind_first}
 use Rattle.rec_mutator.proofs.Refusals.{answer_cause, read_made, compare_made, at_phase}
-use Rattle.rec_mutator.proofs.Steps.{TakesNone, step_made, learnt_made, step_between}
-use Rattle.rec_core.specs.Cells.{cell}
-use Rattle.rec_core.specs.Config.{IsMutator}
-use Rattle.rec_core.specs.Core.{Core, cells_of, sight, mutator, with_mutator, log_length, box, nobody}
-use Rattle.rec_core.specs.Kept.{IsKept}
-use Rattle.rec_core.specs.Moves.{performed, stepped, found_by}
-use Rattle.rec_core.specs.Shown.{IsBirthplace, IsFilled, may_answer, entries_of, sight_told, sight_with_birth, sight_after_get, sight_after_put, Leaves, IsDecided, IsShown, probed_at}
+use Rattle.rec_core.specs.StepAnswers.{IsBirthplace, IsFilled, may_answer, entries_of, sight_told, sight_with_birth, sight_after_get, sight_after_put, Leaves, IsDecided, IsShown, probed_at}
 use Rattle.rec_core.specs.Unfinished.{OnlyWorks, IsQuiet, HasFound}
 use Rattle.rec_core.proofs.Crossings.{takes, left_same}
 use Rattle.rec_mutator.proofs.LogStamps.{word_stamp}
 use Rattle.rec_core.proofs.Rules.{word_found, probe_found, scanned, leads_to, label_at, probes}
 use Rattle.rec_core.proofs.Shapes.{after_cross, after_field, after_header, after_epoch, after_freed, after_probe, after_swap, after_claim, after_take, after_give}
 use Rattle.rec_core.proofs.Steps.{actor_of, in_list, own_register, registers_stay, registers_set}
-use Rattle.rec_word.specs.Header.{header_word, is_leaf, label_of}
 use Rattle.rec_word.proofs.Headers.{header_is}
 
 -- What is said of a step after which mutator `t` is `q`: it decides a command, and a refusal changes nothing but the work; or the

@@ -1,10 +1,6 @@
 -- A step of a mutator that works is one, in a heap that keeps what every heap keeps.
 use Rattle.std.proofs.Common.{◌≡◌, ℕ, true, refl}
-use Rattle.rec_mutator.specs.Private.{is_busy, answer_of}
-use Rattle.rec_core.specs.Config.{IsMutator}
-use Rattle.rec_core.specs.Core.{Core, mutator}
-use Rattle.rec_core.specs.Kept.{IsKept}
-use Rattle.rec_core.specs.Moves.{Move, stepped, EndsRun}
+use Rattle.rec_core.proofs.Common.{is_busy, answer_of, IsMutator, Core, mutator, IsKept, Move, stepped, EndsRun}
 use Rattle.rec_core.specs.Step.{IsStep}
 use Rattle.rec_core.proofs.Runs.{move_kept, run_more}
 use Rattle.rec_core.proofs.Showing.{step_shown}

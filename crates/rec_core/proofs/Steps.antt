@@ -7,51 +7,22 @@ use Rattle.std.proofs.lemmas.Bool.{false≢true, cases_eq, cases_lt}
 use Rattle.std.proofs.lemmas.List.{map-set, get_or-set_same, get_or-set_other, get_or_past, get_or_default}
 use Rattle.std.proofs.lemmas.List.Sums.{sum_by-set}
 use Rattle.std.proofs.lemmas.Nat.{same_from_place}
-use Rattle.rec_word.specs.Mailbox.{crossing_word}
-use Rattle.rec_word.specs.declared.mailbox.Mailbox.TheVariants.{Spare}
-use Rattle.rec_word.specs.Place.{place_of}
-use Rattle.rec_word.specs.Word.{target_of}
-use Rattle.rec_word.specs.declared.op.Op.{Op}
+use Rattle.rec_core.proofs.Common.{crossing_word, Spare, place_of, target_of, Op, IsAccounted, HasUncountedReleased, is_dead, AccountMove, Loads, Pending, Holds, IsAfterLoads, IsAmongTests, IsTaken, IsSound, word_at, words_of, registers_name_the_taken, move_uncounted, move_accounted, register_sound, word_in, Contents, Entry, slot_at, absent, fresh, Slot, Private, register, IsStore, slot_behind, Step, Decides, GoesOn, IsFound, TakesNone, cell, IsMutator, Core, cells_of, sight, mutator, box, crossing_of, nobody, with_mutator, HasCyclesAt, IsSettledIn, HasLabelAt, IsHandshake, stand_at, IsOwn, IsBufferOf, IsActor, HasCollector, HasLearnt, HaveLearnt, entries_made, freeing_due, IsKept, IsHeader, code, epoch_at, slot_of, pending, Config, is_leaf}
 use Rattle.rec_word.specs.declared.op.Op.TheVariants as ops
-use Rattle.rec_model.specs.Accounted.{IsAccounted, HasUncountedReleased, is_dead}
 use Rattle.rec_model.specs.Heap.{registers_of, register as register_in, set_register}
-use Rattle.rec_model.specs.Moves.{Move, Loads}
-use Rattle.rec_model.specs.Pending.{Pending, Holds}
 use Rattle.rec_model.specs.Reach.{named}
-use Rattle.rec_model.specs.Sets.{IsAfterLoads, IsAmongTests}
-use Rattle.rec_model.specs.Sight.{IsTaken, IsSound, word_at, words_of}
 use Rattle.rec_model.specs.declared.command.Cmd.{Cmd}
 use Rattle.rec_model.specs.declared.told.Told.{Told}
-use Rattle.rec_model.proofs.Consequences.{registers_name_the_taken, move_uncounted}
-use Rattle.rec_model.proofs.Moving.{move_accounted}
 use Rattle.rec_model.proofs.Names.{register_root, named_at}
-use Rattle.rec_model.proofs.Standing.{register_sound, word_in}
-use Rattle.rec_log.specs.declared.contents.Contents.{Contents}
-use Rattle.rec_log.specs.declared.entry.Entry.{Entry}
-use Rattle.rec_counts.specs.Counts.{slot_at}
-use Rattle.rec_counts.specs.Slot.{absent, fresh}
-use Rattle.rec_counts.specs.declared.slot.Slot.{Slot}
 use Rattle.rec_mutator.specs.Causes.{is_giving}
-use Rattle.rec_mutator.specs.Private.{Private, register, IsStore, slot_behind}
-use Rattle.rec_mutator.specs.Step.{Step, Decides, GoesOn}
-use Rattle.rec_mutator.specs.Took.{IsFound}
 use Rattle.rec_mutator.specs.declared.phase.Phase as phases
 use Rattle.rec_mutator.specs.declared.phase.Phase.TheVariants as at
 use Rattle.rec_mutator.specs.declared.work.Work.TheVariants as works
-use Rattle.rec_mutator.proofs.Steps.{TakesNone}
 use Rattle.rec_word.proofs.Headers.{leaf_taken}
-use Rattle.rec_core.specs.Cells.{cell}
-use Rattle.rec_core.specs.Config.{IsMutator}
-use Rattle.rec_core.specs.Core.{Core, cells_of, sight, mutator, box, crossing_of, nobody, with_mutator}
-use Rattle.rec_core.specs.CyclesAt.{HasCyclesAt}
-use Rattle.rec_core.specs.Kept.{IsSettledIn, HasLabelAt, IsHandshake, stand_at, IsOwn, IsBufferOf, IsActor, HasCollector, HasLearnt, HaveLearnt, entries_made, freeing_due, IsKept, IsHeader}
-use Rattle.rec_core.specs.Pending.{code, epoch_at, slot_of, pending}
-use Rattle.rec_core.specs.declared.config.Config.{Config}
 use Rattle.rec_core.proofs.Actors.{own_stepped, settled_here, epoch_here, behind_due, actor_stays, mutator_changes}
 use Rattle.rec_core.proofs.Cycling.{cycles_moved, machine_alive}
 use Rattle.rec_mutator.proofs.Machines.{IsBox}
 use Rattle.rec_core.proofs.Moves.{same_pending, register_moves}
-use Rattle.rec_word.specs.Header.{is_leaf}
 use Rattle.rec_mutator.proofs.Refusals.{at_phase}
 
 -- A step of mutator `t` that takes no mailbox, of a heap with its collector.
@@ -223,7 +194,7 @@ registers_set w t r x q is =
     map-set (λ (p : Private). p.registers) w.mutators (t - 1) q ∙ ap set_own (is ∙ ap (λ rs. slice_set rs r x) (sym (own_registers w t)))
 
 -- the accounts after a move
-pub moved_accounts : (w : Core) (v : Pending) → IsKept w → (move : Move (pending w) v) → IsAfterLoads move → IsAmongTests move → HasAccounts w v
+pub moved_accounts : (w : Core) (v : Pending) → IsKept w → (move : AccountMove (pending w) v) → IsAfterLoads move → IsAmongTests move → HasAccounts w v
 moved_accounts w v kept move after among = record {
   accounted = move_accounted move kept.accounted;
   uncounted = λ unfreed. move_uncounted move kept.accounted (kept.uncounted unfreed);
@@ -316,7 +287,7 @@ sets {w = w} {t = t} {q = q} r x gives m within may value d =
     subst (λ (n : ℕ). IsKept (record (with_mutator w t q) { made = n })) (add-zero w.made)
     (changed_kept w t q w.headers w.words 0 m.kept m.is (answered_actor a actor.log) refl m.kept.labels m.kept.collector (a.learnt w.config.slots w.freed w.headers) (λ s taken. refl) (same_entries w.config (mutator w t) q a.same a.log)
     (subst (λ (rss : List (List (Option ℕ))). IsSound (record (sight w) { registers = rss })) (sym (registers_set w t r x q a.registers_are)) (register_sound (sight w) t r x may m.kept.sound))
-    (moved_accounts w _ m.kept (Move.register (register_moves w t r x q (in_list w t m.kept m.is) within a.registers_are a.log a.same value)) tt tt))
+    (moved_accounts w _ m.kept (AccountMove.register (register_moves w t r x q (in_list w t m.kept m.is) within a.registers_are a.log a.same value)) tt tt))
 
 -- a step after which the work goes on, in a settled phase
 pub goes_on : {w : Core} {t word : ℕ} {op : Op} {q : Private} {at : phases.Phase} {its_op : Op} {next_phase : phases.Phase}

@@ -2,15 +2,8 @@
 use Rattle.std.proofs.Common.{◌≡◌, ℕ, ◌+◌, ◌-◌, ◌<◌, ◌≤◌, List, [], ◌∷◌, ◌++◌, Option, None, Some, length, map, slice_index_or, slice_set, refl, ◌∙◌, arith, Bool}
 use Rattle.std.specs.List.{sum_by, flat_map}
 use Rattle.std.proofs.lemmas.List.Sums.{sum_by-append, sum_by-cons, sum_by-set}
-use Rattle.rec_model.specs.Pending.{Write, Dated, dated, dated_birth}
-use Rattle.rec_model.proofs.Sums.{sum_by-flat_map, sum_by-map}
-use Rattle.rec_log.specs.declared.contents.Contents.{Contents}
-use Rattle.rec_log.specs.declared.entry.Entry.{Entry}
+use Rattle.rec_core.proofs.Common.{Write, Dated, dated, dated_birth, sum_by-flat_map, sum_by-map, Contents, Entry, Private, blank, Core, mutator, box, nobody, Filed, filed, code, writes_in, births_in, dated_names, dated_all, older_at, epoch_at, buffers}
 use Rattle.rec_log.specs.declared.entry.Entry.TheVariants as entries
-use Rattle.rec_mutator.specs.Private.{Private}
-use Rattle.rec_collector.specs.Private.{blank}
-use Rattle.rec_core.specs.Core.{Core, mutator, box, nobody}
-use Rattle.rec_core.specs.Pending.{Filed, filed, code, writes_in, births_in, dated_names, dated_all, older_at, epoch_at, buffers}
 
 -- what a buffer adds to a sum, by its epoch
 abbrev pub share : {Y : Type 0} → (Y → ℕ) → (Filed → List Y) → (epoch : ℕ) → Contents → ℕ

@@ -8,52 +8,22 @@ use Rattle.std.proofs.lemmas.List.{length-set, length-map, get_or-set_same, get_
 use Rattle.std.proofs.lemmas.List.Sums.{sum_by-append, sum_by-cons}
 use Rattle.std.proofs.lemmas.List.Elements.{All-set}
 use Rattle.std.proofs.lemmas.Option.{same_Some}
-use Rattle.rec_word.specs.Place.{place_of}
-use Rattle.rec_model.specs.Accounted.{IsAccounted, HasUncountedReleased, is_dead, names, is_node}
+use Rattle.rec_core.proofs.Common.{place_of, IsAccounted, HasUncountedReleased, is_dead, names, is_node, AccountMove, Frees, leads_out_of, Dated, dated, Pending, one_if_same, sum_at, Sight, IsTaken, IsSound, words_of, targets_of, sight_with_header, move_uncounted, released_count, move_accounted, word_in, get_or-le-sum_at, none_if_differs, one_if_self, State, slot_at, one, times, absent, fresh, swept_clean, Slot, times-nil, times-cons, times_part, times_rest, one-same, one-le, in_range_once, swept, Private, cleared, Phase, Idle, Opening, Sweeping, Closing, IsBetween, IsMutator, Core, sight, nobody, SetsWait, HasCyclesAt, freeing_due, IsBufferOf, Handshake, stand_at, HasPassed, HasLearnt, HaveLearnt, one_if_sweeping, IsSomeSwept, IsKept, IsHeader, dated_all, epoch_at, older_at, applied_at, pending, Config, is_leaf, is_green}
 use Rattle.rec_model.specs.Heap.{roots}
-use Rattle.rec_model.specs.Moves.{Move, Frees, leads_out_of}
-use Rattle.rec_model.specs.Pending.{Dated, dated, Pending}
 use Rattle.rec_model.specs.Reach.{is_in, named}
-use Rattle.rec_model.specs.Sums.{one_if_same, sum_at}
-use Rattle.rec_model.specs.Sight.{Sight, IsTaken, IsSound, words_of, targets_of, sight_with_header}
-use Rattle.rec_model.proofs.Consequences.{move_uncounted, released_count}
-use Rattle.rec_model.proofs.Moving.{move_accounted}
 use Rattle.rec_model.proofs.Members.{is_in-cons, is_in-cases}
 use Rattle.rec_model.proofs.Seen.{field_target}
-use Rattle.rec_model.proofs.Standing.{word_in}
-use Rattle.rec_model.proofs.Sums.{get_or-le-sum_at}
-use Rattle.rec_model.proofs.Weights.{none_if_differs, one_if_self}
-use Rattle.rec_counts.specs.Counts.{State, slot_at}
-use Rattle.rec_counts.specs.Lists.{one, times}
-use Rattle.rec_counts.specs.Slot.{absent, fresh, swept_clean}
 use Rattle.rec_counts.specs.Slot.{is_in as is_in_set}
-use Rattle.rec_counts.specs.declared.slot.Slot.{Slot}
-use Rattle.rec_counts.proofs.Times.{times-nil, times-cons, times_part, times_rest, one-same, one-le, in_range_once}
-use Rattle.rec_release.specs.Sweep.{swept}
 use Rattle.rec_counts.proofs.Front.{first_in}
-use Rattle.rec_mutator.specs.Private.{Private}
 use Rattle.rec_mutator.specs.declared.phase.Phase as phases
 use Rattle.rec_mutator.specs.declared.phase.Phase.TheVariants as at
 use Rattle.rec_collector.specs.Private as collectors
 use Rattle.rec_collector.specs.Kept as collector_kept
-use Rattle.rec_collector.specs.Took.{cleared}
-use Rattle.rec_collector.specs.declared.phase.Phase.{Phase}
-use Rattle.rec_collector.specs.declared.phase.Phase.TheVariants.{Idle, Opening, Sweeping, Closing}
-use Rattle.rec_collector.specs.Step.{IsBetween}
-use Rattle.rec_core.specs.Config.{IsMutator}
-use Rattle.rec_core.specs.Core.{Core, sight, nobody}
-use Rattle.rec_core.specs.Cycles.{SetsWait}
-use Rattle.rec_core.specs.CyclesAt.{HasCyclesAt}
-use Rattle.rec_core.specs.Kept.{freeing_due, IsBufferOf, Stand, stand_at, HasPassed, HasLearnt, HaveLearnt, one_if_sweeping, IsSomeSwept, IsKept, IsHeader}
-use Rattle.rec_core.specs.Pending.{dated_all, epoch_at, older_at, applied_at, pending}
-use Rattle.rec_core.specs.declared.config.Config.{Config}
 use Rattle.rec_core.proofs.Counts.{slot_in, accounts_with, emptied_leads}
 use Rattle.rec_core.proofs.CyclesWait.{KeepsMembers, sets_wait_moved, sets_wait_swept, slot_keeps_members}
 use Rattle.rec_core.proofs.Landings.{complete_drops, cleared_buffer}
 use Rattle.rec_core.proofs.Places.{place_within}
 use Rattle.rec_core.proofs.Turns.{alive_in, cycles_in, emptied_in, now_at, phase_moves}
-use Rattle.rec_word.specs.Header.{is_leaf}
-use Rattle.rec_counts.specs.Colour.{is_green}
 
 -- as a sweep begins or ends, a scan that has begun before knows nothing more
 learnt_change : (config : Config) (headers later : List ℕ) (freed next : ℕ) (mutators : List Private) → ((from before probed : ℕ) → HasPassed config.slots headers freed from before probed → HasPassed config.slots later next from before probed) → ((slot : ℕ) → is_leaf (slice_index_or headers slot 0) ≡ false → is_leaf (slice_index_or later slot 0) ≡ false) → HaveLearnt config headers freed mutators → HaveLearnt config later next mutators
@@ -166,9 +136,9 @@ module _ (w : Core) (swept_ : ℕ) (kept : IsKept w) (phase : w.collector.phase 
         made = kept.made;
         sound = kept.sound;
         greens = kept.greens;
-        accounted = move_accounted (Move.dropping drops) accounted;
-        uncounted = λ _. move_uncounted (Move.dropping drops) accounted (subst HasUncountedReleased (sym same) (kept.uncounted (ap freeing_due phase)));
-        cycles = sets_wait_moved w.collector.counts (Move.dropping drops) tt accounted (alive_in w (Closing swept_) kept phase) (subst (λ (p : Pending). SetsWait p w.collector.counts) (sym same) (cycles_in w (Closing swept_) kept phase));
+        accounted = move_accounted (AccountMove.dropping drops) accounted;
+        uncounted = λ _. move_uncounted (AccountMove.dropping drops) accounted (subst HasUncountedReleased (sym same) (kept.uncounted (ap freeing_due phase)));
+        cycles = sets_wait_moved w.collector.counts (AccountMove.dropping drops) tt accounted (alive_in w (Closing swept_) kept phase) (subst (λ (p : Pending). SetsWait p w.collector.counts) (sym same) (cycles_in w (Closing swept_) kept phase));
       }
     where
       even_next : (n : ℕ) → n % 2 ≡ 1 → (n + 1) % 2 ≡ 0
@@ -370,7 +340,7 @@ module _ (w : Core) (done : ℕ) (x : ℕ) (kept : IsKept w) (phase : w.collecto
     pub way : collector_kept.under_way next ≡ 1
     pub applied : (e : ℕ) → applied_at e next ≡ e - 1
     pub older : (e : ℕ) → older_at e next ≡ e - 2
-    pub stands : (s : ℕ) → stand_at next s ≡ Stand.Done
+    pub stands : (s : ℕ) → stand_at next s ≡ Handshake.Done
     pub between : IsBetween next
     pub some : IsSomeSwept next
     pub waits : (p : Pending) (d : collectors.Private) → SetsWait p d.counts → HasCyclesAt p d next
@@ -452,8 +422,8 @@ module _ (w : Core) (done : ℕ) (x : ℕ) (kept : IsKept w) (phase : w.collecto
           | inl same_ ↦ absurd (false≢true (sym swept_black ∙ ap (λ n. is_green (slot_at (swept c.counts x) n).colour) (sym same_) ∙ green))
           | inr other ↦ ap is_leaf (get_or-set_other w.headers x y 0 0 other) ∙ kept.greens y (ap (λ (v : Slot). is_green v.colour) (sym (released_else y other)) ∙ green)
         ];
-        accounted = subst IsAccounted (sym same) (move_accounted (Move.freeing freed) kept.accounted);
-        uncounted = λ _. subst HasUncountedReleased (sym same) (move_uncounted (Move.freeing freed) kept.accounted (kept.uncounted (ap freeing_due phase)));
+        accounted = subst IsAccounted (sym same) (move_accounted (AccountMove.freeing freed) kept.accounted);
+        uncounted = λ _. subst HasUncountedReleased (sym same) (move_uncounted (AccountMove.freeing freed) kept.accounted (kept.uncounted (ap freeing_due phase)));
         cycles = on.waits (pending (after_sweep next)) (swept_by next) (subst (λ (p : Pending). SetsWait p (swept c.counts x)) (sym same)
-            (sets_wait_swept c.counts (swept c.counts x) (Move.freeing freed) tt kept.accounted (alive_in w (Sweeping (Some x) done) kept phase) still_members (cycles_in w (Sweeping (Some x) done) kept phase)));
+            (sets_wait_swept c.counts (swept c.counts x) (AccountMove.freeing freed) tt kept.accounted (alive_in w (Sweeping (Some x) done) kept phase) still_members (cycles_in w (Sweeping (Some x) done) kept phase)));
       }

@@ -1,15 +1,9 @@
 -- What a turn of the collector shows of its sweep.
 use Rattle.std.proofs.Common.{◌≡◌, ℕ, zero, suc, ◌+◌, ◌-◌, ◌%◌, ◌^◌, ◌<◌, Bool, false, true, Option, None, Some, length, slice_index_or, refl, sym, ap, subst, ◌∙◌, arith}
 use Rattle.std.proofs.lemmas.Bool.{eq-eqb, true≢false}
+use Rattle.rec_core.proofs.Common.{place_of, Op, Contents, IsTaken, State, slot_at, At, Member, prep_started, relieved_at, with_freed, with_released, Parts, new_freeing, new_release, parts_of, ClearsOn, IsTested, TriesOn, PreparesOn, Begun, freeing_at, releasing_at, batched, step_of, turn_of, Phase, Turn, cell, with_cell, Core, cells_of, sight, box, one_if_sweeping, IsSomeSwept, IsKept, looked_at, collected, turned, pending}
 use Rattle.rec_word.specs.Op.{written}
-use Rattle.rec_word.specs.Place.{place_of}
-use Rattle.rec_word.specs.declared.op.Op.{Op}
 use Rattle.rec_word.specs.declared.op.Op.TheVariants as ops
-use Rattle.rec_log.specs.declared.contents.Contents.{Contents}
-use Rattle.rec_model.specs.Sight.{IsTaken}
-use Rattle.rec_counts.specs.Counts.{State, slot_at}
-use Rattle.rec_release.specs.declared.at.At.{At}
-use Rattle.rec_walk.specs.declared.member.Member.{Member}
 use Rattle.rec_release.specs.CycleFree as frees
 use Rattle.rec_release.specs.CycleFree.{next_of as freeing_next, op_at as freeing_op_at}
 use Rattle.rec_release.specs.Release as releases
@@ -17,21 +11,10 @@ use Rattle.rec_release.specs.Release.{next_of as release_next, op_at as release_
 use Rattle.rec_release.specs.Sweep as sweeps
 use Rattle.rec_sigma.specs.Prepare as preps
 use Rattle.rec_trial.specs.Trial as trials
-use Rattle.rec_collector.specs.Followed.{prep_started, relieved_at, with_freed, with_released}
 use Rattle.rec_collector.specs.Kept.{swept_at}
 use Rattle.rec_collector.specs.Next.{next_of}
-use Rattle.rec_collector.specs.Parts.{Parts, new_freeing, new_release}
-use Rattle.rec_collector.specs.Private.{Private, parts_of}
-use Rattle.rec_collector.specs.Step.{Step, ClearsOn, IsTested, TriesOn, PreparesOn}
-use Rattle.rec_collector.specs.Testing.{Begun, freeing_at, releasing_at}
-use Rattle.rec_collector.specs.Took.{batched, step_of, turn_of}
-use Rattle.rec_collector.specs.declared.phase.Phase.{Phase}
-use Rattle.rec_collector.specs.declared.turn.Turn.{Turn}
-use Rattle.rec_core.specs.Cells.{cell, with_cell}
-use Rattle.rec_core.specs.Core.{Core, cells_of, sight, box}
-use Rattle.rec_core.specs.Kept.{one_if_sweeping, IsSomeSwept, IsKept}
-use Rattle.rec_core.specs.Moves.{looked_at, collected, turned}
-use Rattle.rec_core.specs.Pending.{pending}
+use Rattle.rec_collector.specs.Private.{Private}
+use Rattle.rec_collector.specs.Step.{Step}
 use Rattle.rec_core.specs.Swept.{SweepsNothing, IsSweep}
 use Rattle.rec_core.proofs.Preparing.{loads_due}
 use Rattle.rec_core.proofs.Reach.{released_unreached}

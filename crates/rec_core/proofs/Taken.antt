@@ -2,32 +2,11 @@
 use Rattle.std.proofs.Common.{◌≡◌, ◌⊎◌, inl, inr, ℕ, ◌+◌, ◌-◌, ◌<◌, ◌==◌, Bool, true, Option, None, Some, IfSome, List, length, slice_index_or, refl, sym, ap, subst, ◌∙◌, arith, slice_set}
 use Rattle.std.proofs.lemmas.Bool.{false≢true, cases_eq, cases_lt, eq-eqb, cases_Bool}
 use Rattle.std.proofs.lemmas.List.{get_or-set_same, get_or-set_other, get_or_past, length-set, get_or-replicate, set-get_or}
-use Rattle.rec_word.specs.Place.{place_of}
-use Rattle.rec_word.specs.Word.{target_of}
-use Rattle.rec_model.specs.Accounted.{IsAccounted, HasUncountedReleased, names}
-use Rattle.rec_model.specs.Moves.{Clears, Move}
-use Rattle.rec_model.specs.Pending.{node_of, home, Pending}
-use Rattle.rec_model.specs.Sight.{IsTaken, IsSound}
-use Rattle.rec_model.specs.Sums.{one_if_same}
-use Rattle.rec_model.proofs.Consequences.{clearing_covered, move_uncounted}
+use Rattle.rec_core.proofs.Common.{place_of, target_of, IsAccounted, HasUncountedReleased, names, Clears, AccountMove, node_of, home, Pending, IsTaken, IsSound, one_if_same, clearing_covered, move_uncounted, move_accounted, write_sound, word_in, get_or-le-sum_at, one_if_self, State, slot_at, times, Slot, taken_off, parts_of, Phase, Core, sight, SetsTest, IsLeft, IsLeftOf, IsKept, code, pending, is_leaf}
 use Rattle.rec_model.proofs.CollectorMoves.{free_unnamed}
-use Rattle.rec_model.proofs.Moving.{move_accounted}
-use Rattle.rec_model.proofs.Standing.{write_sound, word_in}
-use Rattle.rec_model.proofs.Sums.{get_or-le-sum_at}
-use Rattle.rec_model.proofs.Weights.{one_if_self}
-use Rattle.rec_counts.specs.Counts.{State, slot_at}
-use Rattle.rec_counts.specs.Lists.{times}
 use Rattle.rec_counts.specs.Rest.{AreZeros}
-use Rattle.rec_counts.specs.declared.slot.Slot.{Slot}
-use Rattle.rec_release.specs.TakenOff.{taken_off}
 use Rattle.rec_release.proofs.TakenOff.{KeepsMost, off_most}
 use Rattle.rec_release.proofs.Kept.{off_kept}
-use Rattle.rec_collector.specs.Private.{parts_of}
-use Rattle.rec_collector.specs.declared.phase.Phase.{Phase}
-use Rattle.rec_core.specs.Core.{Core, sight}
-use Rattle.rec_core.specs.Cycles.{SetsTest}
-use Rattle.rec_core.specs.Kept.{IsLeft, IsLeftOf, IsKept}
-use Rattle.rec_core.specs.Pending.{code, pending}
 use Rattle.rec_core.proofs.TurnCases.{word_at, words_without}
 use Rattle.rec_core.proofs.Counts.{slot_in, accounts_with, clears, counted_slot}
 use Rattle.rec_core.proofs.CyclesLess.{less_taken_off}
@@ -38,7 +17,6 @@ use Rattle.rec_core.proofs.Moves.{code_target, home_of}
 use Rattle.rec_core.proofs.Places.{place_within}
 use Rattle.rec_core.proofs.Turns.{phase_moves}
 use Rattle.rec_core.proofs.Zeros.{HasCome}
-use Rattle.rec_word.specs.Header.{is_leaf}
 
 -- the place of a field that the collector empties, the word there, and the words without it
 pub record Emptied : Type 0 where
@@ -145,10 +123,10 @@ module _ (w : Core) (slot field : ℕ) (may : MayEmpty w slot field) where
 
   -- what is released stays uncounted
   pub off_uncounted : (lowers : Bool) → HasUncountedReleased (pending w) → HasUncountedReleased (landed_pending w words (off lowers))
-  off_uncounted lowers before = move_uncounted (Move.clearing (rule lowers)) accounted (subst HasUncountedReleased same_then before)
+  off_uncounted lowers before = move_uncounted (AccountMove.clearing (rule lowers)) accounted (subst HasUncountedReleased same_then before)
 
   pub off_accounted : (lowers : Bool) → IsAccounted (landed_pending w words (off lowers))
-  off_accounted lowers = move_accounted (Move.clearing (rule lowers)) accounted
+  off_accounted lowers = move_accounted (AccountMove.clearing (rule lowers)) accounted
 
   -- what is still to be emptied, where this was begun
   abbrev pub IsLeftBy : (lowers : Bool) → Option Phase → Type 0

@@ -1,23 +1,12 @@
 -- When another trial begins: the epoch of the last trial never falls, and where it is the same no trial began.
 use Rattle.std.proofs.Common.{◌≡◌, ℕ, ◌-◌, ◌≤◌, true, Option, None, Some, List, [], ◌∷◌, refl, sym, ap, ◌∙◌, arith}
-use Rattle.rec_word.specs.declared.op.Op.{Op}
-use Rattle.rec_log.specs.declared.contents.Contents.{Contents}
-use Rattle.rec_mutator.specs.Private.{is_busy}
+use Rattle.rec_core.proofs.Common.{Op, Contents, is_busy, Begun, Phase, Idle, Turn, cell, IsMutator, Core, cells_of, mutator, IsKept, AllFit, Fits, Move, after_move, after_moves, stepped, turned, turned_by}
 use Rattle.rec_release.specs.Sweep as sweeps
 use Rattle.rec_collector.specs.Private as collectors
 use Rattle.rec_collector.specs.Step as collectors_step
-use Rattle.rec_collector.specs.Testing.{Begun}
 use Rattle.rec_collector.specs.Touched.{tried_at}
-use Rattle.rec_collector.specs.declared.phase.Phase.{Phase}
-use Rattle.rec_collector.specs.declared.phase.Phase.TheVariants.{Idle}
-use Rattle.rec_collector.specs.declared.turn.Turn.{Turn}
 use Rattle.rec_collector.proofs.Touched.{prepares_late, tries_late}
-use Rattle.rec_core.specs.Cells.{cell}
-use Rattle.rec_core.specs.Config.{IsMutator}
-use Rattle.rec_core.specs.Core.{Core, cells_of, mutator}
-use Rattle.rec_core.specs.Kept.{IsKept}
 use Rattle.rec_core.specs.Loads.{IsSameTrial, tried_in}
-use Rattle.rec_core.specs.Moves.{AllFit, Fits, Move, after_move, after_moves, stepped, turned, turned_by}
 use Rattle.rec_core.proofs.Runs.{move_kept, rule_of}
 use Rattle.rec_core.proofs.Turning.{turn_case}
 

@@ -4,38 +4,18 @@ use Rattle.std.proofs.Common.{◌≡◌, inl, inr, ℕ, ◌+◌, ◌-◌, ◌/�
 use Rattle.std.proofs.Math.Nat.{mod-lt, div-add-mod, mul_comm}
 use Rattle.std.proofs.lemmas.Bool.{false≢true, cases_Bool, cases_lt, eq-eqb}
 use Rattle.std.proofs.lemmas.List.{get_or_past}
-use Rattle.rec_word.specs.Place.{place_of}
-use Rattle.rec_word.specs.Word.{target_of}
-use Rattle.rec_word.specs.declared.op.Op.{Op}
+use Rattle.rec_core.proofs.Common.{place_of, target_of, Op, is_dead, node_of, home, Pending, fields_name_the_taken, slot_at, fresh, Slot, At, Member, LeadsToUnreleased, LeadsToVisible, visible, Machine, Work, op_at, parts_of, TriesOn, Trying, Turn, still, Core, TrialStands, IsLoading, IsLeft, IsLeftOf, IsKept, freeing_due, release_due, code, slot_of, pending, is_green}
 use Rattle.rec_word.specs.declared.op.Op.TheVariants.{LoadChild}
-use Rattle.rec_model.specs.Accounted.{is_dead}
-use Rattle.rec_model.specs.Pending.{node_of, home, Pending}
-use Rattle.rec_model.proofs.Consequences.{fields_name_the_taken}
-use Rattle.rec_counts.specs.Counts.{slot_at}
-use Rattle.rec_counts.specs.Slot.{fresh}
-use Rattle.rec_counts.specs.declared.slot.Slot.{Slot}
-use Rattle.rec_release.specs.declared.at.At.{At}
-use Rattle.rec_walk.specs.declared.member.Member.{Member}
 use Rattle.rec_trial.specs.declared.phase.Phase as trial_phases
 use Rattle.rec_trial.specs.declared.phase.Phase.TheVariants as trial_at
 use Rattle.rec_trial.specs.Loaded.{noted}
-use Rattle.rec_trial.specs.Rules.{LeadsToUnreleased, LeadsToVisible, visible}
-use Rattle.rec_trial.specs.Trial.{Machine, Work, next_of, op_at, took_of}
+use Rattle.rec_trial.specs.Trial.{next_of, took_of}
 use Rattle.rec_trial.proofs.AtWork.{at_work_place}
 use Rattle.rec_trial.proofs.Counted.{took_counted}
 use Rattle.rec_trial.proofs.Keeps.{took_keeps}
 use Rattle.rec_trial.proofs.Promised.{took_promised, took_recorded}
 use Rattle.rec_collector.specs.Kept as collector_kept
-use Rattle.rec_collector.specs.Private.{Private, parts_of}
-use Rattle.rec_collector.specs.Step.{TriesOn}
-use Rattle.rec_collector.specs.declared.phase.Phase.TheVariants.{Trying}
-use Rattle.rec_collector.specs.declared.turn.Turn.{Turn}
-use Rattle.rec_collector.proofs.Goings.{still}
-use Rattle.rec_core.specs.Core.{Core}
-use Rattle.rec_core.specs.Cycles.{TrialStands}
-use Rattle.rec_core.specs.CyclesAt.{IsLoading}
-use Rattle.rec_core.specs.Kept.{IsLeft, IsLeftOf, IsKept, freeing_due, release_due}
-use Rattle.rec_core.specs.Pending.{code, slot_of, pending}
+use Rattle.rec_collector.specs.Private.{Private}
 use Rattle.rec_core.proofs.CyclesTrial.{trial_stands_noted}
 use Rattle.rec_core.proofs.Landed.{landed_pending, HasLanded}
 use Rattle.rec_core.proofs.Landings.{IsUnswept, here_done, here_pending, landed_alike, landed_still, lands_here, tried_alike, tries_kept}
@@ -43,7 +23,6 @@ use Rattle.rec_core.proofs.Moves.{code_target}
 use Rattle.rec_core.proofs.Steps.{slot_there, fields_many}
 use Rattle.rec_core.proofs.Turns.{cycles_in, now_at}
 use Rattle.rec_trial.proofs.Visible.{visible_leads}
-use Rattle.rec_counts.specs.Colour.{is_green}
 
 -- the operation of a trial loads a field
 pub loads_child : (m : Machine) (op : Op) → ◌≡◌ {A = Option Op} (Some op) (next_of m) → (place : ℕ) × (op ≡ LoadChild place)

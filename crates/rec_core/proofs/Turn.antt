@@ -2,30 +2,18 @@
 use Rattle.std.proofs.Common.{◌≡◌, ◌≢◌, ℕ, ◌+◌, ◌-◌, ◌^◌, ◌≤◌, ◌==◌, if◌then◌else◌, List, Option, None, Some, Bool, false, IsNone, slice_set, refl, sym, ap, subst, ◌∙◌, arith}
 use Rattle.std.proofs.lemmas.Bool.{eq-eqb, ne_eqb}
 use Rattle.std.proofs.lemmas.List.{set-get_or}
-use Rattle.rec_word.specs.Mailbox.{crossing_word}
-use Rattle.rec_word.specs.declared.mailbox.Mailbox.TheVariants.{Retired, WithCollector}
+use Rattle.rec_core.proofs.Common.{crossing_word, Retired, WithCollector, Op, Contents, step_of, turn_of, turn_at, Phase, Idle, Looking, Swapping, Turn, cell, IsMutator, Core, cells_of, box, crossing_of, sight, IsKept, Move, looked_at, left_by, collected, turned, turned_at, EndsRun, Config}
 use Rattle.rec_word.specs.Op.{written}
-use Rattle.rec_word.specs.declared.op.Op.{Op}
 use Rattle.rec_word.specs.declared.op.Op.TheVariants as ops
-use Rattle.rec_log.specs.declared.contents.Contents.{Contents}
 use Rattle.rec_collector.specs.Causes.{HasCause}
 use Rattle.rec_collector.specs.Kept.{swept_at, under_way}
 use Rattle.rec_collector.specs.Next.{next_of, next_at}
 use Rattle.rec_collector.specs.Private as collectors
-use Rattle.rec_collector.specs.Took.{took_of, took_at, step_of, swapped_of, swapped_at, turn_of, turn_at}
-use Rattle.rec_collector.specs.declared.phase.Phase.{Phase}
-use Rattle.rec_collector.specs.declared.phase.Phase.TheVariants.{Idle, Looking, Swapping}
-use Rattle.rec_collector.specs.declared.turn.Turn.{Turn}
+use Rattle.rec_collector.specs.Took.{took_of, took_at, swapped_of, swapped_at}
 use Rattle.rec_collector.specs.declared.turn.Turn.TheVariants as turns
 use Rattle.rec_collector.proofs.Landing.{under_way_most}
 use Rattle.rec_collector.proofs.Steps.{has_cause, spends}
-use Rattle.rec_core.specs.Cells.{cell}
-use Rattle.rec_core.specs.Config.{IsMutator}
-use Rattle.rec_core.specs.Core.{Core, cells_of, box, crossing_of, sight}
-use Rattle.rec_core.specs.Kept.{IsKept}
-use Rattle.rec_core.specs.Moves.{Move, looked_at, left_by, collected, turned, turned_at, EndsRun}
 use Rattle.rec_core.specs.Turn.{TurnHasCause, IsTurn, turn_told, told_at}
-use Rattle.rec_core.specs.declared.config.Config.{Config}
 use Rattle.rec_core.proofs.Freed.{freed_is_forgotten, given_up_are_gone}
 use Rattle.rec_core.proofs.Reach.{turned_keeps, keeps_stands_by}
 use Rattle.rec_core.proofs.Runs.{looked_is, move_stays, run_more, turned_kept}

@@ -1,31 +1,15 @@
 -- What a turn can have made of a heap, case by case: the rules of the collector's step, read where the words that they speak of are
 -- those of the heap. `TurnRules` shows that each turn is one of them.
 use Rattle.std.specs.Prelude.{◌≡◌, ◌≢◌, ◌⊎◌, ℕ, ◌+◌, ◌-◌, ◌^◌, false, Option, Some, List, length, drop, slice_get, slice_index_or, slice_set}
-use Rattle.rec_word.specs.Mailbox.{crossing_word}
+use Rattle.rec_core.proofs.Common.{crossing_word, Retired, Spare, WithCollector, place_of, Op, At, Member, swept, with_freed, with_released, parts_of, spare, ClearsOn, PreparesOn, TriesOn, zeros_released, batched, ended, moved, Phase, Idle, Looking, Returning, Releasing, Freeing, Trying, Preparing, Opening, Sweeping, Closing, Turn, IsMutator, Core, box, crossing_of, visible}
 use Rattle.rec_word.specs.declared.mailbox.Mailbox.{Mailbox}
-use Rattle.rec_word.specs.declared.mailbox.Mailbox.TheVariants.{Retired, Spare, WithCollector}
-use Rattle.rec_word.specs.Place.{place_of}
-use Rattle.rec_word.specs.declared.op.Op.{Op}
 use Rattle.rec_word.specs.declared.op.Op.TheVariants.{LoadChild}
-use Rattle.rec_release.specs.declared.at.At.{At}
-use Rattle.rec_walk.specs.declared.member.Member.{Member}
 use Rattle.rec_release.specs.CycleFree.{Machine as SetFreeing}
 use Rattle.rec_release.specs.Release.{Machine as Release}
-use Rattle.rec_release.specs.Sweep.{swept}
 use Rattle.rec_sigma.specs.Prepare.{Machine as Preparation, took_of as loaded_of}
 use Rattle.rec_sigma.specs.declared.at.At as loads
 use Rattle.rec_trial.specs.Trial.{Machine as Trial, next_of as trial_next, took_of as tried_of}
-use Rattle.rec_collector.specs.Followed.{with_freed, with_released}
-use Rattle.rec_collector.specs.Private.{Private, parts_of, spare}
-use Rattle.rec_collector.specs.Step.{ClearsOn, PreparesOn, TriesOn}
-use Rattle.rec_collector.specs.Testing.{zeros_released}
-use Rattle.rec_collector.specs.Took.{batched, ended, moved}
-use Rattle.rec_collector.specs.declared.phase.Phase.{Phase}
-use Rattle.rec_collector.specs.declared.phase.Phase.TheVariants.{Idle, Looking, Returning, Releasing, Freeing, Trying, Preparing, Opening, Sweeping, Closing}
-use Rattle.rec_collector.specs.declared.turn.Turn.{Turn}
-use Rattle.rec_core.specs.Config.{IsMutator}
-use Rattle.rec_core.specs.Core.{Core, box, crossing_of}
-use Rattle.rec_trial.specs.Rules.{visible}
+use Rattle.rec_collector.specs.Private.{Private}
 
 -- the word of a slot's field
 abbrev pub word_at : Core → (slot field : ℕ) → ℕ

@@ -2,34 +2,18 @@
 use Rattle.std.proofs.Common.{◌≡◌, ℕ, ◌+◌, ◌-◌, ◌*◌, ◌%◌, ◌^◌, ◌<◌, ◌≤◌, ◌==◌, Bool, true, List, Option, None, Some, length, slice_index_or, slice_set, refl, sym, ap, subst, ◌∙◌, arith}
 use Rattle.std.proofs.lemmas.Bool.{eq-eqb, ne_eqb, cond-true, cond-false}
 use Rattle.std.proofs.lemmas.List.{set-get_or}
-use Rattle.rec_word.specs.Mailbox.{crossing_word}
-use Rattle.rec_word.specs.declared.mailbox.Mailbox.TheVariants.{Retired, Spare, WithCollector}
+use Rattle.rec_core.proofs.Common.{crossing_word, Retired, Spare, WithCollector, place_of, Op, Contents, At, Member, with_freed, with_released, parts_of, ClearsOn, TriesOn, PreparesOn, IsNext, Phase, Idle, Looking, Returning, Releasing, Freeing, Trying, Preparing, Opening, Sweeping, Closing, Turn, cell, IsMutator, Core, cells_of, box, crossing_of, one_if_sweeping, IsKept, looked_at, left_by, collected, turned, turned_at, turned_by, visible}
 use Rattle.rec_word.specs.Op.{written}
-use Rattle.rec_word.specs.Place.{place_of}
-use Rattle.rec_word.specs.declared.op.Op.{Op}
 use Rattle.rec_word.specs.declared.op.Op.TheVariants as ops
-use Rattle.rec_log.specs.declared.contents.Contents.{Contents}
-use Rattle.rec_release.specs.declared.at.At.{At}
-use Rattle.rec_walk.specs.declared.member.Member.{Member}
 use Rattle.rec_release.specs.CycleFree.{next_of as freeing_next, op_at as freeing_op_at}
 use Rattle.rec_release.specs.Release.{next_of as release_next, op_at as release_op_at}
 use Rattle.rec_release.specs.Sweep as sweeps
 use Rattle.rec_sigma.specs.Prepare.{took_of as loaded_of}
 use Rattle.rec_trial.specs.Trial.{took_of as tried_of}
-use Rattle.rec_collector.specs.Followed.{with_freed, with_released}
 use Rattle.rec_collector.specs.Kept as collector_kept
 use Rattle.rec_collector.specs.Next as collector_next
 use Rattle.rec_collector.specs.Private as collectors
-use Rattle.rec_collector.specs.Private.{parts_of}
-use Rattle.rec_collector.specs.Step.{Step, ClearsOn, TriesOn, PreparesOn, IsNext}
-use Rattle.rec_collector.specs.declared.phase.Phase.{Phase}
-use Rattle.rec_collector.specs.declared.phase.Phase.TheVariants.{Idle, Looking, Returning, Releasing, Freeing, Trying, Preparing, Opening, Sweeping, Closing}
-use Rattle.rec_collector.specs.declared.turn.Turn.{Turn}
-use Rattle.rec_core.specs.Cells.{cell}
-use Rattle.rec_core.specs.Config.{IsMutator}
-use Rattle.rec_core.specs.Core.{Core, cells_of, box, crossing_of}
-use Rattle.rec_core.specs.Kept.{one_if_sweeping, IsKept}
-use Rattle.rec_core.specs.Moves.{looked_at, left_by, collected, turned, turned_at, turned_by}
+use Rattle.rec_collector.specs.Step.{Step}
 use Rattle.rec_core.proofs.Begun.{applied_lands}
 use Rattle.rec_core.proofs.Freeing.{freed_lands}
 use Rattle.rec_core.proofs.Preparing.{loads_due, preparing_kept}
@@ -39,7 +23,6 @@ use Rattle.rec_core.proofs.Sweeping.{began_kept, ended_kept, swept_kept, IsStill
 use Rattle.rec_core.proofs.Trying.{loads_child, trying_kept}
 use Rattle.rec_core.proofs.Turns.{now_at, requested_kept, gathered_kept, returned_kept}
 use Rattle.rec_core.proofs.Shapes.{same_boxes}
-use Rattle.rec_trial.specs.Rules.{visible}
 
 -- one operation in two options
 pub some_op : (x y : Op) → ◌≡◌ {A = Option Op} (Some x) (Some y) → x ≡ y

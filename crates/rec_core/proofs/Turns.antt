@@ -5,28 +5,9 @@ use Rattle.std.specs.List.{sum_by, flat_map}
 use Rattle.std.proofs.lemmas.Bool.{cases_eq, cases_lt, eq-eqb, ne_eqb, lt-ltb, le-ltb, cond-true, cond-false}
 use Rattle.std.proofs.lemmas.List.{length-set, get_or-set_same, get_or-set_other}
 use Rattle.std.proofs.lemmas.List.Sums.{sum_by-set}
-use Rattle.rec_word.specs.Mailbox.{crossing_word}
-use Rattle.rec_word.specs.declared.mailbox.Mailbox.TheVariants.{Retired, Spare, WithCollector, WithMutator}
-use Rattle.rec_word.specs.Place.{place_of}
-use Rattle.rec_model.specs.Accounted.{IsAccounted, HasUncountedReleased}
-use Rattle.rec_model.specs.Moves.{Move, Drops, Requests}
-use Rattle.rec_model.specs.Pending.{Write, Dated, Pending}
-use Rattle.rec_model.proofs.Consequences.{move_uncounted}
-use Rattle.rec_model.proofs.Moving.{move_accounted}
-use Rattle.rec_log.specs.declared.contents.Contents.{Contents}
-use Rattle.rec_counts.specs.Counts.{slot_at}
-use Rattle.rec_mutator.specs.Private.{Private}
+use Rattle.rec_core.proofs.Common.{crossing_word, Retired, Spare, WithCollector, WithMutator, place_of, IsAccounted, HasUncountedReleased, AccountMove, Drops, Requests, Write, Dated, Pending, move_uncounted, move_accounted, Contents, slot_at, Private, Phase, Idle, Looking, Returning, IsMutator, Core, mutator, box, crossing_of, spare_of, nobody, SetsWait, HasCyclesAt, IsBufferOf, IsLeft, IsLeftOf, Handshake, stand_at, HasCrossed, IsHandshake, IsActor, HasMutators, HasCollector, IsKept, freeing_due, one_if_sweeping, release_due, Filed, writes_in, births_in, dated_names, older_at, buffers, pending, applied_at, slot_of, Config}
 use Rattle.rec_collector.specs.Private as collectors
 use Rattle.rec_collector.specs.Kept as collector_kept
-use Rattle.rec_collector.specs.declared.phase.Phase.{Phase}
-use Rattle.rec_collector.specs.declared.phase.Phase.TheVariants.{Idle, Looking, Returning}
-use Rattle.rec_core.specs.Config.{IsMutator}
-use Rattle.rec_core.specs.Core.{Core, mutator, box, crossing_of, spare_of, nobody}
-use Rattle.rec_core.specs.Cycles.{SetsWait}
-use Rattle.rec_core.specs.CyclesAt.{HasCyclesAt}
-use Rattle.rec_core.specs.Kept.{IsBufferOf, IsLeft, IsLeftOf, Stand, stand_at, HasCrossed, IsHandshake, IsActor, HasMutators, HasCollector, IsKept, freeing_due, one_if_sweeping, release_due}
-use Rattle.rec_core.specs.Pending.{Filed, writes_in, births_in, dated_names, older_at, buffers, pending, applied_at, slot_of}
-use Rattle.rec_core.specs.declared.config.Config.{Config}
 use Rattle.rec_core.proofs.Actors.{spare_buffer, settled_here}
 use Rattle.rec_core.proofs.Batches.{none_of}
 use Rattle.rec_core.proofs.CyclesWait.{sets_wait_moved}
@@ -79,13 +60,13 @@ pub numbered : (w : Core) (i : ℕ) → IsKept w → i < w.config.mutators → I
 numbered w i kept below = (omega arith, omega arith)
 
 -- all mailboxes are home with spares where nobody is due
-all_home : (w : Core) → IsKept w → ((t : ℕ) → IsMutator w.config t → stand_at w.collector.phase t ≡ Stand.Done) → (i : ℕ) → i < length w.boxes → slice_index_or w.boxes i (collectors.blank 0 0) ≡ spare_of w.config
+all_home : (w : Core) → IsKept w → ((t : ℕ) → IsMutator w.config t → stand_at w.collector.phase t ≡ Handshake.Done) → (i : ℕ) → i < length w.boxes → slice_index_or w.boxes i (collectors.blank 0 0) ≡ spare_of w.config
 all_home w kept done i below =
     let many : length w.boxes ≡ w.config.mutators = kept.mutators.mailboxes in
     let is : IsMutator w.config (i + 1) = (omega arith, omega arith) in
     let actor = kept.mutators.each (i + 1) is in
     let at : i + 1 - 1 ≡ i = omega arith in
-    let home : IsHandshake w.config w.epoch (mutator w (i + 1)) (crossing_of w (i + 1)) (box w (i + 1)) Stand.Done = subst (IsHandshake w.config w.epoch (mutator w (i + 1)) (crossing_of w (i + 1)) (box w (i + 1))) (done (i + 1) is) actor.handshake in
+    let home : IsHandshake w.config w.epoch (mutator w (i + 1)) (crossing_of w (i + 1)) (box w (i + 1)) Handshake.Done = subst (IsHandshake w.config w.epoch (mutator w (i + 1)) (crossing_of w (i + 1)) (box w (i + 1))) (done (i + 1) is) actor.handshake in
     ap (λ n. slice_index_or w.boxes n (collectors.blank 0 0)) (sym at) ∙ home.1
 
 -- The next epoch is requested: nobody has crossed into it yet.
@@ -97,7 +78,7 @@ module _ (w : Core) (c : collectors.Private) (kept : IsKept w) (idle : w.collect
   rest : collector_kept.IsAt w.collector Idle
   rest = now_at w Idle kept idle
 
-  done_all : (t : ℕ) → stand_at w.collector.phase t ≡ Stand.Done
+  done_all : (t : ℕ) → stand_at w.collector.phase t ≡ Handshake.Done
   done_all t = ap (λ phase. stand_at phase t) idle
 
   spare_newer : (i : ℕ) → i < length w.collector.newer → slice_index_or w.collector.newer i (collectors.blank 0 0) ≡ spare_of w.config
@@ -158,9 +139,9 @@ module _ (w : Core) (c : collectors.Private) (kept : IsKept w) (idle : w.collect
           mailboxes = m.mailboxes;
           each = λ t is.
               let a = m.each t is in
-              let h : IsHandshake w.config w.epoch (mutator w t) (crossing_of w t) (box w t) Stand.Done = subst (IsHandshake w.config w.epoch (mutator w t) (crossing_of w t) (box w t)) (done_all t) a.handshake in
+              let h : IsHandshake w.config w.epoch (mutator w t) (crossing_of w t) (box w t) Handshake.Done = subst (IsHandshake w.config w.epoch (mutator w t) (crossing_of w t) (box w t)) (done_all t) a.handshake in
               let some : 1 ≤ t = is.0 in
-              let due : stand_at (Looking 1) t ≡ Stand.Due = cond-false (nat_lt t 1) Stand.Done Stand.Due (le-ltb t 1 some) in
+              let due : stand_at (Looking 1) t ≡ Handshake.Due = cond-false (nat_lt t 1) Handshake.Done Handshake.Due (le-ltb t 1 some) in
               record {
                 own = a.own;
                 log = a.log;
@@ -192,9 +173,9 @@ module _ (w : Core) (c : collectors.Private) (kept : IsKept w) (idle : w.collect
         made = kept.made;
         sound = kept.sound;
         greens = kept.greens;
-        accounted = move_accounted (Move.request requests) kept.accounted;
-        uncounted = λ _. move_uncounted (Move.request requests) kept.accounted (kept.uncounted (ap freeing_due idle));
-        cycles = sets_wait_moved w.collector.counts (Move.request requests) tt kept.accounted (alive_in w Idle kept idle) (cycles_in w Idle kept idle);
+        accounted = move_accounted (AccountMove.request requests) kept.accounted;
+        uncounted = λ _. move_uncounted (AccountMove.request requests) kept.accounted (kept.uncounted (ap freeing_due idle));
+        cycles = sets_wait_moved w.collector.counts (AccountMove.request requests) tt kept.accounted (alive_in w Idle kept idle) (cycles_in w Idle kept idle);
       }
 
 -- a turn that moves what is pending and loses nothing
@@ -212,24 +193,24 @@ same_drops p q writes births snapshots = record {
 
 -- in a gathering, each other mutator stands where it stood as the mailbox of one is taken, and where it is given back
 stand_looked : (t s : ℕ) → s ≢ t → stand_at (Returning t) s ≡ stand_at (Looking t) s
-stand_looked t s other = ap (λ (b : Bool). if nat_lt s t then Stand.Done else (if b then Stand.Held else Stand.Due)) (ne_eqb s t other)
+stand_looked t s other = ap (λ (b : Bool). if nat_lt s t then Handshake.Done else (if b then Handshake.Held else Handshake.Due)) (ne_eqb s t other)
 
-stand_own : (t : ℕ) → stand_at (Looking t) t ≡ Stand.Due
-stand_own t = cond-false (nat_lt t t) Stand.Done Stand.Due (le-ltb t t (omega arith))
+stand_own : (t : ℕ) → stand_at (Looking t) t ≡ Handshake.Due
+stand_own t = cond-false (nat_lt t t) Handshake.Done Handshake.Due (le-ltb t t (omega arith))
 
-stand_held : (t : ℕ) → stand_at (Returning t) t ≡ Stand.Held
-stand_held t = cond-false (nat_lt t t) Stand.Done (if t == t then Stand.Held else Stand.Due) (le-ltb t t (omega arith)) ∙ cond-true (t == t) Stand.Held Stand.Due (eq-eqb t t refl)
+stand_held : (t : ℕ) → stand_at (Returning t) t ≡ Handshake.Held
+stand_held t = cond-false (nat_lt t t) Handshake.Done (if t == t then Handshake.Held else Handshake.Due) (le-ltb t t (omega arith)) ∙ cond-true (t == t) Handshake.Held Handshake.Due (eq-eqb t t refl)
 
 stand_returned : (t s : ℕ) → s ≢ t → stand_at (Looking (t + 1)) s ≡ stand_at (Returning t) s
 stand_returned t s other = elim (cases_lt s t) [
-  | inl below ↦ cond-true (nat_lt s (t + 1)) Stand.Done Stand.Due (lt-ltb s (t + 1) (omega arith)) ∙ sym (cond-true (nat_lt s t) Stand.Done (if s == t then Stand.Held else Stand.Due) (lt-ltb s t below))
+  | inl below ↦ cond-true (nat_lt s (t + 1)) Handshake.Done Handshake.Due (lt-ltb s (t + 1) (omega arith)) ∙ sym (cond-true (nat_lt s t) Handshake.Done (if s == t then Handshake.Held else Handshake.Due) (lt-ltb s t below))
   | inr past ↦
-      cond-false (nat_lt s (t + 1)) Stand.Done Stand.Due (le-ltb s (t + 1) (omega arith))
-      ∙ sym (cond-false (nat_lt s t) Stand.Done (if s == t then Stand.Held else Stand.Due) (le-ltb s t past) ∙ cond-false (s == t) Stand.Held Stand.Due (ne_eqb s t other))
+      cond-false (nat_lt s (t + 1)) Handshake.Done Handshake.Due (le-ltb s (t + 1) (omega arith))
+      ∙ sym (cond-false (nat_lt s t) Handshake.Done (if s == t then Handshake.Held else Handshake.Due) (le-ltb s t past) ∙ cond-false (s == t) Handshake.Held Handshake.Due (ne_eqb s t other))
 ]
 
-stand_done : (t : ℕ) → stand_at (Looking (t + 1)) t ≡ Stand.Done
-stand_done t = cond-true (nat_lt t (t + 1)) Stand.Done Stand.Due (lt-ltb t (t + 1) (omega arith))
+stand_done : (t : ℕ) → stand_at (Looking (t + 1)) t ≡ Handshake.Done
+stand_done t = cond-true (nat_lt t (t + 1)) Handshake.Done Handshake.Due (lt-ltb t (t + 1) (omega arith))
 
 -- all mutators, where the collector changes one's crossing word and mailbox, and moves on to another phase
 collector_moves : {config : Config} {requested : ℕ} {phase next : Phase} {mutators : List Private} {crossing : List ℕ} {boxes : List Contents} (t word : ℕ) (b : Contents)
@@ -322,7 +303,7 @@ module _ (w : Core) (t : ℕ) (kept : IsKept w) (phase : w.collector.phase ≡ L
   has_crossed : HasCrossed w.epoch (mutator w t) (crossing_of w t) Retired
   has_crossed =
       let actor = kept.mutators.each t is in
-      let due : IsHandshake w.config w.epoch (mutator w t) (crossing_of w t) (box w t) Stand.Due
+      let due : IsHandshake w.config w.epoch (mutator w t) (crossing_of w t) (box w t) Handshake.Due
       = subst (IsHandshake w.config w.epoch (mutator w t) (crossing_of w t) (box w t)) (ap (λ p. stand_at p t) phase ∙ stand_own t) actor.handshake in
       elim due [
         | inl behind ↦ let word : crossing_of w t ≡ crossing_word (mutator w t).epoch Spare = behind.word in absurd (omega (arith, word, crossed))
@@ -387,10 +368,10 @@ module _ (w : Core) (t : ℕ) (kept : IsKept w) (phase : w.collector.phase ≡ L
         made = kept.made;
         sound = kept.sound;
         greens = kept.greens;
-        accounted = subst (λ n. IsAccounted (record (pending gathered) { applied = n })) applied (move_accounted (Move.dropping drops) kept.accounted);
-        uncounted = λ _. move_uncounted (Move.dropping drops) kept.accounted (kept.uncounted (ap freeing_due phase));
+        accounted = subst (λ n. IsAccounted (record (pending gathered) { applied = n })) applied (move_accounted (AccountMove.dropping drops) kept.accounted);
+        uncounted = λ _. move_uncounted (AccountMove.dropping drops) kept.accounted (kept.uncounted (ap freeing_due phase));
         cycles = subst (λ n. SetsWait (record (pending gathered) { applied = n }) w.collector.counts) applied
-            (sets_wait_moved w.collector.counts (Move.dropping drops) tt kept.accounted (alive_in w (Looking t) kept phase) (cycles_in w (Looking t) kept phase));
+            (sets_wait_moved w.collector.counts (AccountMove.dropping drops) tt kept.accounted (alive_in w (Looking t) kept phase) (cycles_in w (Looking t) kept phase));
       }
 
 -- A mailbox is given back, and the next mutator's is looked at.
@@ -406,7 +387,7 @@ module _ (w : Core) (t : ℕ) (kept : IsKept w) (phase : w.collector.phase ≡ R
   returned_home = subst (IsHandshake w.config w.epoch (mutator w t) (crossing_of w t) (box w t)) (ap (λ p. stand_at p t) phase ∙ stand_held t) (kept.mutators.each t is).handshake
 
   -- and says so
-  returned_actor : {next : Phase} → stand_at next t ≡ Stand.Done → IsActor w.config w.epoch next t (mutator w t) (crossing_word w.epoch Spare) (box w t)
+  returned_actor : {next : Phase} → stand_at next t ≡ Handshake.Done → IsActor w.config w.epoch next t (mutator w t) (crossing_word w.epoch Spare) (box w t)
   returned_actor done =
       let a = kept.mutators.each t is in
       record {
@@ -417,7 +398,7 @@ module _ (w : Core) (t : ℕ) (kept : IsKept w) (phase : w.collector.phase ≡ R
         handshake = subst (IsHandshake w.config w.epoch (mutator w t) (crossing_word w.epoch Spare) (box w t)) (sym done) (record { epoch = returned_home.0.epoch; word = refl; settled = returned_home.0.settled }, returned_home.1);
       }
 
-  pub returned_mutators : {next : Phase} → stand_at next t ≡ Stand.Done → ((s : ℕ) → IsMutator w.config s → s ≢ t → stand_at next s ≡ stand_at w.collector.phase s)
+  pub returned_mutators : {next : Phase} → stand_at next t ≡ Handshake.Done → ((s : ℕ) → IsMutator w.config s → s ≢ t → stand_at next s ≡ stand_at w.collector.phase s)
       → HasMutators w.config w.epoch next w.mutators (slice_set w.crossing (t - 1) (crossing_word w.epoch Spare)) w.boxes
   returned_mutators {next} done others =
       subst (λ (bs : List Contents). HasMutators w.config w.epoch next w.mutators (slice_set w.crossing (t - 1) (crossing_word w.epoch Spare)) bs) (same_boxes w t)

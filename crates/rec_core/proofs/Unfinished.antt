@@ -3,11 +3,9 @@ use Rattle.std.proofs.Common.{◌≡◌, ℕ, ◌+◌, ◌-◌, ◌<◌, ◌≤�
 use Rattle.std.specs.Option.{is_none}
 use Rattle.std.proofs.lemmas.Bool.{false≢true}
 use Rattle.std.proofs.lemmas.List.{set-set, set-get_or}
+use Rattle.rec_core.proofs.Common.{next_of, Private, IsAt, is_busy, is_busy_at, work_of, work_at, answer_of, answer_at, limit_of, Step, begun_of, step_made, IsMutator, Core, nobody, box, mutator, with_mutator, IsKept, begun_from, stepped, found_by, Config}
 use Rattle.rec_model.specs.declared.command.Cmd.TheVariants as commands
-use Rattle.rec_mutator.specs.Next.{next_of}
-use Rattle.rec_mutator.specs.Private.{Private, IsAt, is_busy, is_busy_at, work_of, work_at, answer_of, answer_at, limit_of}
-use Rattle.rec_mutator.specs.Step.{Step}
-use Rattle.rec_mutator.specs.Took.{begun_of, step_of}
+use Rattle.rec_mutator.specs.Took.{step_of}
 use Rattle.rec_mutator.specs.declared.made.Made.{Made}
 use Rattle.rec_mutator.specs.declared.made.Made.TheVariants as makes
 use Rattle.rec_mutator.specs.declared.phase.Phase.{Phase}
@@ -17,13 +15,7 @@ use Rattle.rec_mutator.specs.declared.work.Work.TheVariants as works
 use Rattle.rec_mutator.proofs.Machines.{allocation_limit}
 use Rattle.rec_mutator.proofs.Polls.{poll_has_cause}
 use Rattle.rec_mutator.proofs.Sizes.{step_keeps, step_counts}
-use Rattle.rec_mutator.proofs.Steps.{step_made}
-use Rattle.rec_core.specs.Config.{IsMutator}
-use Rattle.rec_core.specs.Core.{Core, nobody, box, mutator, with_mutator}
-use Rattle.rec_core.specs.Kept.{IsKept}
-use Rattle.rec_core.specs.Moves.{begun_from, stepped, found_by}
 use Rattle.rec_core.specs.Unfinished.{OnlyWorks, IsQuiet, HasFound, Waits}
-use Rattle.rec_core.specs.declared.config.Config.{Config}
 use Rattle.rec_core.proofs.Showing.{Says, mutator_left, mutator_other, stepped_mutator, step_says, works_sight}
 use Rattle.rec_core.proofs.Steps.{actor_of, its_box}
 use Rattle.rec_model.specs.Asking.{allocation}

@@ -1,29 +1,19 @@
 -- Each operation that a heap with its collector carries out names one of its words, and finds what its machine may find.
 use Rattle.std.proofs.Common.{◌≡◌, ℕ, ◌<◌, ◌≤◌, true, false, Bool, if◌then◌else◌, Option, None, Some, IfSome, [], length, replicate, refl, sym, ap, subst, ◌∙◌, arith}
-use Rattle.rec_word.specs.declared.op.Op.{Op}
+use Rattle.rec_core.proofs.Common.{Op, Contents, own_word, read_op, write_op, label_op, first_op, begun_op, next_of, next_at, Private, register, is_busy, is_full, NamesSlots, NamesWord, took_of, took_at, retiring, IsSwapping, TakesNone, learnt_made, step_between, IsWithin, IsMutator, Core, cells_of, mutator, box, spare_of, IsKept, found_by}
 use Rattle.rec_word.specs.declared.op.Op.TheVariants as ops
 use Rattle.rec_model.specs.declared.command.Cmd.{Cmd}
 use Rattle.rec_model.specs.declared.command.Cmd.TheVariants as commands
-use Rattle.rec_log.specs.declared.contents.Contents.{Contents}
-use Rattle.rec_mutator.specs.Next.{own_word, read_op, write_op, label_op, first_op, begun_op, next_of, next_at}
-use Rattle.rec_mutator.specs.Private.{Private, register, is_busy, is_full}
-use Rattle.rec_mutator.specs.Step.{NamesSlots, NamesWord}
-use Rattle.rec_mutator.specs.Took.{took_of, took_at, retiring, spare, IsBetween, IsSwapping}
+use Rattle.rec_mutator.specs.Took.{spare, IsBetween}
 use Rattle.rec_mutator.specs.declared.phase.Phase as phases
 use Rattle.rec_mutator.specs.declared.phase.Phase.TheVariants as at
 use Rattle.rec_mutator.specs.declared.work.Work.{Work}
 use Rattle.rec_mutator.specs.declared.work.Work.TheVariants as works
-use Rattle.rec_mutator.proofs.Steps.{TakesNone, learnt_made, step_between}
 use Rattle.rec_mutator.proofs.Words.{names_word}
 use Rattle.rec_collector.specs.Next as collector_next
 use Rattle.rec_collector.specs.Step as collector_step
 use Rattle.rec_collector.proofs.Always as collector_words
-use Rattle.rec_core.specs.Cells.{IsWithin}
-use Rattle.rec_core.specs.Config.{IsMutator}
-use Rattle.rec_core.specs.Core.{Core, cells_of, mutator, box, spare_of}
-use Rattle.rec_core.specs.Kept.{IsKept}
-use Rattle.rec_core.specs.Met.{MayStep, MayTurn}
-use Rattle.rec_core.specs.Moves.{found_by}
+use Rattle.rec_core.specs.Preconditions.{MayStep, MayTurn}
 use Rattle.rec_core.proofs.Crossings.{behind_of, next_found}
 use Rattle.rec_core.proofs.Runs.{given_is, sized_is}
 use Rattle.rec_core.proofs.Turning.{turn_case}

@@ -3,41 +3,19 @@ use Rattle.std.proofs.Common.{◌≡◌, ◌⊎◌, inl, inr, Option, None, Some
 use Rattle.std.proofs.Math.Nat.{mod-lt, div-add-mod, mul_comm}
 use Rattle.std.proofs.lemmas.Nat.{div_below}
 use Rattle.std.proofs.lemmas.Bool.{cases_eq}
-use Rattle.rec_word.specs.Place.{place_of}
-use Rattle.rec_model.specs.Accounted.{IsAccounted, HasUncountedReleased}
-use Rattle.rec_model.specs.Moves.{Move}
-use Rattle.rec_model.specs.Pending.{node_of, Pending}
-use Rattle.rec_model.proofs.Consequences.{emptied_uncounted, move_uncounted}
 use Rattle.rec_model.proofs.Ledgers.{node_of_null}
-use Rattle.rec_model.proofs.Moving.{move_accounted}
-use Rattle.rec_model.specs.Sight.{Sight}
-use Rattle.rec_model.proofs.Standing.{word_in}
-use Rattle.rec_counts.specs.Colour.{is_green}
-use Rattle.rec_counts.specs.Counts.{State, slot_at, IsKept as IsKeptCounts}
-use Rattle.rec_counts.specs.Lists.{times}
-use Rattle.rec_counts.specs.Slot.{absent}
-use Rattle.rec_counts.specs.declared.slot.Slot.{Slot}
-use Rattle.rec_counts.proofs.Times.{times-cons, one-same}
-use Rattle.rec_counts.proofs.Keeping.{unreleased_within}
-use Rattle.rec_release.specs.declared.at.At.{At}
-use Rattle.rec_release.specs.Release.{IsReady, emptied, started_of, without_first}
+use Rattle.rec_counts.specs.Counts.{IsKept as IsKeptCounts}
+use Rattle.rec_release.specs.Release.{started_of}
 use Rattle.rec_release.proofs.Keeping.{each_next, emptied_sets, first_length, first_zero, ready_first, ready_gone, released_same, FirstZero}
-use Rattle.rec_collector.specs.Parts.{Parts}
-use Rattle.rec_collector.specs.Testing.{Begun, releasing_at, zeros_released}
-use Rattle.rec_collector.specs.declared.phase.Phase.{Phase}
 use Rattle.rec_collector.proofs.Greens.{first_greens}
 use Rattle.rec_collector.proofs.Clearing.{Clears}
-use Rattle.rec_collector.proofs.Goings.{next_begun, still, with_counts}
 use Rattle.rec_release.proofs.Kept.{emptied_kept, first_kept}
-use Rattle.rec_core.specs.Core.{Core, sight}
-use Rattle.rec_core.specs.Cycles.{SetsTest}
-use Rattle.rec_core.specs.Kept.{IsLeft}
-use Rattle.rec_core.specs.Pending.{pending}
 use Rattle.rec_core.proofs.Counts.{accounts_with, counted_slot, emptied_alike, releases, slots_accounts}
 use Rattle.rec_core.proofs.CyclesLess.{less_listed, less_without_first}
 use Rattle.rec_core.proofs.CyclesTest.{sets_test_less, sets_test_stepped}
 use Rattle.rec_core.proofs.Landed.{landed_pending, begun_freeing, begun_release, HasLanded, HasCleared}
 use Rattle.std.proofs.lemmas.List.{get_or-replicate}
+use Rattle.rec_core.proofs.Common.{place_of, IsAccounted, HasUncountedReleased, AccountMove, node_of, Pending, emptied_uncounted, move_uncounted, move_accounted, Sight, word_in, is_green, State, slot_at, times, absent, Slot, times-cons, one-same, unreleased_within, At, IsReady, emptied, without_first, Parts, Begun, releasing_at, zeros_released, Phase, next_begun, still, with_counts, Core, sight, SetsTest, IsLeft, pending}
 
 -- Where a collection has come to while slots are released and sets tested, but for what its machines know of the counts.
 pub record HasCome (w : Core) (crossing words : List ℕ) (b : Begun) : Type 0 where
@@ -88,9 +66,9 @@ next_released p words s (z ∷ zs) is done ready accounted uncounted =
     let there : 0 < times z s.zeros = omega (arith, ap (times z) is, times-cons z z zs, one-same z) in
     let rule = releases p words s z zs done (unreleased_within s z (ready.zeros.unreleased z there)) (ready.zeros.none z there) in
     record {
-      accounted = move_accounted (Move.release rule) accounted;
-      uncounted = move_uncounted (Move.release rule) accounted uncounted;
-      tests = λ h. sets_test_stepped s (without_first (z ∷ zs) s) (Move.release rule) tt (less_without_first (z ∷ zs) s) accounted h;
+      accounted = move_accounted (AccountMove.release rule) accounted;
+      uncounted = move_uncounted (AccountMove.release rule) accounted uncounted;
+      tests = λ h. sets_test_stepped s (without_first (z ∷ zs) s) (AccountMove.release rule) tt (less_without_first (z ∷ zs) s) accounted h;
     }
 
 -- an object has a field

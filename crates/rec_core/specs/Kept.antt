@@ -71,17 +71,17 @@ pub record IsBufferOf (config : Config) (epoch : ℕ) (b : Contents) : Type 0 wh
   pub made : All (IsMadeIn epoch) b.entries
 
 -- the mutator of this number is past its turn in a gathering, its mailbox is held, or its turn is still to come
-pub data Stand : Type 0 where
-  Done : Stand
-  Held : Stand
-  Due : Stand
+pub data Handshake : Type 0 where
+  Done : Handshake
+  Held : Handshake
+  Due : Handshake
 
 -- where a mutator stands in the gathering of this collection; nobody's turn is to come where none is under way
-abbrev pub stand_at : Phase → (t : ℕ) → Stand
-stand_at (Looking u) t = if nat_lt t u then Stand.Done else Stand.Due
-stand_at (Swapping u) t = if nat_lt t u then Stand.Done else (if t == u then Stand.Held else Stand.Due)
-stand_at (Returning u) t = if nat_lt t u then Stand.Done else (if t == u then Stand.Held else Stand.Due)
-stand_at _ t = Stand.Done
+abbrev pub stand_at : Phase → (t : ℕ) → Handshake
+stand_at (Looking u) t = if nat_lt t u then Handshake.Done else Handshake.Due
+stand_at (Swapping u) t = if nat_lt t u then Handshake.Done else (if t == u then Handshake.Held else Handshake.Due)
+stand_at (Returning u) t = if nat_lt t u then Handshake.Done else (if t == u then Handshake.Held else Handshake.Due)
+stand_at _ t = Handshake.Done
 
 -- the mutator is in the requested epoch, and its mailbox is there
 pub record HasCrossed (requested : ℕ) (p : Private) (crossing : ℕ) (mailbox : Mailbox) : Type 0 where
@@ -104,10 +104,10 @@ pub record IsCrossing (config : Config) (requested : ℕ) (p : Private) (crossin
   pub spare : p.log ≡ spare_of config
 
 -- How a mutator and the collector stand to each other: the mutator's epoch, its crossing word and what its mailbox holds.
-abbrev pub IsHandshake : Config → (requested : ℕ) → Private → (crossing : ℕ) → (box : Contents) → Stand → Type 0
-IsHandshake config requested p crossing box Stand.Done = HasCrossed requested p crossing Spare × (box ≡ spare_of config)
-IsHandshake config requested p crossing box Stand.Held = HasCrossed requested p crossing WithCollector × (box ≡ spare_of config)
-IsHandshake config requested p crossing box Stand.Due = IsBehind config requested p crossing box ⊎ (IsCrossing config requested p crossing ⊎ HasCrossed requested p crossing Retired)
+abbrev pub IsHandshake : Config → (requested : ℕ) → Private → (crossing : ℕ) → (box : Contents) → Handshake → Type 0
+IsHandshake config requested p crossing box Handshake.Done = HasCrossed requested p crossing Spare × (box ≡ spare_of config)
+IsHandshake config requested p crossing box Handshake.Held = HasCrossed requested p crossing WithCollector × (box ≡ spare_of config)
+IsHandshake config requested p crossing box Handshake.Due = IsBehind config requested p crossing box ⊎ (IsCrossing config requested p crossing ⊎ HasCrossed requested p crossing Retired)
 
 -- What is known of a mutator, of its crossing word and of its mailbox, at this epoch and in this phase of the collector.
 pub record IsActor (config : Config) (requested : ℕ) (phase : Phase) (t : ℕ) (p : Private) (crossing : ℕ) (box : Contents) : Type 0 where

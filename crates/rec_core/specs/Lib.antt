@@ -1,4 +1,4 @@
-pub mod Asked
+-- The modules of the definitions.
 pub mod Cells
 pub mod Config
 pub mod Core
@@ -7,19 +7,20 @@ pub mod CyclesAt
 pub mod Freed
 pub mod Kept
 pub mod Loads
-pub mod Met
 pub mod Moves
 pub mod Pending
+pub mod Preconditions
 pub mod Quiet
 pub mod Reach
 pub mod Resting
 pub mod Row
 pub mod Run
+pub mod RunAnswers
 pub mod Scans
 pub mod Settled
 pub mod Settling
-pub mod Shown
 pub mod Step
+pub mod StepAnswers
 pub mod Swept
 pub mod Turn
 pub mod Unfinished

@@ -4,7 +4,7 @@ use Rattle.rec_mutator.specs.Private.{is_busy, answer_of, limit_of, work_of}
 use Rattle.rec_mutator.specs.declared.made.Made.{Made}
 use Rattle.rec_core.specs.Core.{Core, mutator}
 use Rattle.rec_core.specs.Moves.{stepped, EndsRun}
-use Rattle.rec_core.specs.Shown.{IsShown}
+use Rattle.rec_core.specs.StepAnswers.{IsShown}
 
 -- A mutator made the next step of its work, and this came of the work, or nothing where it isn't finished.
 pub record IsStep (before : Core) (t : ℕ) (made : Option Made) (after : Core) : Type 0 where

@@ -4,7 +4,7 @@ use Rattle.rec_model.specs.Sight.{IsTaken}
 use Rattle.rec_mutator.specs.declared.phase.Phase.{Phase}
 use Rattle.rec_mutator.specs.declared.phase.Phase.TheVariants.{Begun, Scanning, Scanned, Giving}
 use Rattle.rec_core.specs.Core.{Core, sight, mutator, with_mutator}
-use Rattle.rec_core.specs.Shown.{IsFilled}
+use Rattle.rec_core.specs.StepAnswers.{IsFilled}
 
 -- the mutator's work went on, and changed no register and no log: all else stays, but for the slot with which its scan begins
 pub record OnlyWorks (before after : Core) (t : ℕ) : Type 0 where

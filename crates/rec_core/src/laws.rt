@@ -25,12 +25,12 @@ ghost use Rattle.rec_word.specs.Place.{places_of};
 ghost use Rattle.rec_core.specs.Freed.{AreGone, IsForgotten, IsProvenGarbage, Passes, TestsSets};
 ghost use Rattle.rec_core.specs.Kept.{IsKept};
 ghost use Rattle.rec_core.specs.Loads.{BeginsPreparing, cleared_over, fields_loaded, IsReferenceStill, IsSameTrial, Loaded, loaded_over, named_over};
-ghost use Rattle.rec_core.specs.Met.{MayStep, MayTurn};
+ghost use Rattle.rec_core.specs.Preconditions.{MayStep, MayTurn};
 ghost use Rattle.rec_core.specs.Moves.{Move, AllFit, Fits, after_move, after_moves, IsRun, EndsRun, stepped, turned};
 ghost use Rattle.rec_core.specs.Pending.{pending};
 ghost use Rattle.rec_core.specs.Reach.{KeepsReached};
 ghost use Rattle.rec_core.specs.Scans.{BeginsNone, FailsByProbes};
-ghost use Rattle.rec_core.specs.Shown.{IsShown};
+ghost use Rattle.rec_core.specs.StepAnswers.{IsShown};
 ghost use Rattle.rec_core.specs.Turn.{IsTurn, turn_told};
 
 /// What every heap keeps holds at the end of every run.
@@ -61,7 +61,7 @@ pub fn nothing_reached_is_freed()
 
 /// Each turn of the collector, in any run of a heap with its collector, is one, with the answer that its machine gives: whichever heap
 /// makes the run, one turn after another or among the steps of the mutators.
-pub fn turns_are_turns()
+pub fn turns_keep_their_promises()
     ensures { (w : Core) → IsConfig w.config → EndsRun w → IsTurn w (turned w) (turn_told w) }
 {}
 

@@ -3,14 +3,15 @@
 //! A `Core` is the shared words, what each mailbox holds, the private record of each mutator and of the collector, and the
 //! number of births. A move begins a work of a mutator, or makes one step of it, or one turn of the collector, or has all
 //! slots offered to the next trial. A step finds the word that its machine names, puts there what the operation leaves, and
-//! gives the machine the word found; one that takes a mailbox swaps the buffer in it. A run is a list of moves from a start, as an opening is.
+//! gives the machine the word found; one that takes a mailbox swaps the buffer in it. A run is a list of moves from a start, as
+//! an opening is.
 //! The rule that it keeps: what is said of every heap (`specs/Kept`) holds at the end of every run, whoever made which move
 //! when. From it follow the laws: nothing in reach is freed, true counts are the count formula, sets that pass both tests are
 //! garbage, and a command is answered as asking a heap that never frees gives it.
 //! What two whole collections make of a heap at rest, in which no mutator asks anything, is said here too.
 //! Where each shared word stands in a row of all, for whatever heap keeps one, is said in `specs/Row`, and told by `Layout`.
-//! There is no heap here: no list of words in memory, and no code but the ranges of `Config` and the numbers of `Layout`. A heap whose steps and turns are
-//! those of a core has all the laws.
+//! There is no heap here: no list of words in memory, and no code but the ranges of `Config` and the numbers of `Layout`. A heap
+//! whose steps and turns are those of a core has all the laws.
 //! The layer above may use `Config`, `Layout` and `Part`, the definitions of `specs/`, the laws, which are the contracts of the
 //! functions in `laws`, and the lemmas of `proofs/` on moves and runs, and of `proofs/Rest` on a heap at rest.
 //! That mutators run beside each other with a log each is the idea of the paper "Java without the Coffee Breaks" (2001);
@@ -28,7 +29,7 @@ pub use laws::{
     freed_slots_are_forgotten, loaded_words_stay_references, nothing_reached_is_freed,
     orange_members_stay_untouched, outside_counts_are_of_the_run, runs_begin_with_an_opening,
     runs_go_on, runs_keep, sets_that_pass_are_garbage, true_counts_are_the_formula,
-    turns_are_turns, zeros_are_exact,
+    turns_keep_their_promises, zeros_are_exact,
 };
 pub use layout::Layout;
 pub use part::Part;

@@ -1,3 +1,4 @@
+-- The modules of the proofs.
 pub mod Changing
 pub mod Decrementing
 pub mod Front

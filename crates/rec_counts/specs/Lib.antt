@@ -1,3 +1,4 @@
+-- The modules of the definitions.
 pub mod Colour
 pub mod Counts
 pub mod Groups

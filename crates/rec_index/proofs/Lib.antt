@@ -1,2 +1,3 @@
+-- The modules of the proofs.
 pub mod Levels
 pub mod Words

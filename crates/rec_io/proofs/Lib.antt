@@ -1,3 +1,4 @@
+-- The modules of the proofs.
 pub mod Faults
 pub mod Reading
 pub mod Told

@@ -1,3 +1,4 @@
+-- The modules of the definitions.
 pub mod Faults
 pub mod Told
 pub mod Source

@@ -1,1 +1,2 @@
+-- The modules of the definitions.
 pub mod Buffer

@@ -1,10 +1,7 @@
 -- What every heap that counts late keeps sees the lists through their sums alone.
 use Rattle.std.proofs.Common.{◌≡◌, ℕ, ◌<◌, true, cond, not, sym, ap, subst, ◌∙◌, arith}
 use Rattle.std.proofs.lemmas.Bool.Decides.{nat_tests}
-use Rattle.rec_model.specs.Sums.{only_if, one_if_same, sum_at, HasSameSums, HasSameSumsAt}
-use Rattle.rec_model.specs.Pending.{node_of, epoch_of, home, Write, Dated, dated, Pending, is_at}
-use Rattle.rec_model.specs.Moves.{KeepsEpochs, KeepsSlots, KeepsLogs, Drops}
-use Rattle.rec_model.specs.Accounted.{is_late_word, is_wrong_write, is_wrong_register, is_late_snapshot, names, puts_after, replaces_from, is_from, is_leaf_from, is_after, is_node, late, put_late, replaced_late, touches, is_dead, names_unreleased, IsAccounted}
+use Rattle.rec_model.proofs.Common.{only_if, one_if_same, sum_at, HasSameSums, HasSameSumsAt, node_of, epoch_of, home, Write, Dated, dated, Pending, is_at, KeepsEpochs, KeepsSlots, KeepsLogs, Drops, is_late_word, is_wrong_write, is_wrong_register, is_late_snapshot, names, puts_after, replaces_from, is_from, is_leaf_from, is_after, is_node, late, put_late, replaced_late, touches, is_dead, names_unreleased, IsAccounted}
 use Rattle.rec_model.proofs.Sums.{sum_at_same}
 use Rattle.rec_model.proofs.Counted.{opened_from, closed_out_of}
 use Rattle.rec_model.proofs.Reaching.{reach_stays}

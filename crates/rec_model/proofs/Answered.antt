@@ -5,18 +5,15 @@ use Rattle.std.proofs.Math.ListN.{get_or-map}
 use Rattle.std.proofs.lemmas.Bool.{eq-eqb, eqb-true, true≢false}
 use Rattle.std.proofs.lemmas.Bool.Decides.{same_from_decides}
 use Rattle.std.proofs.lemmas.Option.{same_Some}
+use Rattle.rec_model.proofs.Common.{target_of, named, Heap, Field, Object, object, field, born, register, with_register, with_field, with_object, Sight, IsTaken, words_of, targets_of, word_at, Reaches, field_of, StandsBy, IsSound, sight_with_register, sight_with_word, sight_with_header}
 use Rattle.rec_word.specs.Header.{is_leaf, label_of, IsHeaderOf}
-use Rattle.rec_word.specs.Word.{target_of}
 use Rattle.rec_model.specs.declared.command.Cmd.{Cmd}
 use Rattle.rec_model.specs.declared.command.Cmd.TheVariants as commands
 use Rattle.rec_model.specs.declared.answer.Answer.{Answer}
 use Rattle.rec_model.specs.declared.answer.Answer.TheVariants as answers
 use Rattle.rec_model.specs.declared.told.Told.{Told}
-use Rattle.rec_model.specs.Reach.{named}
 use Rattle.rec_model.specs.Reach.IsReached.{root, child}
-use Rattle.rec_model.specs.Heap.{Heap, Field, Object, object, field, born, register, with_register, with_field, with_object}
 use Rattle.rec_model.specs.Asking.{allocation, Asked, asked, asks, answered, refused, AnswersAs, LeavesWord, IsTold, null_or_object, got, put, value, same, yes_or_no, is_done, refuses_new, plain, put_to, WritesLeaf}
-use Rattle.rec_model.specs.Sight.{Sight, IsTaken, words_of, targets_of, word_at, Reaches, field_of, StandsBy, IsSound, sight_with_register, sight_with_word, sight_with_header}
 use Rattle.rec_model.specs.Explained.{IsExplained, GoesOnBy, with_number}
 use Rattle.rec_model.proofs.Names.{register_root, named_at}
 use Rattle.rec_model.proofs.Words.{named-nulls, null_fields}

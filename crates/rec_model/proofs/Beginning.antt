@@ -4,9 +4,7 @@ use Rattle.std.proofs.lemmas.Bool.Decides.{nat_tests}
 use Rattle.std.proofs.lemmas.List.Folds.{sum_by-replicate}
 use Rattle.std.proofs.lemmas.List.Sums.{sum_by-append}
 use Rattle.std.proofs.lemmas.Bool.{cases_eq, true≢false}
-use Rattle.rec_model.specs.Sums.{only_if, one_if_same, sum_at}
-use Rattle.rec_model.specs.Pending.{node_of, epoch_of, home, dated, Pending, is_at, Dated}
-use Rattle.rec_model.specs.Accounted.{is_late_word, is_wrong_write, is_wrong_register, is_late_snapshot, HasEpochs, names, puts_after, replaces_from, is_from, is_leaf_from, is_after, is_node, HasLedger, late, put_late, replaced_late, touches, IsHeld, is_dead, names_unreleased, IsUnnamed, IsAccounted}
+use Rattle.rec_model.proofs.Common.{only_if, one_if_same, sum_at, node_of, epoch_of, home, dated, Pending, is_at, Dated, is_late_word, is_wrong_write, is_wrong_register, is_late_snapshot, HasEpochs, names, puts_after, replaces_from, is_from, is_leaf_from, is_after, is_node, HasLedger, late, put_late, replaced_late, touches, IsHeld, is_dead, names_unreleased, IsUnnamed, IsAccounted}
 use Rattle.rec_model.specs.Opened.{IsOpening, opening}
 use Rattle.rec_model.proofs.Sums.{sum_at-replicate_none}
 use Rattle.rec_model.proofs.Weights.{only_if-le, none_if_not_lt, none_if_differs}

@@ -1,10 +1,10 @@
 -- A birth adds one object.
 use Rattle.std.proofs.Common.{◌≡◌, ℕ, ◌+◌, Option, None, Some, Bool, true, false, if◌then◌else◌, not, ◌&&◌, length, arith}
 use Rattle.std.proofs.lemmas.List.{length_push, length-set}
+use Rattle.rec_model.proofs.Common.{Heap, Object, object, register, born}
 use Rattle.rec_model.specs.declared.command.Cmd.{Cmd}
 use Rattle.rec_model.specs.declared.command.Cmd.TheVariants as commands
 use Rattle.rec_model.specs.declared.told.Told.{Told}
-use Rattle.rec_model.specs.Heap.{Heap, Object, object, register, born}
 use Rattle.rec_model.specs.Asking.{asked, asks, is_done, got, put, put_to, bear}
 use Rattle.rec_model.specs.LegalOrder.{is_new, is_birth}
 

@@ -5,8 +5,7 @@ use Rattle.std.specs.List.{flat_map, position_or_len}
 use Rattle.std.proofs.lemmas.Bool.{cases_eq, eq-eqb, ne_eqb, false≢true}
 use Rattle.std.proofs.lemmas.List.{map-append}
 use Rattle.std.proofs.lemmas.List.Sums.{sum_by-cons}
-use Rattle.rec_model.specs.Reach.{is_in, named}
-use Rattle.rec_model.specs.Numbering.{firsts_after, times}
+use Rattle.rec_model.proofs.Common.{is_in, named, firsts_after, times}
 use Rattle.rec_model.specs.Listing.{number_in}
 use Rattle.rec_model.proofs.Members.{is_in-head, is_in-tail, is_in-cases, is_in-cons}
 

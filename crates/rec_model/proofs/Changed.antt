@@ -1,8 +1,7 @@
 -- What each move changes: the heap with just that changed differs from the one after the move in nothing but how its lists are
 -- laid out.
 use Rattle.std.proofs.Common.{ℕ, ◌+◌, Bool, true, false, List, refl}
-use Rattle.rec_model.specs.Pending.{Pending}
-use Rattle.rec_model.specs.Moves.{Puts, Registers, Bears, Crosses, Requests, Applies, Releases, Clears, Frees, Drops, with_answer}
+use Rattle.rec_model.proofs.Common.{Pending, Puts, Registers, Bears, Crosses, Requests, Applies, Releases, Clears, Frees, Drops, with_answer}
 use Rattle.rec_model.specs.Sets.{with_members, ReleasesSet}
 use Rattle.rec_model.proofs.Alike.{IsAlike}
 

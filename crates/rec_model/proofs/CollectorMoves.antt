@@ -3,11 +3,8 @@ use Rattle.std.proofs.Common.{◌≡◌, ◌≢◌, inl, inr, ℕ, ◌+◌, ◌<
 use Rattle.std.proofs.lemmas.Bool.Decides.{nat_tests}
 use Rattle.std.proofs.lemmas.Bool.{cases_eq}
 use Rattle.std.proofs.lemmas.List.Sums.{sum_by-le-sum_by}
-use Rattle.rec_model.specs.Sums.{only_if, one_if_same, sum_at}
-use Rattle.rec_model.specs.Pending.{home, Pending, is_at}
-use Rattle.rec_model.specs.References.{IsInReach}
-use Rattle.rec_model.specs.Moves.{Requests, Applies, Releases, Clears, Frees, Drops, puts_in, replaces_in, added, taken, with_answer}
-use Rattle.rec_model.specs.Accounted.{names, puts_after, replaces_from, is_from, is_leaf_from, IsHeldAt, IsHeld, is_dead, named, IsUnnamed, IsAccounted}
+use Rattle.rec_model.proofs.Common.{only_if, one_if_same, sum_at, home, Pending, is_at, IsInReach, Requests, Applies, Releases, Clears, Frees, Drops, puts_in, replaces_in, added, taken, with_answer, names, puts_after, replaces_from, is_from, is_leaf_from, IsHeldAt, IsHeld, is_dead, IsUnnamed, IsAccounted}
+use Rattle.rec_model.specs.Accounted.{named}
 use Rattle.rec_model.proofs.Sums.{get_or-le-sum_at}
 use Rattle.rec_model.proofs.Weights.{none_if_differs, only_if-le}
 use Rattle.rec_model.proofs.Ledgers.{batch_ledger, batch_stands, clearing_ledger, uncounted_taken, freeing_ledger}

@@ -3,14 +3,9 @@ use Rattle.std.proofs.Common.{◌≡◌, ◌≢◌, inl, inr, ℕ, suc, ◌+◌,
 use Rattle.std.proofs.lemmas.Bool.Decides.{nat_tests}
 use Rattle.std.proofs.lemmas.Bool.{cases_lt, cases_eq, true≢false}
 use Rattle.std.proofs.lemmas.List.Sums.{sum_by-le-sum_by, sum_by-le, get_or-le-sum_by}
-use Rattle.rec_model.specs.Reach.{is_in}
-use Rattle.rec_model.specs.Numbering.{times}
-use Rattle.rec_model.specs.Sums.{only_if, one_if_same, sum_at}
-use Rattle.rec_model.specs.Pending.{node_of, epoch_of, home, Dated, Pending, word_in, is_at, Holds}
-use Rattle.rec_model.specs.References.{references_of, nodes_of, nodes_from, one_if_born, count_formula, IsInReach, IsWriteInReach, opened_to}
-use Rattle.rec_model.specs.Moves.Move.{put, register, birth, crossing, request, batch, release, clearing, freeing, dropping}
-use Rattle.rec_model.specs.Moves.{puts_in, added, with_answer, Move}
-use Rattle.rec_model.specs.Accounted.{names, puts_after, replaces_from, is_from, is_node, touches, is_dead, names_unreleased, named, named_anywhere, IsAccounted, HasUncountedReleased}
+use Rattle.rec_model.proofs.Common.{is_in, times, only_if, one_if_same, sum_at, node_of, epoch_of, home, Dated, Pending, word_in, is_at, Holds, references_of, nodes_of, nodes_from, one_if_born, count_formula, IsInReach, IsWriteInReach, opened_to, puts_in, added, with_answer, AccountMove, names, puts_after, replaces_from, is_from, is_node, touches, is_dead, names_unreleased, named_anywhere, IsAccounted, HasUncountedReleased}
+use Rattle.rec_model.specs.Moves.AccountMove.{put, register, birth, crossing, request, batch, release, clearing, freeing, dropping}
+use Rattle.rec_model.specs.Accounted.{named}
 use Rattle.rec_model.specs.Opened.{IsOpening}
 use Rattle.rec_model.proofs.Sums.{get_or-le-sum_at, sum_by_split}
 use Rattle.rec_model.proofs.Weights.{only_if-le, only_if_lt, only_if_le, one_if_self, none_if_differs}
@@ -194,7 +189,7 @@ counts_bounded w i x pos =
     go true e most = let dead : is_dead w x ≡ true = (grind (arith, e)) in omega (arith, i.single x pos e, (unnamed_uncounted w x (i.unnamed x pos dead)).0)
 
 -- each move keeps that what was given up has no count
-pub move_uncounted : {w v : Pending} → Move w v → IsAccounted w → HasUncountedReleased w → HasUncountedReleased v
+pub move_uncounted : {w v : Pending} → AccountMove w v → IsAccounted w → HasUncountedReleased w → HasUncountedReleased v
 move_uncounted (put s) i h x pos r = s.slots.count x pos ∙ h x pos (sym (s.slots.released x pos) ∙ r)
 move_uncounted (register s) i h x pos r = s.slots.count x pos ∙ h x pos (sym (s.slots.released x pos) ∙ r)
 move_uncounted (birth s) i h x pos r = s.count x pos ∙ h x pos (sym (s.released x pos) ∙ r)

@@ -4,12 +4,7 @@ use Rattle.std.specs.List.{enumerate_from}
 use Rattle.std.proofs.lemmas.Bool.Decides.{nat_tests}
 use Rattle.std.proofs.lemmas.Bool.{false≢true, eqb-true}
 use Rattle.std.proofs.lemmas.List.Sums.{sum_by-cons, sum_by-append}
-use Rattle.rec_model.specs.Reach.{is_in}
-use Rattle.rec_model.specs.Numbering.{times}
-use Rattle.rec_model.specs.Sums.{only_if, one_if_same, sum_at}
-use Rattle.rec_model.specs.Pending.{home, Write, Dated, Pending, is_at}
-use Rattle.rec_model.specs.References.{Reference, open_reference, closed_reference, references, is_of, references_of, nodes_of, nodes_from, roots_at, targets_at, opened_to, closed_from}
-use Rattle.rec_model.specs.Accounted.{is_from}
+use Rattle.rec_model.proofs.Common.{is_in, times, only_if, one_if_same, sum_at, home, Write, Dated, Pending, is_at, Reference, open_reference, closed_reference, references, is_of, references_of, nodes_of, nodes_from, roots_at, targets_at, opened_to, closed_from, is_from}
 use Rattle.rec_model.proofs.Sums.{sum_by_same, sum_at_same, sum_by_none, sum_by-filter, sum_by-map}
 use Rattle.rec_model.proofs.Members.{is_in-cons, is_in-head, is_in-tail}
 

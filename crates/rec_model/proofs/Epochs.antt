@@ -2,10 +2,7 @@
 use Rattle.std.proofs.Common.{◌≡◌, ℕ, ◌+◌, ◌<◌, ◌≤◌, false, ltb, List, refl, arith}
 use Rattle.std.proofs.lemmas.Bool.Decides.{nat_tests}
 use Rattle.std.proofs.lemmas.List.Sums.{sum_by-le-sum_by}
-use Rattle.rec_model.specs.Sums.{only_if}
-use Rattle.rec_model.specs.Pending.{epoch_of, home, dated, Pending, word_in}
-use Rattle.rec_model.specs.Moves.{Puts, Registers, Bears, Crosses, Requests, Applies, Clears, is_up_to, with_answer}
-use Rattle.rec_model.specs.Accounted.{is_late_word, is_wrong_write, is_wrong_register, is_late_snapshot, HasEpochs}
+use Rattle.rec_model.proofs.Common.{only_if, epoch_of, home, dated, Pending, word_in, Puts, Registers, Bears, Crosses, Requests, Applies, Clears, is_up_to, with_answer, is_late_word, is_wrong_write, is_wrong_register, is_late_snapshot, HasEpochs}
 use Rattle.rec_model.proofs.Sums.{get_or-le-sum_at, sum_at-le-sum_at, sum_by_none, sum_by_split}
 use Rattle.rec_model.proofs.Weights.{none_if_not_lt, not_lt_from_none}
 use Rattle.rec_model.proofs.Ledgers.{epoch_of_null, epoch_after, epoch_within}

@@ -1,8 +1,7 @@
 -- Where numbers first stand in a list: after more numbers, without repeats, and which numbers they are.
 use Rattle.std.proofs.Common.{◌≡◌, ℕ, ◌⊎◌, inl, inr, true, false, List, [], ◌∷◌, ◌++◌, refl, sym, ◌∙◌, ap, append_assoc, append-nil}
 use Rattle.std.proofs.lemmas.Bool.{false≢true}
-use Rattle.rec_model.specs.Reach.{is_in}
-use Rattle.rec_model.specs.Numbering.{firsts_after, joined, IsDistinct}
+use Rattle.rec_model.proofs.Common.{is_in, firsts_after, joined, IsDistinct}
 use Rattle.rec_model.proofs.Members.{is_in-left, is_in-right, is_in-cases, is_in-cons, is_in-head, is_in-tail, IsDistinct-push, not_in-left}
 
 -- a number that is met already is left out

@@ -5,9 +5,8 @@ use Rattle.std.proofs.lemmas.Bool.{cases_eq, eq-eqb, ne_eqb}
 use Rattle.std.proofs.lemmas.List.{append-nil, take-append-le, take_all, length_push, get_or-set_same, get_or-set_other, length-set}
 use Rattle.std.proofs.lemmas.List.Elements.{filter_map-append}
 use Rattle.std.proofs.lemmas.Option.{slice_get_within}
-use Rattle.rec_word.specs.Word.{stamp_of}
+use Rattle.rec_model.proofs.Common.{stamp_of, is_in}
 use Rattle.rec_model.specs.declared.answer.Answer.TheVariants as answers
-use Rattle.rec_model.specs.Reach.{is_in}
 use Rattle.rec_model.specs.LegalOrder.{Line, Event, Limits, Moment, after, after_all, moment, Fits, IsQuiet, BusyFits, Stamped, IsLegalOrder, word_left, left_by, line_by}
 use Rattle.rec_model.specs.LegalOrder.Event.{Answers, Frees, Marks}
 

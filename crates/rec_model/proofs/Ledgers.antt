@@ -3,10 +3,7 @@ use Rattle.std.proofs.Common.{◌≡◌, ℕ, ◌+◌, ◌<◌, ◌≤◌, ◌�
 use Rattle.std.proofs.lemmas.Bool.Decides.{nat_tests}
 use Rattle.std.proofs.lemmas.Bool.{cases_lt}
 use Rattle.std.proofs.lemmas.List.Sums.{sum_by-le-sum_by}
-use Rattle.rec_model.specs.Sums.{one_if_same}
-use Rattle.rec_model.specs.Pending.{node_of, epoch_of, home, dated, Pending, word_in, is_at, Holds}
-use Rattle.rec_model.specs.Moves.{Puts, Bears, Crosses, Applies, Clears, Frees, puts_in, replaces_in, added, taken, with_answer}
-use Rattle.rec_model.specs.Accounted.{is_wrong_write, is_wrong_register, HasEpochs, names, puts_after, replaces_from, is_from, HasLedger, late, put_late, replaced_late, StandsOnce}
+use Rattle.rec_model.proofs.Common.{one_if_same, node_of, epoch_of, home, dated, Pending, word_in, is_at, Holds, Puts, Bears, Crosses, Applies, Clears, Frees, puts_in, replaces_in, added, taken, with_answer, is_wrong_write, is_wrong_register, HasEpochs, names, puts_after, replaces_from, is_from, HasLedger, late, put_late, replaced_late, StandsOnce}
 use Rattle.rec_model.proofs.Sums.{sum_at-le-sum_at, sum_by_none, sum_by_le_unless, sum_by_split}
 use Rattle.rec_model.proofs.Weights.{only_if_lt, only_if_le, none_if_other, none_if_differs, answered_no, answered_yes, no_from_none}
 

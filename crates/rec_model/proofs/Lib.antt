@@ -1,3 +1,4 @@
+-- The modules of the proofs.
 pub mod Alike
 pub mod Answered
 pub mod Beginning
@@ -5,6 +6,7 @@ pub mod Births
 pub mod Carried
 pub mod Changed
 pub mod CollectorMoves
+pub mod Common
 pub mod Consequences
 pub mod Counted
 pub mod Epochs

@@ -5,13 +5,9 @@ use Rattle.std.specs.List.{flat_map}
 use Rattle.std.proofs.lemmas.Bool.{false≢true}
 use Rattle.std.proofs.lemmas.List.{map-append}
 use Rattle.std.proofs.lemmas.List.Elements.{All-map}
+use Rattle.rec_model.proofs.Common.{target_of, named, IsReached, firsts, times, Heap, object, roots, children, count_of, IsListed, Sight, IsTaken, Reaches, NumbersSlots, holders_of, words_of, targets_of, field_of, StandsBy, Represents, IsCollected}
 use Rattle.rec_word.specs.Header.{is_leaf, label_of, IsHeaderOf}
-use Rattle.rec_word.specs.Word.{target_of}
-use Rattle.rec_model.specs.Reach.{named, IsReached}
 use Rattle.rec_model.specs.Reach.IsReached.{root, child}
-use Rattle.rec_model.specs.Numbering.{firsts, times}
-use Rattle.rec_model.specs.Heap.{Heap, object, roots, children, count_of, IsListed}
-use Rattle.rec_model.specs.Sight.{Sight, IsTaken, Reaches, NumbersSlots, holders_of, words_of, targets_of, field_of, StandsBy, StandsFor, IsCollected}
 use Rattle.rec_model.specs.Listing.{Row, number_in, row, IsListing, slot_row, ListsSlots}
 use Rattle.rec_model.proofs.Members.{is_in-head, is_in-tail, is_in-cases, in_flat_map, of_all, all_of}
 use Rattle.rec_model.proofs.Lives.{roots_same, children_same}
@@ -113,7 +109,7 @@ module _ (heap : Heap) (w : Sight) (number : ℕ → ℕ) (stands : StandsBy hea
       ∙ ap (λ rs. slot_row w slots slot ∷ rs) (rows_same slots some each (λ n h. also n (is_in-tail n slot some h)))
 
 -- the rows read off the slots are the listing of every heap that stands for them
-pub listing_carried : (heap : Heap) (w : Sight) (rows : List Row) → StandsFor heap w → IsCollected w → ListsSlots w rows → IsListing heap rows
+pub listing_carried : (heap : Heap) (w : Sight) (rows : List Row) → Represents heap w → IsCollected w → ListsSlots w rows → IsListing heap rows
 listing_carried heap w rows (number, stands) collected (slots, numbers, e) =
     let each : Each (Reaches w) slots = of_all (Reaches w) slots numbers.reached in
     (map number slots, numbering_same heap w number stands collected slots numbers, e ∙ sym (rows_same heap w number stands collected slots slots each each))

@@ -1,11 +1,8 @@
 -- What is live in a heap is what a register reaches among the slots that it stands for.
 use Rattle.std.proofs.Common.{◌≡◌, ℕ, List, [], ◌∷◌, true, map, refl, sym, ◌∙◌, ap, subst}
 use Rattle.std.specs.Prelude.{option_map}
-use Rattle.rec_word.specs.Word.{target_of}
-use Rattle.rec_model.specs.Reach.{named, is_in}
+use Rattle.rec_model.proofs.Common.{target_of, named, is_in, Heap, roots, children, IsLive, Sight, IsTaken, Reaches, words_of, targets_of, field_of, StandsBy, IsSound}
 use Rattle.rec_model.specs.Reach.IsReached.{root, child}
-use Rattle.rec_model.specs.Heap.{Heap, roots, children, IsLive}
-use Rattle.rec_model.specs.Sight.{Sight, IsTaken, Reaches, words_of, targets_of, field_of, StandsBy, IsSound}
 use Rattle.rec_model.proofs.Carried.{named-map, flat_map-named, in_map}
 use Rattle.rec_model.proofs.Standing.{reached_is_taken}
 use Rattle.rec_model.proofs.Within.{all_reached}

@@ -2,12 +2,8 @@
 use Rattle.std.proofs.Common.{◌≡◌, ◌≢◌, inl, inr, ℕ, ◌+◌, ◌<◌, ◌≤◌, eqb, leb, List, [], ◌∷◌, length, sum_by, refl, sym, subst, arith}
 use Rattle.std.proofs.lemmas.Bool.Decides.{nat_tests}
 use Rattle.std.proofs.lemmas.Bool.{cases_eq}
-use Rattle.rec_model.specs.Sums.{only_if, one_if_same, sum_at, HasSameSums, HasSameSumsAt}
-use Rattle.rec_model.specs.Pending.{node_of, epoch_of, home, Pending, word_in}
-use Rattle.rec_model.specs.References.{opened_to, closed_in, closed_at, references_at}
-use Rattle.rec_model.specs.Moves.Move.{put, register, birth, crossing, request, batch, release, clearing, freeing, dropping}
-use Rattle.rec_model.specs.Moves.{ReplacesAt, Puts, Move}
-use Rattle.rec_model.specs.Accounted.{is_late_word, HasEpochs}
+use Rattle.rec_model.proofs.Common.{only_if, one_if_same, sum_at, HasSameSums, HasSameSumsAt, node_of, epoch_of, home, Pending, word_in, opened_to, closed_in, closed_at, references_at, ReplacesAt, Puts, AccountMove, is_late_word, HasEpochs}
+use Rattle.rec_model.specs.Moves.AccountMove.{put, register, birth, crossing, request, batch, release, clearing, freeing, dropping}
 use Rattle.rec_model.specs.Sets.{HasLoaded, with_load, IsAfterLoads, early, replaced_early}
 use Rattle.rec_model.proofs.Sums.{get_or-le-sum_at, sum_at_same, sum_by_same}
 use Rattle.rec_model.proofs.Weights.{only_if-le, only_if_le, not_lt_from_none, none_if_differs}
@@ -70,7 +66,7 @@ loaded_put w v load epoch place new s ep =
     ))
 
 -- the moves that leave what was loaded a reference
-pub move_loaded : {w v : Pending} (load : ℕ → ℕ) → (m : Move w v) → IsAfterLoads m → HasEpochs w → HasLoaded w load → HasLoaded v load
+pub move_loaded : {w v : Pending} (load : ℕ → ℕ) → (m : AccountMove w v) → IsAfterLoads m → HasEpochs w → HasLoaded w load → HasLoaded v load
 move_loaded {w} {v} load (put {epoch} {place} {new} s) _ ep h = loaded_put w v load epoch place new s ep h
 move_loaded {w} {v} load (register s) _ ep h = loaded_alike w v load s.epochs.applied s.words s.logs.writes h
 move_loaded {w} {v} load (birth s) _ ep h = loaded_alike w v load s.epochs.applied s.words s.writes h
@@ -110,7 +106,7 @@ loaded_replaced w load p z inside pos other h =
 replaced_stays : (w v : Pending) (p z : ℕ) → v.applied ≡ w.applied → closed_at w (w.applied + 1) p z ≤ closed_at v (w.applied + 1) p z → closed_at w (w.applied + 1) p z ≤ closed_at v (v.applied + 1) p z
 replaced_stays w v p z applied grows = subst (λ a. closed_at w (w.applied + 1) p z ≤ closed_at v (a + 1) p z) (sym applied) grows
 
-pub move_replaced : {w v : Pending} (p z : ℕ) → (m : Move w v) → IsAfterLoads m → closed_at w (w.applied + 1) p z ≤ closed_at v (v.applied + 1) p z
+pub move_replaced : {w v : Pending} (p z : ℕ) → (m : AccountMove w v) → IsAfterLoads m → closed_at w (w.applied + 1) p z ≤ closed_at v (v.applied + 1) p z
 move_replaced {w} {v} p z (put s) _ = replaced_stays w v p z s.epochs.applied (omega (arith, s.writes (closed_in (w.applied + 1) p z)))
 move_replaced {w} {v} p z (register s) _ = replaced_stays w v p z s.epochs.applied (omega (arith, s.logs.writes (closed_in (w.applied + 1) p z)))
 move_replaced {w} {v} p z (birth s) _ = replaced_stays w v p z s.epochs.applied (omega (arith, s.writes (closed_in (w.applied + 1) p z)))

@@ -9,8 +9,7 @@ use Rattle.std.proofs.lemmas.List.Folds.{list_any-append}
 use Rattle.std.proofs.lemmas.Bool.{cases_Bool, both_ways, false≢true, true≢false, eq-eqb, eqb-true, eqb-false, ne_eqb, or_cases, cases_eq}
 use Rattle.std.proofs.lemmas.List.Elements.{All-nil, All-cons, All-head, All-tail, recursion_from_All}
 use Rattle.std.proofs.Math.Bool.{or-true}
-use Rattle.rec_model.specs.Reach.{is_in}
-use Rattle.rec_model.specs.Numbering.{IsDistinct}
+use Rattle.rec_model.proofs.Common.{is_in, IsDistinct}
 
 -- a number stands in one of two parts
 is_in-append : (n : ℕ) (xs ys : List ℕ) → is_in n (xs ++ ys) ≡ (is_in n xs || is_in n ys)

@@ -1,13 +1,11 @@
 -- Each move keeps what every heap that counts late keeps.
 use Rattle.std.proofs.Common.{◌≡◌}
-use Rattle.rec_model.specs.Pending.{Pending}
-use Rattle.rec_model.specs.Moves.Move.{put, register, birth, crossing, request, batch, release, clearing, freeing, dropping}
-use Rattle.rec_model.specs.Moves.{Move}
-use Rattle.rec_model.specs.Accounted.{IsAccounted}
+use Rattle.rec_model.proofs.Common.{Pending, AccountMove, IsAccounted}
+use Rattle.rec_model.specs.Moves.AccountMove.{put, register, birth, crossing, request, batch, release, clearing, freeing, dropping}
 use Rattle.rec_model.proofs.MutatorMoves.{put_accounted, register_accounted, birth_accounted, crossing_accounted}
 use Rattle.rec_model.proofs.CollectorMoves.{request_accounted, batch_accounted, release_accounted, clearing_accounted, freeing_accounted, drop_accounted}
 
-pub move_accounted : {w v : Pending} → Move w v → IsAccounted w → IsAccounted v
+pub move_accounted : {w v : Pending} → AccountMove w v → IsAccounted w → IsAccounted v
 move_accounted {w} {v} (put {epoch} {place} {new} s) i = put_accounted w v epoch place new s i
 move_accounted {w} {v} (register {epoch} {old} {new} s) i = register_accounted w v epoch old new s i
 move_accounted {w} {v} (birth {epoch} {old} {node} s) i = birth_accounted w v epoch old node s i
@@ -20,7 +18,7 @@ move_accounted {w} {v} (freeing {node} s) i = freeing_accounted w v node s i
 move_accounted {w} {v} (dropping s) i = drop_accounted w v s i
 
 -- no move changes how many fields an object has
-pub move_fields : {w v : Pending} → Move w v → v.fields ≡ w.fields
+pub move_fields : {w v : Pending} → AccountMove w v → v.fields ≡ w.fields
 move_fields (put s) = s.epochs.fields
 move_fields (register s) = s.epochs.fields
 move_fields (birth s) = s.epochs.fields

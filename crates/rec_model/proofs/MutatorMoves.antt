@@ -2,10 +2,7 @@
 use Rattle.std.proofs.Common.{◌≡◌, inl, inr, ℕ, ◌<◌, ◌≤◌, eqb, leb, Bool, true, false, List, sum_by, sym, subst, arith, ◌∙◌, ◌+◌, ◌≢◌, refl}
 use Rattle.std.proofs.lemmas.Bool.Decides.{nat_tests}
 use Rattle.std.proofs.lemmas.Bool.{cases_eq}
-use Rattle.rec_model.specs.Sums.{only_if, one_if_same}
-use Rattle.rec_model.specs.Pending.{Pending}
-use Rattle.rec_model.specs.Moves.{Puts, Registers, Bears, Crosses, with_answer}
-use Rattle.rec_model.specs.Accounted.{is_from, is_leaf_from, is_dead, named, IsAccounted}
+use Rattle.rec_model.specs.Accounted.{named}
 use Rattle.rec_model.proofs.Weights.{only_if-le, none_if_differs}
 use Rattle.rec_model.proofs.Ledgers.{put_ledger, put_stands, birth_ledger, crossing_ledger}
 use Rattle.rec_model.proofs.Epochs.{put_epochs, register_epochs, birth_epochs, crossing_epochs}
@@ -14,6 +11,7 @@ use Rattle.rec_model.proofs.Naming.{put_unnamed, register_unnamed, birth_unnamed
 use Rattle.rec_model.proofs.Changed.{after_birth, after_crossing, after_put, after_register, put_alike, register_alike, birth_alike, crossing_alike}
 use Rattle.rec_model.proofs.Alike.{alike_accounted}
 use Rattle.std.proofs.lemmas.List.Sums.{sum_by-le-sum_by}
+use Rattle.rec_model.proofs.Common.{only_if, one_if_same, Pending, Puts, Registers, Bears, Crosses, with_answer, is_from, is_leaf_from, is_dead, IsAccounted}
 
 pub put_accounted : (w v : Pending) (epoch place new : ℕ) → Puts w v epoch place new → IsAccounted w → IsAccounted v
 put_accounted w v epoch place new s i =

@@ -2,8 +2,7 @@
 use Rattle.std.proofs.Common.{zero, suc, ◌≡◌, ℕ, ◌+◌, ◌<◌, ◌++◌, Option, None, Some, true, List, [], ◌∷◌, take, length, get_or, refl, sym, ◌∙◌, ap, subst}
 use Rattle.std.specs.Option.{IfSome}
 use Rattle.std.proofs.lemmas.List.{take_more}
-use Rattle.rec_model.specs.Reach.{named, is_in}
-use Rattle.rec_model.specs.Numbering.{joined}
+use Rattle.rec_model.proofs.Common.{named, is_in, joined}
 use Rattle.rec_model.proofs.Members.{is_in-head, is_in-tail}
 use Rattle.rec_model.proofs.Firsts.{joined-append}
 

@@ -4,8 +4,7 @@ use Rattle.std.proofs.lemmas.Bool.{or_cases, or_left, eq-eqb, eqb-true}
 use Rattle.std.proofs.lemmas.List.{map-set}
 use Rattle.std.proofs.Math.ListN.{get_or-map}
 use Rattle.std.specs.Option.{option_map}
-use Rattle.rec_model.specs.Reach.{named, is_in}
-use Rattle.rec_model.specs.Heap.{roots, register, registers_of, set_register}
+use Rattle.rec_model.proofs.Common.{named, is_in, roots, register, registers_of, set_register}
 use Rattle.rec_model.proofs.Members.{is_in-cases, is_in-left, is_in-right, is_in-tail}
 
 -- what a register names stands in the list of names

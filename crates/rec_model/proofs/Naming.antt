@@ -3,11 +3,8 @@ use Rattle.std.proofs.Common.{◌≡◌, ◌≢◌, ◌⊎◌, inl, inr, ℕ, �
 use Rattle.std.proofs.lemmas.Bool.Decides.{nat_tests}
 use Rattle.std.proofs.lemmas.Bool.{cases_lt, cases_eq}
 use Rattle.std.proofs.lemmas.List.Sums.{sum_by-le-sum_by}
-use Rattle.rec_model.specs.Sums.{only_if, one_if_same}
-use Rattle.rec_model.specs.Pending.{node_of, epoch_of, home, dated, Pending, word_in, is_at, Holds}
-use Rattle.rec_model.specs.References.{IsInReach, opened_to, closed_from}
-use Rattle.rec_model.specs.Moves.{Puts, Loads, Registers, Bears, Crosses, Clears, Frees, leads_out_of, with_answer}
-use Rattle.rec_model.specs.Accounted.{is_late_snapshot, is_wrong_register, HasEpochs, names, puts_after, replaces_from, is_from, is_after, is_node, HasLedger, late, replaced_late, StandsOnce, touches, IsHeldAt, IsHeld, is_dead, names_unreleased, named, named_anywhere, IsUnnamed}
+use Rattle.rec_model.proofs.Common.{only_if, one_if_same, node_of, epoch_of, home, dated, Pending, word_in, is_at, Holds, IsInReach, opened_to, closed_from, Puts, Loads, Registers, Bears, Crosses, Clears, Frees, leads_out_of, with_answer, is_late_snapshot, is_wrong_register, HasEpochs, names, puts_after, replaces_from, is_from, is_after, is_node, HasLedger, late, replaced_late, StandsOnce, touches, IsHeldAt, IsHeld, is_dead, names_unreleased, named_anywhere, IsUnnamed}
+use Rattle.rec_model.specs.Accounted.{named}
 use Rattle.rec_model.proofs.Sums.{get_or-le-sum_at, sum_at-le-sum_at, sum_by_none, sum_by_le_unless, sum_by_split, sum_at_split}
 use Rattle.rec_model.proofs.Weights.{only_if-le, only_if_self, none_if_other, none_if_differs}
 use Rattle.rec_model.proofs.Counted.{opened_from, closed_out_of, reference_sum, edge_sum, root_sum}

@@ -5,9 +5,8 @@ use Rattle.std.proofs.lemmas.Bool.{cases_lt, both_ways}
 use Rattle.std.proofs.lemmas.Grind.{flat_map-append}
 use Rattle.std.proofs.lemmas.List.{take-append-drop, take-append-le, take_all}
 use Rattle.std.proofs.Math.Seq.{take-append-add}
-use Rattle.rec_model.specs.Reach.{is_in, IsReached}
+use Rattle.rec_model.proofs.Common.{is_in, IsReached, firsts, firsts_after, joined, IsDistinct, IsNumbering}
 use Rattle.rec_model.specs.Reach.IsReached.{root, child}
-use Rattle.rec_model.specs.Numbering.{firsts, firsts_after, joined, IsDistinct, IsNumbering}
 use Rattle.rec_model.proofs.Members.{is_in-left, is_in-right, is_in-head, is_in-flat_map, of_all}
 use Rattle.rec_model.proofs.Firsts.{joined-append, is_in-joined, IsDistinct-joined, firsts_after-only}
 

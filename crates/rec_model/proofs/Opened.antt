@@ -4,12 +4,9 @@ use Rattle.std.proofs.Math.Nat.{mul-le-mul_left}
 use Rattle.std.proofs.lemmas.Bool.{eqb-true, or_cases, false≢true, cases_lt}
 use Rattle.std.proofs.lemmas.List.{get_or_past, get_or-replicate, length-replicate, drop-replicate, take-replicate}
 use Rattle.std.specs.Option.{option_map}
+use Rattle.rec_model.proofs.Common.{target_of, named, is_in, opening, roots, Sight, IsTaken, words_of, targets_of, field_of, StandsBy, Represents, IsSound, opening_sight}
 use Rattle.rec_word.specs.Header.{is_leaf, IsHeaderOf}
-use Rattle.rec_word.specs.Word.{target_of}
 use Rattle.rec_word.proofs.Headers.{leaf_taken}
-use Rattle.rec_model.specs.Reach.{named, is_in}
-use Rattle.rec_model.specs.Heap.{opening, roots}
-use Rattle.rec_model.specs.Sight.{Sight, IsTaken, words_of, targets_of, field_of, StandsBy, StandsFor, IsSound, opening_sight}
 use Rattle.rec_model.specs.Unfreed.{AreUnfreed}
 use Rattle.rec_model.proofs.Members.{is_in-head, is_in-cons, is_in-cases}
 use Rattle.rec_model.proofs.Standing.{reached_is_taken}
@@ -106,7 +103,7 @@ opening_stands_by slots fields registers mutators some =
           null_fields opening_number fields ∙ ap (map (field_of opening_number)) (sym (ap (words_of w) is ∙ null_words slots fields registers mutators 0 some));
     }
 
-pub opening_stands : (slots fields registers mutators : ℕ) → 0 < slots → StandsFor (opening fields registers mutators) (opening_sight slots fields registers mutators)
+pub opening_stands : (slots fields registers mutators : ℕ) → 0 < slots → Represents (opening fields registers mutators) (opening_sight slots fields registers mutators)
 opening_stands slots fields registers mutators some = (opening_number, opening_stands_by slots fields registers mutators some)
 
 -- that object is unfreed, and no other

@@ -2,7 +2,7 @@
 use Rattle.std.proofs.Common.{◌≡◌, ℕ, zero, suc, ◌<◌, ◌≤◌, eqb, List, [], ◌∷◌, length, get_or, sum_by, refl, arith}
 use Rattle.std.proofs.lemmas.Bool.Decides.{nat_tests}
 use Rattle.std.proofs.lemmas.List.Sums.{sum_by-cons}
-use Rattle.rec_model.specs.Sums.{only_if, sum_at}
+use Rattle.rec_model.proofs.Common.{only_if, sum_at}
 use Rattle.rec_model.proofs.Sums.{sum_at-le-sum_at, sum_at_split, sum_at_none}
 use Rattle.rec_model.proofs.Weights.{only_if-le}
 

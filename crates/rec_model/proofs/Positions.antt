@@ -3,7 +3,7 @@ use Rattle.std.proofs.Common.{◌≡◌, ℕ, ◌+◌, ◌<◌, ◌==◌, inl, i
 use Rattle.std.specs.List.{position_or_len}
 use Rattle.std.proofs.lemmas.Bool.{cases_Bool, both_ways, false≢true, eq-eqb, ne_eqb}
 use Rattle.std.proofs.lemmas.List.Folds.{position_or_len_push}
-use Rattle.rec_model.specs.Reach.{is_in}
+use Rattle.rec_model.proofs.Common.{is_in}
 use Rattle.rec_model.specs.Listing.{number_in}
 use Rattle.rec_model.proofs.Members.{is_in-cases, is_in-cons, or_none}
 

@@ -1,9 +1,7 @@
 -- The reach of an epoch, by sums of weights.
 use Rattle.std.proofs.Common.{◌≡◌, ℕ, zero, suc, ◌<◌, true, arith}
+use Rattle.rec_model.proofs.Common.{is_in, Pending, roots_at, targets_at, IsInReach}
 use Rattle.rec_model.specs.Reach.IsReached.{root, child}
-use Rattle.rec_model.specs.Reach.{is_in}
-use Rattle.rec_model.specs.Pending.{Pending}
-use Rattle.rec_model.specs.References.{roots_at, targets_at, IsInReach}
 use Rattle.rec_model.proofs.Counted.{is_in-times, is_in-from_times, edge_sum, root_sum, targets_times, roots_times, null_no_root, null_no_target}
 use Rattle.rec_model.proofs.Within.{all_reached}
 

@@ -5,12 +5,7 @@ use Rattle.std.proofs.lemmas.Bool.Decides.{nat_tests}
 use Rattle.std.proofs.lemmas.List.{get_or-take, get_or-drop, length-take, length-drop, length-map}
 use Rattle.std.proofs.lemmas.Nat.{div-mul-add}
 use Rattle.std.proofs.Math.ListN.{get_or-map}
-use Rattle.rec_word.specs.Word.{target_of, predecessor}
-use Rattle.rec_model.specs.Reach.{named, is_in}
-use Rattle.rec_model.specs.Heap.{roots}
-use Rattle.rec_model.specs.Sight.{Sight, words_of, targets_of, Reaches}
-use Rattle.rec_model.specs.Pending.{node_of, home, Pending, word_in}
-use Rattle.rec_model.specs.Accounted.{is_dead, IsAccounted}
+use Rattle.rec_model.proofs.Common.{target_of, predecessor, named, is_in, roots, Sight, words_of, targets_of, Reaches, node_of, home, Pending, word_in, is_dead, IsAccounted}
 use Rattle.rec_model.specs.Seen.{IsSightOf}
 use Rattle.rec_model.proofs.Within.{all_reached}
 use Rattle.rec_model.proofs.Members.{is_in-cons}

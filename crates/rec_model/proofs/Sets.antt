@@ -2,10 +2,7 @@
 use Rattle.std.proofs.Common.{◌≡◌, ℕ, ◌+◌, ◌<◌, ◌≤◌, Bool, true, false, not, eqb, length, sum_by, refl, arith}
 use Rattle.std.proofs.lemmas.Bool.Decides.{nat_tests}
 use Rattle.std.proofs.lemmas.List.Sums.{sum_by-le-sum_by}
-use Rattle.rec_model.specs.Sums.{only_if, one_if_same, sum_at}
-use Rattle.rec_model.specs.Pending.{node_of, home, Write, Pending, word_in, is_at}
-use Rattle.rec_model.specs.References.{IsInReach, opened_to, closed_from}
-use Rattle.rec_model.specs.Accounted.{is_from, HasLedger, StandsOnce}
+use Rattle.rec_model.proofs.Common.{only_if, one_if_same, sum_at, node_of, home, Write, Pending, word_in, is_at, IsInReach, opened_to, closed_from, is_from, HasLedger, StandsOnce}
 use Rattle.rec_model.specs.Sets.{seen_in, IsStanding, PassesTests}
 use Rattle.rec_model.proofs.Sums.{sum_at-le-sum_at, sum_at_split, sum_by_split}
 use Rattle.rec_model.proofs.Places.{sum_at-le-from_get_or, sum_at_here-le, sum_at-sum_by}

@@ -3,10 +3,7 @@ use Rattle.std.proofs.Common.{◌≡◌, ◌≢◌, ◌⊎◌, inl, inr, ℕ, �
 use Rattle.std.proofs.lemmas.Bool.Decides.{nat_tests}
 use Rattle.std.proofs.lemmas.Bool.{true≢false}
 use Rattle.std.proofs.lemmas.List.Sums.{sum_by-le-sum_by, sum_by-cons}
-use Rattle.rec_model.specs.Sums.{only_if, one_if_same}
-use Rattle.rec_model.specs.Pending.{node_of, epoch_of, home, Pending, word_in}
-use Rattle.rec_model.specs.References.{IsInReach, references_at}
-use Rattle.rec_model.specs.Moves.{Puts, Registers, Bears, Applies, Releases, Clears, replaces_in, with_answer}
+use Rattle.rec_model.proofs.Common.{only_if, one_if_same, node_of, epoch_of, home, Pending, word_in, IsInReach, references_at, Puts, Registers, Bears, Applies, Releases, Clears, replaces_in, with_answer}
 use Rattle.rec_model.specs.Sets.{HasLoaded, Cleared, early, replaced_early, gone_early, is_unreleased, IsSince, with_members, ReleasesSet}
 use Rattle.rec_model.proofs.Sums.{sum_by_same}
 use Rattle.rec_model.proofs.Weights.{only_if-le, only_if_le, none_if_other}

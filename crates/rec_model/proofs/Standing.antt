@@ -3,15 +3,12 @@ use Rattle.std.proofs.Common.{◌≡◌, ◌≢◌, ◌⊎◌, inl, inr, ℕ, �
 use Rattle.std.proofs.lemmas.Bool.{false≢true, cond-true, cond-false, eq-eqb, ne_eqb, cases_eq}
 use Rattle.std.specs.Option.{option_map}
 use Rattle.rec_word.specs.Header.{is_leaf, IsHeaderOf}
-use Rattle.rec_word.specs.Word.{target_of}
 use Rattle.rec_word.specs.Place.{place_of}
-use Rattle.rec_model.specs.Reach.{named, is_in}
 use Rattle.rec_model.specs.Reach.IsReached.{root, child}
-use Rattle.rec_model.specs.Heap.{Heap, Field, Object, object, field, born, null_field, nothing, register, set_register, roots, with_register, with_field, with_object}
-use Rattle.rec_model.specs.Sight.{Sight, IsTaken, words_of, targets_of, word_at, Reaches, field_of, StandsBy, IsSound, sight_with_register, sight_with_word, sight_with_header}
 use Rattle.rec_model.specs.Explained.{GoesOnBy, with_number}
 use Rattle.std.proofs.Math.ListN.{get_or-map}
 use Rattle.std.proofs.lemmas.List.{get_or-take, get_or-drop, get_or-set_same, get_or-set_other, get_or_append_left, get_or_push, length_push, length-set, map-set}
+use Rattle.rec_model.proofs.Common.{target_of, named, is_in, Heap, Field, Object, object, field, born, null_field, nothing, register, set_register, roots, with_register, with_field, with_object, Sight, IsTaken, words_of, targets_of, word_at, Reaches, field_of, StandsBy, IsSound, sight_with_register, sight_with_word, sight_with_header}
 use Rattle.rec_model.proofs.Names.{named_at, named_set, named_tail, set_register_roots, set_register-map, register-map}
 use Rattle.rec_model.proofs.Within.{all_reached}
 use Rattle.rec_model.proofs.Words.{words_of-set_same, words_of-set_other, named-nulls}

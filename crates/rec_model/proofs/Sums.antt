@@ -1,7 +1,7 @@
 -- Sums of weights: a change of one element, and comparisons of weights.
 use Rattle.std.proofs.Common.{◌≡◌, ℕ, zero, suc, ◌+◌, ◌<◌, ◌≤◌, List, [], ◌∷◌, length, get_or, set, replicate, flat_map, sum_by, refl, arith, Bool, true, false, cond, map, filter}
 use Rattle.std.proofs.lemmas.List.Sums.{sum_by-cons, sum_by-append}
-use Rattle.rec_model.specs.Sums.{only_if, sum_at}
+use Rattle.rec_model.proofs.Common.{only_if, sum_at}
 
 pub sum_at-set : {X : Type 0} (f : ℕ → X → ℕ) (xs : List X) (i : ℕ) (y d : X) → i < length xs → sum_at f (set xs i y) + f i (get_or xs i d) ≡ sum_at f xs + f i y
 sum_at-set f [] i y d h = omega arith

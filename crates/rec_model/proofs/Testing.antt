@@ -3,11 +3,8 @@ use Rattle.std.proofs.Common.{◌≡◌, ◌⊎◌, inl, inr, ℕ, ◌+◌, ◌<
 use Rattle.std.proofs.lemmas.Bool.Decides.{nat_tests}
 use Rattle.std.proofs.lemmas.Bool.{cases_lt, true≢false}
 use Rattle.std.proofs.lemmas.List.Sums.{sum_by-le-sum_by}
-use Rattle.rec_model.specs.Pending.{home, Pending, word_in, is_at}
-use Rattle.rec_model.specs.References.{IsInReach}
-use Rattle.rec_model.specs.Moves.Move.{put, register, birth, crossing, request, batch, release, clearing, freeing, dropping}
-use Rattle.rec_model.specs.Moves.{Applies, replaces_in, Move}
-use Rattle.rec_model.specs.Accounted.{is_late_snapshot, is_wrong_register, names, puts_after, replaces_from, is_from, is_after, is_node, late, put_late, touches, IsHeldAt, names_unreleased, IsUnnamed, IsAccounted}
+use Rattle.rec_model.proofs.Common.{home, Pending, word_in, is_at, IsInReach, Applies, replaces_in, AccountMove, is_late_snapshot, is_wrong_register, names, puts_after, replaces_from, is_from, is_after, is_node, late, put_late, touches, IsHeldAt, names_unreleased, IsUnnamed, IsAccounted}
+use Rattle.rec_model.specs.Moves.AccountMove.{put, register, birth, crossing, request, batch, release, clearing, freeing, dropping}
 use Rattle.rec_model.specs.Sets.{PassesTests, IsMarked, Cleared, IsTesting, IsAmongTests, with_members, IsTested, ReleasesSet}
 use Rattle.rec_model.proofs.Sums.{sum_at-le-sum_at, sum_at_split, sum_by_le_unless, sum_by_split}
 use Rattle.rec_model.proofs.Ledgers.{epoch_after}
@@ -108,7 +105,7 @@ batch_testing w v member mark i s alive m = record {
 }
 
 -- the tests go on over the moves that may be made meanwhile
-pub move_testing : {w v u : Pending} {member : ℕ → Bool} → (m : Move w v) → IsAmongTests m → IsAccounted w → IsTesting w u member → IsTesting v u member
+pub move_testing : {w v u : Pending} {member : ℕ → Bool} → (m : AccountMove w v) → IsAmongTests m → IsAccounted w → IsTesting w u member → IsTesting v u member
 move_testing {w} {v} {u} {member} (put {epoch} {place} {new} s) _ i t = record {
   before = t.before;
   done = omega (arith, t.done, s.epochs.applied, s.epochs.requested);

@@ -3,11 +3,7 @@ use Rattle.std.proofs.Common.{◌≡◌, ◌⊎◌, inl, inr, ℕ, ◌+◌, ◌<
 use Rattle.std.proofs.lemmas.Bool.Decides.{nat_tests}
 use Rattle.std.proofs.lemmas.Bool.{cases_lt}
 use Rattle.std.proofs.lemmas.List.Sums.{sum_by-le-sum_by}
-use Rattle.rec_model.specs.Sums.{only_if, one_if_same, sum_at}
-use Rattle.rec_model.specs.Pending.{node_of, epoch_of, home, Write, Pending, word_in}
-use Rattle.rec_model.specs.References.{IsInReach, opened_to, closed_from, closed_in, closed_at, references_at}
-use Rattle.rec_model.specs.Moves.{puts_in, replaces_in}
-use Rattle.rec_model.specs.Accounted.{HasLedger, late, put_late, replaced_late, StandsOnce, touches, IsHeldAt}
+use Rattle.rec_model.proofs.Common.{only_if, one_if_same, sum_at, node_of, epoch_of, home, Write, Pending, word_in, IsInReach, opened_to, closed_from, closed_in, closed_at, references_at, puts_in, replaces_in, HasLedger, late, put_late, replaced_late, StandsOnce, touches, IsHeldAt}
 use Rattle.rec_model.specs.Sets.{seen_in, IsStanding, PassesTests, marked_in, IsMarked, Cleared, early, replaced_early, gone_early, is_unreleased, IsSince, with_members}
 use Rattle.rec_model.proofs.Sums.{get_or-le-sum_at, sum_at-le-sum_at, sum_by_split}
 use Rattle.rec_model.proofs.Places.{sum_at-le-from_get_or}

@@ -2,15 +2,12 @@
 use Rattle.std.proofs.Common.{◌≡◌, ◌≢◌, ◌⊎◌, inl, inr, ℕ, ◌+◌, ◌<◌, ◌≤◌, ◌==◌, zero, suc, List, [], ◌∷◌, ◌++◌, true, false, if◌then◌else◌, filter, not, slice_index_or, slice_set, length, refl, sym, ap, subst, ◌∙◌, arith}
 use Rattle.std.proofs.lemmas.Bool.{cases_Bool, cases_lt, false≢true}
 use Rattle.std.proofs.lemmas.List.{get_or_past, get_or-set_same, get_or-set_other}
+use Rattle.rec_model.proofs.Common.{is_in, IsDistinct, Heap, Sight, IsTaken, StandsBy}
 use Rattle.rec_model.specs.declared.command.Cmd.{Cmd}
 use Rattle.rec_model.specs.declared.told.Told.{Told}
-use Rattle.rec_model.specs.Reach.{is_in}
-use Rattle.rec_model.specs.Numbering.{IsDistinct}
-use Rattle.rec_model.specs.Heap.{Heap}
 use Rattle.rec_model.specs.Asking.{asked}
 use Rattle.rec_model.specs.Explained.{GoesOnBy}
 use Rattle.rec_model.specs.LegalOrder.{is_birth}
-use Rattle.rec_model.specs.Sight.{Sight, IsTaken, StandsBy}
 use Rattle.rec_model.specs.Unfreed.{AreUnfreed}
 use Rattle.rec_model.proofs.Births.{births}
 use Rattle.rec_model.proofs.Members.{is_in-left, is_in-right, is_in-head, is_in-tail, is_in-cases, is_in-cons, IsDistinct-push, distinct_below, distinct_within, is_in-without, without-is_in, IsDistinct-without}

@@ -1,8 +1,7 @@
 -- A weight behind a test on numbers.
 use Rattle.std.proofs.Common.{◌≡◌, ℕ, ◌+◌, ◌<◌, ◌≤◌, ◌≢◌, ◌⊎◌, Bool, true, false, eqb, ltb, leb, refl, arith}
 use Rattle.std.proofs.lemmas.Bool.Decides.{nat_tests}
-use Rattle.rec_model.specs.Sums.{only_if, one_if_same}
-use Rattle.rec_model.specs.Moves.{with_answer}
+use Rattle.rec_model.proofs.Common.{only_if, one_if_same, with_answer}
 
 pub only_if-le : (b : Bool) (n : ℕ) → only_if b n ≤ n
 only_if-le b n = grind arith

@@ -1,6 +1,6 @@
 -- What is reached stays within what was reached.
 use Rattle.std.proofs.Common.{◌≡◌, ℕ, List, true}
-use Rattle.rec_model.specs.Reach.{is_in, IsReached}
+use Rattle.rec_model.proofs.Common.{is_in, IsReached}
 use Rattle.rec_model.specs.Reach.IsReached.{root, child}
 
 -- whatever holds of the roots, and of the children of what it holds of, holds of all that is reached

@@ -4,11 +4,8 @@ use Rattle.std.proofs.Math.Nat.{mul-le-mul_left}
 use Rattle.std.proofs.Math.Seq.{take-set-lt}
 use Rattle.std.proofs.lemmas.Bool.{cases_lt}
 use Rattle.std.proofs.lemmas.List.{drop-set-add, drop-set-lt, take-set-le}
+use Rattle.rec_model.proofs.Common.{target_of, named, Field, null_field, Sight, words_of, field_of, sight_with_word}
 use Rattle.rec_word.specs.Place.{place_of}
-use Rattle.rec_word.specs.Word.{target_of}
-use Rattle.rec_model.specs.Reach.{named}
-use Rattle.rec_model.specs.Heap.{Field, null_field}
-use Rattle.rec_model.specs.Sight.{Sight, words_of, field_of, sight_with_word}
 
 -- the slot's own words
 pub words_of-set_same : (w : Sight) (slot f word : ℕ) → f < w.fields → words_of (sight_with_word w slot f word) slot ≡ slice_set (words_of w slot) f word

@@ -1,3 +1,4 @@
+-- The modules of the definitions.
 pub mod Accounted
 pub mod Asking
 pub mod Explained

@@ -219,14 +219,14 @@ pub record Drops (before after : Pending) : Type 0 where
   pub slots : KeepsSlots before after
 
 -- a move of a mutator or of the collector
-pub data Move (before after : Pending) : Type 0 where
-  put : {epoch place new : ℕ} → Puts before after epoch place new → Move before after
-  register : {epoch old new : ℕ} → Registers before after epoch old new → Move before after
-  birth : {epoch old node : ℕ} → Bears before after epoch old node → Move before after
-  crossing : {epoch : ℕ} {names : List ℕ} → Crosses before after epoch names → Move before after
-  request : Requests before after → Move before after
-  batch : Applies before after → Move before after
-  release : {node : ℕ} → Releases before after node → Move before after
-  clearing : {place : ℕ} → Clears before after place → Move before after
-  freeing : {node : ℕ} → Frees before after node → Move before after
-  dropping : Drops before after → Move before after
+pub data AccountMove (before after : Pending) : Type 0 where
+  put : {epoch place new : ℕ} → Puts before after epoch place new → AccountMove before after
+  register : {epoch old new : ℕ} → Registers before after epoch old new → AccountMove before after
+  birth : {epoch old node : ℕ} → Bears before after epoch old node → AccountMove before after
+  crossing : {epoch : ℕ} {names : List ℕ} → Crosses before after epoch names → AccountMove before after
+  request : Requests before after → AccountMove before after
+  batch : Applies before after → AccountMove before after
+  release : {node : ℕ} → Releases before after node → AccountMove before after
+  clearing : {place : ℕ} → Clears before after place → AccountMove before after
+  freeing : {node : ℕ} → Frees before after node → AccountMove before after
+  dropping : Drops before after → AccountMove before after

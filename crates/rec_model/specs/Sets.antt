@@ -4,8 +4,8 @@ use Rattle.std.specs.List.{sum_by}
 use Rattle.rec_model.specs.Sums.{only_if, one_if_same, sum_at, HasSameSums, HasSameSumsAt}
 use Rattle.rec_model.specs.Pending.{node_of, epoch_of, home, Write, Pending}
 use Rattle.rec_model.specs.References.{IsInReach, closed_at, references_at}
-use Rattle.rec_model.specs.Moves.{KeepsEpochs, KeepsLogs, puts_in, replaces_in, Move}
-use Rattle.rec_model.specs.Moves.Move.{put, register, birth, crossing, batch, release, clearing}
+use Rattle.rec_model.specs.Moves.{KeepsEpochs, KeepsLogs, puts_in, replaces_in, AccountMove}
+use Rattle.rec_model.specs.Moves.AccountMove.{put, register, birth, crossing, batch, release, clearing}
 use Rattle.rec_model.specs.Accounted.{IsAccounted}
 
 -- counted where the field is a member's, and the word that was seen in it names the node
@@ -44,7 +44,7 @@ abbrev pub with_load : (load : ℕ → ℕ) → (place word : ℕ) → ℕ → �
 with_load load place word p = if p == place then word else load p
 
 -- the moves that leave what was loaded a reference
-abbrev pub IsAfterLoads : {before after : Pending} → Move before after → Type 0
+abbrev pub IsAfterLoads : {before after : Pending} → AccountMove before after → Type 0
 IsAfterLoads (batch s) = ⊥
 IsAfterLoads (clearing s) = ⊥
 IsAfterLoads _ = Unit {0}
@@ -93,7 +93,7 @@ pub record IsTesting (w u : Pending) (member : ℕ → Bool) : Type 0 where
   pub since : (gone : List Cleared) × IsSince w u member gone
 
 -- the moves that may be made while sets are tested
-abbrev pub IsAmongTests : {before after : Pending} → Move before after → Type 0
+abbrev pub IsAmongTests : {before after : Pending} → AccountMove before after → Type 0
 IsAmongTests (put s) = Unit {0}
 IsAmongTests (register s) = Unit {0}
 IsAmongTests (birth s) = Unit {0}

@@ -56,8 +56,8 @@ pub record StandsBy (heap : Heap) (w : Sight) (number : ℕ → ℕ) : Type 0 wh
 
 -- The heap stands for what is seen: its objects are one to one to the taken slots, with equal labels and leaf marks, and the registers,
 -- and the fields and field words of every slot that a register reaches, agree.
-abbrev pub StandsFor : Heap → Sight → Type 0
-StandsFor heap w = (number : ℕ → ℕ) × StandsBy heap w number
+abbrev pub Represents : Heap → Sight → Type 0
+Represents heap w = (number : ℕ → ℕ) × StandsBy heap w number
 
 -- just the slots on a path of fields from a register hold objects
 abbrev pub IsCollected : Sight → Type 0

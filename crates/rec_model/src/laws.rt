@@ -4,12 +4,12 @@ ghost use Rattle.std.specs.Prelude.{◌≡◌, ◌↔◌, ◌+◌, ◌<◌, ◌�
 ghost use Rattle.rec_model.specs.Reach.{is_in, IsReached};
 ghost use Rattle.rec_model.specs.Numbering.{IsNumbering, IsDistinct};
 ghost use Rattle.rec_model.specs.Heap.{Heap};
-ghost use Rattle.rec_model.specs.Sight.{Sight, StandsFor, IsCollected, Reaches};
+ghost use Rattle.rec_model.specs.Sight.{Sight, Represents, IsCollected, Reaches};
 ghost use Rattle.rec_model.specs.Listing.{Row, IsListing, ListsSlots};
 ghost use Rattle.rec_model.specs.Sums.{one_if_same, sum_at};
 ghost use Rattle.rec_model.specs.Pending.{Pending, node_of, epoch_of, home, word_in, Holds};
 ghost use Rattle.rec_model.specs.References.{count_formula, IsInReach, IsWriteInReach};
-ghost use Rattle.rec_model.specs.Moves.{Move, added, taken};
+ghost use Rattle.rec_model.specs.Moves.{AccountMove, added, taken};
 ghost use Rattle.rec_model.specs.Accounted.{IsAccounted, HasUncountedReleased, is_dead, names, named, named_anywhere};
 ghost use Rattle.rec_model.specs.Opened.{IsOpening, opening};
 ghost use Rattle.rec_model.specs.Seen.{IsSightOf};
@@ -27,7 +27,7 @@ pub fn numbering_is_unique()
 
 /// Where just the reached slots hold objects, the rows read off the slots are the listing of every heap that stands for them.
 pub fn listing_stands()
-    ensures { (heap : Heap) (w : Sight) (rows : List Row) → StandsFor heap w → IsCollected w → ListsSlots w rows → IsListing heap rows }
+    ensures { (heap : Heap) (w : Sight) (rows : List Row) → Represents heap w → IsCollected w → ListsSlots w rows → IsListing heap rows }
 {}
 
 /// A heap has one listing.
@@ -39,7 +39,7 @@ pub fn listing_is_unique()
 pub fn moves_keep_accounts()
     ensures there { (fields places epoch mutators nulls : ℕ) → 0 < epoch → IsOpening (opening fields places epoch mutators nulls) epoch mutators }
     ensures opened { (w : Pending) (epoch mutators : ℕ) → IsOpening w epoch mutators → IsAccounted w }
-    ensures moved { (before after : Pending) → Move before after → IsAccounted before → IsAccounted after }
+    ensures moved { (before after : Pending) → AccountMove before after → IsAccounted before → IsAccounted after }
 {}
 
 /// The true count of each node is the count formula at the applied epoch: the references of that epoch to it, how often the
@@ -94,5 +94,5 @@ pub fn the_given_up_are_uncounted()
     ensures counted { (w : Pending) → IsAccounted w → (node : ℕ) → 0 < node → w.released node ≡ true → w.count node ≡ sum_at (names node) w.words }
     ensures emptied { (w : Pending) → IsAccounted w → ((place : ℕ) → place < length w.words → w.released (home w.fields place) ≡ true → node_of (word_in w place) ≡ 0) → HasUncountedReleased w }
     ensures opened { (w : Pending) (epoch mutators : ℕ) → IsOpening w epoch mutators → HasUncountedReleased w }
-    ensures moved { (before after : Pending) → Move before after → IsAccounted before → HasUncountedReleased before → HasUncountedReleased after }
+    ensures moved { (before after : Pending) → AccountMove before after → IsAccounted before → HasUncountedReleased before → HasUncountedReleased after }
 {}

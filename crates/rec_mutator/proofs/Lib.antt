@@ -1,3 +1,4 @@
+-- The modules of the proofs.
 pub mod Around
 pub mod Found
 pub mod LogStamps

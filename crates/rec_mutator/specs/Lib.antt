@@ -1,3 +1,4 @@
+-- The modules of the definitions.
 pub mod Causes
 pub mod Inside
 pub mod Next

@@ -18,7 +18,7 @@ use Rattle.rec_mutator.specs.Private.{Private, is_busy_at}
 use Rattle.rec_mutator.specs.declared.phase.Phase.{Phase}
 use Rattle.rec_mutator.specs.declared.phase.Phase.TheVariants as at
 use Rattle.rec_collector.specs.Next.{next_of}
-use Rattle.rec_core.specs.Asked.{told_in, told_in_all}
+use Rattle.rec_core.specs.RunAnswers.{told_in, told_in_all}
 use Rattle.rec_core.specs.Core.{Core, sight, mutator, nobody, log_length}
 use Rattle.rec_core.specs.Kept.{IsKept}
 use Rattle.rec_core.specs.Moves.{Move, AllFit, after_move, after_moves}

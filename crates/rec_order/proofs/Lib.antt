@@ -1,3 +1,4 @@
+-- The modules of the proofs.
 pub mod Agreement
 pub mod Legal
 pub mod NextAnswer

@@ -29,7 +29,7 @@ use Rattle.rec_core.specs.Core.{Core, sight, cells_of, mutator, log_length}
 use Rattle.rec_core.specs.Kept.{IsKept, HasLearnt, HasPassed}
 use Rattle.rec_core.specs.Moves.{found_by, stepped}
 use Rattle.rec_core.specs.Pending.{epoch_at}
-use Rattle.rec_core.specs.Shown.{IsDecided, IsFilled, IsBirthplace}
+use Rattle.rec_core.specs.StepAnswers.{IsDecided, IsFilled, IsBirthplace}
 use Rattle.rec_core.proofs.Actors.{epoch_here}
 use Rattle.rec_core.proofs.Steps.{actor_of}
 use Rattle.rec_order.specs.Naming.{Naming}

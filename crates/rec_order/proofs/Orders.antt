@@ -26,13 +26,13 @@ use Rattle.rec_mutator.specs.declared.phase.Phase.TheVariants as at
 use Rattle.rec_mutator.specs.declared.work.Work.{Work}
 use Rattle.rec_mutator.specs.declared.work.Work.TheVariants as works
 use Rattle.rec_collector.specs.Next.{next_of}
-use Rattle.rec_core.specs.Asked.{told_by}
+use Rattle.rec_core.specs.RunAnswers.{told_by}
 use Rattle.rec_core.specs.Config.{IsMutator}
 use Rattle.rec_core.specs.Core.{Core, sight, mutator, nobody, log_length}
 use Rattle.rec_core.specs.Kept.{IsKept}
 use Rattle.rec_core.specs.Moves.{Move, Fits, AllFit, after_move, after_moves, stepped, turned, begun_from, offering}
 use Rattle.rec_core.specs.Pending.{epoch_at}
-use Rattle.rec_core.specs.Shown.{IsDecided, entries_of}
+use Rattle.rec_core.specs.StepAnswers.{IsDecided, entries_of}
 use Rattle.rec_core.specs.Swept.{SweepsNothing, IsSweep}
 use Rattle.rec_core.specs.Swept.IsSweep.{rests, marks, frees}
 use Rattle.rec_core.specs.declared.config.Config.{Config}

@@ -15,13 +15,13 @@ use Rattle.rec_mutator.specs.declared.made.Made.TheVariants as makes
 use Rattle.rec_mutator.specs.declared.work.Work.{Work}
 use Rattle.rec_mutator.specs.declared.work.Work.TheVariants as works
 use Rattle.rec_mutator.proofs.Polls.{busy_none}
-use Rattle.rec_core.specs.Asked.{told_by}
+use Rattle.rec_core.specs.RunAnswers.{told_by}
 use Rattle.rec_core.specs.Cells.{births_of}
 use Rattle.rec_core.specs.Config.{IsMutator, HasLabel}
 use Rattle.rec_core.specs.Core.{Core, sight, mutator}
 use Rattle.rec_core.specs.Kept.{IsKept}
 use Rattle.rec_core.specs.Moves.{Move, Fits, AllFit, after_move, after_moves, begun, stepped, turned, found_by}
-use Rattle.rec_core.specs.Shown.{IsDecided}
+use Rattle.rec_core.specs.StepAnswers.{IsDecided}
 use Rattle.rec_core.specs.Worked.{StepsTo, IsWorked}
 use Rattle.rec_core.proofs.Asked.{begun_sight}
 use Rattle.rec_core.proofs.Runs.{after_both, fit_both, move_kept}

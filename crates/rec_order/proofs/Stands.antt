@@ -18,7 +18,7 @@ use Rattle.rec_model.proofs.Lives.{unreached_is_dead}
 use Rattle.rec_model.proofs.Standing.{taken_is_other}
 use Rattle.rec_model.proofs.Unfreed.{taken_or_free, unfreed_after, unfreed_after_free, unfreed_same}
 use Rattle.rec_core.specs.Core.{Core, sight}
-use Rattle.rec_core.specs.Shown.{IsDecided, IsBirthplace, sight_told, sight_with_birth}
+use Rattle.rec_core.specs.StepAnswers.{IsDecided, IsBirthplace, sight_told, sight_with_birth}
 use Rattle.rec_core.specs.Swept.{swept}
 use Rattle.rec_order.specs.Naming.{Naming, born_in}
 use Rattle.rec_order.proofs.Agreement.{agree_goes_on}

@@ -20,7 +20,7 @@ use Rattle.rec_core.specs.Config.{IsMutator}
 use Rattle.rec_core.specs.Core.{Core, sight, cells_of, mutator, box}
 use Rattle.rec_core.specs.Kept.{IsKept}
 use Rattle.rec_core.specs.Moves.{Move, found_by, stepped}
-use Rattle.rec_core.specs.Shown.{IsDecided, IsBirthplace, probed_at}
+use Rattle.rec_core.specs.StepAnswers.{IsDecided, IsBirthplace, probed_at}
 use Rattle.rec_core.proofs.Showing.{stepped_mutator}
 use Rattle.rec_core.proofs.Steps.{actor_of}
 use Rattle.rec_order.specs.Naming.{Naming, born_in, named_by, named_after}

@@ -4,7 +4,7 @@ use Rattle.rec_word.specs.declared.op.Op.{Op}
 use Rattle.rec_word.specs.declared.op.Op.TheVariants.{FreeHeader, AddFreed}
 use Rattle.rec_model.specs.LegalOrder.{Event}
 use Rattle.rec_collector.specs.Next as collector_next
-use Rattle.rec_core.specs.Asked.{told_in}
+use Rattle.rec_core.specs.RunAnswers.{told_in}
 use Rattle.rec_core.specs.Core.{Core}
 use Rattle.rec_core.specs.Moves.{Move, after_move}
 use Rattle.rec_order.specs.Naming.{Naming, named_after}

@@ -5,7 +5,7 @@ use Rattle.rec_model.specs.Heap.{Heap}
 use Rattle.rec_model.specs.LegalOrder.{Line, Limits, Moment, line_by, after_all, IsLegalOrder}
 use Rattle.rec_model.specs.Sight.{StandsBy}
 use Rattle.rec_model.specs.Unfreed.{AreUnfreed}
-use Rattle.rec_core.specs.Asked.{told_in_all}
+use Rattle.rec_core.specs.RunAnswers.{told_in_all}
 use Rattle.rec_core.specs.Config.{IsMutator}
 use Rattle.rec_core.specs.Core.{Core, sight}
 use Rattle.rec_core.specs.Moves.{Move, after_moves}

@@ -1,3 +1,4 @@
+-- The modules of the definitions.
 pub mod Events
 pub mod Legal
 pub mod Naming

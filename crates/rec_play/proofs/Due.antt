@@ -13,7 +13,7 @@ use Rattle.rec_core.specs.Config.{IsMutator}
 use Rattle.rec_core.specs.Core.{Core, mutator}
 use Rattle.rec_core.specs.declared.config.Config.{Config}
 use Rattle.rec_order.specs.Legal.{AreIdle}
-use Rattle.rec_script.specs.Script.{Contents, IsScript}
+use Rattle.rec_script.specs.Script.{ScriptContents, IsScript}
 use Rattle.rec_play.specs.declared.actor.Actor.{Actor}
 use Rattle.rec_play.specs.declared.actor.Actor.TheVariants.{Mutator, Collector}
 use Rattle.rec_play.specs.Moves.{AreDue, IsSpent, Player, made_by}
@@ -24,11 +24,11 @@ use Rattle.rec_play.specs.Run.{commands_of}
 use Rattle.rec_play.proofs.Orders.{order_comes, order_names}
 
 -- a script has few mutators
-pub few_mutators : (script : Contents) → IsScript script → length script.commands ≤ 8
+pub few_mutators : (script : ScriptContents) → IsScript script → length script.commands ≤ 8
 few_mutators script is = is.most_mutators
 
 -- a mutator of the heap is one of the script
-pub is_of_script : (script : Contents) (w : Core) (t : ℕ) → w.config ≡ config_of script → IsMutator w.config t → (1 ≤ t) × (t ≤ length script.commands)
+pub is_of_script : (script : ScriptContents) (w : Core) (t : ℕ) → w.config ≡ config_of script → IsMutator w.config t → (1 ≤ t) × (t ≤ length script.commands)
 is_of_script script w t config is = subst (λ (c : Config). IsMutator c t) config is
 
 -- all are idle where the others' records stay
@@ -42,17 +42,17 @@ others_idle before after t config stay idle all s there =
     ]
 
 -- a mutator's commands, by its index
-pub commands_are : (script : Contents) (t : ℕ) → 0 < t → commands_of script t ≡ slice_index_or script.commands (t - 1) []
+pub commands_are : (script : ScriptContents) (t : ℕ) → 0 < t → commands_of script t ≡ slice_index_or script.commands (t - 1) []
 commands_are script zero some = absurd (omega (arith, some))
 commands_are script (suc i) some = ap (λ n. slice_index_or script.commands n []) (let same : i ≡ suc i - 1 = omega arith in same)
 
 -- whoever has a command is one of the script's mutators
-pub record HasCommand (script : Contents) (t m : ℕ) : Type 0 where
+pub record HasCommand (script : ScriptContents) (t m : ℕ) : Type 0 where
   pub some : 1 ≤ t
   pub most : t ≤ length script.commands
   pub next : m < length (commands_of script t)
 
-pub has_command : (script : Contents) (t m : ℕ) (cmd : Cmd) → slice_get (commands_of script t) m ≡ Some cmd → HasCommand script t m
+pub has_command : (script : ScriptContents) (t m : ℕ) (cmd : Cmd) → slice_get (commands_of script t) m ≡ Some cmd → HasCommand script t m
 has_command script zero m cmd is = absurd (omega (arith, slice_get_within [] m cmd is))
 has_command script (suc i) m cmd is =
     let within : m < length (slice_index_or script.commands i []) = slice_get_within (slice_index_or script.commands i []) m cmd is in
@@ -66,7 +66,7 @@ has_command script (suc i) m cmd is =
     }
 
 -- how many commands a mutator has
-pub lengths_at : (script : Contents) (t : ℕ) → 1 ≤ t → t ≤ length script.commands → slice_index_or (lengths_of script) (t - 1) 0 ≡ length (commands_of script t)
+pub lengths_at : (script : ScriptContents) (t : ℕ) → 1 ≤ t → t ≤ length script.commands → slice_index_or (lengths_of script) (t - 1) 0 ≡ length (commands_of script t)
 lengths_at script t some most = get_or-map (length {A = Cmd}) script.commands (t - 1) [] 0 (omega (arith, some, most)) ∙ ap length (sym (commands_are script t some))
 
 -- a mutator that comes first has a turn more to come
@@ -78,7 +78,7 @@ pub none_made : (t : ℕ) → made_by (replicate 8 0) t ≡ 0
 none_made t = elim (cases_lt (t - 1) 8) [ inl there ↦ get_or-replicate 8 (t - 1) 0 0 there | inr past ↦ get_or_past (replicate 8 0) (t - 1) 0 past ]
 
 -- Before the first turn all are to come.
-pub due_first : (script : Contents) (seed turns : ℕ) (p : Player) → IsScript script → p.script ≡ script → p.rest ≡ record { left = lengths_of script; generator = generator_of seed; turns = turns } → p.made ≡ replicate 8 0 → AreDue p
+pub due_first : (script : ScriptContents) (seed turns : ℕ) (p : Player) → IsScript script → p.script ≡ script → p.rest ≡ record { left = lengths_of script; generator = generator_of seed; turns = turns } → p.made ≡ replicate 8 0 → AreDue p
 due_first script seed turns p valid same rest none =
     let names : IsOrderFor (lengths_of script) (order (lengths_of script) seed turns) = order_names (lengths_of script) seed turns in
     let comes : mutators_of (to_come p.rest) ≡ order (lengths_of script) seed turns = ap (λ r. mutators_of (to_come r)) rest ∙ order_comes (lengths_of script) seed turns in

@@ -30,7 +30,7 @@ use Rattle.rec_order.specs.Events.{swept_by}
 use Rattle.rec_order.specs.Naming.{Naming, NamesGoOn, first_naming}
 use Rattle.rec_order.proofs.Legal.{swept_lines}
 use Rattle.rec_order.proofs.Runs.{Runs, runs_both, runs_one, commanded_runs, polled_runs}
-use Rattle.rec_script.specs.Script.{Contents, AreCommands, IsCommand, IsScript}
+use Rattle.rec_script.specs.Script.{ScriptContents, AreCommands, IsCommand, IsScript}
 use Rattle.rec_settle.specs.Collecting.{Follows}
 use Rattle.rec_play.specs.Moves.{Carries}
 use Rattle.rec_play.specs.Played.{config_of}
@@ -68,13 +68,13 @@ pub actors_swept : (events : List Event) (n : Naming) (w : Core) → actors (eve
 actors_swept events n w = filter_map-append actor events (swept_by n (next_of w.collector)) ∙ ap (λ ts. actors events ++ ts) (swept_actors n (next_of w.collector)) ∙ append-nil (actors events)
 
 -- Moves from the opening tell these events, and each mutator's first commands were answered.
-pub record Went (script : Contents) (events : List Event) (n : Naming) (world : Core) : Type 0 where
+pub record Went (script : ScriptContents) (events : List Event) (n : Naming) (world : Core) : Type 0 where
   pub valid : IsScript script
   pub run : Runs (opened (config_of script)) world events first_naming n
   pub commands : (t : ℕ) → map (λ (line : Line). line.0) (filter_map (line_by t) events) ≡ take (made_in events t) (commands_of script t)
 
 -- Before the first turn.
-pub begun : (script : Contents) → IsScript script → Went script [] first_naming (opened (config_of script))
+pub begun : (script : ScriptContents) → IsScript script → Went script [] first_naming (opened (config_of script))
 begun script is = record { valid = is; run = record { moves = []; fit = tt; ends = refl; tells = refl; names = refl }; commands = λ t. refl }
 
 -- moves leave the heap's numbers
@@ -82,18 +82,18 @@ moves_stay : (w : Core) (ms : List Move) → (after_moves w ms).config ≡ w.con
 moves_stay w [] = refl
 moves_stay w (m ∷ ms) = moves_stay (after_move w m) ms ∙ move_stays w m
 
-runs_config : (script : Contents) (w : Core) (events : List Event) (n : Naming) → Runs (opened (config_of script)) w events first_naming n → w.config ≡ config_of script
+runs_config : (script : ScriptContents) (w : Core) (events : List Event) (n : Naming) → Runs (opened (config_of script)) w events first_naming n → w.config ≡ config_of script
 runs_config script w events n run = ap (λ (x : Core). x.config) (sym run.ends) ∙ moves_stay (opened (config_of script)) run.moves
 
-pub runs_kept : (script : Contents) (w : Core) (events : List Event) (n : Naming) → IsScript script → Runs (opened (config_of script)) w events first_naming n → IsKept w
+pub runs_kept : (script : ScriptContents) (w : Core) (events : List Event) (n : Naming) → IsScript script → Runs (opened (config_of script)) w events first_naming n → IsKept w
 runs_kept script w events n is run = run_kept (opened (config_of script)) run.moves w (script_config script is) (record { starts = IsStart.opens refl; fit = run.fit; ends = run.ends })
 
 -- operands in range are those of a mutator
-operands : (script : Contents) (p : Private) (cmd : Cmd) → length p.registers ≡ script.registers → p.fields ≡ script.fields → IsCommand script.registers script.fields cmd → HasOperands p cmd × HasLabel (works.Command cmd)
+operands : (script : ScriptContents) (p : Private) (cmd : Cmd) → length p.registers ≡ script.registers → p.fields ≡ script.fields → IsCommand script.registers script.fields cmd → HasOperands p cmd × HasLabel (works.Command cmd)
 operands script p cmd registers fields is = (operands_same cmd (sym registers) (sym fields) is.0, is.1)
 
 -- a mutator's next command has operands in range
-next_in_range : (script : Contents) (t m : ℕ) (cmd : Cmd) → IsScript script → slice_get (commands_of script t) m ≡ Some cmd → IsCommand script.registers script.fields cmd
+next_in_range : (script : ScriptContents) (t m : ℕ) (cmd : Cmd) → IsScript script → slice_get (commands_of script t) m ≡ Some cmd → IsCommand script.registers script.fields cmd
 next_in_range script t m cmd is next =
     let there : HasCommand script t m = has_command script t m cmd next in
     let cmds : List Cmd = slice_index_or script.commands (t - 1) [] in
@@ -103,7 +103,7 @@ next_in_range script t m cmd is next =
     subst (IsCommand script.registers script.fields) (get_or_from_slice_get cmds m cmd cmd its) (All-get_or (IsCommand script.registers script.fields) cmds m cmd (slice_get_within cmds m cmd its) all.in_range)
 
 -- the mutators' first commands, one more
-commands_more : (script : Contents) (events : List Event) (t : ℕ) (cmd : Cmd) (told : Told) → slice_get (commands_of script t) (made_in events t) ≡ Some cmd
+commands_more : (script : ScriptContents) (events : List Event) (t : ℕ) (cmd : Cmd) (told : Told) → slice_get (commands_of script t) (made_in events t) ≡ Some cmd
     → ((s : ℕ) → map (λ (line : Line). line.0) (filter_map (line_by s) events) ≡ take (made_in events s) (commands_of script s))
     → (s : ℕ) → map (λ (line : Line). line.0) (filter_map (line_by s) (events ++ Answers t (cmd, told) ∷ [])) ≡ take (made_in (events ++ Answers t (cmd, told) ∷ []) s) (commands_of script s)
 commands_more script events t cmd told next so s = elim (cases_eq t s) [
@@ -125,7 +125,7 @@ commands_more script events t cmd told next so s = elim (cases_eq t s) [
 ]
 
 -- a mutator of the script is one of the heap
-pub is_mutator : (script : Contents) (world : Core) (t : ℕ) → world.config ≡ config_of script → 0 < t → t ≤ length script.commands → IsMutator world.config t
+pub is_mutator : (script : ScriptContents) (world : Core) (t : ℕ) → world.config ≡ config_of script → 0 < t → t ≤ length script.commands → IsMutator world.config t
 is_mutator script world t config some most = subst (λ (c : Config). IsMutator c t) (sym config) (some, most)
 
 -- the naming goes on over a command and the poll before it
@@ -134,7 +134,7 @@ names_from before mid after line n k seen (NamesGoOn.born slot birth free taken)
 names_from before mid after line n k seen (NamesGoOn.same unborn) = NamesGoOn.same unborn
 
 -- A command more, behind a poll.
-pub went_command : (script : Contents) (events : List Event) (n : Naming) (before after : Core) (t : ℕ) (cmd : Cmd) (told : Told) → AreIdle before → Carries script t (made_in events t) before cmd told after → Went script events n before
+pub went_command : (script : ScriptContents) (events : List Event) (n : Naming) (before after : Core) (t : ℕ) (cmd : Cmd) (told : Told) → AreIdle before → Carries script t (made_in events t) before cmd told after → Went script events n before
     → (k : Naming) × NamesGoOn before after (cmd, told) n k × Went script (events ++ Answers t (cmd, told) ∷ []) k after
 went_command script events n before after t cmd told idle carries so =
     let first : Core = opened (config_of script) in
@@ -159,7 +159,7 @@ went_command script events n before after t cmd told idle carries so =
     )
 
 -- A turn of the collector more, and the poll that follows it.
-pub went_step : (script : Contents) (done : ℕ → Type 0) (events : List Event) (n : Naming) (before after : Core) → AreIdle before → Follows done before after → Went script events n before
+pub went_step : (script : ScriptContents) (done : ℕ → Type 0) (events : List Event) (n : Naming) (before after : Core) → AreIdle before → Follows done before after → Went script events n before
     → Went script (events ++ swept_by n (next_of before.collector)) n after
 went_step script done events n before after idle follows so = record {
   valid = so.valid;

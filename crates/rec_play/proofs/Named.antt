@@ -6,7 +6,7 @@ use Rattle.rec_model.specs.declared.told.Told.{Told}
 use Rattle.rec_model.specs.LegalOrder.{is_birth}
 use Rattle.rec_model.specs.Sight.{Sight, IsTaken}
 use Rattle.rec_core.specs.Core.{Core, sight}
-use Rattle.rec_core.specs.Shown.{sight_told}
+use Rattle.rec_core.specs.StepAnswers.{sight_told}
 use Rattle.rec_order.specs.Naming.{Naming, NamesGoOn, born_in}
 use Rattle.rec_order.proofs.Stands.{birth_headers}
 use Rattle.rec_world.specs.World.{IsLowestFree}

@@ -26,7 +26,7 @@ use Rattle.rec_core.proofs.Rest.TurnRules.{turn_is}
 use Rattle.rec_core.proofs.TurnCases.{TurnCase}
 use Rattle.rec_order.specs.Naming.{Naming}
 use Rattle.rec_core.specs.Turn.{TurnHasCause}
-use Rattle.rec_script.specs.Script.{Contents}
+use Rattle.rec_script.specs.Script.{ScriptContents}
 use Rattle.rec_settle.specs.Collecting.{Finishes, HasPolled, IsAmid, IsAwaited, IsCollection, IsSettling}
 use Rattle.rec_settle.proofs.Amid.{quiet_after, quiet_amid}
 use Rattle.rec_settle.proofs.Settles.{offering_quiet, one, two}
@@ -101,7 +101,7 @@ waits_once : (w : Core) (t s : ℕ) → WaitsFor w t → WaitsFor w s → t ≡ 
 waits_once w t s a b = let looks : ◌≡◌ {A = Phase} (Looking t) (Looking s) = sym a.looks ∙ b.looks in cc
 
 -- a mutator's turn leaves one heap
-turn_once : (script : Contents) (e f : List Event) (t : ℕ) (cmd cmd' : Cmd) (told told' : Told) (before v u : Core) → made_in e t ≡ made_in f t → IsTurnOf script e t cmd told before v → IsTurnOf script f t cmd' told' before u → v ≡ u
+turn_once : (script : ScriptContents) (e f : List Event) (t : ℕ) (cmd cmd' : Cmd) (told told' : Told) (before v u : Core) → made_in e t ≡ made_in f t → IsTurnOf script e t cmd told before v → IsTurnOf script f t cmd' told' before u → v ≡ u
 turn_once script e f t cmd cmd' told told' before v u made a b =
     let next : ◌≡◌ {A = Option Cmd} (Some cmd) (Some cmd') = sym a.next ∙ ap (slice_get (commands_of script t)) made ∙ b.next in
     let same : cmd ≡ cmd' = cc in
@@ -109,7 +109,7 @@ turn_once script e f t cmd cmd' told told' before v u made a b =
     worked_once b.polled t (works.Command cmd') v u (subst (λ (c : Cmd). IsWorked b.polled t (works.Command c) v) same (subst (λ (x : Core). IsWorked x t (works.Command cmd) v) polled a.command)) b.command
 
 -- and so does the collector's
-ends_once : (script : Contents) (e f : ℕ → ℕ) (before mid v u : Core) → ((t : ℕ) → e t ≡ f t) → EndsTurn script e before mid v → EndsTurn script f before mid u → v ≡ u
+ends_once : (script : ScriptContents) (e f : ℕ → ℕ) (before mid v u : Core) → ((t : ℕ) → e t ≡ f t) → EndsTurn script e before mid v → EndsTurn script f before mid u → v ≡ u
 ends_once script e f before mid v u same (EndsTurn.polls t waits spent poll) (EndsTurn.polls s waits' spent' poll') =
     worked_once mid t works.Poll v u poll (subst (λ n. IsWorked mid n works.Poll u) (waits_once before s t waits' waits) poll')
 ends_once script e f before mid v u same (EndsTurn.polls t waits spent poll) (EndsTurn.rests left is) = absurd (omega (arith, spent, same t, left t waits))
@@ -121,11 +121,11 @@ no_push : (xs : List Actor) (a : Actor) → [] ≡ xs ++ a ∷ [] → ⊥
 no_push xs a is = omega (arith, ap length is, length_push xs a)
 
 -- a mutator has made as many commands as it had turns
-made_named : (script : Contents) (acted : List Actor) (events : List Event) (n : Naming) (w : Core) → IsPlayedRun script acted events n w → (t : ℕ) → made_in events t ≡ times t (mutators_of acted)
+made_named : (script : ScriptContents) (acted : List Actor) (events : List Event) (n : Naming) (w : Core) → IsPlayedRun script acted events n w → (t : ℕ) → made_in events t ≡ times t (mutators_of acted)
 made_named script acted events n w run t = sym (turns_are_lines t events) ∙ ap (times t) (acts_named script acted events n w run)
 
 -- The same turns come to the same heap.
-same_run : (script : Contents) (xs ys : List Actor) (e f : List Event) (n k : Naming) (v u : Core) → xs ≡ ys → IsPlayedRun script xs e n v → IsPlayedRun script ys f k u → v ≡ u
+same_run : (script : ScriptContents) (xs ys : List Actor) (e f : List Event) (n k : Naming) (v u : Core) → xs ≡ ys → IsPlayedRun script xs e n v → IsPlayedRun script ys f k u → v ≡ u
 same_run script _ _ _ _ _ _ _ _ same IsPlayedRun.starts IsPlayedRun.starts = refl
 same_run script _ _ _ _ _ _ _ _ same IsPlayedRun.starts (IsPlayedRun.turn ys f m k before u s cmd told run is names) = absurd (no_push ys (Mutator s) same)
 same_run script _ _ _ _ _ _ _ _ same IsPlayedRun.starts (IsPlayedRun.collects ys f k before u run ends) = absurd (no_push ys Collector same)
@@ -147,7 +147,7 @@ same_run script _ _ _ _ _ _ _ _ same (IsPlayedRun.collects xs e n before v run e
     let made : (t : ℕ) → made_in e t ≡ made_in f t = λ t. made_named script xs e n before run t ∙ ap (λ zs. times t (mutators_of zs)) first ∙ sym (made_named script ys f k before' run' t) in
     ends_once script (made_in e) (made_in f) before (turned before) v u made ends (subst (λ (x : Core). EndsTurn script (made_in f) x (turned x) u) earlier ends')
 
-pub run_once : (script : Contents) (actors : List Actor) (e f : List Event) (n k : Naming) (v u : Core) → IsPlayedRun script actors e n v → IsPlayedRun script actors f k u → v ≡ u
+pub run_once : (script : ScriptContents) (actors : List Actor) (e f : List Event) (n k : Naming) (v u : Core) → IsPlayedRun script actors e n v → IsPlayedRun script actors f k u → v ≡ u
 run_once script actors e f n k v u a b = same_run script actors actors e f n k v u refl a b
 
 -- where the collector waits, its turn changes nothing

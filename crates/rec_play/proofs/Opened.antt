@@ -19,7 +19,7 @@ use Rattle.rec_order.specs.Events.{events_of}
 use Rattle.rec_order.specs.Legal.{limits_of, moment_of, HasLegalOrder}
 use Rattle.rec_order.proofs.Legal.{run_legal, lines_of}
 use Rattle.rec_order.proofs.Runs.{moves_made}
-use Rattle.rec_script.specs.Script.{Contents}
+use Rattle.rec_script.specs.Script.{ScriptContents}
 use Rattle.rec_play.specs.Played.{config_of, opening_moment, last_moment}
 use Rattle.rec_play.specs.Played as played
 use Rattle.rec_play.proofs.Going.{Went}
@@ -38,28 +38,28 @@ done_opened config (suc n) =
     map_push (λ (p : Private). length p.log.entries) (opened_mutators config n) (opened_mutator config (suc n)) ∙ ap (λ ns. ns ++ 0 ∷ []) (done_opened config n) ∙ replicate_push n 0
 
 -- what is played has a legal order, and its heap stands for the world
-pub record IsPlayedLegally (script : Contents) (world : Core) (lines : List (List Line)) (events : List Event) (n : Naming) : Type 0 where
+pub record IsPlayedLegally (script : ScriptContents) (world : Core) (lines : List (List Line)) (events : List Event) (n : Naming) : Type 0 where
   pub legal : IsLegalOrder (played.limits_of script) (opening_moment script) lines events
   pub stands : StandsBy (last_moment script events).heap (sight world) n.number
   pub made : world.made ≡ length (last_moment script events).heap.objects
 
 -- the opening heap of a script
-abbrev pub heap_of : Contents → Heap
+abbrev pub heap_of : ScriptContents → Heap
 heap_of script = opening script.fields script.registers (length script.commands)
 
 -- it stands for the opened world, and its object is unfreed there
-pub stands_opened : (script : Contents) → 0 < script.slots → StandsBy (heap_of script) (sight (opened (config_of script))) opening_number
+pub stands_opened : (script : ScriptContents) → 0 < script.slots → StandsBy (heap_of script) (sight (opened (config_of script))) opening_number
 stands_opened script some =
     subst (λ (s : Sight). StandsBy (heap_of script) s opening_number) (sym (sight_opened (config_of script)))
     (opening_stands_by script.slots script.fields script.registers (length script.commands) some)
 
-pub unfreed_opened : (script : Contents) → AreUnfreed (sight (opened (config_of script))) opening_number (0 ∷ [])
+pub unfreed_opened : (script : ScriptContents) → AreUnfreed (sight (opened (config_of script))) opening_number (0 ∷ [])
 unfreed_opened script =
     subst (λ (s : Sight). AreUnfreed s opening_number (0 ∷ [])) (sym (sight_opened (config_of script)))
     (opening_unfreed script.slots script.fields script.registers (length script.commands))
 
 -- a legal order of the moves of a run from the opening is one from the opening moment, and its heap stands for the world at the end
-pub ordered_legally : (script : Contents) (world : Core) (moves : List Move) (lines : List (List Line)) → HasLegalOrder (opened (config_of script)) (heap_of script) opening_number (0 ∷ []) moves lines
+pub ordered_legally : (script : ScriptContents) (world : Core) (moves : List Move) (lines : List (List Line)) → HasLegalOrder (opened (config_of script)) (heap_of script) opening_number (0 ∷ []) moves lines
     → after_moves (opened (config_of script)) moves ≡ world
     → IsPlayedLegally script world lines (events_of first_naming (opened (config_of script)) moves) (named_after_all first_naming (opened (config_of script)) moves)
 ordered_legally script world moves lines all leads =
@@ -81,7 +81,7 @@ ordered_legally script world moves lines all leads =
     }
 
 -- by the law of every run
-pub played_legally : (script : Contents) (world : Core) (lines : List (List Line)) (events : List Event) (n : Naming) → length lines ≡ length script.commands
+pub played_legally : (script : ScriptContents) (world : Core) (lines : List (List Line)) (events : List Event) (n : Naming) → length lines ≡ length script.commands
     → ((t : ℕ) → 0 < t → filter_map (line_by t) events ≡ slice_index_or lines (t - 1) []) → Went script events n world → IsPlayedLegally script world lines events n
 played_legally script world lines events n one_each own so =
     let first : Core = opened (config_of script) in

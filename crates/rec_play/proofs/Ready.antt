@@ -10,7 +10,7 @@ use Rattle.rec_model.specs.declared.command.Cmd.{Cmd}
 use Rattle.rec_core.specs.Config.{IsConfig}
 use Rattle.rec_core.specs.declared.config.Config.{Config}
 use Rattle.rec_world.specs.Journal.{Notes, no_notes}
-use Rattle.rec_script.specs.Script.{Contents, IsScript}
+use Rattle.rec_script.specs.Script.{ScriptContents, IsScript}
 use Rattle.rec_play.specs.Played.{AreReady, config_of, longest, log_room}
 
 -- a mutator's commands fit its log
@@ -74,12 +74,12 @@ longest_is all most bound (k, found, there, is, most_is) =
     omega arith
 
 -- the heap's numbers
-pub config_is : (script : Contents) (slots fields registers mutators room : ℕ) → slots ≡ script.slots → fields ≡ script.fields → registers ≡ script.registers → mutators ≡ length script.commands → room ≡ log_room script
+pub config_is : (script : ScriptContents) (slots fields registers mutators room : ℕ) → slots ≡ script.slots → fields ≡ script.fields → registers ≡ script.registers → mutators ≡ length script.commands → room ≡ log_room script
     → ◌≡◌ {A = Config} (record { slots = slots; fields = fields; registers = registers; mutators = mutators; log_entries = room; first_epoch = 1 }) (config_of script)
 config_is script slots fields registers mutators room s f r m l = cc
 
 -- a script's numbers are those of a heap
-pub script_config : (script : Contents) → IsScript script → IsConfig (config_of script)
+pub script_config : (script : ScriptContents) → IsScript script → IsConfig (config_of script)
 script_config script is =
     let entries : longest script.commands ≤ 200000 = longest_within script.commands 200000 (λ i within. (is.commands i [] within).few) in
     record {

@@ -10,7 +10,7 @@ use Rattle.rec_model.specs.Asking.{is_done}
 use Rattle.rec_model.specs.LegalOrder.{Line, Event, Limits, Moment, Fits, after, bump, line_by, moment, IsLegalOrder}
 use Rattle.rec_model.specs.LegalOrder.Event.{Answers, Frees, Marks}
 use Rattle.rec_model.proofs.Opened.{nulls_at}
-use Rattle.rec_script.specs.Script.{Contents}
+use Rattle.rec_script.specs.Script.{ScriptContents}
 use Rattle.rec_play.specs.Played.{limits_of, log_room, longest, opening_moment}
 use Rattle.rec_play.proofs.Ready.{fits_longest}
 
@@ -67,7 +67,7 @@ never_full limits t m (Answers s line ∷ events) some numbered fits room = elim
 ]
 
 -- Journals with the script's commands and a legal order tell no full log.
-pub no_log_full : (script : Contents) (journals : List (List Line)) (events : List Event) → map (map (λ (line : Line). line.0)) journals ≡ script.commands
+pub no_log_full : (script : ScriptContents) (journals : List (List Line)) (events : List Event) → map (map (λ (line : Line). line.0)) journals ≡ script.commands
     → IsLegalOrder (limits_of script) (opening_moment script) journals events → All (All HasRoom) journals
 no_log_full script journals events commands legal = All-from_get_or (All HasRoom) journals [] each
   where

@@ -24,7 +24,7 @@ use Rattle.rec_order.specs.Events.{swept_by}
 use Rattle.rec_order.specs.Naming.{Naming, NamesGoOn, first_naming}
 use Rattle.rec_world.specs.Journal.{Notes, no_notes}
 use Rattle.rec_world.specs.Order.{Turns}
-use Rattle.rec_script.specs.Script.{Contents, IsScript}
+use Rattle.rec_script.specs.Script.{ScriptContents, IsScript}
 use Rattle.rec_settle.specs.Collecting.{Follows}
 use Rattle.rec_play.specs.declared.actor.Actor.{Actor}
 use Rattle.rec_play.specs.declared.actor.Actor.TheVariants.{Mutator, Collector}
@@ -39,11 +39,11 @@ use Rattle.rec_play.proofs.Room.{no_log_full}
 use Rattle.rec_play.proofs.Orders.{order_names, order_length, collectors, collectors_few}
 
 -- each mutator has made as many commands as were answered
-abbrev pub AreCounted : Contents → (made : List ℕ) → List Event → Type 0
+abbrev pub AreCounted : ScriptContents → (made : List ℕ) → List Event → Type 0
 AreCounted script made events = (t : ℕ) → 1 ≤ t → t ≤ length script.commands → made_by made t ≡ made_in events t
 
 -- A command more is counted.
-pub counted_more : (script : Contents) (made : List ℕ) (events : List Event) (t : ℕ) (line : Line) → 1 ≤ t → t - 1 < length made → AreCounted script made events
+pub counted_more : (script : ScriptContents) (made : List ℕ) (events : List Event) (t : ℕ) (line : Line) → 1 ≤ t → t - 1 < length made → AreCounted script made events
     → AreCounted script (slice_set made (t - 1) (made_by made t + 1)) (events ++ Answers t line ∷ [])
 counted_more script made events t line first there so s some most = elim (cases_eq t s) [
   | inl same ↦
@@ -57,7 +57,7 @@ counted_more script made events t line first there so s some most = elim (cases_
 ]
 
 -- The run goes on with a command,
-pub run_made : (script : Contents) (made : List ℕ) (acted : List Actor) (events : List Event) (n k : Naming) (before after : Core) (t : ℕ) (cmd : Cmd) (told : Told) → AreCounted script made events
+pub run_made : (script : ScriptContents) (made : List ℕ) (acted : List Actor) (events : List Event) (n k : Naming) (before after : Core) (t : ℕ) (cmd : Cmd) (told : Told) → AreCounted script made events
     → Carries script t (made_by made t) before cmd told after → NamesGoOn before after (cmd, told) n k → IsPlayedRun script acted events n before
     → IsPlayedRun script (acted ++ Mutator t ∷ []) (events ++ Answers t (cmd, told) ∷ []) k after
 run_made script made acted events n k before after t cmd told counted carries names run =
@@ -73,7 +73,7 @@ run_made script made acted events n k before after t cmd told counted carries na
     names
 
 -- and with a step of the collector.
-pub run_stepped : (script : Contents) (made : List ℕ) (acted : List Actor) (events : List Event) (n : Naming) (before after : Core) → before.config ≡ config_of script → IsKept before → AreCounted script made events
+pub run_stepped : (script : ScriptContents) (made : List ℕ) (acted : List Actor) (events : List Event) (n : Naming) (before after : Core) → before.config ≡ config_of script → IsKept before → AreCounted script made events
     → Follows (IsSpent script made) before after → IsPlayedRun script acted events n before → IsPlayedRun script (acted ++ Collector ∷ []) (events ++ swept_by n (next_of before.collector)) n after
 run_stepped script made acted events n before after config kept counted follows run = IsPlayedRun.collects acted events n before after run (go follows)
   where
@@ -91,7 +91,7 @@ run_stepped script made acted events n before after config kept counted follows 
         ]) is
 
 -- The answers of a run stand in the order of its turns.
-pub acts_named : (script : Contents) (acted : List Actor) (events : List Event) (n : Naming) (w : Core) → IsPlayedRun script acted events n w → actors events ≡ mutators_of acted
+pub acts_named : (script : ScriptContents) (acted : List Actor) (events : List Event) (n : Naming) (w : Core) → IsPlayedRun script acted events n w → actors events ≡ mutators_of acted
 acts_named script _ _ _ _ IsPlayedRun.starts = refl
 acts_named script _ _ _ _ (IsPlayedRun.turn acted events n k before after t cmd told run is names) =
     filter_map-append actor events (Answers t (cmd, told) ∷ []) ∙ ap (λ ts. ts ++ t ∷ []) (acts_named script acted events n before run) ∙ sym (filter_map-append number_of_actor acted (Mutator t ∷ []))
@@ -109,7 +109,7 @@ journal_is journals index t d same some there =
     ∙ get_or_from_slice_get journals (t - 1) (notes_at journals (t - 1)) d (slice_get-get_or journals (t - 1) no_notes (omega arith))
 
 -- what was played so far, what is to come, and what room is left
-pub record Between (script : Contents) (seed turns : ℕ) (world : Core) (journals : List Notes) (noted : Turns) (p : Player) : Type 0 where
+pub record Between (script : ScriptContents) (seed turns : ℕ) (world : Core) (journals : List Notes) (noted : Turns) (p : Player) : Type 0 where
   pub of : p.script ≡ script
   pub idle : AreIdle world
   pub long : length p.made ≡ 8
@@ -132,7 +132,7 @@ pub record Between (script : Contents) (seed turns : ℕ) (world : Core) (journa
   pub epochs : world.epoch + collectors (to_come p.rest) ≤ 1 + turns
 
 -- Before the first turn.
-pub start : (script : Contents) (seed turns : ℕ) (world : Core) (journals : List Notes) (noted : Turns) (p : Player) → IsScript script → AreIdle world
+pub start : (script : ScriptContents) (seed turns : ℕ) (world : Core) (journals : List Notes) (noted : Turns) (p : Player) → IsScript script → AreIdle world
     → world ≡ opened (config_of script) → AreReady script.commands journals → noted.list ≡ [] → sum (lengths_of script) ≤ noted.room
     → p.script ≡ script → p.rest ≡ record { left = lengths_of script; generator = generator_of seed; turns = turns } → p.made ≡ replicate 8 0
     → Between script seed turns world journals noted p
@@ -169,14 +169,14 @@ start script seed turns world journals noted p valid idle is ready none room of 
     room_for (suc i) = subst (λ n. length (slice_index_or script.commands i []) ≤ (notes_at journals n).room + 0) (let same : i ≡ suc i - 1 = omega arith in same) (omega (arith, ready.room i))
 
 -- the mutator whose turn was made, and the room to note it
-pub record HasRoom (script : Contents) (journals : List Notes) (noted : Turns) (t : ℕ) : Type 0 where
+pub record HasRoom (script : ScriptContents) (journals : List Notes) (noted : Turns) (t : ℕ) : Type 0 where
   pub some : 0 < t
   pub there : t ≤ length journals
   pub journal_room : 0 < (notes_at journals (t - 1)).room
   pub order_room : 0 < noted.room
 
 -- A mutator's turn was made.
-module _ (script : Contents) (seed turns : ℕ) (before after : Core) (journals : List Notes) (noted : Turns) (p q : Player) (t : ℕ) (cmd : Cmd) (told : Told)
+module _ (script : ScriptContents) (seed turns : ℕ) (before after : Core) (journals : List Notes) (noted : Turns) (p q : Player) (t : ℕ) (cmd : Cmd) (told : Told)
     (so : Between script seed turns before journals noted p) (makes : MakesCommand p q before after t cmd told) where
   carries : Carries script t (made_by p.made t) before cmd told after
   carries = subst (λ s. Carries s t (made_by p.made t) before cmd told after) so.of makes.carries
@@ -250,7 +250,7 @@ module _ (script : Contents) (seed turns : ℕ) (before after : Core) (journals 
           (subst (λ (j : Notes). length (commands_of script t) ≤ j.room + made_in (so.events ++ Answers t (cmd, told) ∷ []) t) (sym here) (omega (arith, so.journal_room t, has_room.journal_room, room, longer)))
 
 -- A turn of the collector was made.
-pub step_made : (script : Contents) (seed turns : ℕ) (before after : Core) (journals : List Notes) (noted : Turns) (p q : Player) (seen : Option (Op × ℕ)) (turn : Turn) → MakesStep p q before after seen turn
+pub step_made : (script : ScriptContents) (seed turns : ℕ) (before after : Core) (journals : List Notes) (noted : Turns) (p q : Player) (seen : Option (Op × ℕ)) (turn : Turn) → MakesStep p q before after seen turn
     → q.script ≡ p.script → AreIdle after → after.config ≡ config_of script → Between script seed turns before journals noted p → Between script seed turns after journals noted q
 step_made script seed turns before after journals noted p q seen turn makes same idle config so =
     let follows : Follows (IsSpent script p.made) before after = subst (λ s. Follows (IsSpent s p.made) before after) so.of makes.steps.follows in
@@ -276,7 +276,7 @@ step_made script seed turns before after journals noted p q seen turn makes same
     }
 
 -- After the last turn.
-module _ (script : Contents) (seed turns : ℕ) (world : Core) (journals : List Notes) (noted : Turns) (p : Player) (none : to_come p.rest ≡ []) (so : Between script seed turns world journals noted p) where
+module _ (script : ScriptContents) (seed turns : ℕ) (world : Core) (journals : List Notes) (noted : Turns) (p : Player) (none : to_come p.rest ≡ []) (so : Between script seed turns world journals noted p) where
   -- the order is the rule's
   named : mutators_of so.acted ≡ order (lengths_of script) seed turns
   named = sym (append-nil (mutators_of so.acted)) ∙ ap (λ later. mutators_of so.acted ++ mutators_of later) (sym none) ∙ order_is (lengths_of script) seed turns so.acted (to_come p.rest) so.all

@@ -1,6 +1,7 @@
 -- A walk goes on by the turns of its run, and then of settling.
-use Rattle.std.proofs.Common.{◌≡◌, inl, inr, ℕ, ◌+◌, ◌^◌, ◌<◌, ◌≤◌, [], ◌∷◌, ◌++◌, Option, length, replicate, refl, sym, ap, subst, ◌∙◌, arith}
+use Rattle.std.proofs.Common.{◌≡◌, inl, inr, ℕ, ◌+◌, ◌<◌, ◌≤◌, [], ◌∷◌, ◌++◌, Option, length, replicate, refl, sym, ap, subst, ◌∙◌, arith}
 use Rattle.std.proofs.lemmas.List.{append-nil, append_assoc}
+use Rattle.rec_word.specs.declared.word.TheConstants.{LAST_EPOCH}
 use Rattle.rec_word.specs.declared.op.Op.{Op}
 use Rattle.rec_model.specs.LegalOrder.Event.{Answers}
 use Rattle.rec_collector.specs.Next.{next_of}
@@ -12,7 +13,7 @@ use Rattle.rec_order.specs.Naming.{first_naming}
 use Rattle.rec_core.specs.Turn.{step_seen}
 use Rattle.rec_world.specs.World.{IsWorld}
 use Rattle.rec_world.proofs.Calls.{world_kept}
-use Rattle.rec_script.specs.Script.{Contents}
+use Rattle.rec_script.specs.Script.{ScriptContents}
 use Rattle.rec_settle.specs.Collecting.{Anyone, Follows, HasStepped}
 use Rattle.rec_settle.specs.Left.{left_in}
 use Rattle.rec_settle.specs.Stages as settling
@@ -26,7 +27,7 @@ use Rattle.rec_play.specs.Numbers.{config_of}
 use Rattle.rec_play.specs.Played.{lengths_of}
 use Rattle.rec_play.specs.Playing.{Rest, generator_of, to_come}
 use Rattle.rec_play.specs.Run.{IsPlayedRun, made_in}
-use Rattle.rec_play.specs.Watched.{HasPlayed, HasSettled, IsAt, IsPlaying, IsWatched, Tells, Watched, offered, player_of}
+use Rattle.rec_play.specs.Watched.{HasPlayed, IsSettlingAt, IsAt, IsPlaying, IsWatched, Tells, Watched, offered, player_of}
 use Rattle.rec_play.specs.declared.actor.Actor.TheVariants.{Mutator, Collector}
 use Rattle.rec_play.specs.declared.moves.Move.{Move}
 use Rattle.rec_play.specs.declared.moves.Move.TheVariants.{Command, Step}
@@ -132,7 +133,7 @@ module _ (w : Watched) (playing : w.stage ≡ Playing) (is : IsWatched w) (none 
   first_nearer = omega (arith, first_left w.world (world_kept w.world is.kept), ap (λ s. left_at s w) playing)
 
   -- or too few epochs are left.
-  pub spent : 2 ^ 24 ≤ w.world.epoch + 4 → IsWatched (record w { stage = EpochsSpent })
+  pub spent : LAST_EPOCH < w.world.epoch + 4 → IsWatched (record w { stage = EpochsSpent })
   spent few = record {
     at = record { so = record { events = has_played.events; names = has_played.names; run = has_played.run; all = has_played.all }; few = few };
     rule = is.rule;
@@ -144,7 +145,7 @@ module _ (w : Watched) (playing : w.stage ≡ Playing) (is : IsWatched w) (none 
 
 -- A turn of settling was made.
 module _ (w : Watched) (to next : to_settle.Settling) (world : Core) (stage : w.stage ≡ Settling to) (is : IsWatched w) where
-  came : HasSettled w to
+  came : IsSettlingAt w to
   came = subst (λ s. IsAt s w) stage is.at
 
   pub come_on : ((first : Core) → HasCome first to w.world → HasCome first next world) → AreIdle world → world.config ≡ w.world.config → IsWorld world → IsWatched (record w { stage = Settling next; world = world })
@@ -176,7 +177,7 @@ module _ (w : Watched) (to next : to_settle.Settling) (world : Core) (stage : w.
       follows (Follows.rests left same) = Follows.rests (λ t waits spent. left t waits tt) same
 
 -- A walk is opened.
-pub opens : (script : Contents) (seed turns : ℕ) (w : Watched) → w.script ≡ script → w.stage ≡ Playing → w.rule ≡ record { left = lengths_of script; generator = generator_of seed; turns = turns }
+pub opens : (script : ScriptContents) (seed turns : ℕ) (w : Watched) → w.script ≡ script → w.stage ≡ Playing → w.rule ≡ record { left = lengths_of script; generator = generator_of seed; turns = turns }
     → w.rest ≡ record { left = lengths_of script; generator = generator_of seed; turns = turns } → w.made ≡ replicate 8 0 → w.world ≡ opened (config_of script) → AreDue (player_of w) → AreIdle w.world → IsWorld w.world → IsWatched w
 opens script seed turns w of stage rule rest made world due idle kept = record {
   at = subst (λ s. IsAt s w) (sym stage) first;

@@ -1,3 +1,4 @@
+-- The modules of the definitions.
 pub mod Inside
 pub mod InsidePlaying
 pub mod InsideWalk

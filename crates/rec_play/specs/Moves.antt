@@ -13,7 +13,7 @@ use Rattle.rec_core.specs.Core.{Core, mutator}
 use Rattle.rec_core.specs.Worked.{IsWorked}
 use Rattle.rec_order.specs.Naming.{Naming, NamesGoOn}
 use Rattle.rec_core.specs.Turn.{step_seen}
-use Rattle.rec_script.specs.Script.{Contents, IsScript}
+use Rattle.rec_script.specs.Script.{ScriptContents, IsScript}
 use Rattle.rec_settle.specs.Collecting.{HasStepped}
 use Rattle.rec_play.specs.Played.{lengths_of}
 use Rattle.rec_play.specs.Playing.{Rest, mutators_of, to_come}
@@ -27,12 +27,12 @@ abbrev pub made_by : List ℕ → ℕ → ℕ
 made_by made t = slice_index_or made (t - 1) 0
 
 -- a mutator has no command left
-abbrev pub IsSpent : Contents → (made : List ℕ) → ℕ → Type 0
+abbrev pub IsSpent : ScriptContents → (made : List ℕ) → ℕ → Type 0
 IsSpent script made t = length (commands_of script t) ≤ made_by made t
 
 -- a run in the middle: its script, what the rule still has, and how many commands each mutator has made
 pub record Player : Type 0 where
-  pub script : Contents
+  pub script : ScriptContents
   pub rest : Rest
   pub made : List ℕ
 
@@ -45,7 +45,7 @@ pub record AreDue (p : Player) : Type 0 where
 
 -- A mutator that had made so many commands polled, made its next one, and was told this. Whichever object each slot held, each that
 -- is named now is the same, or was born by this.
-pub record Carries (script : Contents) (t made : ℕ) (before : Core) (cmd : Cmd) (told : Told) (after : Core) : Type 0 where
+pub record Carries (script : ScriptContents) (t made : ℕ) (before : Core) (cmd : Cmd) (told : Told) (after : Core) : Type 0 where
   pub next : slice_get (commands_of script t) made ≡ Some cmd
   pub polled : Core
   pub poll : IsWorked before t works.Poll polled

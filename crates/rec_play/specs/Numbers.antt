@@ -2,7 +2,7 @@
 use Rattle.std.specs.Prelude.{ℕ, max, List, [], ◌∷◌, length}
 use Rattle.rec_model.specs.declared.command.Cmd.{Cmd}
 use Rattle.rec_core.specs.declared.config.Config.{Config}
-use Rattle.rec_script.specs.Script.{Contents}
+use Rattle.rec_script.specs.Script.{ScriptContents}
 
 -- the greatest number of commands of a mutator
 abbrev pub longest : List (List Cmd) → ℕ
@@ -10,11 +10,11 @@ longest [] = 0
 longest (cmds ∷ rest) = max (length cmds) (longest rest)
 
 -- the room of each log: that of the longest mutator, and at least one entry
-abbrev pub log_room : Contents → ℕ
+abbrev pub log_room : ScriptContents → ℕ
 log_room script = max (longest script.commands) 1
 
 -- the numbers of the heap that a script runs on
-abbrev pub config_of : Contents → Config
+abbrev pub config_of : ScriptContents → Config
 config_of script =
     record {
       slots = script.slots;

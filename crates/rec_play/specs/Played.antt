@@ -8,17 +8,17 @@ use Rattle.rec_model.specs.Sight.{StandsBy}
 use Rattle.rec_core.specs.Core.{Core, sight}
 use Rattle.rec_world.specs.Journal.{Notes, no_notes}
 use Rattle.rec_order.specs.Naming.{Naming}
-use Rattle.rec_script.specs.Script.{Contents}
+use Rattle.rec_script.specs.Script.{ScriptContents}
 use Rattle.rec_play.specs.Playing.{order, all_turns}
 use Rattle.rec_play.specs.Run.{IsPlayedRun}
 pub use Rattle.rec_play.specs.Numbers.{longest, log_room, config_of}
 
 -- the numbers that its one order speaks of
-abbrev pub limits_of : Contents → Limits
+abbrev pub limits_of : ScriptContents → Limits
 limits_of script = record { fields = script.fields; slots = script.slots; log_entries = log_room script }
 
 -- the opening heap, its object not freed, no marks made, and logs that are empty
-abbrev pub opening_moment : Contents → Moment
+abbrev pub opening_moment : ScriptContents → Moment
 opening_moment script =
     record {
       heap = opening script.fields script.registers (length script.commands);
@@ -29,11 +29,11 @@ opening_moment script =
     }
 
 -- the moment after all events of an order
-abbrev pub last_moment : Contents → List Event → Moment
+abbrev pub last_moment : ScriptContents → List Event → Moment
 last_moment script = after_all (limits_of script) (opening_moment script)
 
 -- how many commands each mutator has
-abbrev pub lengths_of : Contents → List ℕ
+abbrev pub lengths_of : ScriptContents → List ℕ
 lengths_of script = map length script.commands
 
 -- the lines of each journal
@@ -49,7 +49,7 @@ pub record AreReady (commands : List (List Cmd)) (journals : List Notes) : Type 
 -- The journals hold the script's commands with what was told, and no log was full. One legal order from the opening heap explains
 -- them, and its answers stand in the order of the playing rule. What was told is what the run tells that the rule's turns make up,
 -- with the frees and the sweeps of the collector's turns, and the world is the one at its end.
-pub record IsPlayed (script : Contents) (seed turns : ℕ) (journals : List (List Line)) (events : List Event) (world : Core) : Type 0 where
+pub record IsPlayed (script : ScriptContents) (seed turns : ℕ) (journals : List (List Line)) (events : List Event) (world : Core) : Type 0 where
   pub commands : map (map (λ line. line.0)) journals ≡ script.commands
   pub legal : IsLegalOrder (limits_of script) (opening_moment script) journals events
   pub in_order : actors events ≡ order (lengths_of script) seed turns

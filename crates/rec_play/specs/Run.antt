@@ -14,13 +14,13 @@ use Rattle.rec_core.specs.Moves.{turned}
 use Rattle.rec_core.specs.Worked.{IsWorked, WaitsFor}
 use Rattle.rec_order.specs.Events.{swept_by}
 use Rattle.rec_order.specs.Naming.{Naming, NamesGoOn, first_naming}
-use Rattle.rec_script.specs.Script.{Contents}
+use Rattle.rec_script.specs.Script.{ScriptContents}
 use Rattle.rec_play.specs.declared.actor.Actor.{Actor}
 use Rattle.rec_play.specs.declared.actor.Actor.TheVariants.{Mutator, Collector}
 use Rattle.rec_play.specs.Numbers.{config_of}
 
 -- the commands of a mutator, numbered from 1
-abbrev pub commands_of : Contents → ℕ → List Cmd
+abbrev pub commands_of : ScriptContents → ℕ → List Cmd
 commands_of script zero = []
 commands_of script (suc i) = slice_index_or script.commands i []
 
@@ -29,7 +29,7 @@ abbrev pub made_in : List Event → ℕ → ℕ
 made_in events t = length (filter_map (line_by t) events)
 
 -- A mutator's turn after these events: it polls, makes its next command, and is told this.
-pub record IsTurnOf (script : Contents) (events : List Event) (t : ℕ) (cmd : Cmd) (told : Told) (before after : Core) : Type 0 where
+pub record IsTurnOf (script : ScriptContents) (events : List Event) (t : ℕ) (cmd : Cmd) (told : Told) (before after : Core) : Type 0 where
   pub next : slice_get (commands_of script t) (made_in events t) ≡ Some cmd
   pub polled : Core
   pub poll : IsWorked before t works.Poll polled
@@ -38,13 +38,13 @@ pub record IsTurnOf (script : Contents) (events : List Event) (t : ℕ) (cmd : C
 
 -- How a turn of the collector ends, after its step, where each mutator has made so many commands. One for which it waited, and
 -- that has no command left, polls: no turn of its own comes in which it could cross. Else nothing follows.
-pub data EndsTurn (script : Contents) (made : ℕ → ℕ) (before stepped after : Core) : Type 0 where
+pub data EndsTurn (script : ScriptContents) (made : ℕ → ℕ) (before stepped after : Core) : Type 0 where
   polls : (t : ℕ) → WaitsFor before t → length (commands_of script t) ≤ made t → IsWorked stepped t works.Poll after → EndsTurn script made before stepped after
   rests : ((t : ℕ) → WaitsFor before t → made t < length (commands_of script t)) → after ≡ stepped → EndsTurn script made before stepped after
 
 -- The run of a script by these turns, one after the other from the opening of its heap: what was told, which object each slot holds
 -- then, and the world at its end. A slot that a turn of the collector frees tells the object that it holds.
-pub data IsPlayedRun (script : Contents) : List Actor → List Event → Naming → Core → Type 0 where
+pub data IsPlayedRun (script : ScriptContents) : List Actor → List Event → Naming → Core → Type 0 where
   starts : IsPlayedRun script [] [] first_naming (opened (config_of script))
   turn : (actors : List Actor) (events : List Event) (n k : Naming) (before after : Core) (t : ℕ) (cmd : Cmd) (told : Told)
       → IsPlayedRun script actors events n before → IsTurnOf script events t cmd told before after → NamesGoOn before after (cmd, told) n k

@@ -1,5 +1,6 @@
 -- A run in the middle, and its settling, as it is watched.
-use Rattle.std.specs.Prelude.{◌≡◌, ◌⊎◌, ℕ, ◌+◌, ◌^◌, ◌≤◌, Option, List, [], ◌++◌, ◌∷◌, length}
+use Rattle.std.specs.Prelude.{◌≡◌, ◌⊎◌, ℕ, ◌+◌, ◌<◌, ◌≤◌, Option, List, [], ◌++◌, ◌∷◌, length}
+use Rattle.rec_word.specs.declared.word.TheConstants.{LAST_EPOCH}
 use Rattle.rec_word.specs.declared.op.Op.{Op}
 use Rattle.rec_model.specs.LegalOrder.{Event}
 use Rattle.rec_model.specs.declared.command.Cmd.{Cmd}
@@ -10,7 +11,7 @@ use Rattle.rec_core.specs.Worked.{AreIdle}
 use Rattle.rec_order.specs.Naming.{Naming}
 use Rattle.rec_core.specs.Turn.{step_seen}
 use Rattle.rec_world.specs.World.{IsWorld}
-use Rattle.rec_script.specs.Script.{Contents}
+use Rattle.rec_script.specs.Script.{ScriptContents}
 use Rattle.rec_settle.specs.Collecting.{HasStepped}
 use Rattle.rec_settle.specs.Stages as settling
 use Rattle.rec_settle.specs.Stages.{HasCome}
@@ -31,7 +32,7 @@ use Rattle.rec_play.specs.declared.stage.Stage.TheVariants.{Playing, Settling, E
 -- The script, the playing rule at its start, how far the run has come, what the rule still has, how many commands each mutator has
 -- made, and the heap.
 pub record Watched : Type 0 where
-  pub script : Contents
+  pub script : ScriptContents
   pub rule : Rest
   pub stage : Stage
   pub rest : Rest
@@ -43,7 +44,7 @@ abbrev pub player_of : Watched → Player
 player_of w = record { script = w.script; rest = w.rest; made = w.made }
 
 -- it is the rule of this script, by some seed and number of drawn turns
-pub record IsRuleOf (script : Contents) (rule : Rest) : Type 0 where
+pub record IsRuleOf (script : ScriptContents) (rule : Rest) : Type 0 where
   pub seed : ℕ
   pub turns : ℕ
   pub is : rule ≡ record { left = lengths_of script; generator = generator_of seed; turns = turns }
@@ -66,7 +67,7 @@ pub record HasPlayed (w : Watched) (played : Core) : Type 0 where
   pub all : (t : ℕ) → 1 ≤ t → t ≤ length w.script.commands → IsSpent w.script w.made t
 
 -- From there settling has come so far.
-pub record HasSettled (w : Watched) (to : to_settle.Settling) : Type 0 where
+pub record IsSettlingAt (w : Watched) (to : to_settle.Settling) : Type 0 where
   pub played : Core
   pub so : HasPlayed w played
   pub come : HasCome played to w.world
@@ -74,12 +75,12 @@ pub record HasSettled (w : Watched) (to : to_settle.Settling) : Type 0 where
 -- Fewer than four epochs are left there, and settling hasn't begun.
 pub record AreSpent (w : Watched) : Type 0 where
   pub so : HasPlayed w w.world
-  pub few : 2 ^ 24 ≤ w.world.epoch + 4
+  pub few : LAST_EPOCH < w.world.epoch + 4
 
 -- how far the run has come, by its stage
 abbrev pub IsAt : Stage → Watched → Type 0
 IsAt Playing w = IsPlaying w
-IsAt (Settling to) w = HasSettled w to
+IsAt (Settling to) w = IsSettlingAt w to
 IsAt EpochsSpent w = AreSpent w
 
 -- What holds between two moves.
@@ -91,11 +92,12 @@ pub record IsWatched (w : Watched) : Type 0 where
   pub config : w.world.config ≡ config_of w.script
   pub kept : IsWorld w.world
 
--- a stage in which no move is left
+-- settling is done
 abbrev pub IsDone : to_settle.Settling → Type 0
 IsDone Settled = Unit {0}
 IsDone _ = ⊥
 
+-- a stage in which no move is left
 abbrev pub IsOver : Stage → Type 0
 IsOver Playing = ⊥
 IsOver (Settling to) = IsDone to

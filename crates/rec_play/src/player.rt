@@ -1,8 +1,7 @@
 //! The run of a script by the playing rule, turn by turn.
 
-ghost use Rattle.std.specs.Prelude.{◌≡◌, ℕ, ◌+◌, ◌<◌, ◌≤◌, [], IfSome, IsNone, length, replicate};
+ghost use Rattle.std.specs.Prelude.{◌≡◌, ◌+◌, ◌<◌, ◌≤◌, [], IfSome, IsNone, length, replicate};
 ghost use Rattle.rec_core.specs.Worked.{AreIdle};
-ghost use Rattle.rec_script.specs.Script.{IsScript};
 ghost use Rattle.rec_settle.specs.Collecting.{HasStepped};
 ghost use Rattle.rec_core.specs.Turn.{step_seen};
 ghost use Rattle.rec_world.specs.World.{IsWorld};
@@ -75,6 +74,7 @@ impl<'a> Playing<'a> {
     {
         let told = self.turn(world);
         self.rules();
+        // A clause of the call: the world is kept.
         let _epoch = world.epoch();
         told
     }

@@ -3,7 +3,7 @@
 ghost use Rattle.std.specs.Prelude.{◌≡◌, ◌+◌, ◌≤◌, List, [], length};
 ghost use Rattle.std.specs.List.{sum};
 ghost use Rattle.rec_model.specs.LegalOrder.{Event};
-ghost use Rattle.rec_model.specs.Sight.{StandsFor};
+ghost use Rattle.rec_model.specs.Sight.{Represents};
 ghost use Rattle.rec_core.specs.Core.{sight, opened};
 ghost use Rattle.rec_order.specs.Legal.{AreIdle};
 ghost use Rattle.rec_play.specs.Played.{AreReady, IsPlayed, config_of, last_moment, lengths_of, lines_of};
@@ -35,7 +35,7 @@ pub fn play(
     // Its events are what the run tells that the turns of the rule make up, and the world is the one at its end.
     ensures played { (events : List Event)
         × IsPlayed script.now seed turns (lines_of journals.new) events world.new
-        × StandsFor (last_moment script.now events).heap (sight world.new)
+        × Represents (last_moment script.now events).heap (sight world.new)
         × (world.new.made ≡ length (last_moment script.now events).heap.objects) }
     ensures order { order.new.list ≡ order_of (lengths_of script.now) seed turns }
     ensures config { world.new.config ≡ config_of script.now }

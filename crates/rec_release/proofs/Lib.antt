@@ -1,3 +1,4 @@
+-- The modules of the proofs.
 pub mod Freeing
 pub mod Giving
 pub mod Keeping

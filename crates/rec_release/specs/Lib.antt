@@ -1,3 +1,4 @@
+-- The modules of the definitions.
 pub mod CycleFree
 pub mod Freed
 pub mod Release

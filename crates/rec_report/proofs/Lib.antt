@@ -1,3 +1,4 @@
+-- The modules of the proofs.
 pub mod AnswerLines
 pub mod Counted
 pub mod Cuts

@@ -1,3 +1,4 @@
+-- The modules of the definitions.
 pub mod Pieces
 pub mod Report
 pub mod Summary

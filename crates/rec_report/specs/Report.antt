@@ -3,10 +3,10 @@ use Rattle.std.specs.Prelude.{◌≡◌, ℕ, length}
 use Rattle.rec_model.specs.Sight.{NumbersSlots}
 use Rattle.rec_world.specs.Numbering.{Numbered}
 use Rattle.rec_world.specs.World.{Core, sight}
-use Rattle.rec_script.specs.Script.{Contents}
+use Rattle.rec_script.specs.Script.{ScriptContents}
 
 -- the script's numbers are the world's
-pub record AreFor (script : Contents) (w : Core) : Type 0 where
+pub record AreFor (script : ScriptContents) (w : Core) : Type 0 where
   pub slots : script.slots ≡ w.config.slots
   pub fields : script.fields ≡ w.config.fields
   pub registers : script.registers ≡ w.config.registers

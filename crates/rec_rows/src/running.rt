@@ -2,7 +2,7 @@
 
 ghost use Rattle.std.specs.Prelude.{◌≡◌, ◌%◌, All};
 ghost use Rattle.rec_core.specs.Worked.{AreIdle};
-ghost use Rattle.rec_table.specs.Held.{AreMutatorsOf, IsCollectorOf};
+ghost use Rattle.rec_table.specs.Views.{AreMutatorsOf, IsCollectorOf};
 
 use crate::action::{Action, Deed, Turns};
 use crate::failure::{Failure, check};

@@ -16,11 +16,11 @@ use Rattle.rec_order.specs.Naming.{Naming, first_naming, named_after_all}
 use Rattle.rec_world.specs.Journal.{Notes, no_notes}
 use Rattle.rec_table.specs.Beats.{beats_of}
 use Rattle.rec_table.specs.Ends.{Interleaves, IsStopped}
-use Rattle.rec_table.specs.Held.{Held, Started, fresh, has}
+use Rattle.rec_table.specs.Views.{MutatorView, Started, fresh, mutator_now}
 use Rattle.rec_table.specs.Journals.{Tells, journal, journals_from}
 use Rattle.rec_table.specs.declared.views.Beat.{Beat}
 use Rattle.rec_threads.specs.Done.{HasDone, HaveDone, begun, commands_at, worker_at}
-use Rattle.rec_script.specs.Script.{Contents}
+use Rattle.rec_script.specs.Script.{ScriptContents}
 use Rattle.rec_play.specs.Played.{config_of, last_moment, lines_of}
 use Rattle.rec_play.proofs.Opened.{IsPlayedLegally, heap_of, ordered_legally, stands_opened, unfreed_opened}
 use Rattle.rec_play.proofs.Room.{no_log_full}
@@ -29,16 +29,16 @@ use Rattle.rec_run.specs.declared.command_line.How.TheVariants as hows
 use Rattle.rec_run.proofs.Outcomes.{full_only}
 
 -- where each mutator's list tells its journal's lines, the lists tell the journals
-journals_are : (w : Core) (k : ℕ) (ms : List Held) (js : List Notes) → length js ≡ length ms
-    → ((i : ℕ) (d : Held) → i < length ms → journal (mutator w (k + i + 1)) (slice_index_or ms i d).log ≡ (slice_index_or js i no_notes).lines)
-    → journals_from w k (map (λ (m : Held). m.log) ms) ≡ lines_of js
+journals_are : (w : Core) (k : ℕ) (ms : List MutatorView) (js : List Notes) → length js ≡ length ms
+    → ((i : ℕ) (d : MutatorView) → i < length ms → journal (mutator w (k + i + 1)) (slice_index_or ms i d).log ≡ (slice_index_or js i no_notes).lines)
+    → journals_from w k (map (λ (m : MutatorView). m.log) ms) ≡ lines_of js
 journals_are w k [] [] long each = refl
 journals_are w k [] (j ∷ js) long each = absurd (omega (arith, long))
 journals_are w k (m ∷ ms) [] long each = absurd (omega (arith, long))
 journals_are w k (m ∷ ms) (j ∷ js) long each =
     let here : k + 1 ≡ k + 0 + 1 = omega arith in
     let first : journal (mutator w (k + 1)) m.log ≡ j.lines = ap (λ n. journal (mutator w n) m.log) here ∙ each 0 m (omega arith) in
-    ap (λ (l : List Line). l ∷ journals_from w (k + 1) (map (λ (h : Held). h.log) ms)) first
+    ap (λ (l : List Line). l ∷ journals_from w (k + 1) (map (λ (h : MutatorView). h.log) ms)) first
     ∙ ap (λ (ls : List (List Line)). j.lines ∷ ls)
     (journals_are w (k + 1) ms js (omega (arith, long)) (λ i d lt.
     let on : k + 1 + i + 1 ≡ k + suc i + 1 = omega arith in
@@ -56,42 +56,42 @@ commands_are (c ∷ cs) (j ∷ js) long each =
     ∙ ap (λ (ls : List (List Cmd)). c ∷ ls) (commands_are cs js (omega (arith, long)) (λ i lt. each (suc i) (omega (arith, lt))))
 
 -- A heap that was started as a script's opening, with fresh mutators and empty journals: what its mutators did and what stopping left.
-pub record WasDriven (script : Contents) (s : Started) (ms ms' : List Held) (js js' : List Notes) (collected : List Beat) (world : Core) : Type 0 where
+pub record WasDriven (script : ScriptContents) (s : Started) (ms ms' : List MutatorView) (js js' : List Notes) (collected : List Beat) (world : Core) : Type 0 where
   pub opens : s.world ≡ opened (config_of script)
   pub some_slots : 0 < script.slots
   pub all : length ms ≡ length script.commands
   pub one_each : length js ≡ length ms
-  pub fresh_all : (k : ℕ) (d : Held) → k < length ms → slice_index_or ms k d ≡ fresh s (k + 1)
+  pub fresh_all : (k : ℕ) (d : MutatorView) → k < length ms → slice_index_or ms k d ≡ fresh s (k + 1)
   pub empty : (k : ℕ) → k < length js → (slice_index_or js k no_notes).lines ≡ []
   pub turns : length collected ≤ 10000000
   pub done : HaveDone script.commands ms js ms' js'
-  pub stopped : IsStopped s.world collected (map (λ (m : Held). m.log) ms') world
+  pub stopped : IsStopped s.world collected (map (λ (m : MutatorView). m.log) ms') world
 
-module _ (script : Contents) (s : Started) (ms ms' : List Held) (js js' : List Notes) (collected : List Beat) (world : Core) (was : WasDriven script s ms ms' js js' collected world) where
+module _ (script : ScriptContents) (s : Started) (ms ms' : List MutatorView) (js js' : List Notes) (collected : List Beat) (world : Core) (was : WasDriven script s ms ms' js js' collected world) where
   -- what the worker of a mutator did
-  did : (k : ℕ) (d : Held) → k < length ms → HasDone (commands_at script.commands k) (worker_at ms js k d) (worker_at ms' js' k d)
+  did : (k : ℕ) (d : MutatorView) → k < length ms → HasDone (commands_at script.commands k) (worker_at ms js k d) (worker_at ms' js' k d)
   did k d lt = was.done.each k d lt
 
   -- its journal has just the lines that were told
-  noted : (k : ℕ) (d : Held) (lt : k < length ms) → (slice_index_or js' k no_notes).lines ≡ (did k d lt).made.lines
+  noted : (k : ℕ) (d : MutatorView) (lt : k < length ms) → (slice_index_or js' k no_notes).lines ≡ (did k d lt).made.lines
   noted k d lt = (did k d lt).made.noted ∙ ap (λ (ls : List Line). ls ++ (did k d lt).made.lines) (was.empty k (let one_each = was.one_each in omega (arith, lt, one_each)))
 
   -- and these are the ones that its list tells
-  tells : (k : ℕ) (d : Held) → k < length ms' → journal (mutator s.world (0 + k + 1)) (slice_index_or ms' k d).log ≡ (slice_index_or js' k no_notes).lines
+  tells : (k : ℕ) (d : MutatorView) → k < length ms' → journal (mutator s.world (0 + k + 1)) (slice_index_or ms' k d).log ≡ (slice_index_or js' k no_notes).lines
   tells k d lt' =
       let many : length ms' ≡ length ms = was.done.mutators_all in
       let lt : k < length ms = omega (arith, lt', many) in
-      let told : Tells (has (slice_index_or ms k d)) (slice_index_or ms k d).log (slice_index_or ms' k d).log (did k d lt).made.lines = (did k d lt).made.told in
+      let told : Tells (mutator_now (slice_index_or ms k d)) (slice_index_or ms k d).log (slice_index_or ms' k d).log (did k d lt).made.lines = (did k d lt).made.told in
       let new : slice_index_or ms k d ≡ fresh s (k + 1) = was.fresh_all k d lt in
-      let grows : (slice_index_or ms' k d).log ≡ told.beats = told.grows ∙ ap (λ (m : Held). m.log ++ told.beats) new in
+      let grows : (slice_index_or ms' k d).log ≡ told.beats = told.grows ∙ ap (λ (m : MutatorView). m.log ++ told.beats) new in
       let number : 0 + k + 1 ≡ k + 1 = omega arith in
       ap (λ n. journal (mutator s.world n) (slice_index_or ms' k d).log) number
       ∙ ap (journal (mutator s.world (k + 1))) grows
-      ∙ ap (λ (m : Held). journal (has m) told.beats) (sym new)
+      ∙ ap (λ (m : MutatorView). journal (mutator_now m) told.beats) (sym new)
       ∙ told.tells
       ∙ sym (noted k d lt)
 
-  lines_are : journals_from s.world 0 (map (λ (m : Held). m.log) ms') ≡ lines_of js'
+  lines_are : journals_from s.world 0 (map (λ (m : MutatorView). m.log) ms') ≡ lines_of js'
   lines_are =
       let journals_all = was.done.journals_all in
       let mutators_all = was.done.mutators_all in
@@ -109,17 +109,17 @@ module _ (script : Contents) (s : Started) (ms ms' : List Held) (js js' : List N
       ap (map (λ (line : Line). line.0)) (noted i (fresh s 1) there) ∙ (did i (fresh s 1) there).made.commands)
 
   abbrev lists : List (List Beat)
-  lists = map (λ (m : Held). m.log) ms'
+  lists = map (λ (m : MutatorView). m.log) ms'
 
   -- each mutator kept the driving rule
   ruled : (k : ℕ) → k < length script.commands → KeepsRule (commands_at script.commands k) (slice_index_or lists k [])
   ruled k lt =
       let all = was.all in
       let here : k < length ms = omega (arith, lt, all) in
-      let d : Held = fresh s 1 in
+      let d : MutatorView = fresh s 1 in
       let done : HasDone (commands_at script.commands k) (worker_at ms js k d) (worker_at ms' js' k d) = did k d here in
       let list : slice_index_or lists k [] ≡ done.made.told.beats =
-      get_or-map (λ (m : Held). m.log) ms' k d ∙ done.made.told.grows ∙ ap (λ (m : Held). m.log ++ done.made.told.beats) (was.fresh_all k d here) in
+      get_or-map (λ (m : MutatorView). m.log) ms' k d ∙ done.made.told.grows ∙ ap (λ (m : MutatorView). m.log ++ done.made.told.beats) (was.fresh_all k d here) in
       record { polls = done.polls; few = done.few; begins = ap begun list ∙ done.made.begins }
 
   abbrev moves : List Move
@@ -142,7 +142,7 @@ module _ (script : Contents) (s : Started) (ms ms' : List Held) (js js' : List N
   legally : IsPlayedLegally script world (lines_of js') (events_of first_naming (opened (config_of script)) moves) (named_after_all first_naming (opened (config_of script)) moves)
   legally =
       let heap : Heap = heap_of script in
-      let order : HasLegalOrder s.world heap opening_number (0 ∷ []) moves (journals_from s.world 0 (map (λ (m : Held). m.log) ms'))
+      let order : HasLegalOrder s.world heap opening_number (0 ∷ []) moves (journals_from s.world 0 (map (λ (m : MutatorView). m.log) ms'))
       = was.stopped.order heap opening_number (0 ∷ []) (subst (λ w. StandsBy heap (sight w) opening_number) (sym was.opens) (stands_opened script was.some_slots))
       (subst (λ w. AreUnfreed (sight w) opening_number (0 ∷ [])) (sym was.opens) (unfreed_opened script)) in
       ordered_legally script world moves (lines_of js') (subst (λ w. HasLegalOrder w heap opening_number (0 ∷ []) moves (lines_of js')) was.opens

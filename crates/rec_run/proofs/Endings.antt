@@ -12,7 +12,7 @@ use Rattle.rec_io.proofs.Told.{untold}
 use Rattle.rec_model.specs.Heap.{Heap, count_of}
 use Rattle.rec_model.specs.LegalOrder.{Line, Event, actors}
 use Rattle.rec_model.specs.Listing.{Row, IsListing, ListsSlots, row}
-use Rattle.rec_model.specs.Sight.{StandsFor}
+use Rattle.rec_model.specs.Sight.{Represents}
 use Rattle.rec_model.proofs.Listed.{listing_carried}
 use Rattle.rec_core.specs.Settled.{IsSettled}
 use Rattle.rec_world.specs.World.{Core, sight}
@@ -31,7 +31,7 @@ use Rattle.rec_script.proofs.Uniqueness.{refused_once}
 use Rattle.rec_run.specs.declared.command_line.How.{How}
 use Rattle.rec_run.specs.declared.command_line.Request.{Request}
 use Rattle.rec_run.specs.declared.command_line.Request.TheVariants as requests
-use Rattle.rec_script.specs.Script.{Contents, IsText, IsRefused}
+use Rattle.rec_script.specs.Script.{ScriptContents, IsText, IsRefused}
 use Rattle.rec_run.specs.Whole.{IsAtEnd}
 
 -- one value in two options
@@ -241,8 +241,8 @@ counted : (heap : Heap) (rows : List Row) (listing : IsListing heap rows) → ma
 counted heap rows (ns, listed, are) = ap (map (λ (r : Row). r.count)) are ∙ row_counts heap ns ns
 
 -- what was run, settled and listed is the answer
-pub answers_script : (script : Contents) (how : How) (journals : List (List Line)) (events : List Event) (end world : Core) (rows : List Row) (text : List ℕ)
-    → HasRun script how journals events end → IsSettling end world → IsSettled world → StandsFor (last_moment script events).heap (sight world)
+pub answers_script : (script : ScriptContents) (how : How) (journals : List (List Line)) (events : List Event) (end world : Core) (rows : List Row) (text : List ℕ)
+    → HasRun script how journals events end → IsSettling end world → IsSettled world → Represents (last_moment script events).heap (sight world)
     → length world.headers ≡ script.slots → ListsSlots (sight world) rows
     → text ≡ printed script.version (is_summary how) journals (printed_order how (actors events)) rows (length (last_moment script events).heap.objects) world → Answers script how text
 answers_script script how journals events end world rows text has_run settles settled stands room listed written =

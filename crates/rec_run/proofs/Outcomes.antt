@@ -11,7 +11,7 @@ use Rattle.rec_model.specs.declared.told.Told.{Told}
 use Rattle.rec_core.specs.Core.{Core}
 use Rattle.rec_play.specs.Played.{limits_of, lines_of, opening_moment}
 use Rattle.rec_report.specs.Text.{IsOrderOf}
-use Rattle.rec_script.specs.Script.{Contents}
+use Rattle.rec_script.specs.Script.{ScriptContents}
 use Rattle.rec_world.specs.Journal.{Notes}
 use Rattle.rec_world.specs.Order.{Turns}
 use Rattle.rec_run.specs.Headline.{HasRun, before, printed_order}
@@ -20,7 +20,7 @@ use Rattle.rec_run.specs.declared.command_line.How.TheVariants as hows
 use Rattle.rec_run.proofs.Turns.{legal_turns}
 
 -- where an allocation is answered full, as many objects as there are slots are not freed
-pub full_only : (script : Contents) (journals : List (List Line)) (events : List Event) → IsLegalOrder (limits_of script) (opening_moment script) journals events
+pub full_only : (script : ScriptContents) (journals : List (List Line)) (events : List Event) → IsLegalOrder (limits_of script) (opening_moment script) journals events
     → (i t reg label : ℕ) (leaf : Bool) (told : Told) → slice_get events i ≡ Some (Event.Answers t (allocation leaf reg label, told))
     → told.answer ≡ answers.Full → length (before script events i).unfreed ≡ script.slots
 full_only script journals events legal i t reg label true told is full =
@@ -28,7 +28,7 @@ full_only script journals events legal i t reg label true told is full =
 full_only script journals events legal i t reg label false told is full =
     subst (NewFits (limits_of script) (before script events i)) full (legal.fits i (Event.Answers t (allocation false reg label, told)) is).allocation
 
-module _ (script : Contents) (journals : List (List Line)) (events : List Event) (world : Core) where
+module _ (script : ScriptContents) (journals : List (List Line)) (events : List Event) (world : Core) where
   -- there are as many journals as mutators
   pub many : (notes : List Notes) → journals ≡ lines_of notes → map (map (λ (line : Line). line.0)) journals ≡ script.commands → length notes ≡ length script.commands
   many notes is commands =

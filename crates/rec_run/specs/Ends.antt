@@ -43,4 +43,5 @@ HasCause words Usage source sink = ¬ IsCommandLine words
 HasCause words (BadScript line kind) source sink = AsksToRead words × ReadNoScript source.before source.after line kind
 HasCause words ReadFault source sink = AsksToRead words × Failed source
 HasCause words WriteFault source sink = Failed sink
-HasCause words _ source sink = ⊤
+HasCause words Done source sink = ⊤
+HasCause words NoMemory source sink = ⊤

@@ -1,4 +1,6 @@
 -- What the program's answer to a request is. Each word of the headline has its meaning here, or in a definition that is cited here.
+-- Some fields say in the headline's words what others imply: `reached` and `counts` what `settled` and `listing` do, `given` and `full`
+-- what `legal` does. So the headline is read here, and each of them is proved.
 use Rattle.std.specs.Prelude.{◌≡◌, ◌⊎◌, ℕ, ◌+◌, ◌<◌, ◌≤◌, ◌↔◌, Bool, true, false, Option, None, Some, List, [], ◌++◌, length, map, slice_index_or}
 use Rattle.std.specs.List.{slice_get}
 use Rattle.std.specs.Option.{ForSome}
@@ -7,11 +9,12 @@ use Rattle.rec_model.specs.Asking.{allocation, asks, is_done, AnswersAs}
 use Rattle.rec_model.specs.Numbering.{holders}
 use Rattle.rec_model.specs.Reach.{IsReached}
 use Rattle.rec_model.specs.declared.answer.Answer.TheVariants as answers
+use Rattle.rec_model.specs.declared.limits.TheConstants.{MOST_BYTES, MOST_POLLS, MOST_TURNS}
 use Rattle.rec_model.specs.declared.command.Cmd.{Cmd}
 use Rattle.rec_model.specs.declared.told.Told.{Told}
 use Rattle.rec_model.specs.LegalOrder.{Line, Event, Moment, actors, moment, IsLegalOrder, NoLogFull}
 use Rattle.rec_model.specs.Listing.{Row, IsListing}
-use Rattle.rec_model.specs.Sight.{IsTaken, StandsBy, StandsFor, targets_of}
+use Rattle.rec_model.specs.Sight.{IsTaken, StandsBy, Represents, targets_of}
 use Rattle.rec_core.specs.Core.{Core, opened, sight}
 use Rattle.rec_core.specs.Settled.{IsSettled}
 use Rattle.rec_settle.specs.Collecting.{IsSettling}
@@ -27,7 +30,7 @@ use Rattle.rec_play.specs.Run.{IsPlayedRun}
 use Rattle.rec_io.specs.Sink.{Appends}
 use Rattle.rec_io.specs.Source.{BeginsWith}
 use Rattle.rec_script.specs.Lines.{lines}
-use Rattle.rec_script.specs.Script.{Contents, Spells, IsRefused}
+use Rattle.rec_script.specs.Script.{ScriptContents, Spells, IsRefused}
 use Rattle.rec_run.specs.declared.command_line.How.{How}
 use Rattle.rec_run.specs.declared.command_line.How.TheVariants as hows
 use Rattle.rec_run.specs.declared.command_line.Play.{Play}
@@ -48,7 +51,7 @@ pub record IsSettledAs (end : Core) (heap : Heap) (slots : ℕ) (rows : List Row
   pub reached : (slot : ℕ) → IsTaken (sight world) slot ↔ IsReached (roots (sight world).registers) (targets_of (sight world)) slot
   pub room : length world.headers ≡ slots
   -- the heap stands for this world, and has these rows; the numbering is the first part of the listing
-  pub stands : StandsFor heap (sight world)
+  pub stands : Represents heap (sight world)
   pub listing : IsListing heap rows
   -- the count in each row is how many registers, and fields of listed objects, hold the object
   pub counts : map (λ row. row.count) rows ≡ map (holders (roots heap.registers) (children heap) listing.0) listing.0
@@ -57,18 +60,18 @@ pub record IsSettledAs (end : Core) (heap : Heap) (slots : ℕ) (rows : List Row
 -- last one.
 pub record KeepsRule (cmds : List Cmd) (list : List Beat) : Type 0 where
   pub polls : ℕ
-  pub few : polls ≤ 65536
+  pub few : polls ≤ MOST_POLLS
   pub begins : begun list ≡ driving_rule cmds polls
 
 -- The run on threads. The collector and each mutator have a list of their own steps, and one run from the opening of the script's heap
 -- to this world has these lists, each step once and in order, and no other step. Each mutator kept the driving rule, and the collector
 -- made at most 10,000,000 turns, and one that gives a mailbox back. The journals are what the mutators' lists tell. The events are those
 -- of that run: an answer stands among them where the step was made that decided it.
-pub record IsDriven (script : Contents) (journals : List (List Line)) (events : List Event) (names : Naming) (world : Core) : Type 0 where
+pub record IsDriven (script : ScriptContents) (journals : List (List Line)) (events : List Event) (names : Naming) (world : Core) : Type 0 where
   pub collected : List Beat
   pub lists : List (List Beat)
   pub interleaved : Interleaves (opened (config_of script)) collected lists world
-  pub turns : length collected ≤ 10000001
+  pub turns : length collected ≤ MOST_TURNS + 1
   pub ruled : (k : ℕ) → k < length script.commands → KeepsRule (commands_at script.commands k) (slice_index_or lists k [])
   pub told : journals_from (opened (config_of script)) 0 lists ≡ journals
   pub tells : events ≡ events_of first_naming (opened (config_of script)) interleaved.run
@@ -76,22 +79,22 @@ pub record IsDriven (script : Contents) (journals : List (List Line)) (events : 
 
 -- The run that is played: its turns are those that the playing rule draws, and its answers stand in their order. The events are what
 -- these turns tell, with the frees and the sweeps of the collector's.
-pub record IsDrawn (script : Contents) (play : Play) (events : List Event) (names : Naming) (world : Core) : Type 0 where
+pub record IsDrawn (script : ScriptContents) (play : Play) (events : List Event) (names : Naming) (world : Core) : Type 0 where
   pub in_order : actors events ≡ order (lengths_of script) play.seed play.turns
   pub run : IsPlayedRun script (all_turns (lengths_of script) play.seed play.turns) events names world
 
 -- the steps of the run, by the way it was made
-abbrev pub MakesSteps : Contents → How → List (List Line) → List Event → Naming → Core → Type 0
+abbrev pub MakesSteps : ScriptContents → How → List (List Line) → List Event → Naming → Core → Type 0
 MakesSteps script (hows.Play play) journals events names world = IsDrawn script play events names world
 MakesSteps script hows.Threads journals events names world = IsDriven script journals events names world
 
 -- what stands before the event with this number, in an order from the opening heap
-abbrev pub before : Contents → List Event → ℕ → Moment
+abbrev pub before : ScriptContents → List Event → ℕ → Moment
 before script events i = moment (limits_of script) (opening_moment script) events i
 
 -- A script was run. The journals have its commands, each with what was told, and no log was full. One legal order from the opening
 -- heap has their lines: it keeps each mutator's own, and the heap that never frees explains it.
-pub record HasRun (script : Contents) (how : How) (journals : List (List Line)) (events : List Event) (world : Core) : Type 0 where
+pub record HasRun (script : ScriptContents) (how : How) (journals : List (List Line)) (events : List Event) (world : Core) : Type 0 where
   pub commands : map (map (λ line. line.0)) journals ≡ script.commands
   pub legal : IsLegalOrder (limits_of script) (opening_moment script) journals events
   -- each answer is the one that the heap that never frees gives there; where it gives none, the command is refused, and changes nothing
@@ -126,7 +129,7 @@ printed version true journals order rows made world = summary_text version journ
 -- that keeps each mutator's own; an allocation is answered full only where no slot was free; and after settling just the objects that
 -- registers reach hold slots, listed with true counts. The order of a played run is the one that the playing rule draws. A summary
 -- counts the same answers and objects.
-pub record Answers (script : Contents) (how : How) (text : List ℕ) : Type 0 where
+pub record Answers (script : ScriptContents) (how : How) (text : List ℕ) : Type 0 where
   pub journals : List (List Line)
   pub events : List Event
   -- the world after the last turn
@@ -138,8 +141,8 @@ pub record Answers (script : Contents) (how : How) (text : List ℕ) : Type 0 wh
 
 -- The bytes are the text of a script within the limits, and the answer is the script's, run so.
 pub record AnswersTo (bytes : List ℕ) (how : How) (text : List ℕ) : Type 0 where
-  pub script : Contents
-  pub short : length bytes ≤ 16777216
+  pub script : ScriptContents
+  pub short : length bytes ≤ MOST_BYTES
   pub spelled : Spells (lines bytes) script
   pub answered : Answers script how text
 
@@ -157,8 +160,8 @@ Are told bytes = ForSome told (λ all. all ≡ bytes)
 pub record IsReadPast (rest : List ℕ) (left : Option (List ℕ)) : Type 0 where
   pub bytes : List ℕ
   pub passed : BeginsWith rest bytes left
-  pub many : 16777216 < length bytes
-  pub few : length bytes ≤ 16777216 + 65536
+  pub many : MOST_BYTES < length bytes
+  pub few : length bytes ≤ MOST_BYTES + 65536
 
 -- a source was read to its end, or past the limit of a script
 abbrev pub IsReadOut : Option (List ℕ) → Option (List ℕ) → Type 0

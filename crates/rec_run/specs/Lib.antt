@@ -1,3 +1,4 @@
+-- The modules of the definitions.
 pub mod CommandLine
 pub mod Ends
 pub mod Headline

@@ -3,13 +3,13 @@ use Rattle.std.specs.Prelude.{◌≡◌, List, length, option_map}
 use Rattle.rec_model.specs.LegalOrder.{Event, actors}
 use Rattle.rec_core.specs.Worked.{AreIdle}
 use Rattle.rec_play.specs.Played.{config_of, last_moment, lines_of}
-use Rattle.rec_script.specs.Script.{Contents}
+use Rattle.rec_script.specs.Script.{ScriptContents}
 use Rattle.rec_run.specs.Headline.{HasRun, printed_order}
 use Rattle.rec_run.specs.declared.command_line.How.{How}
 use Rattle.rec_run.specs.declared.outcome.Outcome.{Outcome}
 
 -- The heap and the journals are those of a run of the script. Nobody works in the heap.
-pub record IsOutcome (script : Contents) (how : How) (outcome : Outcome) : Type 0 where
+pub record IsOutcome (script : ScriptContents) (how : How) (outcome : Outcome) : Type 0 where
   pub events : List Event
   pub has_run : HasRun script how (lines_of outcome.journals.items) events outcome.world
   pub made : outcome.world.made ≡ length (last_moment script events).heap.objects

@@ -3,7 +3,7 @@ ghost use Rattle.std.specs.Prelude.{◌≡◌, ◌+◌, ◌≤◌, None, map, If
 ghost use Rattle.rec_model.specs.declared.limits.TheConstants.{MOST_TURNS};
 ghost use Rattle.rec_core.specs.Worked.{AreIdle};
 ghost use Rattle.rec_table.specs.Ends.{IsStopped};
-ghost use Rattle.rec_table.specs.Held.{AreMutatorsOf, IsCollectorOf, gathers_now};
+ghost use Rattle.rec_table.specs.Views.{AreMutatorsOf, IsCollectorOf, collector_now};
 ghost use Rattle.rec_run.specs.Outcome.{IsOutcome};
 ghost use Rattle.rec_run.specs.Running.{IsSetRunning, IsStarted};
 ghost use Rattle.rec_run.specs.declared.command_line.How.TheVariants as hows;
@@ -41,8 +41,8 @@ pub fn drive_script<R: Threads + Wait + Sync, G: Gate>(
 fn stop(alloc: Global, heap: Heap, crew: Crew) -> Outcome
     requires mutators { AreMutatorsOf heap crew.mutators.items }
     requires collector { IsCollectorOf heap crew.collector }
-    ensures stopped { IsStopped heap.world crew.collector.crew.log (map (λ m. m.log) crew.mutators.items) result.world }
-    ensures requested { result.world.epoch ≡ (gathers_now crew.collector).epoch }
+    ensures stopped { IsStopped heap.world crew.collector.collecting.log (map (λ m. m.log) crew.mutators.items) result.world }
+    ensures requested { result.world.epoch ≡ (collector_now crew.collector).epoch }
     ensures idle { AreIdle result.world }
     ensures journals { result.journals.items ≡ crew.journals.items }
     ensures order { result.order ≡ None }

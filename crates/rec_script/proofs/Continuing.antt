@@ -9,7 +9,7 @@ use Rattle.std.proofs.lemmas.List.Elements.{All-push}
 use Rattle.rec_script.specs.declared.draft.Draft.{Draft}
 use Rattle.rec_script.specs.declared.draft.Draft.TheVariants.{Nothing, Header, Sized, Whole}
 use Rattle.rec_script.specs.Lines.{words, counted, AreUtf8}
-use Rattle.rec_script.specs.Script.{Contents, IsHeap, IsVersion, AreCommands, IsScript, Spells, Continues, header, heap_line, spelled}
+use Rattle.rec_script.specs.Script.{ScriptContents, IsHeap, IsVersion, AreCommands, IsScript, Spells, Continues, header, heap_line, spelled}
 use Rattle.rec_script.specs.Drafts.{so_far, IsDraft}
 use Rattle.rec_script.proofs.Stopping.{counted-append}
 use Rattle.rec_script.proofs.Plainness.{ascii}
@@ -18,7 +18,7 @@ use Rattle.rec_script.proofs.Plainness.{ascii}
 pub continues_before : (before : List (List ℕ)) (line : List ℕ) → Continues (before ++ line ∷ []) → Continues before
 continues_before before line on = (line ∷ on.0, on.1, subst (λ (t : List (List ℕ)). Spells t on.1) (append_assoc before (line ∷ []) on.0) on.2)
 
-whole : (before : List (List ℕ)) (contents : Contents) → IsScript contents → AreUtf8 before → counted before ≡ spelled contents → Continues before
+whole : (before : List (List ℕ)) (contents : ScriptContents) → IsScript contents → AreUtf8 before → counted before ≡ spelled contents → Continues before
 whole before contents script utf8 e = (
   [],
   contents,

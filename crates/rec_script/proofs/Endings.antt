@@ -8,7 +8,7 @@ use Rattle.rec_model.specs.declared.command.Cmd.{Cmd}
 use Rattle.rec_script.specs.declared.error.Kind.{Kind}
 use Rattle.rec_script.specs.declared.draft.Draft.{Draft}
 use Rattle.rec_script.specs.Lines.{lines, counted, AreUtf8}
-use Rattle.rec_script.specs.Script.{Contents, IsScript, IsRefused, Continues, StopsAt, IsFault, IsNeed, mutator_lines, spelled}
+use Rattle.rec_script.specs.Script.{ScriptContents, IsScript, IsRefused, Continues, StopsAt, IsFault, IsNeed, mutator_lines, spelled}
 use Rattle.rec_script.specs.Drafts.{so_far, IsDraft, IsTaken, IsWrongFirst}
 use Rattle.rec_script.proofs.Stopping.{counted-append, stops}
 use Rattle.rec_script.proofs.Continuing.{continues}
@@ -85,7 +85,7 @@ three_lines [] some e = omega arith
 three_lines (cmds ∷ css) some e = omega (arith, ap length e)
 
 -- an open need is no script
-pub need_no_script : (before : List (List (List ℕ))) (kind : Kind) (contents : Contents) → IsNeed before kind → IsScript contents → before ≡ spelled contents → ⊥
+pub need_no_script : (before : List (List (List ℕ))) (kind : Kind) (contents : ScriptContents) → IsNeed before kind → IsScript contents → before ≡ spelled contents → ⊥
 need_no_script before _ contents (IsNeed.of_header none) script e = omega (arith, ap length (sym none ∙ e))
 need_no_script before _ contents (IsNeed.of_heap v known one) script e = omega (arith, ap length (sym one ∙ e))
 need_no_script before _ contents (IsNeed.of_mutator v s f r known heap two) script e = three_lines contents.commands script.some_mutators (sym (ap (drop 2) (sym two ∙ e)))

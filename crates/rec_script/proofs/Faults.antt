@@ -11,7 +11,7 @@ use Rattle.rec_script.specs.declared.heap.Heap.{Heap}
 use Rattle.rec_script.specs.declared.draft.Draft.{Draft}
 use Rattle.rec_script.specs.declared.draft.Draft.TheVariants.{Nothing, Header, Sized, Whole}
 use Rattle.rec_script.specs.Lines.{words, is_counted}
-use Rattle.rec_script.specs.Script.{Contents, IsHeap, IsVersion, IsScript, header, heap_line, mutator_line, spelled, last_length, IsBadCommand, Fits, IsFault, IsNeed}
+use Rattle.rec_script.specs.Script.{ScriptContents, IsHeap, IsVersion, IsScript, header, heap_line, mutator_line, spelled, last_length, IsBadCommand, Fits, IsFault, IsNeed}
 use Rattle.rec_script.specs.Drafts.{so_far, IsDraft}
 
 -- an error that is told is the one that was made
@@ -47,10 +47,10 @@ fits_sized d version heap line e is other =
     let so = subst IsDraft e is in
     subst (λ (v : Draft). Fits (so_far v) line NoMutator) (sym e) (Fits.no_mutator version heap.slots heap.fields heap.registers so.0 so.1 refl other)
 
-pub fits_whole : (d : Draft) (script : Contents) (line : List (List ℕ)) (kind : Kind) → d ≡ Whole script → Fits (spelled script) line kind → Fits (so_far d) line kind
+pub fits_whole : (d : Draft) (script : ScriptContents) (line : List (List ℕ)) (kind : Kind) → d ≡ Whole script → Fits (spelled script) line kind → Fits (so_far d) line kind
 fits_whole d script line kind e h = subst (λ (v : Draft). Fits (so_far v) line kind) (sym e) h
 
-pub fits_command : (contents : Contents) (version registers fields count : ℕ) (line : List (List ℕ)) (kind : Kind) → IsScript contents → version ≡ contents.version → registers ≡ contents.registers → fields ≡ contents.fields → count ≡ last_length contents.commands
+pub fits_command : (contents : ScriptContents) (version registers fields count : ℕ) (line : List (List ℕ)) (kind : Kind) → IsScript contents → version ≡ contents.version → registers ≡ contents.registers → fields ≡ contents.fields → count ≡ last_length contents.commands
     → line ≢ mutator_line → IsBadCommand version registers fields count line kind → Fits (spelled contents) line kind
 fits_command contents version registers fields count line kind script v-is r-is f-is count-is other h =
     Fits.bad_command contents kind script refl other

@@ -1,3 +1,4 @@
+-- The modules of the proofs.
 pub mod Cuts
 pub mod Numerals
 pub mod Misreadings

@@ -5,7 +5,7 @@ use Rattle.std.proofs.lemmas.Bool.{cases_lt}
 use Rattle.std.proofs.lemmas.Option.{none-some, same_Some}
 use Rattle.std.proofs.lemmas.List.Elements.{All-push, All-cons, All-head, All-tail}
 use Rattle.rec_model.specs.declared.command.Cmd.{Cmd}
-use Rattle.rec_script.specs.Script.{Contents, Allows, IsCommand, AreCommands, IsScript, last_length}
+use Rattle.rec_script.specs.Script.{ScriptContents, Allows, IsCommand, AreCommands, IsScript, last_length}
 
 pub last_of : (earlier : List (List Cmd)) (last : List Cmd) → last_length (earlier ++ last ∷ []) ≡ length last
 last_of [] last = refl
@@ -21,7 +21,7 @@ all_earlier P [] x h = λ k d lt. absurd (omega arith)
 all_earlier P (y ∷ ys) x h = All-cons P y ys (All-head P y (ys ++ x ∷ []) h) (all_earlier P ys x (All-tail P y (ys ++ x ∷ []) h))
 
 -- the last mutator's commands are within their limits
-pub last_within : (contents : Contents) (earlier : List (List Cmd)) (last : List Cmd) → IsScript contents → contents.commands ≡ earlier ++ last ∷ [] → AreCommands contents.version contents.registers contents.fields last
+pub last_within : (contents : ScriptContents) (earlier : List (List Cmd)) (last : List Cmd) → IsScript contents → contents.commands ≡ earlier ++ last ∷ [] → AreCommands contents.version contents.registers contents.fields last
 last_within contents earlier last script e = all_last (AreCommands contents.version contents.registers contents.fields) earlier last (subst (λ (t : List (List Cmd)). All (AreCommands contents.version contents.registers contents.fields) t) e script.commands)
 
 -- one command more is within the limits

@@ -13,7 +13,7 @@ use Rattle.rec_model.specs.declared.command.Cmd.TheVariants.{New, Leaf, Null, Co
 use Rattle.rec_script.specs.declared.draft.Draft.{Draft}
 use Rattle.rec_script.specs.declared.draft.Draft.TheVariants.{Nothing, Header, Sized, Whole}
 use Rattle.rec_script.specs.Lines.{is_blank, in_front, cut, is_some_word, words}
-use Rattle.rec_script.specs.Script.{Contents, IsCommand, IsHeap, IsVersion, IsScript, header, heap_line, mutator_line, mutator_lines, command_line, spelled}
+use Rattle.rec_script.specs.Script.{ScriptContents, IsCommand, IsHeap, IsVersion, IsScript, header, heap_line, mutator_line, mutator_lines, command_line, spelled}
 use Rattle.rec_script.specs.Drafts.{so_far, IsDraft}
 use Rattle.rec_script.proofs.Regrouping.{AreSmall, small}
 use Rattle.rec_script.proofs.Stopping.{IsBodyLine, body_lines, all_at}
@@ -90,7 +90,7 @@ plain_body : (version registers fields : ℕ) → AreSmall registers fields → 
 plain_body version registers fields h line (inl e) = subst ArePlain (sym e) plain_mutator
 plain_body version registers fields h line (inr is) = subst ArePlain (sym is.3) (plain_command registers fields is.0 h is.2)
 
-pub plain_script : (contents : Contents) → IsScript contents → All ArePlain (spelled contents)
+pub plain_script : (contents : ScriptContents) → IsScript contents → All ArePlain (spelled contents)
 plain_script contents script =
     All-cons ArePlain (header contents.version) (heap_line contents.slots contents.fields contents.registers ∷ flat_map mutator_lines contents.commands) (plain_header contents.version script.version)
     (All-cons ArePlain (heap_line contents.slots contents.fields contents.registers) (flat_map mutator_lines contents.commands) (plain_heap contents.slots contents.fields contents.registers script.heap)

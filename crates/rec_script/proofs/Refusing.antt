@@ -3,10 +3,10 @@ use Rattle.std.proofs.Common.{inl, inr, ℕ, ◌+◌, List, take, drop, sym, sub
 use Rattle.std.proofs.lemmas.List.{take-append-drop}
 use Rattle.rec_script.specs.declared.error.Kind.{Kind}
 use Rattle.rec_script.specs.Lines.{lines}
-use Rattle.rec_script.specs.Script.{Contents, IsText, IsRefused, Spells, Continues}
+use Rattle.rec_script.specs.Script.{ScriptContents, IsText, IsRefused, Spells, Continues}
 
 -- the first lines of a script's text are continued by the others
-pub continued_front : (text : List (List ℕ)) (n : ℕ) (contents : Contents) → Spells text contents → Continues (take n text)
+pub continued_front : (text : List (List ℕ)) (n : ℕ) (contents : ScriptContents) → Spells text contents → Continues (take n text)
 continued_front text n contents h = (drop n text, contents, subst (λ (t : List (List ℕ)). Spells t contents) (sym (take-append-drop n text)) h)
 
 pub refused_no_text : (bytes : List ℕ) (line : ℕ) (kind : Kind) → IsRefused bytes line kind → IsText bytes → ⊥

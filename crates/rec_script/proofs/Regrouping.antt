@@ -9,7 +9,7 @@ use Rattle.std.proofs.lemmas.List.{append-nil}
 use Rattle.std.proofs.lemmas.List.Elements.{All-head, All-tail}
 use Rattle.rec_model.specs.declared.command.Cmd.{Cmd}
 use Rattle.rec_model.specs.declared.command.Cmd.TheVariants.{New, Leaf, Null, Copy, Get, Put, Value, Same}
-use Rattle.rec_script.specs.Script.{Contents, IsCommand, IsHeap, IsVersion, AreCommands, IsScript, header, heap_line, mutator_lines, command_line, word_of, last_length, spelled, IsShaped}
+use Rattle.rec_script.specs.Script.{ScriptContents, IsCommand, IsHeap, IsVersion, AreCommands, IsScript, header, heap_line, mutator_lines, command_line, word_of, last_length, spelled, IsShaped}
 use Rattle.rec_script.proofs.Commands.{letters, choose}
 
 -- numbers of registers and fields that numerals can name
@@ -150,7 +150,7 @@ behind_heap (a ∷ []) = []
 behind_heap (a ∷ b ∷ more) = more
 
 -- two scripts that are spelled alike are one
-pub same_script : (a b : Contents) → IsScript a → IsScript b → spelled a ≡ spelled b → a ≡ b
+pub same_script : (a b : ScriptContents) → IsScript a → IsScript b → spelled a ≡ spelled b → a ≡ b
 same_script a b is-a is-b e =
     let version : a.version ≡ b.version = same_version a.version b.version is-a.version is-b.version (ap (λ (t : List (List (List ℕ))). get_or t 0 []) e) in
     let heaps = same_heap a.slots a.fields a.registers b.slots b.fields b.registers is-a.heap is-b.heap (ap (λ (t : List (List (List ℕ))). get_or t 1 []) e) in
@@ -158,7 +158,7 @@ same_script a b is-a is-b e =
     sym (regrouped a.version a.registers a.fields a.commands (small a.slots a.fields a.registers is-a.heap) is-a.commands)
     ∙ ap (λ (t : List (List (List ℕ))). regroup (behind_heap t)) e
     ∙ regrouped b.version b.registers b.fields b.commands (small b.slots b.fields b.registers is-b.heap) is-b.commands in
-    let made : ℕ → ℕ → ℕ → ℕ → List (List Cmd) → Contents = λ v s f r c. record { version = v; slots = s; fields = f; registers = r; commands = c } in
+    let made : ℕ → ℕ → ℕ → ℕ → List (List Cmd) → ScriptContents = λ v s f r c. record { version = v; slots = s; fields = f; registers = r; commands = c } in
     ap (λ (v : ℕ). made v a.slots a.fields a.registers a.commands) version
     ∙ ap (λ (s : ℕ). made b.version s a.fields a.registers a.commands) heaps.slots
     ∙ ap (λ (f : ℕ). made b.version b.slots f a.registers a.commands) heaps.fields

@@ -10,7 +10,7 @@ use Rattle.rec_model.specs.declared.command.Cmd.{Cmd}
 use Rattle.rec_model.specs.declared.command.Cmd.TheVariants.{New, Leaf, Null, Copy, Get, Put, Value, Same}
 use Rattle.rec_script.specs.declared.error.Kind.{Kind}
 use Rattle.rec_script.specs.Lines.{words, is_counted, counted, AreUtf8}
-use Rattle.rec_script.specs.Script.{Contents, IsCommand, Allows, AreCommands, IsScript, Continues, mutator_line, mutator_lines, command_line, word_of, operands_of, limits_of, last_length, spelled, IsShaped, IsWrong, AreWrong, IsBadCommand, Fits, IsFault}
+use Rattle.rec_script.specs.Script.{ScriptContents, IsCommand, Allows, AreCommands, IsScript, Continues, mutator_line, mutator_lines, command_line, word_of, operands_of, limits_of, last_length, spelled, IsShaped, IsWrong, AreWrong, IsBadCommand, Fits, IsFault}
 use Rattle.rec_script.proofs.Numerals.{same_number}
 use Rattle.rec_script.proofs.Commands.{same_limits}
 use Rattle.rec_script.proofs.Regrouping.{Groups, grouped, command_of, no_mutator_shape, regroup, glue, regroup_mutators, regrouped, glue_length, glue_last, small, same_version, same_heap, SameHeap, behind_heap}
@@ -76,13 +76,13 @@ right_operands r f (Same a b) most-r most-f is = ((is.0.0, omega (arith, is.0.0)
 -- ---- a script's text has no such line
 
 -- what a script says where another one is spelled in front of a line
-record Behind (mine : Contents) (line : List (List ℕ)) (rest : List (List (List ℕ))) (other : Contents) : Type 0 where
+record Behind (mine : ScriptContents) (line : List (List ℕ)) (rest : List (List (List ℕ))) (other : ScriptContents) : Type 0 where
   version : mine.version ≡ other.version
   heaps : SameHeap mine.slots mine.fields mine.registers other.slots other.fields other.registers
   body : flat_map mutator_lines mine.commands ++ line ∷ rest ≡ flat_map mutator_lines other.commands
   groups : glue mine.commands (regroup (line ∷ rest)) ≡ grouped [] other.commands
 
-behind : (mine : Contents) (line : List (List ℕ)) (rest : List (List (List ℕ))) (other : Contents) → IsScript mine → IsScript other → spelled mine ++ line ∷ rest ≡ spelled other → Behind mine line rest other
+behind : (mine : ScriptContents) (line : List (List ℕ)) (rest : List (List (List ℕ))) (other : ScriptContents) → IsScript mine → IsScript other → spelled mine ++ line ∷ rest ≡ spelled other → Behind mine line rest other
 behind mine line rest other is-mine is-other e =
     let body : flat_map mutator_lines mine.commands ++ line ∷ rest ≡ flat_map mutator_lines other.commands = ap behind_heap e in
     record {
@@ -96,20 +96,20 @@ behind mine line rest other is-mine is-other e =
     }
 
 -- the line behind a script is of its continuation's body
-body_line : (mine : Contents) (line : List (List ℕ)) (rest : List (List (List ℕ))) (other : Contents) → IsScript other → Behind mine line rest other → IsBodyLine mine.version mine.registers mine.fields line
+body_line : (mine : ScriptContents) (line : List (List ℕ)) (rest : List (List (List ℕ))) (other : ScriptContents) → IsScript other → Behind mine line rest other → IsBodyLine mine.version mine.registers mine.fields line
 body_line mine line rest other is-other b =
     let all = body_lines other.version other.registers other.fields other.commands is-other.commands in
     let here : IsBodyLine other.version other.registers other.fields line = all_at (IsBodyLine other.version other.registers other.fields) (flat_map mutator_lines mine.commands) line rest (subst (λ (t : List (List (List ℕ))). All (IsBodyLine other.version other.registers other.fields) t) (sym b.body) all) in
     subst (λ (v : ℕ). IsBodyLine v mine.registers mine.fields line) (sym b.version)
     (subst (λ (r : ℕ). IsBodyLine other.version r mine.fields line) (sym b.heaps.registers) (subst (λ (f : ℕ). IsBodyLine other.version other.registers f line) (sym b.heaps.fields) here))
 
-no_ninth : (mine : Contents) (line : List (List ℕ)) (rest : List (List (List ℕ))) (other : Contents) → IsScript other → Behind mine line rest other → line ≡ mutator_line → length mine.commands ≡ 8 → ⊥
+no_ninth : (mine : ScriptContents) (line : List (List ℕ)) (rest : List (List (List ℕ))) (other : ScriptContents) → IsScript other → Behind mine line rest other → line ≡ mutator_line → length mine.commands ≡ 8 → ⊥
 no_ninth mine line rest other is-other b is full =
     let count : length (glue mine.commands (regroup (line ∷ rest))).behind ≡ length other.commands = ap (λ (g : Groups). length g.behind) b.groups in
     let one : length (regroup (line ∷ rest)).behind ≡ suc (length (regroup rest).behind) = ap (λ (t : List (List ℕ)). length (regroup (t ∷ rest)).behind) is in
     omega (arith, glue_length mine.commands (regroup (line ∷ rest)), is-other.most_mutators)
 
-no_more_commands : (mine : Contents) (line : List (List ℕ)) (rest : List (List (List ℕ))) (other : Contents) (cmd : Cmd) → IsScript mine → IsScript other → Behind mine line rest other → IsShaped line cmd → last_length mine.commands ≡ 200000 → ⊥
+no_more_commands : (mine : ScriptContents) (line : List (List ℕ)) (rest : List (List (List ℕ))) (other : ScriptContents) (cmd : Cmd) → IsScript mine → IsScript other → Behind mine line rest other → IsShaped line cmd → last_length mine.commands ≡ 200000 → ⊥
 no_more_commands mine line rest other cmd is-mine is-other b shape full =
     let few : All (λ c. length c ≤ 200000) other.commands = λ k d lt. (is-other.commands k d lt).few in
     let all : All (λ c. length c ≤ 200000) (glue mine.commands (regroup (line ∷ rest))).behind = subst (λ (g : Groups). All (λ c. length c ≤ 200000) g.behind) (sym b.groups) few in
@@ -117,7 +117,7 @@ no_more_commands mine line rest other cmd is-mine is-other b shape full =
     ap (λ (t : Bool). length (cond t (grouped [] ((regroup rest).front ∷ (regroup rest).behind)) (grouped (command_of line ∷ (regroup rest).front) (regroup rest).behind)).front) (no_mutator_shape line cmd shape) in
     omega (arith, glue_last mine.commands (regroup (line ∷ rest)) is-mine.some_mutators all)
 
-no_bad_operand : (mine : Contents) (line : List (List ℕ)) (cmd : Cmd) (kind : Kind) → IsScript mine → IsShaped line cmd → AreWrong (limits_of mine.registers mine.fields cmd) (drop 1 line) kind
+no_bad_operand : (mine : ScriptContents) (line : List (List ℕ)) (cmd : Cmd) (kind : Kind) → IsScript mine → IsShaped line cmd → AreWrong (limits_of mine.registers mine.fields cmd) (drop 1 line) kind
     → (other : Cmd) → IsCommand mine.registers mine.fields other → line ≡ command_line other → ⊥
 no_bad_operand mine line cmd kind is-mine shape wrong other is e =
     let same : word_of cmd ≡ word_of other = sym shape.0 ∙ ap (λ (t : List (List ℕ)). get_or t 0 []) e in
@@ -125,7 +125,7 @@ no_bad_operand mine line cmd kind is-mine shape wrong other is e =
     (subst (λ (t : List (List ℕ)). AreWrong (limits_of mine.registers mine.fields other) (drop 1 t) kind) e
     (subst (λ (ls : List (ℕ × Kind)). AreWrong ls (drop 1 line) kind) (same_limits mine.registers mine.fields cmd other same) wrong))
 
-no_bad_command : (mine : Contents) (line : List (List ℕ)) (rest : List (List (List ℕ))) (other : Contents) (kind : Kind) → IsScript mine → IsScript other → Behind mine line rest other → line ≢ mutator_line → IsBadCommand mine.version mine.registers mine.fields (last_length mine.commands) line kind → ⊥
+no_bad_command : (mine : ScriptContents) (line : List (List ℕ)) (rest : List (List (List ℕ))) (other : ScriptContents) (kind : Kind) → IsScript mine → IsScript other → Behind mine line rest other → line ≢ mutator_line → IsBadCommand mine.version mine.registers mine.fields (last_length mine.commands) line kind → ⊥
 no_bad_command mine line rest other _ is-mine is-other b no-mutator (IsBadCommand.unknown none) = elim (body_line mine line rest other is-other b) [
   | inl is ↦ no-mutator is
   | inr is ↦ none is.0 is.1 (ap (λ (t : List (List ℕ)). get_or t 0 []) is.3, ap length is.3)
@@ -141,7 +141,7 @@ first_mutator line rest [] some e = absurd (omega arith)
 first_mutator line rest (cmds ∷ css) some e = ap (λ (t : List (List (List ℕ))). get_or t 0 []) e
 
 -- no script is spelled with a line that is wrong
-pub nothing_fits : (before : List (List (List ℕ))) (line : List (List ℕ)) (rest : List (List (List ℕ))) (kind : Kind) (other : Contents) → IsScript other → before ++ line ∷ rest ≡ spelled other → Fits before line kind → ⊥
+pub nothing_fits : (before : List (List (List ℕ))) (line : List (List ℕ)) (rest : List (List (List ℕ))) (kind : Kind) (other : ScriptContents) → IsScript other → before ++ line ∷ rest ≡ spelled other → Fits before line kind → ⊥
 nothing_fits before line rest _ other is-other e (Fits.no_header none wrong) = wrong other.version is-other.version (ap (λ (t : List (List (List ℕ))). get_or t 0 []) (sym (ap (λ (b : List (List (List ℕ))). b ++ line ∷ rest) none) ∙ e))
 nothing_fits before line rest _ other is-other e (Fits.bad_heap v is-version one wrong) =
     wrong other.slots other.fields other.registers is-other.heap (ap (λ (t : List (List (List ℕ))). get_or t 1 []) (sym (ap (λ (b : List (List (List ℕ))). b ++ line ∷ rest) one) ∙ e))

@@ -6,7 +6,7 @@ use Rattle.std.proofs.lemmas.List.{append-nil, take-append-drop, take-take}
 use Rattle.rec_model.specs.declared.command.Cmd.{Cmd}
 use Rattle.rec_script.specs.declared.error.Kind.{Kind}
 use Rattle.rec_script.specs.Lines.{lines, words, counted}
-use Rattle.rec_script.specs.Script.{Contents, IsScript, IsRefused, Spells, Continues, StopsAt, StaysOpen, IsFault, IsNeed, Fits, IsBadCommand, IsRight, IsWrong, AreWrong, limits_of, last_length, header, heap_line, mutator_lines, spelled}
+use Rattle.rec_script.specs.Script.{ScriptContents, IsScript, IsRefused, Spells, Continues, StopsAt, StaysOpen, IsFault, IsNeed, Fits, IsBadCommand, IsRight, IsWrong, AreWrong, limits_of, last_length, header, heap_line, mutator_lines, spelled}
 use Rattle.rec_script.proofs.Numerals.{same_number}
 use Rattle.rec_script.proofs.Commands.{same_limits}
 use Rattle.rec_script.proofs.Regrouping.{same_script}
@@ -49,7 +49,7 @@ bad_command_once v r f count line a b (IsBadCommand.operand cmd _ its shape room
 -- ---- lines
 
 -- a script has three lines that count
-three : (contents : Contents) → IsScript contents → 3 ≤ length (spelled contents)
+three : (contents : ScriptContents) → IsScript contents → 3 ≤ length (spelled contents)
 three contents script = omega (arith, some contents.commands script.some_mutators)
   where
     some : (css : List (List Cmd)) → 1 ≤ length css → 1 ≤ length (flat_map mutator_lines css)
@@ -86,7 +86,7 @@ fits_once before line a _ (Fits.bad_command mine _ is-mine spelt no-mutator bad)
 fits_once before line a _ (Fits.bad_command mine _ is-mine spelt no-mutator bad) (Fits.too_many_mutators mine' is-mine' spelt' is' full') = absurd (no-mutator is')
 fits_once before line a b (Fits.bad_command mine _ is-mine spelt no-mutator bad) (Fits.bad_command mine' _ is-mine' spelt' no-mutator' bad') =
     let same : mine' ≡ mine = same_script mine' mine is-mine' is-mine (sym spelt' ∙ spelt) in
-    bad_command_once mine.version mine.registers mine.fields (last_length mine.commands) line a b bad (subst (λ (c : Contents). IsBadCommand c.version c.registers c.fields (last_length c.commands) line b) same bad')
+    bad_command_once mine.version mine.registers mine.fields (last_length mine.commands) line a b bad (subst (λ (c : ScriptContents). IsBadCommand c.version c.registers c.fields (last_length c.commands) line b) same bad')
 
 fault_once : (before : List (List (List ℕ))) (line : List ℕ) (a b : Kind) → IsFault before line a → IsFault before line b → a ≡ b
 fault_once before line _ _ (IsFault.not_utf8 none) (IsFault.not_utf8 none') = refl

@@ -8,7 +8,7 @@ use Rattle.rec_model.specs.declared.command.Cmd.{Cmd}
 use Rattle.rec_model.specs.declared.command.Cmd.TheVariants.{New, Leaf, Null, Copy, Get, Put, Value, Same}
 use Rattle.rec_script.specs.Lines.{lines, words, is_counted, counted, spaced, AreUtf8}
 use Rattle.rec_script.specs.Made.{text_of}
-use Rattle.rec_script.specs.Script.{Contents, IsHeap, IsVersion, IsScript, Spells, header, heap_line, mutator_line, mutator_lines, command_line, spelled}
+use Rattle.rec_script.specs.Script.{ScriptContents, IsHeap, IsVersion, IsScript, Spells, header, heap_line, mutator_line, mutator_lines, command_line, spelled}
 use Rattle.rec_script.proofs.Plainness.{ArePlain, utf8_of_words, plain_script}
 use Rattle.rec_script.proofs.Regrouping.{AreSmall, small}
 use Rattle.rec_script.proofs.Spacing.{AreWords, joined, as_joined, first_line, words_joined, numeral_word, command_words}
@@ -38,7 +38,7 @@ body_is : (version registers fields : ℕ) → AreSmall registers fields → (li
 body_is version registers fields h line (inl e) = subst IsLine (sym e) mutator_is
 body_is version registers fields h line (inr is) = subst IsLine (sym is.3) (command_words registers fields is.0 h is.2, command_counts is.0)
 
-lines_are : (contents : Contents) → IsScript contents → All IsLine (spelled contents)
+lines_are : (contents : ScriptContents) → IsScript contents → All IsLine (spelled contents)
 lines_are contents script =
     All-cons IsLine (header contents.version) (heap_line contents.slots contents.fields contents.registers ∷ flat_map mutator_lines contents.commands) (header_is contents.version script.version)
     (All-cons IsLine (heap_line contents.slots contents.fields contents.registers) (flat_map mutator_lines contents.commands) (heap_is contents.slots contents.fields contents.registers script.heap)
@@ -74,7 +74,7 @@ are_read (line ∷ ws) are plain =
           ∙ ap (λ (rest : List (List (List ℕ))). line ∷ rest) more.same;
     }
 
-pub spells_its_text : (contents : Contents) → IsScript contents → Spells (lines (text_of (spelled contents))) contents
+pub spells_its_text : (contents : ScriptContents) → IsScript contents → Spells (lines (text_of (spelled contents))) contents
 spells_its_text contents script =
     let read : AreRead (spelled contents) = are_read (spelled contents) (lines_are contents script) (plain_script contents script) in
     record { utf8 = read.utf8; counted_are = read.same; limits = script }

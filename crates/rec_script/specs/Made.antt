@@ -6,7 +6,7 @@ use Rattle.rand_pcg.specs.Pcg.{multiplier_64, pcg32}
 use Rattle.rec_model.specs.declared.command.Cmd.{Cmd}
 use Rattle.rec_model.specs.declared.command.Cmd.TheVariants.{New, Null, Copy, Get, Put, Value, Same}
 use Rattle.rec_script.specs.Lines.{spaced}
-use Rattle.rec_script.specs.Script.{Contents, operands_of, spelled}
+use Rattle.rec_script.specs.Script.{ScriptContents, operands_of, spelled}
 
 -- the generator of the words, in stream 2
 abbrev pub generator_of : (seed : ℕ) → Lcg
@@ -70,7 +70,7 @@ unfoldable pub made_commands : (seed mutators commands : ℕ) → List (List Cmd
 made_commands seed mutators commands = map (λ t. commands_from (after_commands (t * commands) (generator_of seed)) commands) (range_with_len 0 mutators)
 
 -- the script with these commands, of version 1
-abbrev pub made_script : (seed mutators commands : ℕ) → Contents
+abbrev pub made_script : (seed mutators commands : ℕ) → ScriptContents
 made_script seed mutators commands = record { version = 1; slots = 1024; fields = 2; registers = 8; commands = made_commands seed mutators commands }
 
 -- lines, each with one space between each two words, and an LF behind the last one

@@ -13,7 +13,7 @@ use Rattle.rec_script.specs.declared.error.Kind.TheVariants.{TooLong, NotUtf8, N
 use Rattle.rec_script.specs.Lines.{lines, words, is_counted, counted, AreUtf8}
 
 -- what a script holds: its version, the numbers of its heap, and the commands of each mutator in turn
-pub record Contents : Type 0 where
+pub record ScriptContents : Type 0 where
   pub version : ℕ
   pub slots : ℕ
   pub fields : ℕ
@@ -60,7 +60,7 @@ pub record AreCommands (version registers fields : ℕ) (cmds : List Cmd) : Type
   pub in_range : All (IsCommand registers fields) cmds
 
 -- the limits of a script
-pub record IsScript (contents : Contents) : Type 0 where
+pub record IsScript (contents : ScriptContents) : Type 0 where
   pub version : IsVersion contents.version
   pub heap : IsHeap contents.slots contents.fields contents.registers
   pub some_mutators : 1 ≤ length contents.commands
@@ -110,22 +110,22 @@ abbrev pub mutator_lines : List Cmd → List (List (List ℕ))
 mutator_lines cmds = mutator_line ∷ map command_line cmds
 
 -- the lines that count of a script, each as its words
-abbrev pub spelled : Contents → List (List (List ℕ))
+abbrev pub spelled : ScriptContents → List (List (List ℕ))
 spelled contents = header contents.version ∷ heap_line contents.slots contents.fields contents.registers ∷ flat_map mutator_lines contents.commands
 
 -- these lines spell this script
-pub record Spells (text : List (List ℕ)) (contents : Contents) : Type 0 where
+pub record Spells (text : List (List ℕ)) (contents : ScriptContents) : Type 0 where
   pub utf8 : AreUtf8 text
   pub counted_are : counted text ≡ spelled contents
   pub limits : IsScript contents
 
 -- the bytes are the text of a script, and no more than 16,777,216
 abbrev pub IsText : List ℕ → Type 0
-IsText bytes = (contents : Contents) × (length bytes ≤ MOST_BYTES) × Spells (lines bytes) contents
+IsText bytes = (contents : ScriptContents) × (length bytes ≤ MOST_BYTES) × Spells (lines bytes) contents
 
 -- some further lines make a script's text of these
 abbrev pub Continues : List (List ℕ) → Type 0
-Continues before = (after : List (List ℕ)) × (contents : Contents) × Spells (before ++ after) contents
+Continues before = (after : List (List ℕ)) × (contents : ScriptContents) × Spells (before ++ after) contents
 
 -- a line with the first word and the number of words that some command's line has
 abbrev pub IsShaped : List (List ℕ) → Cmd → Type 0
@@ -177,8 +177,8 @@ pub data Fits (before : List (List (List ℕ))) (line : List (List ℕ)) : Kind 
   no_header : before ≡ [] → ((version : ℕ) → IsVersion version → line ≢ header version) → Fits before line NoHeader
   bad_heap : (version : ℕ) → IsVersion version → before ≡ header version ∷ [] → ((slots fields registers : ℕ) → IsHeap slots fields registers → line ≢ heap_line slots fields registers) → Fits before line BadHeap
   no_mutator : (version slots fields registers : ℕ) → IsVersion version → IsHeap slots fields registers → before ≡ header version ∷ heap_line slots fields registers ∷ [] → line ≢ mutator_line → Fits before line NoMutator
-  too_many_mutators : (contents : Contents) → IsScript contents → before ≡ spelled contents → line ≡ mutator_line → length contents.commands ≡ MOST_MUTATORS → Fits before line TooManyMutators
-  bad_command : (contents : Contents) (kind : Kind) → IsScript contents → before ≡ spelled contents → line ≢ mutator_line → IsBadCommand contents.version contents.registers contents.fields (last_length contents.commands) line kind → Fits before line kind
+  too_many_mutators : (contents : ScriptContents) → IsScript contents → before ≡ spelled contents → line ≡ mutator_line → length contents.commands ≡ MOST_MUTATORS → Fits before line TooManyMutators
+  bad_command : (contents : ScriptContents) (kind : Kind) → IsScript contents → before ≡ spelled contents → line ≢ mutator_line → IsBadCommand contents.version contents.registers contents.fields (last_length contents.commands) line kind → Fits before line kind
 
 -- what is wrong with a line behind lines of which these count: it isn't UTF-8; else it counts, and its words are wrong
 pub data IsFault (before : List (List (List ℕ))) (line : List ℕ) : Kind → Type 0 where
@@ -201,7 +201,7 @@ pub data IsNeed (before : List (List (List ℕ))) : Kind → Type 0 where
 -- all lines together are continued by some script, and spell none
 pub record StaysOpen (text : List (List ℕ)) (kind : Kind) : Type 0 where
   pub before : Continues text
-  pub not_whole : (contents : Contents) → ¬ Spells text contents
+  pub not_whole : (contents : ScriptContents) → ¬ Spells text contents
   pub need : IsNeed (counted text) kind
 
 -- bytes past the limit are refused first, with line 0

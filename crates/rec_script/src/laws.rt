@@ -1,12 +1,12 @@
 //! What follows from the definitions alone, each law as the contract of a function that does nothing.
 
 ghost use Rattle.std.specs.Prelude.{◌≡◌, ℕ, List};
-ghost use Rattle.rec_script.specs.Script.{Contents, IsRefused, IsText, Spells};
+ghost use Rattle.rec_script.specs.Script.{ScriptContents, IsRefused, IsText, Spells};
 ghost use Rattle.rec_script.specs.declared.error.Kind.{Kind};
 
 /// The lines of a text spell one script at most.
 pub fn texts_spell_one_script()
-    ensures { (text : List (List ℕ)) (a b : Contents) → Spells text a → Spells text b → a ≡ b }
+    ensures { (text : List (List ℕ)) (a b : ScriptContents) → Spells text a → Spells text b → a ≡ b }
 {}
 
 /// A text that is refused, with whichever line and kind, is no script's.

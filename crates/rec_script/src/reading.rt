@@ -3,7 +3,7 @@
 ghost use Rattle.std.specs.Prelude.{◌≡◌, ◌≢◌, ◌<◌, ◌≤◌, ℕ, List, [], ◌∷◌, ◌++◌, Err, Ok, IfOk, length, drop};
 ghost use Rattle.rec_model.specs.declared.limits.TheConstants.{MOST_BYTES};
 ghost use Rattle.rec_script.specs.Lines.{lines};
-ghost use Rattle.rec_script.specs.Script.{Contents, IsRefused, IsScript, IsText, Spells, spelled};
+ghost use Rattle.rec_script.specs.Script.{ScriptContents, IsRefused, IsScript, IsText, Spells, spelled};
 ghost use Rattle.rec_script.specs.declared.error.Kind.{Kind};
 ghost use Rattle.rec_script.specs.declared.error.ScriptError.TheVariants.{Bad};
 
@@ -19,7 +19,7 @@ pub fn read(alloc: Global, bytes: &[u8]) -> Result<Script, ScriptError>
     ensures found { IfOk result (λ script. IsScript script × (length bytes.now ≤ MOST_BYTES)
         × Spells (lines bytes.now) script) }
     // It is the only script that they spell.
-    ensures only { IfOk result (λ script. (other : Contents)
+    ensures only { IfOk result (λ script. (other : ScriptContents)
         → Spells (lines bytes.now) other → other ≡ script) }
     // What is refused is refused with the first line that no script continues, and the kind that fits it.
     ensures refused { (line : ℕ) (kind : Kind) → result ≡ Err (Bad line kind)

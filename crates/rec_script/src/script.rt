@@ -22,9 +22,9 @@ pub struct Script {
 }
 
 impl Model for Script {
-    ghost use Rattle.rec_script.specs.Script.{Contents, IsScript};
+    ghost use Rattle.rec_script.specs.Script.{ScriptContents, IsScript};
 
-    ghost Value = { Contents };
+    ghost Value = { ScriptContents };
 
     ghost use Rattle.rec_script.specs.Fields.{contents};
 

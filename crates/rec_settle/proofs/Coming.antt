@@ -258,13 +258,6 @@ pub offered_config : (s : Settling) (w : Core) → (offered s w).config ≡ w.co
 offered_config Offering w = refl
 offered_config _ w = refl
 
-pub offered_idle : (s : Settling) (w : Core) → AreIdle w → AreIdle (offered s w)
-offered_idle Offering w idle = λ t is. idle t is
-offered_idle (Finishing requested) w idle = idle
-offered_idle Trying w idle = idle
-offered_idle Freeing w idle = idle
-offered_idle Settled w idle = idle
-
 -- A turn of settling was made.
 pub goes_on : (first : Core) (s : Settling) (w v : Core) (turn : Turn) → (s ≡ Settled → ⊥) → HasCome first s w → IsWorld (offered s w) → IsWorld v → v.config ≡ (offered s w).config → HasStepped Anyone (offered s w) turn v
     → GoesOn first s w (stage_turned (begun s) turn v.epoch) v

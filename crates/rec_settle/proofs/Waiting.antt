@@ -1,7 +1,7 @@
 -- A collection ends: each turn that goes on counts, and a mutator that was waited for lets the collector turn once it has polled.
-use Rattle.std.proofs.Common.{◌≡◌, ◌↔◌, inl, inr, ℕ, ◌+◌, ◌*◌, ◌<◌, ◌≤◌, ◌==◌, nat_lt, if◌then◌else◌, Bool, true, false, Option, None, Some, List, length, refl, sym, ap, subst, ◌∙◌, arith}
+use Rattle.std.proofs.Common.{◌≡◌, ◌↔◌, inl, inr, ℕ, ◌+◌, ◌*◌, ◌<◌, ◌≤◌, ◌==◌, nat_lt, if◌then◌else◌, Bool, true, false, Option, None, Some, length, refl, sym, ap, subst, ◌∙◌, arith}
 use Rattle.std.proofs.lemmas.Bool.Decides.{nat_tests}
-use Rattle.std.proofs.lemmas.Bool.{cases_eq, cond-true, cond-false, eq-eqb, false≢true, ne_eqb}
+use Rattle.std.proofs.lemmas.Bool.{cond-true, cond-false, eq-eqb, false≢true, ne_eqb}
 use Rattle.rec_word.specs.Mailbox.{crossing_word}
 use Rattle.rec_word.specs.declared.mailbox.Mailbox.TheVariants.{Retired}
 use Rattle.rec_mutator.specs.Private as mutators
@@ -17,7 +17,7 @@ use Rattle.rec_collector.specs.declared.turn.Turn.TheVariants as answers
 use Rattle.rec_collector.proofs.Always.{within_limit}
 use Rattle.rec_core.specs.Config.{IsMutator}
 use Rattle.rec_core.specs.Core.{Core, mutator, opened, box, crossing_of}
-use Rattle.rec_core.specs.Kept.{Stand, stand_at, IsHandshake, IsKept}
+use Rattle.rec_core.specs.Kept.{Handshake, stand_at, IsHandshake, IsKept}
 use Rattle.rec_core.specs.Moves.{turned}
 use Rattle.rec_core.specs.Worked.{IsWorked}
 use Rattle.rec_core.specs.declared.config.Config.{Config}
@@ -27,7 +27,7 @@ use Rattle.rec_core.proofs.Steps.{actor_of}
 use Rattle.rec_core.specs.Turn.{TurnHasCause}
 use Rattle.rec_world.specs.World.{IsCrossed, IsQuiet, IsWorld}
 use Rattle.rec_world.proofs.Calls.{world_kept}
-use Rattle.rec_settle.specs.Collecting.{AreIdle, Follows, HasPolled, HasStepped, IsAwaited, turns_of, waits_at}
+use Rattle.rec_settle.specs.Collecting.{Follows, HasPolled, HasStepped, IsAwaited, turns_of, waits_at}
 use Rattle.rec_settle.specs.Left.{left_of}
 
 -- the turns of a collection are limited
@@ -88,17 +88,17 @@ polled_over w v t kept awaits polled =
     let is : IsMutator v.config t = subst (λ (c : Config). IsMutator c t) (sym polled.quiet.config) awaits.there in
     let phase : v.collector.phase ≡ Looking t = ap (λ (c : Private). c.phase) polled.quiet.collector ∙ awaits.waits.looks in
     let actor = actor_of v t kept is in
-    let due : stand_at v.collector.phase t ≡ Stand.Due = ap (λ p. stand_at p t) phase ∙ stands t in
+    let due : stand_at v.collector.phase t ≡ Handshake.Due = ap (λ p. stand_at p t) phase ∙ stands t in
     let here : (mutator v t).epoch ≡ v.epoch = polled.epoch ∙ sym polled.quiet.requested in
     go (subst (IsHandshake v.config v.epoch (mutator v t) (crossing_of v t) (box v t)) due actor.handshake) here
   where
-    stands : (t : ℕ) → stand_at (Looking t) t ≡ Stand.Due
-    stands t = cond-false (nat_lt t t) Stand.Done Stand.Due (not_less t)
+    stands : (t : ℕ) → stand_at (Looking t) t ≡ Handshake.Due
+    stands t = cond-false (nat_lt t t) Handshake.Done Handshake.Due (not_less t)
       where
         not_less : (n : ℕ) → nat_lt n n ≡ false
         not_less n = grind (arith, nat_tests)
 
-    go : IsHandshake v.config v.epoch (mutator v t) (crossing_of v t) (box v t) Stand.Due → (mutator v t).epoch ≡ v.epoch → crossing_of v t ≡ crossing_word v.epoch Retired
+    go : IsHandshake v.config v.epoch (mutator v t) (crossing_of v t) (box v t) Handshake.Due → (mutator v t).epoch ≡ v.epoch → crossing_of v t ≡ crossing_word v.epoch Retired
     go (inl behind) here = absurd (omega (arith, behind.epoch, here))
     go (inr (inl crossing)) here = absurd (idle_holds (mutator v t).phase polled.idle crossing.phase)
     go (inr (inr crossed)) here = crossed.word
@@ -110,16 +110,3 @@ polled_nearer w v t kept awaits polled =
     let now : waits_at v v.collector.phase ≡ 0 = ap (waits_at v) phase ∙ cond-true (crossing_of v t == crossing_word v.epoch Retired) 0 1 (eq-eqb (crossing_of v t) (crossing_word v.epoch Retired) (polled_over w v t kept awaits polled)) in
     let earlier : waits_at w w.collector.phase ≡ 1 = ap (waits_at w) awaits.waits.looks ∙ cond-false (crossing_of w t == crossing_word w.epoch Retired) 0 1 (ne_eqb (crossing_of w t) (crossing_word w.epoch Retired) awaits.waits.behind) in
     omega (arith, now, earlier, ap turns_of polled.quiet.config, ap (λ (c : Private). c.turns) polled.quiet.collector)
-
--- a turn leaves the mutators idle,
-pub idle_turned : (w v : Core) → v.mutators ≡ w.mutators → v.config ≡ w.config → AreIdle w → AreIdle v
-idle_turned w v same config idle t is =
-    let before : IsMutator w.config t = subst (λ (c : Config). IsMutator c t) config is in
-    ap (λ (ps : List mutators.Private). is_busy (mutator (record w { mutators = ps }) t)) same ∙ idle t before
-
--- and so does a poll
-pub idle_polled : (w v : Core) (t : ℕ) → HasPolled w t v → AreIdle w → AreIdle v
-idle_polled w v t polled idle s is = elim (cases_eq s t) [
-  | inl same ↦ subst (λ n. is_busy (mutator v n) ≡ false) (sym same) polled.idle
-  | inr other ↦ ap is_busy (polled.quiet.others s other is.0) ∙ idle s (subst (λ (c : Config). IsMutator c s) polled.quiet.config is)
-]

@@ -1,3 +1,4 @@
+-- The modules of the definitions.
 pub mod Collecting
 pub mod Left
 pub mod Stages

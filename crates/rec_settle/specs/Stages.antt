@@ -1,5 +1,6 @@
 -- How far settling has come.
-use Rattle.std.specs.Prelude.{◌≡◌, ℕ, ◌+◌, ◌<◌, ◌^◌, ◌==◌, if◌then◌else◌}
+use Rattle.std.specs.Prelude.{◌≡◌, ℕ, ◌+◌, ◌≤◌, ◌==◌, if◌then◌else◌}
+use Rattle.rec_word.specs.declared.word.TheConstants.{LAST_EPOCH}
 use Rattle.rec_collector.specs.declared.phase.Phase.TheVariants.{Idle}
 use Rattle.rec_collector.specs.declared.turn.Turn.{Turn}
 use Rattle.rec_collector.specs.declared.turn.Turn.TheVariants as answers
@@ -42,7 +43,7 @@ Settles Settled first w = IsSettling first w
 pub record HasCome (first : Core) (stage : Settling) (w : Core) : Type 0 where
   pub idle : AreIdle first
   pub kept : IsWorld first
-  pub left : first.epoch + 4 < 2 ^ 24
+  pub left : first.epoch + 4 ≤ LAST_EPOCH
   pub settles : Settles stage first w
 
 -- What a turn finds: where the collection of the requested epoch is complete, every slot is offered first.

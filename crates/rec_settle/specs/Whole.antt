@@ -1,5 +1,6 @@
 -- What settling as a whole comes to.
-use Rattle.std.specs.Prelude.{◌≡◌, ◌+◌, ◌<◌, ◌^◌}
+use Rattle.std.specs.Prelude.{◌≡◌, ◌+◌, ◌≤◌}
+use Rattle.rec_word.specs.declared.word.TheConstants.{LAST_EPOCH}
 use Rattle.rec_collector.specs.Kept.{under_way}
 use Rattle.rec_core.specs.Core.{Core}
 use Rattle.rec_core.specs.Settled.{IsSettled}
@@ -8,7 +9,7 @@ use Rattle.rec_settle.specs.declared.whole.Settled.{Settled}
 
 -- A heap was settled, which had more than three epochs left, and this is told of it.
 pub record HasSettled (before after : Core) (told : Settled) : Type 0 where
-  pub left : before.epoch + 4 < 2 ^ 24
+  pub left : before.epoch + 4 ≤ LAST_EPOCH
   -- just what registers reach is taken, with true counts
   pub settled : IsSettled after
   -- it came to that by a collection for each of the epochs from the requested one on, and before them the one under way

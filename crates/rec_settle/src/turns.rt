@@ -1,6 +1,7 @@
 //! Settling, turn by turn.
 
-ghost use Rattle.std.specs.Prelude.{◌≡◌, ◌+◌, ◌<◌, ◌≤◌, ◌^◌, IfErr, IfOk, IfSome, IsNone};
+ghost use Rattle.std.specs.Prelude.{◌≡◌, ◌+◌, ◌<◌, ◌≤◌, IfErr, IfOk, IfSome, IsNone};
+ghost use Rattle.rec_word.specs.declared.word.TheConstants.{LAST_EPOCH};
 ghost use Rattle.rec_core.specs.Core.{Core};
 ghost use Rattle.rec_core.specs.Turn.{step_seen};
 ghost use Rattle.rec_world.specs.World.{IsWorld};
@@ -42,8 +43,8 @@ pub enum Settling {
 impl Settling {
     /// Settling at its beginning. Where fewer than four epochs are left, that is the answer.
     pub fn start(world: &World) -> Result<Settling, EpochsSpent>
-        ensures spent { IfErr result (λ error. (2 ^ 24 ≤ world.now.epoch + 4) × (error.requested ≡ world.now.epoch)) }
-        ensures left { IfOk result (λ settling. world.now.epoch + 4 < 2 ^ 24) }
+        ensures spent { IfErr result (λ error. (LAST_EPOCH < world.now.epoch + 4) × (error.requested ≡ world.now.epoch)) }
+        ensures left { IfOk result (λ settling. world.now.epoch + 4 ≤ LAST_EPOCH) }
         ensures stage { IfOk result (λ settling. settling ≡ stages.Settling.Finishing world.now.epoch) }
         ensures begins { IfOk result (λ settling. AreIdle world.now → HasCome world.now settling world.now) }
         ensures kept { IsWorld world.now }
@@ -74,6 +75,7 @@ impl Settling {
         ensures kept { IsWorld world.new }
     {
         if let Settling::Settled = self {
+            // A clause of the call: the world is kept.
             let _epoch = world.epoch();
             return None;
         }
@@ -89,6 +91,7 @@ impl Settling {
         ensures offered { world.new ≡ offered self.old world.old }
         ensures kept { IsWorld world.new }
     {
+        // A clause of the call: the world is kept.
         let _epoch = world.epoch();
         if let Settling::Offering = self {
             world.offer_all();

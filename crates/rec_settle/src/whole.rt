@@ -1,6 +1,7 @@
 //! Settling as a whole.
 
-ghost use Rattle.std.specs.Prelude.{◌≡◌, ◌+◌, ◌≤◌, ◌^◌, ℕ, IfErr, IfOk};
+ghost use Rattle.std.specs.Prelude.{◌≡◌, ◌+◌, ◌<◌, ℕ, IfErr, IfOk};
+ghost use Rattle.rec_word.specs.declared.word.TheConstants.{LAST_EPOCH};
 ghost use Rattle.rec_model.specs.Heap.{Heap};
 ghost use Rattle.rec_model.specs.Sight.{StandsBy};
 ghost use Rattle.rec_core.specs.Core.{sight};
@@ -24,7 +25,8 @@ pub struct Settled {
 pub fn settle(world: &mut World) -> Result<Settled, EpochsSpent>
     requires idle { AreIdle world.old }
 
-    ensures spent { IfErr result (λ error. (2 ^ 24 ≤ world.old.epoch + 4) × (error.requested ≡ world.old.epoch) × (world.new ≡ world.old)) }
+    ensures spent { IfErr result (λ error. (LAST_EPOCH < world.old.epoch + 4) × (error.requested ≡ world.old.epoch) × (world.new ≡ world.old)) }
+
     // Just what registers reach is taken, with true counts; and how it came to that.
     ensures done { IfOk result (HasSettled world.old world.new) }
 

@@ -1,3 +1,4 @@
+-- The modules of the proofs.
 pub mod Bounds
 pub mod Cyclics
 pub mod Kept

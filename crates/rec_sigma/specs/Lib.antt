@@ -1,3 +1,4 @@
+-- The modules of the definitions.
 pub mod Judged
 pub mod Prepare
 pub mod Prepared

@@ -5,9 +5,9 @@ use Rattle.rec_collector.specs.Step.{IsBetween}
 use Rattle.rec_collector.specs.declared.phase.Phase.{Phase}
 use Rattle.rec_collector.specs.declared.phase.Phase.TheVariants.{Looking, Swapping, Returning}
 use Rattle.std.specs.Option.{IfSome}
-use Rattle.rec_table.proofs.Common.{Contents, Private, is_busy, IsMutator, Op, actor_of, may_turn, Core, cells_of, mutator, nobody, box, crossing_of, IsKept, IsHandshake, Stand, stand_at, after_moves, IsWorld, world_kept, told, gathered_all, cells_of_row, boxes_at, boxes_out, Crew, config_after}
+use Rattle.rec_table.proofs.Common.{Contents, Private, is_busy, IsMutator, Op, actor_of, may_turn, Core, cells_of, mutator, nobody, box, crossing_of, IsKept, IsHandshake, Handshake, stand_at, after_moves, IsWorld, world_kept, told, gathered_all, cells_of_row, boxes_at, boxes_out, CollectorSeat, config_after}
 use Rattle.rec_word.specs.declared.op.Op.TheVariants as ops
-use Rattle.rec_core.specs.Met.{MayTurn}
+use Rattle.rec_core.specs.Preconditions.{MayTurn}
 use Rattle.rec_table.proofs.Turns.{returns_op}
 use Rattle.rec_core.specs.declared.config.Config.{Config}
 use Rattle.rec_table.specs.Ends.{IsRunOf}
@@ -16,10 +16,10 @@ use Rattle.rec_core.proofs.Row.{cells_row}
 use Rattle.rec_table.proofs.Seats.{all_home, idle_not_giving}
 use Rattle.rec_table.proofs.Steps.{places_after, slots_after}
 
-is_held : Stand → Bool
-is_held Stand.Done = false
-is_held Stand.Held = true
-is_held Stand.Due = false
+is_held : Handshake → Bool
+is_held Handshake.Done = false
+is_held Handshake.Held = true
+is_held Handshake.Due = false
 
 nothing_out : (x : ℕ × Option Contents) (l : List (ℕ × Option Contents)) → x ∷ l ≡ [] → ⊥
 nothing_out x l e = let bad : suc (length l) ≡ 0 = ap length e in absurd (omega (arith, bad))
@@ -28,18 +28,18 @@ not_held : (c : collectors.Private) (t : ℕ) (phase : Phase) → IsBetween phas
 unfolding is_held
 not_held c t (Looking u) between none = go (nat_lt t u)
   where
-    go : (b : Bool) → is_held (cond b Stand.Done Stand.Due) ≡ false
+    go : (b : Bool) → is_held (cond b Handshake.Done Handshake.Due) ≡ false
     go true = refl
     go false = refl
 not_held c t (Swapping u) between none = absurd between
 not_held c t (Returning u) between none = absurd (nothing_out (u - 1, Some (collectors.spare c)) [] none)
 not_held c t _ between none = refl
 
-even_at : (config : Config) (requested : ℕ) (p : Private) (x : ℕ) (b : Contents) (st : Stand) → is_held st ≡ false → is_busy p ≡ false → IsHandshake config requested p x b st → x % 2 ≡ 0
+even_at : (config : Config) (requested : ℕ) (p : Private) (x : ℕ) (b : Contents) (st : Handshake) → is_held st ≡ false → is_busy p ≡ false → IsHandshake config requested p x b st → x % 2 ≡ 0
 unfolding is_held
-even_at config requested p x b Stand.Done free idle h = let e = h.0.word in omega (arith, e)
-even_at config requested p x b Stand.Held free idle h = absurd (true≢false free)
-even_at config requested p x b Stand.Due free idle h =
+even_at config requested p x b Handshake.Done free idle h = let e = h.0.word in omega (arith, e)
+even_at config requested p x b Handshake.Held free idle h = absurd (true≢false free)
+even_at config requested p x b Handshake.Due free idle h =
     ⊎_elim
     (λ behind. let e = behind.word in omega (arith, e))
     (λ other. ⊎_elim (λ crossing. absurd (idle_not_giving p idle crossing.phase)) (λ crossed. let e = crossed.word in omega (arith, e)) other)
@@ -68,14 +68,14 @@ by_index (x ∷ xs) [] e each = absurd (omega arith)
 by_index (x ∷ xs) (y ∷ ys) e each = λ i. each 0 (omega arith) i ∷ by_index xs ys (omega arith) (λ k lt. each (suc k) (omega arith)) i
 
 -- all but the births
-pub record Ends (key : Core) (c : Crew) (ws : List ℕ) (xs : List (Option Contents)) (ms : List Private) (g : collectors.Private) (r : IsRunOf key c ws xs) : Type 0 where
+pub record Ends (key : Core) (c : CollectorSeat) (ws : List ℕ) (xs : List (Option Contents)) (ms : List Private) (g : collectors.Private) (r : IsRunOf key c ws xs) : Type 0 where
   pub config : (after_moves key r.run).config ≡ key.config
   pub cells : cells_of (after_moves key r.run) ≡ cells_of_row (length key.words) (length key.headers) ws
   pub boxes : map (λ b. Some b) (after_moves key r.run).boxes ≡ xs
   pub mutators : (after_moves key r.run).mutators ≡ ms
   pub collector : (after_moves key r.run).collector ≡ g
 
-pub ends : (key : Core) (c : Crew) (ws : List ℕ) (xs : List (Option Contents)) (ms : List Private) (g : collectors.Private) (r : IsRunOf key c ws xs) → IsWorld key
+pub ends : (key : Core) (c : CollectorSeat) (ws : List ℕ) (xs : List (Option Contents)) (ms : List Private) (g : collectors.Private) (r : IsRunOf key c ws xs) → IsWorld key
     → g ≡ gathered_all key.collector c.log → boxes_out g ≡ [] → length ms ≡ key.config.mutators
     → ((k : ℕ) → k < key.config.mutators → (get_or ms k nobody ≡ told (mutator key (k + 1)) (get_or c.known k [])) × (is_busy (get_or ms k nobody) ≡ false)) → Ends key c ws xs ms g r
 ends key c ws xs ms g r world g_is none many each =
@@ -108,7 +108,7 @@ none_out_where_even w kept even = by w.collector.phase refl
         let words_many = kept.mutators.words in
         let there : IsMutator w.config t = (may.within.0, omega (arith, may.within.1, words_many)) in
         let held = subst (λ (g : Phase). IsHandshake w.config w.epoch (mutator w t) (crossing_of w t) (box w t) (stand_at g t)) is (actor_of w t kept there).handshake in
-        let stands : stand_at (Returning t) t ≡ Stand.Held = ap (λ x. cond x Stand.Done (cond (eqb t t) Stand.Held Stand.Due)) (le-ltb t t (omega arith)) ∙ ap (λ x. cond x Stand.Held Stand.Due) (eq-eqb t t refl) in
+        let stands : stand_at (Returning t) t ≡ Handshake.Held = ap (λ x. cond x Handshake.Done (cond (eqb t t) Handshake.Held Handshake.Due)) (le-ltb t t (omega arith)) ∙ ap (λ x. cond x Handshake.Held Handshake.Due) (eq-eqb t t refl) in
         let word = (subst (IsHandshake w.config w.epoch (mutator w t) (crossing_of w t) (box w t)) stands held).0.word in
         let zero_ = even (t - 1) 0 (omega (arith, may.within.0, may.within.1)) in
         absurd (omega (arith, word, zero_))

@@ -7,7 +7,7 @@ use native.Mathlib.Decide.{dec_lt}
 use lib.ListN.{get_elem?, take}
 use Rattle.std.proofs.Math.Numerals.{add-one}
 use Rattle.atomic_table.specs.Table.{State, Final, Seen}
-use Rattle.rec_table.proofs.Common.{Contents, Core, mutator, told, gathered_all, Runs, Holds, Beat, Crew, View, Collects}
+use Rattle.rec_table.proofs.Common.{Contents, Core, mutator, told, gathered_all, Runs, Holds, Beat, CollectorSeat, View, Collects}
 use Rattle.rec_table.specs.Ends.{IsRunOf}
 use Rattle.rec_table.proofs.Beats.{mutator_after, world_after}
 use Rattle.rec_table.proofs.Collects.{collector_after}
@@ -36,7 +36,7 @@ same_boxes (h ∷ homes) (x ∷ xs) len each (b ∷ bs) is =
     rest_of [] = []
     rest_of (y ∷ ys) = ys
 
-pub ended : (key : Core) (id : ℕ) (v : View) (c : Crew) (ws : List ℕ) (xs : List (Option Contents)) → v ≡ Collects c → c.made ≡ key.config.mutators → length c.known ≡ key.config.mutators
+pub ended : (key : Core) (id : ℕ) (v : View) (c : CollectorSeat) (ws : List ℕ) (xs : List (Option Contents)) → v ≡ Collects c → c.made ≡ key.config.mutators → length c.known ≡ key.config.mutators
     → Final (Seen (Runs key) id v) ws xs → IsRunOf key c ws xs
 ended key id v c ws xs is made known f =
     let s : State (Option Contents) View = f.0 in

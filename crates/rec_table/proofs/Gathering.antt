@@ -26,7 +26,7 @@ use Rattle.rec_collector.specs.declared.phase.Phase.TheVariants.{Idle, Looking, 
 use Rattle.rec_collector.proofs.Always.{names_word}
 use Rattle.rec_collector.proofs.Landing.{IsWorking, work_of, work_phase}
 use Rattle.atomic_table.specs.Seated.{TableId}
-use Rattle.rec_table.proofs.Common.{written, Op, Contents, with_parts, Core, cells_of, box, IsWorld, world_kept, collector_within, Gathers, gathers, gathers_now, looked_at, left_by, gathered, gathered_all, looked, index_of, Operates, IsReturnOp, TurnedBy, LookedBy, Looks, GlancedBy, ReturnedBy, records, crew_of, crew_more, boxes_at, boxes_out, NotLooking, Beat, Saw, Took, Crew, View, Collects}
+use Rattle.rec_table.proofs.Common.{written, Op, Contents, with_parts, Core, cells_of, box, IsWorld, world_kept, collector_within, CollectorView, collector_view, collector_now, looked_at, left_by, gathered, gathered_all, looked, index_of, Operates, IsReturnOp, TurnedBy, LookedBy, Looks, GlancedBy, ReturnedBy, records, collecting_of, collecting_more, boxes_at, boxes_out, NotLooking, Beat, Saw, Took, CollectorSeat, View, Collects}
 use Rattle.rec_table.proofs.Collects.{gathered_both, leaves_spare}
 use Rattle.rec_core.proofs.Row.{row_within}
 use Rattle.rec_core.proofs.Trying.{loads_child}
@@ -191,10 +191,10 @@ lone_phase p op between named is = by (kind p op between named)
     by (Kind.lone phase o) = phase
 
 pub allows_lone : (key : Core) (slots id i : ℕ) (me : Me (Option Contents) View) (op : Op) (p : Private) (f : ℕ → ℕ) (st : Step (Option Contents))
-    → me ≡ (Collects (crew_of me.0), boxes_out p) → p ≡ gathered_all key.collector (crew_of me.0).log → IsBetween p.phase → ◌≡◌ {A = Option Op} (next_of p) (Some op) → IsLoneOp op
+    → me ≡ (Collects (collecting_of me.0), boxes_out p) → p ≡ gathered_all key.collector (collecting_of me.0).log → IsBetween p.phase → ◌≡◌ {A = Option Op} (next_of p) (Some op) → IsLoneOp op
     → i ≡ index_of (length key.words) (length key.headers) op → ((n : ℕ) → f n ≡ written op n) → Operates key OperationKind.Turns slots id me i f (TurnedBy p st me)
 allows_lone key slots id i me op p f st is is_p between named alone at does =
-    let c : Crew = crew_of me.0 in
+    let c : CollectorSeat = collecting_of me.0 in
     let phase : IsLone p.phase = lone_phase p op between named alone in
     let all = turns key slots id c (boxes_out p) p op f st is_p named (lone_plain op alone)
     (λ w n e. sees w n w.collector.phase (subst (λ (x : Private). IsLone x.phase) (sym e) phase))
@@ -202,11 +202,11 @@ allows_lone key slots id i me op p f st is is_p between named alone at does =
     does in
     subst (λ (y : Me (Option Contents) View × ℕ). Operates key OperationKind.Turns slots id y.0 y.1 f (TurnedBy p st y.0)) (λ k. (sym is k, sym at k)) all
 
-pub made_lone : (p : Private) (op : Op) (word : ℕ) (me me' : Me (Option Contents) View) → me ≡ (Collects (crew_of me.0), boxes_out p) → IsBetween p.phase → ◌≡◌ {A = Option Op} (next_of p) (Some op) → IsLoneOp op
-    → me' ≡ (records me.0 (Saw word), me.1) → me' ≡ (Collects (crew_more (crew_of me.0) (Saw word)), [])
+pub made_lone : (p : Private) (op : Op) (word : ℕ) (me me' : Me (Option Contents) View) → me ≡ (Collects (collecting_of me.0), boxes_out p) → IsBetween p.phase → ◌≡◌ {A = Option Op} (next_of p) (Some op) → IsLoneOp op
+    → me' ≡ (records me.0 (Saw word), me.1) → me' ≡ (Collects (collecting_more (collecting_of me.0) (Saw word)), [])
 made_lone p op word me me' is between named alone now =
-    let c : Crew = crew_of me.0 in
-    now ∙ (λ k. (records (is k).0 (Saw word), (is k).1)) ∙ (λ k. (Collects (crew_more c (Saw word)), lone_boxes p p.phase (lone_phase p op between named alone) k))
+    let c : CollectorSeat = collecting_of me.0 in
+    now ∙ (λ k. (records (is k).0 (Saw word), (is k).1)) ∙ (λ k. (Collects (collecting_more c (Saw word)), lone_boxes p p.phase (lone_phase p op between named alone) k))
 
 not_return : (o : Op) → IsLoneOp o → IsReturnOp o → ⊥
 not_return (ops.LoadChild place) a b = b
@@ -225,52 +225,52 @@ returns_at p op between named is = by (kind p op between named)
     by (Kind.lone phase o) = absurd (not_return op o is)
 
 pub allows_return : (key : Core) (slots id i : ℕ) (me : Me (Option Contents) View) (op : Op) (p : Private) (f : ℕ → ℕ) (st : Step (Option Contents))
-    → me ≡ (Collects (crew_of me.0), boxes_out p) → p ≡ gathered_all key.collector (crew_of me.0).log → IsBetween p.phase → ◌≡◌ {A = Option Op} (next_of p) (Some op) → IsReturnOp op
+    → me ≡ (Collects (collecting_of me.0), boxes_out p) → p ≡ gathered_all key.collector (collecting_of me.0).log → IsBetween p.phase → ◌≡◌ {A = Option Op} (next_of p) (Some op) → IsReturnOp op
     → i ≡ index_of (length key.words) (length key.headers) op → ((n : ℕ) → f n ≡ written op n) → Operates key OperationKind.Turns slots id me i f (ReturnedBy p st me)
 allows_return key slots id i me op p f st is is_p between named ret at does =
-    let c : Crew = crew_of me.0 in
+    let c : CollectorSeat = collecting_of me.0 in
     let (t, phase, o) = returns_at p op between named ret in
     let all = returns_box key slots id t c p f st is_p phase (λ n. does n ∙ ap (λ (x : Op). written x n) o) in
     subst (λ (y : Me (Option Contents) View × ℕ). Operates key OperationKind.Turns slots id y.0 y.1 f (ReturnedBy p st y.0))
     (λ k. (sym (is ∙ (λ j. (Collects c, boxes_at p (phase j)))) k, sym (at ∙ ap (index_of (length key.words) (length key.headers)) o) k)) all
 
-pub made_return : (p : Private) (op : Op) (word : ℕ) (me me' : Me (Option Contents) View) → me ≡ (Collects (crew_of me.0), boxes_out p) → IsBetween p.phase → ◌≡◌ {A = Option Op} (next_of p) (Some op) → IsReturnOp op
-    → me' ≡ (records me.0 (Saw word), rest me.1) → me' ≡ (Collects (crew_more (crew_of me.0) (Saw word)), [])
+pub made_return : (p : Private) (op : Op) (word : ℕ) (me me' : Me (Option Contents) View) → me ≡ (Collects (collecting_of me.0), boxes_out p) → IsBetween p.phase → ◌≡◌ {A = Option Op} (next_of p) (Some op) → IsReturnOp op
+    → me' ≡ (records me.0 (Saw word), rest me.1) → me' ≡ (Collects (collecting_more (collecting_of me.0) (Saw word)), [])
 made_return p op word me me' is between named ret now =
-    let c : Crew = crew_of me.0 in
-    now ∙ (λ k. (records (is k).0 (Saw word), rest (is k).1)) ∙ (λ k. (Collects (crew_more c (Saw word)), rest (boxes_at p ((returns_at p op between named ret).1 k))))
+    let c : CollectorSeat = collecting_of me.0 in
+    now ∙ (λ k. (records (is k).0 (Saw word), rest (is k).1)) ∙ (λ k. (Collects (collecting_more c (Saw word)), rest (boxes_at p ((returns_at p op between named ret).1 k))))
 
 -- A look at a mailbox.
 pub given_looking : (p : Private) (t word : ℕ) → p.phase ≡ Looking t → IsGiven p word
 unfolding IsGiven IsGivenAt
 given_looking p t word is = subst (λ (x : Phase). IsGivenAt p word x) (sym is) tt
 
-module _ (key : Core) (slots id i : ℕ) (me : Me (Option Contents) View) (t epoch number : ℕ) (p : Private) (st : Step (Option Contents)) (is : me ≡ (Collects (crew_of me.0), [])) (n_is : number ≡ t) (is_p : p ≡ gathered_all key.collector (crew_of me.0).log)
+module _ (key : Core) (slots id i : ℕ) (me : Me (Option Contents) View) (t epoch number : ℕ) (p : Private) (st : Step (Option Contents)) (is : me ≡ (Collects (collecting_of me.0), [])) (n_is : number ≡ t) (is_p : p ≡ gathered_all key.collector (collecting_of me.0).log)
     (phase : p.phase ≡ Looking t) (e_is : p.epoch ≡ epoch) (at : i ≡ index_of (length key.words) (length key.headers) (ops.LookBox t epoch)) where
   its : i ≡ index_of (length key.words) (length key.headers) (ops.LookBox t p.epoch)
   its = at ∙ ap (λ (e : ℕ). index_of (length key.words) (length key.headers) (ops.LookBox t e)) (sym e_is)
 
   pub allows_look : (f : ℕ → ℕ) → ((n : ℕ) → f n ≡ written (ops.LookBox t epoch) n) → Operates key OperationKind.Turns slots id me i f (LookedBy p number st me)
   allows_look f does =
-      let all = looks key slots id t (crew_of me.0) p f st is_p phase (λ n. does n ∙ ap (λ (e : ℕ). written (ops.LookBox t e) n) (sym e_is)) in
+      let all = looks key slots id t (collecting_of me.0) p f st is_p phase (λ n. does n ∙ ap (λ (e : ℕ). written (ops.LookBox t e) n) (sym e_is)) in
       subst (λ (y : Me (Option Contents) View × ℕ × ℕ). Operates key OperationKind.Turns slots id y.0 y.1 f (LookedBy p y.2 st y.0)) (λ k. (sym is k, sym its k, sym n_is k)) all
 
   pub allows_glance : Operates key OperationKind.Glances slots id me i (λ n. n) (GlancedBy p number st me)
   allows_glance =
-      let all = glances key slots id t (crew_of me.0) p st is_p phase in
+      let all = glances key slots id t (collecting_of me.0) p st is_p phase in
       subst (λ (y : Me (Option Contents) View × ℕ × ℕ). Operates key OperationKind.Glances slots id y.0 y.1 (λ n. n) (GlancedBy p y.2 st y.0)) (λ k. (sym is k, sym its k, sym n_is k)) all
 
-abbrev pub Hit : (p : Private) (t word : ℕ) (c : Crew) (me : Me (Option Contents) View) → Type 0
-Hit p t word c me = (b : Contents) × (me ≡ (Collects (crew_more c (Took word b)), (t - 1, Some b) ∷ [])) × IsSized p.registers p.capacity b
+abbrev pub Hit : (p : Private) (t word : ℕ) (c : CollectorSeat) (me : Me (Option Contents) View) → Type 0
+Hit p t word c me = (b : Contents) × (me ≡ (Collects (collecting_more c (Took word b)), (t - 1, Some b) ∷ [])) × IsSized p.registers p.capacity b
 
-pub look_hits : (p actor : Private) (t number epoch word : ℕ) (me me' : Me (Option Contents) View) → me ≡ (Collects (crew_of me.0), []) → actor ≡ p → number ≡ t → p.epoch ≡ epoch → word ≡ crossing_word epoch Retired
-    → Looks actor number me word me' → Hit p t word (crew_of me.0) me'
+pub look_hits : (p actor : Private) (t number epoch word : ℕ) (me me' : Me (Option Contents) View) → me ≡ (Collects (collecting_of me.0), []) → actor ≡ p → number ≡ t → p.epoch ≡ epoch → word ≡ crossing_word epoch Retired
+    → Looks actor number me word me' → Hit p t word (collecting_of me.0) me'
 look_hits p actor t number epoch word me me' is a_is n_is e_is hit by =
     let (b, now, sized) = by.0 (hit ∙ ap (λ (e : ℕ). crossing_word e Retired) (sym e_is ∙ ap (λ (x : Private). x.epoch) (sym a_is))) in
     (b, now ∙ (λ k. (records (is k).0 (Took word b), (n_is k - 1, Some b) ∷ (is k).1)), subst (λ (x : Private). IsSized x.registers x.capacity b) a_is sized)
 
-pub look_misses : (p actor : Private) (t number epoch word : ℕ) (me me' : Me (Option Contents) View) → me ≡ (Collects (crew_of me.0), []) → actor ≡ p → p.epoch ≡ epoch → (word ≡ crossing_word epoch Retired → ⊥)
-    → Looks actor number me word me' → me' ≡ (Collects (crew_more (crew_of me.0) (Saw word)), [])
+pub look_misses : (p actor : Private) (t number epoch word : ℕ) (me me' : Me (Option Contents) View) → me ≡ (Collects (collecting_of me.0), []) → actor ≡ p → p.epoch ≡ epoch → (word ≡ crossing_word epoch Retired → ⊥)
+    → Looks actor number me word me' → me' ≡ (Collects (collecting_more (collecting_of me.0) (Saw word)), [])
 look_misses p actor t number epoch word me me' is a_is e_is miss by =
     by.1 (λ e. miss (e ∙ ap (λ (x : ℕ). crossing_word x Retired) (ap (λ (x : Private). x.epoch) a_is ∙ e_is))) ∙ (λ k. (records (is k).0 (Saw word), (is k).1))
 
@@ -395,16 +395,16 @@ pub looking_boxes : (p : Private) (t : ℕ) → p.phase ≡ Looking t → boxes_
 looking_boxes p t is = ap (boxes_at p) is
 
 -- the seat and the list after a turn
-pub turn_me : (c : Crew) (b : Beat) (q : Private) (me' : Me (Option Contents) View) → me' ≡ (Collects (crew_more c b), boxes_out q) → me' ≡ (Collects (crew_of me'.0), boxes_out q)
-turn_me c b q me' now = now ∙ (λ k. (Collects (crew_of (sym now k).0), boxes_out q))
+pub turn_me : (c : CollectorSeat) (b : Beat) (q : Private) (me' : Me (Option Contents) View) → me' ≡ (Collects (collecting_more c b), boxes_out q) → me' ≡ (Collects (collecting_of me'.0), boxes_out q)
+turn_me c b q me' now = now ∙ (λ k. (Collects (collecting_of (sym now k).0), boxes_out q))
 
-pub turn_log : (o p q : Private) (c : Crew) (b : Beat) (me' : Me (Option Contents) View) → p ≡ gathered_all o c.log → q ≡ gathered p b → me' ≡ (Collects (crew_more c b), boxes_out q) → q ≡ gathered_all o (crew_of me'.0).log
+pub turn_log : (o p q : Private) (c : CollectorSeat) (b : Beat) (me' : Me (Option Contents) View) → p ≡ gathered_all o c.log → q ≡ gathered p b → me' ≡ (Collects (collecting_more c b), boxes_out q) → q ≡ gathered_all o (collecting_of me'.0).log
 turn_log o p q c b me' at learns now =
-    learns ∙ ap (λ x. gathered x b) at ∙ sym (gathered_both o c.log (b ∷ [])) ∙ sym (λ k. gathered_all o (crew_of (now k).0).log)
+    learns ∙ ap (λ x. gathered x b) at ∙ sym (gathered_both o c.log (b ∷ [])) ∙ sym (λ k. gathered_all o (collecting_of (now k).0).log)
 
-pub turn_end : (z z' : TableId) (o p q : Private) (c : Crew) (b : Beat) (me' : Me (Option Contents) View) (g : Gathers) → gathers z o c ≡ g → z' ≡ z → p ≡ gathered_all o c.log → q ≡ gathered p b → me' ≡ (Collects (crew_more c b), boxes_out q)
-    → (gathers z' o (crew_of me'.0) ≡ record g { crew = crew_more g.crew b }) × (gathered_all o (crew_of me'.0).log ≡ gathered (gathers_now g) b)
+pub turn_end : (z z' : TableId) (o p q : Private) (c : CollectorSeat) (b : Beat) (me' : Me (Option Contents) View) (g : CollectorView) → collector_view z o c ≡ g → z' ≡ z → p ≡ gathered_all o c.log → q ≡ gathered p b → me' ≡ (Collects (collecting_more c b), boxes_out q)
+    → (collector_view z' o (collecting_of me'.0) ≡ record g { collecting = collecting_more g.collecting b }) × (gathered_all o (collecting_of me'.0).log ≡ gathered (collector_now g) b)
 turn_end z z' o p q c b me' g is same at learns now = (
-  (λ k. gathers (same k) o (crew_of (now k).0)) ∙ (λ k. record (is k) { crew = crew_more (is k).crew b }),
-  sym (turn_log o p q c b me' at learns now) ∙ learns ∙ ap (λ x. gathered x b) (at ∙ ap gathers_now is),
+  (λ k. collector_view (same k) o (collecting_of (now k).0)) ∙ (λ k. record (is k) { collecting = collecting_more (is k).collecting b }),
+  sym (turn_log o p q c b me' at learns now) ∙ learns ∙ ap (λ x. gathered x b) (at ∙ ap collector_now is),
 )

@@ -15,7 +15,7 @@ use Rattle.rec_mutator.specs.declared.made.Made.TheVariants as makes
 use Rattle.rec_mutator.specs.declared.work.Work.{Work}
 use Rattle.rec_mutator.specs.declared.work.Work.TheVariants as works
 use Rattle.rec_core.specs.declared.config.Config.{Config}
-use Rattle.rec_core.specs.Asked.{told_by, told_in, told_in_all}
+use Rattle.rec_core.specs.RunAnswers.{told_by, told_in, told_in_all}
 use Rattle.rec_core.specs.Run.{by_actor, maker}
 use Rattle.rec_order.specs.Legal.{AreIdle, HasLegalOrder}
 use Rattle.rec_order.proofs.Legal.{run_legal}

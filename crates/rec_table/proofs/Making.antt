@@ -1,7 +1,7 @@
 -- The calls of a mutator's step, with or without a mailbox.
 use Rattle.std.proofs.Common.{◌≡◌, inl, inr, ℕ, ◌+◌, ◌-◌, ◌%◌, ◌^◌, arith, Bool, true, false, true≢false, List, [], ◌∷◌, ◌++◌, length, Option, Some, None, refl, sym, ap, ◌∙◌, subst, append-nil, append_assoc}
 use Rattle.atomic_table.specs.Table.{Me, Step, rest}
-use Rattle.rec_table.proofs.Common.{written, Op, Contents, Private, is_busy, is_busy_at, work_of, KeepsSizes, begun_of, took_of, step_of, swapped_of, swapped_at, left_at, spare, left_of, IsFound, IsBetween, births_of, IsSettledIn, Held, IsTold, Works, HasScanned, saw_all, Beat, Core, mutator, IsOwnOp, learns_taken, own_next, told, learnt, births_told, index_of, Kind, Operates, ready, MayGo, MadeBy, TakenBy, GivenBy, beats, adds, takes_view, seated_of, hands, hands_at, hand_after, taken_by, seated_after, me_after, Saw, Seated, View, Mutates}
+use Rattle.rec_table.proofs.Common.{written, Op, Contents, Private, is_busy, is_busy_at, work_of, KeepsSizes, begun_of, took_of, step_of, swapped_of, swapped_at, left_at, spare, left_of, IsFound, IsBetween, births_of, IsSettledIn, MutatorView, IsTold, Works, HasScanned, saw_all, Beat, Core, mutator, IsOwnOp, learns_taken, own_next, told, learnt, births_told, index_of, Kind, Operates, ready, MayGo, MadeBy, TakenBy, GivenBy, beats, adds, takes_view, seated_of, hands, hands_at, hand_after, taken_by, seated_after, me_after, Saw, Seated, View, Mutates}
 use Rattle.rec_word.specs.declared.op.Op.TheVariants as ops
 use Rattle.rec_mutator.specs.Causes.{is_giving}
 use Rattle.rec_mutator.specs.Next.{next_of, next_at}
@@ -445,9 +445,9 @@ begun_work p work from = refl
 pub keeps_on : (a b d : Private) → KeepsSizes a b → KeepsSizes b d → KeepsSizes a d
 keeps_on a b d x y = record { number = y.number ∙ x.number; slots = y.slots ∙ x.slots; fields = y.fields ∙ x.fields; registers = y.registers ∙ x.registers; capacity = y.capacity ∙ x.capacity }
 
-pub works_first : (h h' : Held) (work : Work) (from word : ℕ) → h' ≡ record h { log = h.log ++ beats (Some (record { work = work; from = from })) word } → Works work h.log h'.log × (h' ≡ record h { log = h'.log })
+pub works_first : (h h' : MutatorView) (work : Work) (from word : ℕ) → h' ≡ record h { log = h.log ++ beats (Some (record { work = work; from = from })) word } → Works work h.log h'.log × (h' ≡ record h { log = h'.log })
 works_first h h' work from word e =
-    let logs : h'.log ≡ h.log ++ beats (Some (record { work = work; from = from })) word = ap (λ (x : Held). x.log) e in
+    let logs : h'.log ≡ h.log ++ beats (Some (record { work = work; from = from })) word = ap (λ (x : MutatorView). x.log) e in
     (subst (Works work h.log) (sym logs) (Works.first from word), e ∙ (λ k. record h { log = sym logs k }))
 
 -- failing probes, and one step more
@@ -455,10 +455,10 @@ probed : (work : Work) (log was : List Beat) (words : List ℕ) → Works work l
 probed work log was [] grows = subst (Works work log) (sym (append-nil was)) grows
 probed work log was (w ∷ ws) grows = subst (Works work log) (append_assoc was (Saw w ∷ []) (saw_all ws)) (probed work log (was ++ Saw w ∷ []) ws (Works.then was w grows))
 
-pub works_on : (h l m h' : Held) (work : Work) (word : ℕ) → Works work h.log l.log → l ≡ record h { log = l.log } → HasScanned l m → h' ≡ record m { log = m.log ++ beats None word } → Works work h.log h'.log × (h' ≡ record h { log = h'.log })
+pub works_on : (h l m h' : MutatorView) (work : Work) (word : ℕ) → Works work h.log l.log → l ≡ record h { log = l.log } → HasScanned l m → h' ≡ record m { log = m.log ++ beats None word } → Works work h.log h'.log × (h' ≡ record h { log = h'.log })
 works_on h l m h' work word grows is scanned e =
-    let logs : h'.log ≡ m.log ++ beats None word = ap (λ (x : Held). x.log) e in
-    let passed : m.log ≡ l.log ++ saw_all scanned.words = ap (λ (x : Held). x.log) scanned.grows in
+    let logs : h'.log ≡ m.log ++ beats None word = ap (λ (x : MutatorView). x.log) e in
+    let passed : m.log ≡ l.log ++ saw_all scanned.words = ap (λ (x : MutatorView). x.log) scanned.grows in
     let same : m ≡ record h { log = m.log } = scanned.grows ∙ (λ k. record (is k) { log = sym passed k }) in (
       subst (Works work h.log) (sym logs) (Works.then m.log word (subst (Works work h.log) (sym passed) (probed work h.log l.log scanned.words grows))),
       e ∙ (λ k. record (same k) { log = sym logs k }),

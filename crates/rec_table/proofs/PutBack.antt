@@ -1,6 +1,6 @@
 -- A mailbox that the collector holds is given back by its next turn.
 use Rattle.std.proofs.Common.{◌≡◌, ℕ, ◌+◌, ◌==◌, if◌then◌else◌, Bool, true, false, [], ◌∷◌, length, Option, Some, refl, sym, ap, ◌∙◌, subst, arith}
-use Rattle.rec_table.proofs.Common.{Op, Contents, with_parts, gathered, Gathers, PutsBack, gathers_now, IsReturnOp, NotLooking, boxes_at, boxes_out, crew_more, Beat, Begins, Saw, Took}
+use Rattle.rec_table.proofs.Common.{Op, Contents, with_parts, gathered, CollectorView, PutsBack, collector_now, IsReturnOp, NotLooking, boxes_at, boxes_out, collecting_more, Beat, Begins, Saw, Took}
 use Rattle.rec_collector.specs.Followed.{Next, followed}
 use Rattle.rec_collector.specs.Next.{next_of}
 use Rattle.rec_collector.specs.Private.{Private}
@@ -60,13 +60,13 @@ returning_epoch c t (Begins start) is = refl
 returning_epoch c t (Saw word) is = took_returning c t word is
 returning_epoch c t (Took word buffer) is = swapped_epoch (took_of c word) buffer ∙ took_returning c t word is
 
-pub puts_back : (g h : Gathers) (op : Op) (b : Beat) → IsBetween (gathers_now g).phase → ◌≡◌ {A = Option Op} (next_of (gathers_now g)) (Some op) → IsReturnOp op → h ≡ record g { crew = crew_more g.crew b } → PutsBack g h
+pub puts_back : (g h : CollectorView) (op : Op) (b : Beat) → IsBetween (collector_now g).phase → ◌≡◌ {A = Option Op} (next_of (collector_now g)) (Some op) → IsReturnOp op → h ≡ record g { collecting = collecting_more g.collecting b } → PutsBack g h
 puts_back g h op b between named is grows = record {
   returned = b ∷ [];
   grows = grows;
   once = omega arith;
-  home = λ none. absurd (returning_holds (gathers_now g) op between named is none);
+  home = λ none. absurd (returning_holds (collector_now g) op between named is none);
   requests_none =
-      (let (t, phase, o) = returns_at (gathers_now g) op between named is in
-      ap (λ (x : Gathers). (gathers_now x).epoch) grows ∙ ap (λ (c : Private). c.epoch) (gathered_both g.opened g.crew.log (b ∷ [])) ∙ returning_epoch (gathers_now g) t b phase);
+      (let (t, phase, o) = returns_at (collector_now g) op between named is in
+      ap (λ (x : CollectorView). (collector_now x).epoch) grows ∙ ap (λ (c : Private). c.epoch) (gathered_both g.opened g.collecting.log (b ∷ [])) ∙ returning_epoch (collector_now g) t b phase);
 }

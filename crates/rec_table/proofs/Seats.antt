@@ -8,7 +8,7 @@ use Rattle.std.proofs.Math.Seq.{get_or-append_seam}
 use Rattle.std.proofs.lemmas.List.{get_or_append_left}
 use Rattle.atomic_table.specs.Table.{opening}
 use Rattle.atomic_table.proofs.Lists.{at_set}
-use Rattle.rec_table.proofs.Common.{Contents, Private, is_busy, is_busy_at, IsMutator, Core, cells_of, mutator, Move, after_moves, IsWorld, beats_of, told, SplitsIdly, JoinsIdly, Ran, Runs, row, Holds, first_view, without, newcomer, joined, Beat, Crew, Seated, View, Collects, Mutates, Spent}
+use Rattle.rec_table.proofs.Common.{Contents, Private, is_busy, is_busy_at, IsMutator, Core, cells_of, mutator, Move, after_moves, IsWorld, beats_of, told, SplitsIdly, JoinsIdly, Ran, Runs, row, Holds, first_view, without, newcomer, joined, Beat, CollectorSeat, Seated, View, Collects, Mutates, Spent}
 use Rattle.rec_mutator.specs.declared.phase.Phase.TheVariants as at
 use Rattle.rec_collector.specs.Private as collectors
 use Rattle.rec_table.specs.Homes.{homes_of}
@@ -83,7 +83,7 @@ pub idle_not_giving : (p : Private) → is_busy p ≡ false → p.phase ≡ at.G
 idle_not_giving p idle giving = true≢false (sym (ap is_busy_at giving) ∙ idle)
 
 -- the first seat makes the seat of the next mutator, which was idle as the heap was started
-pub splits : (key : Core) (id : ℕ) (c : Crew) → c.made < key.config.mutators → is_busy (mutator key (c.made + 1)) ≡ false → SplitsIdly key id (Collects c) (without (Collects c)) (newcomer (Collects c))
+pub splits : (key : Core) (id : ℕ) (c : CollectorSeat) → c.made < key.config.mutators → is_busy (mutator key (c.made + 1)) ≡ false → SplitsIdly key id (Collects c) (without (Collects c)) (newcomer (Collects c))
 splits key id c lt idle s h there =
     let mine = h.each id (Collects c) there in
     let x : ℕ = c.made + 1 in
@@ -148,7 +148,7 @@ known_more key known log run gone x len is below here k lt =
     (λ (n : k ≢ gone). get_or_append_left known (log ∷ []) [] k (omega (arith, len)) ∙ below k (omega arith))
 
 -- the first seat takes in the list of the next mutator
-pub joins : (key : Core) (id : ℕ) (c : Crew) (other : ℕ) (t : Seated) → t.number ≡ length c.known + 1 → JoinsIdly key id (Collects c) other (Mutates t) (joined (Collects c) (Mutates t)) Spent
+pub joins : (key : Core) (id : ℕ) (c : CollectorSeat) (other : ℕ) (t : Seated) → t.number ≡ length c.known + 1 → JoinsIdly key id (Collects c) other (Mutates t) (joined (Collects c) (Mutates t)) Spent
 joins key id c other t next s h here apart there =
     let mine = h.each id (Collects c) here in
     let w : View = joined (Collects c) (Mutates t) in
@@ -183,10 +183,10 @@ joins key id c other t next s h here apart there =
       refl,
     )
 
-pub splits_as : (key : Core) (id : ℕ) (v : View) (c : Crew) → v ≡ Collects c → c.made < key.config.mutators → is_busy (mutator key (c.made + 1)) ≡ false → SplitsIdly key id v (without v) (newcomer v)
+pub splits_as : (key : Core) (id : ℕ) (v : View) (c : CollectorSeat) → v ≡ Collects c → c.made < key.config.mutators → is_busy (mutator key (c.made + 1)) ≡ false → SplitsIdly key id v (without v) (newcomer v)
 splits_as key id v c is lt idle = subst (λ (u : View). SplitsIdly key id u (without u) (newcomer u)) (sym is) (splits key id c lt idle)
 
-pub joins_as : (key : Core) (id : ℕ) (v : View) (c : Crew) (other : ℕ) (u : View) (t : Seated) → v ≡ Collects c → u ≡ Mutates t → t.number ≡ length c.known + 1
+pub joins_as : (key : Core) (id : ℕ) (v : View) (c : CollectorSeat) (other : ℕ) (u : View) (t : Seated) → v ≡ Collects c → u ≡ Mutates t → t.number ≡ length c.known + 1
     → JoinsIdly key id v other u (joined v u) Spent
 joins_as key id v c other u t is is' next =
     subst (λ (y : View × View). JoinsIdly key id y.0 other y.1 (joined y.0 y.1) Spent) (λ i. (sym is i, sym is' i)) (joins key id c other t next)

@@ -21,7 +21,7 @@ use Rattle.rec_mutator.specs.declared.made.Made.TheVariants as makes
 use Rattle.rec_mutator.specs.Causes.{is_giving}
 use Rattle.rec_mutator.proofs.Steps.{TakesNone, here_same, learnt_made, step_between}
 use Rattle.rec_collector.specs.Private as collectors
-use Rattle.rec_core.specs.Met.{MayStep}
+use Rattle.rec_core.specs.Preconditions.{MayStep}
 use Rattle.rec_core.specs.declared.config.Config.{Config}
 use Rattle.rec_core.proofs.Crossings.{left_same}
 use Rattle.std.proofs.lemmas.List.{set-get_or}

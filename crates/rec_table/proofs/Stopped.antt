@@ -1,28 +1,28 @@
 -- What stopping promises, from the run of all lists.
 use Rattle.std.proofs.Common.{◌≡◌, List, length, map, sym, ap, ◌∙◌, subst}
 use Rattle.std.proofs.lemmas.List.{length-map}
-use Rattle.rec_table.proofs.Common.{Core, fit_first, AllFit, after_moves, IsWorld, gathered_all, boxes_out, AreMutatorsOf, Gathers, Held, PutsBack, Started, Beat}
+use Rattle.rec_table.proofs.Common.{Core, fit_first, AllFit, after_moves, IsWorld, gathered_all, boxes_out, AreMutatorsOf, CollectorView, MutatorView, PutsBack, Started, Beat}
 use Rattle.rec_core.specs.Worked.{AreIdle}
 use Rattle.rec_table.specs.Ends.{Interleaves, IsStopped}
 use Rattle.rec_table.proofs.Beats.{world_after}
 use Rattle.rec_table.proofs.Journals.{lists_legal}
 use Rattle.rec_table.proofs.Safe.{safe}
 
-pub stopped : (s : Started) (g h : Gathers) (hs : List Held) (w : Core) → IsWorld s.world → AreIdle s.world → g.opened ≡ s.world.collector → AreMutatorsOf s hs → PutsBack g h
-    → Interleaves s.world h.crew.log (map (λ (m : Held). m.log) hs) w → IsStopped s.world g.crew.log (map (λ (m : Held). m.log) hs) w
+pub stopped : (s : Started) (g h : CollectorView) (hs : List MutatorView) (w : Core) → IsWorld s.world → AreIdle s.world → g.opened ≡ s.world.collector → AreMutatorsOf s hs → PutsBack g h
+    → Interleaves s.world h.collecting.log (map (λ (m : MutatorView). m.log) hs) w → IsStopped s.world g.collecting.log (map (λ (m : MutatorView). m.log) hs) w
 stopped s g h hs w world idle opened mutators back run =
-    let lists : List (List Beat) = map (λ (m : Held). m.log) hs in
-    let many : length lists ≡ s.world.config.mutators = length-map hs (λ (m : Held). m.log) ∙ mutators.all in
+    let lists : List (List Beat) = map (λ (m : MutatorView). m.log) hs in
+    let many : length lists ≡ s.world.config.mutators = length-map hs (λ (m : MutatorView). m.log) ∙ mutators.all in
     record {
       returned = back.returned;
       once = back.once;
-      home = λ none. back.home (ap (λ p. boxes_out (gathered_all p g.crew.log)) opened ∙ none);
+      home = λ none. back.home (ap (λ p. boxes_out (gathered_all p g.collecting.log)) opened ∙ none);
       run = record {
         run = run.run;
         fit = run.fit;
         offerless = run.offerless;
         ends = run.ends;
-        collector = ap (λ (x : Gathers). x.crew.log) (sym back.grows) ∙ run.collector;
+        collector = ap (λ (x : CollectorView). x.collecting.log) (sym back.grows) ∙ run.collector;
         mutators = run.mutators;
       };
       order = λ heap number unfreed stands are. lists_legal s.world heap number unfreed run.run lists world idle stands are run.fit many run.mutators;

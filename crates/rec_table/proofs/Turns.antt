@@ -8,7 +8,7 @@ use lib.ListN.{get_elem?}
 use Rattle.std.proofs.lemmas.List.{set-get_or}
 use Rattle.atomic_table.specs.Table.{State, Step, keeps, takes, gives, stepped}
 use Rattle.atomic_table.proofs.Lists.{set_again}
-use Rattle.rec_table.proofs.Common.{written, Op, Contents, blank, IsMutator, Core, cells_of, mutator, box, crossing_of, IsKept, IsHandshake, Stand, stand_at, Move, after_moves, looked_at, left_by, turned_at, cell, IsWorld, world_kept, actor_of, may_turn, beats_of, looked, turn_at, gathered_all, OffersNone, Kind, Grows, Operates, operation, performed, step_in, steps_in, turned_by, row, index_of, Holds, TurnedBy, LookedBy, GlancedBy, ReturnedBy, Beat, Saw, Took, Crew, View, Collects, Mutates, Spent, after_both, config_after, every_both, fit_both, over_both}
+use Rattle.rec_table.proofs.Common.{written, Op, Contents, blank, IsMutator, Core, cells_of, mutator, box, crossing_of, IsKept, IsHandshake, Handshake, stand_at, Move, after_moves, looked_at, left_by, turned_at, cell, IsWorld, world_kept, actor_of, may_turn, beats_of, looked, turn_at, gathered_all, OffersNone, Kind, Grows, Operates, operation, performed, step_in, steps_in, turned_by, row, index_of, Holds, TurnedBy, LookedBy, GlancedBy, ReturnedBy, Beat, Saw, Took, CollectorSeat, View, Collects, Mutates, Spent, after_both, config_after, every_both, fit_both, over_both}
 use Rattle.rec_word.specs.Mailbox.{crossing_word}
 use Rattle.rec_word.specs.declared.mailbox.Mailbox.TheVariants.{Retired, Spare, WithCollector, WithMutator}
 use Rattle.rec_word.specs.declared.op.Op.TheVariants as ops
@@ -18,7 +18,7 @@ use Rattle.rec_collector.specs.Next.{next_of, next_at}
 use Rattle.rec_collector.specs.Private.{Private, spare}
 use Rattle.rec_collector.specs.declared.phase.Phase.{Phase}
 use Rattle.rec_collector.specs.declared.phase.Phase.TheVariants.{Looking, Returning}
-use Rattle.rec_core.specs.Met.{MayTurn}
+use Rattle.rec_core.specs.Preconditions.{MayTurn}
 use Rattle.rec_core.specs.declared.config.Config.{Config}
 use Rattle.rec_core.proofs.Crossings.{giving_of}
 use Rattle.rec_core.proofs.Turning.{some_op}
@@ -66,7 +66,7 @@ mutator_beats key run x le =
     sym (beats_both x key run (Move.Turns ∷ []) ∙ ap (λ b. beats_of x key run ++ (cond b (turn_at now (next_of now.collector)) [] ++ [])) (ne_eqb 0 x (λ e. omega (arith, e, le))) ∙ append-nil (beats_of x key run))
 
 -- What is known as the collector makes a turn.
-pub record Here (key : Core) (s : State (Option Contents) View) (h : Holds key s) (c : Crew) (p : Private) (op : Op) : Type 0 where
+pub record Here (key : Core) (s : State (Option Contents) View) (h : Holds key s) (c : CollectorSeat) (p : Private) (op : Op) : Type 0 where
   pub world : IsWorld (after_moves key h.run)
   pub is : (after_moves key h.run).collector ≡ p
   pub named : ◌≡◌ {A = Option Op} (next_of (after_moves key h.run).collector) (Some op)
@@ -77,7 +77,7 @@ pub record Here (key : Core) (s : State (Option Contents) View) (h : Holds key s
   pub beats : (b : Beat) → b ≡ looked (after_moves key h.run) (cell (cells_of (after_moves key h.run)) op) (after_moves key h.run).collector.phase
       → c.log ++ b ∷ [] ≡ beats_of 0 key (h.run ++ Move.Turns ∷ [])
 
-pub here_at : (key : Core) (s : State (Option Contents) View) (h : Holds key s) (id : ℕ) (c : Crew) (p : Private) (op : Op)
+pub here_at : (key : Core) (s : State (Option Contents) View) (h : Holds key s) (id : ℕ) (c : CollectorSeat) (p : Private) (op : Op)
     → get_elem? s.views id ≡ some (Collects c) → p ≡ gathered_all key.collector c.log → ◌≡◌ {A = Option Op} (next_of p) (Some op) → Here key s h c p op
 here_at key s h id c p op fit is_p next =
     let now : Core = after_moves key h.run in
@@ -102,7 +102,7 @@ here_at key s h id c p op fit is_p next =
     }
 
 -- that turn alone is made
-pub grows_by : (key : Core) (s : State (Option Contents) View) (h : Holds key s) (c : Crew) (p : Private) (op : Op) (f : ℕ → ℕ) (run' : List Move)
+pub grows_by : (key : Core) (s : State (Option Contents) View) (h : Holds key s) (c : CollectorSeat) (p : Private) (op : Op) (f : ℕ → ℕ) (run' : List Move)
     → Here key s h c p op → ((n : ℕ) → f n ≡ written op n) → run' ≡ h.run ++ Move.Turns ∷ []
     → Grows key (operation (Collects c) Kind.Turns (index_of (length key.words) (length key.headers) op) f (get_or s.words (index_of (length key.words) (length key.headers) op) 0)) h.run run'
 grows_by key s h c p op f run' here does more =
@@ -120,7 +120,7 @@ grows_by key s h c p op f run' here does more =
     }
 
 -- the rule after the turn, with these mailboxes at home
-pub turns_on : (key : Core) (s : State (Option Contents) View) (h : Holds key s) (id : ℕ) (c : Crew) (p : Private) (op : Op) (z : ℕ) (homes' : List (maybe.Option (Option Contents))) (b : Beat)
+pub turns_on : (key : Core) (s : State (Option Contents) View) (h : Holds key s) (id : ℕ) (c : CollectorSeat) (p : Private) (op : Op) (z : ℕ) (homes' : List (maybe.Option (Option Contents))) (b : Beat)
     → get_elem? s.views id ≡ some (Collects c) → (here : Here key s h c p op)
     → z ≡ written op (get_or s.words (index_of (length key.words) (length key.headers) op) 0)
     → homes' ≡ homes_of (turned_at (after_moves key h.run) (Some op)).crossing (turned_at (after_moves key h.run) (Some op)).boxes
@@ -174,7 +174,7 @@ plain_boxes : (w : Core) (op : Op) → IsKept w → (left_by w.collector (cell (
 plain_boxes w op kept same = ap (set w.boxes (looked_at w.collector.phase - 1)) same ∙ same_boxes w (looked_at w.collector.phase)
 
 -- a turn that takes no mailbox and gives none back
-pub turns : (key : Core) (slots id : ℕ) (c : Crew) (hs : List (ℕ × Option Contents)) (p : Private) (op : Op) (f : ℕ → ℕ) (st : Step (Option Contents))
+pub turns : (key : Core) (slots id : ℕ) (c : CollectorSeat) (hs : List (ℕ × Option Contents)) (p : Private) (op : Op) (f : ℕ → ℕ) (st : Step (Option Contents))
     → p ≡ gathered_all key.collector c.log → ◌≡◌ {A = Option Op} (next_of p) (Some op) → IsPlainOp op
     → ((w : Core) (n : ℕ) → w.collector ≡ p → looked w n w.collector.phase ≡ Saw n)
     → ((w : Core) (n : ℕ) → w.collector ≡ p → left_by w.collector n (box w (looked_at w.collector.phase)) w.collector.phase ≡ box w (looked_at w.collector.phase))
@@ -200,7 +200,7 @@ unfolding next_of next_at
 returns_op c t is = ap (next_at c) is
 
 -- a look at the mailbox of mutator t
-pub looks : (key : Core) (slots id t : ℕ) (c : Crew) (p : Private) (f : ℕ → ℕ) (st : Step (Option Contents))
+pub looks : (key : Core) (slots id t : ℕ) (c : CollectorSeat) (p : Private) (f : ℕ → ℕ) (st : Step (Option Contents))
     → p ≡ gathered_all key.collector c.log → p.phase ≡ Looking t → ((n : ℕ) → f n ≡ written (ops.LookBox t p.epoch) n)
     → Operates key Kind.Turns slots id (Collects c, []) (index_of (length key.words) (length key.headers) (ops.LookBox t p.epoch)) f (LookedBy p t st (Collects c, []))
 looks key slots id t c p f st is_p phase does s h len at_id fit =
@@ -259,7 +259,7 @@ looks key slots id t c p f st is_p phase does s h len at_id fit =
     ))
 
 -- A glance is a load: a look that takes no mailbox, or no turn at all.
-pub glances : (key : Core) (slots id t : ℕ) (c : Crew) (p : Private) (st : Step (Option Contents)) → p ≡ gathered_all key.collector c.log → p.phase ≡ Looking t
+pub glances : (key : Core) (slots id t : ℕ) (c : CollectorSeat) (p : Private) (st : Step (Option Contents)) → p ≡ gathered_all key.collector c.log → p.phase ≡ Looking t
     → Operates key Kind.Glances slots id (Collects c, []) (index_of (length key.words) (length key.headers) (ops.LookBox t p.epoch)) (λ n. n) (GlancedBy p t st (Collects c, []))
 glances key slots id t c p st is_p phase s h len at_id fit =
     let op : Op = ops.LookBox t p.epoch in
@@ -290,7 +290,7 @@ glances key slots id t c p st is_p phase s h len at_id fit =
     ))
 
 -- the mailbox of mutator t is given back with a spare
-pub returns_box : (key : Core) (slots id t : ℕ) (c : Crew) (p : Private) (f : ℕ → ℕ) (st : Step (Option Contents))
+pub returns_box : (key : Core) (slots id t : ℕ) (c : CollectorSeat) (p : Private) (f : ℕ → ℕ) (st : Step (Option Contents))
     → p ≡ gathered_all key.collector c.log → p.phase ≡ Returning t → ((n : ℕ) → f n ≡ written (ops.ReturnBox t p.epoch) n)
     → Operates key Kind.Turns slots id (Collects c, (t - 1, Some (spare p)) ∷ []) (index_of (length key.words) (length key.headers) (ops.ReturnBox t p.epoch)) f (ReturnedBy p st (Collects c, (t - 1, Some (spare p)) ∷ []))
 returns_box key slots id t c p f st is_p phase does s h len at_id fit =
@@ -304,7 +304,7 @@ returns_box key slots id t c p f st is_p phase does s h len at_id fit =
     let words_many = kept.mutators.words in
     let is : IsMutator now.config t = (here.may.within.0, omega (arith, here.may.within.1, words_many)) in
     let held : IsHandshake now.config now.epoch (mutator now t) (crossing_of now t) (box now t) (stand_at (Returning t) t) = subst (λ (g : Phase). IsHandshake now.config now.epoch (mutator now t) (crossing_of now t) (box now t) (stand_at g t)) at_phase (actor_of now t kept is).handshake in
-    let stands : stand_at (Returning t) t ≡ Stand.Held = ap (λ x. cond x Stand.Done (cond (eqb t t) Stand.Held Stand.Due)) (le-ltb t t (omega arith)) ∙ ap (λ x. cond x Stand.Held Stand.Due) (eq-eqb t t refl) in
+    let stands : stand_at (Returning t) t ≡ Handshake.Held = ap (λ x. cond x Handshake.Done (cond (eqb t t) Handshake.Held Handshake.Due)) (le-ltb t t (omega arith)) ∙ ap (λ x. cond x Handshake.Held Handshake.Due) (eq-eqb t t refl) in
     let b_is : box now t ≡ spare p = (subst (IsHandshake now.config now.epoch (mutator now t) (crossing_of now t) (box now t)) stands held).1 ∙ sym (its_spare kept.collector) ∙ ap spare here.is in
     let boxes : (turned_at now (Some op)).boxes ≡ set now.boxes (t - 1) (spare p) =
     ap (λ (g : Phase). set now.boxes (looked_at g - 1) (left_by now.collector word (box now (looked_at g)) g)) at_phase ∙ same_boxes now 1 ∙ sym (same_boxes now t) ∙ ap (set now.boxes (t - 1)) b_is in

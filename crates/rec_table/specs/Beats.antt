@@ -57,11 +57,12 @@ gathered c (Took word b) = collector_took.step_of c word b
 abbrev pub gathered_all : collectors.Private → List Beat → collectors.Private
 gathered_all c bs = fold gathered c bs
 
--- a run in which the slots are never offered
+-- a move that doesn't offer the slots
 abbrev pub OffersNone : Move → Type 0
 OffersNone Move.Offers = ⊥
 OffersNone m = Unit {0}
 
+-- a run in which the slots are never offered
 abbrev pub Offerless : List Move → Type 0
 Offerless ms = Every OffersNone ms
 

@@ -18,11 +18,11 @@ use Rattle.rec_table.specs.Journals.{journals_from}
 use Rattle.rec_table.specs.Rule.{boxes_out}
 use Rattle.rec_table.specs.Safe.{IsSafe}
 use Rattle.rec_table.specs.declared.views.Beat.{Beat}
-use Rattle.rec_table.specs.declared.views.Crew.{Crew}
+use Rattle.rec_table.specs.declared.views.CollectorSeat.{CollectorSeat}
 
 -- One run from the started world, whose lists are those that the first seat has, ends with these words, and with these mailboxes as far as
 -- they are home; the records of all actors are what their lists make up.
-pub record IsRunOf (key : Core) (c : Crew) (ws : List ℕ) (xs : List (Option Contents)) : Type 0 where
+pub record IsRunOf (key : Core) (c : CollectorSeat) (ws : List ℕ) (xs : List (Option Contents)) : Type 0 where
   pub run : List Move
   pub fit : AllFit key run
   pub offerless : Offerless run

@@ -1,7 +1,8 @@
+-- The modules of the definitions.
 pub mod Beats
 pub mod Homes
 pub mod Rule
-pub mod Held
+pub mod Views
 pub mod Ends
 pub mod Room
 pub mod Journals

@@ -30,7 +30,7 @@ use Rattle.rec_table.specs.declared.start.Start.{Start}
 use Rattle.rec_table.specs.declared.views.Beat.{Beat}
 use Rattle.rec_table.specs.declared.views.Beat.TheVariants.{Begins, Saw, Took}
 use Rattle.rec_table.specs.declared.views.Seated.{Seated}
-use Rattle.rec_table.specs.declared.views.Crew.{Crew}
+use Rattle.rec_table.specs.declared.views.CollectorSeat.{CollectorSeat}
 use Rattle.rec_table.specs.declared.views.View.{View}
 use Rattle.rec_table.specs.declared.views.View.TheVariants.{Collects, Mutates, Spent}
 
@@ -176,13 +176,13 @@ abbrev pub IsReturnOp : Op → Type 0
 IsReturnOp (ops.ReturnBox t epoch) = Unit {0}
 IsReturnOp _ = ⊥
 
-abbrev pub crew_of : View → Crew
-crew_of (Collects c) = c
-crew_of (Mutates t) = record { log = []; made = 0; known = [] }
-crew_of Spent = record { log = []; made = 0; known = [] }
+abbrev pub collecting_of : View → CollectorSeat
+collecting_of (Collects c) = c
+collecting_of (Mutates t) = record { log = []; made = 0; known = [] }
+collecting_of Spent = record { log = []; made = 0; known = [] }
 
-abbrev pub crew_more : Crew → Beat → Crew
-crew_more c b = record c { log = c.log ++ b ∷ [] }
+abbrev pub collecting_more : CollectorSeat → Beat → CollectorSeat
+collecting_more c b = record c { log = c.log ++ b ∷ [] }
 
 -- a turn that looks at no mailbox
 abbrev pub NotLooking : turning.Phase → Type 0

@@ -5,7 +5,7 @@ use Rattle.rec_log.specs.declared.contents.Contents.{Contents}
 use Rattle.rec_mutator.specs.Private.{Private, probe_of}
 use Rattle.rec_mutator.specs.Took.{took_of}
 use Rattle.rec_mutator.specs.declared.phase.Phase.TheVariants.{Scanning}
-use Rattle.rec_table.specs.Held.{Held, has}
+use Rattle.rec_table.specs.Views.{MutatorView, mutator_now}
 use Rattle.rec_table.specs.Rule.{longer}
 use Rattle.rec_table.specs.declared.views.Beat.{Beat}
 use Rattle.rec_table.specs.declared.views.Beat.TheVariants.{Saw}
@@ -36,9 +36,9 @@ pub record Passed (t : Seated) (probed count : ℕ) (me : Me (Option Contents) V
   pub grows : me ≡ (Mutates (longer t (saw_all words)), [])
 
 -- The mutator's list grew by the words of failing probes, each of a taken header, and its record learnt them one after another.
-pub record HasScanned (h h' : Held) : Type 0 where
+pub record HasScanned (h h' : MutatorView) : Type 0 where
   pub words : List ℕ
   pub taken : All (λ word. 0 < word) words
   pub grows : h' ≡ record h { log = h.log ++ saw_all words }
-  pub learns : has h' ≡ fold took_of (has h) words
-  pub steps : (has h').steps ≡ (has h).steps + length words
+  pub learns : mutator_now h' ≡ fold took_of (mutator_now h) words
+  pub steps : (mutator_now h').steps ≡ (mutator_now h).steps + length words

@@ -12,19 +12,19 @@ use Rattle.rec_core.specs.Moves.{turned as after_turn}
 use Rattle.rec_core.specs.Turn.{IsTurn}
 use Rattle.rec_world.specs.World.{IsWorld}
 use Rattle.rec_table.specs.Beats.{gathered}
-use Rattle.rec_table.specs.Held.{Gathers, gathers_now}
-use Rattle.rec_table.specs.Rule.{crew_more, word_of}
+use Rattle.rec_table.specs.Views.{CollectorView, collector_now}
+use Rattle.rec_table.specs.Rule.{collecting_more, word_of}
 use Rattle.rec_table.specs.declared.views.Beat.{Beat}
 
 -- The collector made its next turn, and answered this.
-pub record MakesTurn (before after : Gathers) (answer : Turn) : Type 0 where
-  pub spent : next_of (gathers_now before) ≡ None → (after ≡ before) × (answer ≡ turns.EpochsSpent)
+pub record MakesTurn (before after : CollectorView) (answer : Turn) : Type 0 where
+  pub spent : next_of (collector_now before) ≡ None → (after ≡ before) × (answer ≡ turns.EpochsSpent)
   -- its list grows by the word found, and by what the mailbox held where it took one; its record and the answer follow
-  pub turned : (op : Op) → next_of (gathers_now before) ≡ Some op
-      → (b : Beat) × (after ≡ record before { crew = crew_more before.crew b }) × (gathers_now after ≡ gathered (gathers_now before) b) × (answer ≡ turn_of (gathers_now before) (word_of b))
+  pub turned : (op : Op) → next_of (collector_now before) ≡ Some op
+      → (b : Beat) × (after ≡ record before { collecting = collecting_more before.collecting b }) × (collector_now after ≡ gathered (collector_now before) b) × (answer ≡ turn_of (collector_now before) (word_of b))
   -- why each answer comes, by the word found
-  pub cause : (word : ℕ) → answer ≡ turn_of (gathers_now before) word → HasCause (gathers_now before) word (took_of (gathers_now before) word) answer
-  pub same : after ≡ record before { crew = record before.crew { log = after.crew.log } }
+  pub cause : (word : ℕ) → answer ≡ turn_of (collector_now before) word → HasCause (collector_now before) word (took_of (collector_now before) word) answer
+  pub same : after ≡ record before { collecting = record before.collecting { log = after.collecting.log } }
   -- In whatever state of a run the collector's record is what it was here, and its operation's word is the one that was found, this is
   -- the turn of that heap.
-  pub turn : (w : Core) → IsWorld w → w.collector ≡ gathers_now before → ((op : Op) (b : Beat) → next_of w.collector ≡ Some op → after.crew ≡ crew_more before.crew b → word_of b ≡ cell (cells_of w) op) → IsTurn w (after_turn w) answer
+  pub turn : (w : Core) → IsWorld w → w.collector ≡ collector_now before → ((op : Op) (b : Beat) → next_of w.collector ≡ Some op → after.collecting ≡ collecting_more before.collecting b → word_of b ≡ cell (cells_of w) op) → IsTurn w (after_turn w) answer

@@ -4,7 +4,7 @@ ghost use Rattle.rec_mutator.specs.Next.{next_of};
 ghost use Rattle.rec_mutator.specs.Private.{is_busy, register, HasOperands, IsMachine, KeepsSizes};
 ghost use Rattle.rec_mutator.specs.Step.{NamesSlots};
 ghost use Rattle.rec_mutator.specs.Took.{IsFound, IsBetween, spare, took_of};
-ghost use Rattle.rec_table.specs.Held.{held, has, IsOf};
+ghost use Rattle.rec_table.specs.Views.{mutator_view, mutator_now, IsOf};
 ghost use Rattle.rec_table.specs.Beats.{told, learnt};
 ghost use Rattle.rec_core.specs.Row.{index_of};
 ghost use Rattle.rec_table.specs.Rule.{ready, MayBegin, MayGo, beats, longer, seated_of, hands, me_after, taken_by, hand_after};
@@ -47,12 +47,12 @@ impl Model for Actor {
     ghost use Rattle.rec_mutator.specs.Took.{IsBetween};
     ghost use Rattle.rec_table.specs.declared.views.View.TheVariants.{Mutates};
     ghost use Rattle.rec_table.specs.Beats.{told, births_told};
-    ghost use Rattle.rec_table.specs.Held.{Held, held};
+    ghost use Rattle.rec_table.specs.Views.{MutatorView, mutator_view};
     ghost use Rattle.rec_table.specs.Rule.{seated_of, hands};
 
-    ghost Value = { Held };
+    ghost Value = { MutatorView };
 
-    ghost view = { λ m. held m.seat.table_id m.opened.value (seated_of m.seat.me.0) };
+    ghost view = { λ m. mutator_view m.seat.table_id m.opened.value (seated_of m.seat.me.0) };
 
     ghost invariant = { λ m. (m.seat.me ≡ (Mutates (seated_of m.seat.me.0), hands (seated_of m.seat.me.0) m.machine)) × (m.machine ≡ told m.opened.value (seated_of m.seat.me.0).log) × NamesSlots m.machine × KeepsSizes m.opened.value m.machine × IsBetween m.machine.phase × (m.births ≡ births_told m.opened.value (seated_of m.seat.me.0).log % 2 ^ 64) };
 }
@@ -172,7 +172,7 @@ impl Actor {
     ghost use Rattle.rec_mutator.specs.declared.made.Made.TheVariants as makes;
     ghost use Rattle.rec_mutator.specs.declared.work.Work.TheVariants as works;
     ghost use Rattle.rec_table.specs.Answered.{IsAnswered, IsPolled};
-    ghost use Rattle.rec_table.specs.Held.{IsTold, Works};
+    ghost use Rattle.rec_table.specs.Views.{IsTold, Works};
     ghost use Rattle.rec_table.specs.Journals.{Tells, line_of};
     ghost use Rattle.rec_table.specs.Scan.{HasScanned};
 
@@ -185,7 +185,7 @@ impl Actor {
     ) -> Actor
         requires seat { (seat.me ≡ (Mutates (seated_of seat.me.0), [])) × ((seated_of seat.me.0).log ≡ []) }
         requires machine { (machine ≡ opened.value) × (is_busy machine ≡ false) × NamesSlots machine }
-        ensures { result ≡ held seat.table_id opened.value (seated_of seat.me.0) }
+        ensures { result ≡ mutator_view seat.table_id opened.value (seated_of seat.me.0) }
     {
         Actor {
             machine,
@@ -198,8 +198,8 @@ impl Actor {
 
     // Its machine, its births and its seat, where it has no unfinished work.
     pub(crate) fn stood(self) -> (Machine, u64, Seat<Option<Buffer>, View>)
-        requires { is_busy (has self) ≡ false }
-        ensures machine { result.0 ≡ has self }
+        requires { is_busy (mutator_now self) ≡ false }
+        ensures machine { result.0 ≡ mutator_now self }
         ensures births { result.1 ≡ births_told self.opened self.log % 2 ^ 64 }
         ensures seat { (result.2.table_id ≡ self.table) × (result.2.me ≡ (Mutates (seated_of result.2.me.0), [])) }
         ensures list { ((seated_of result.2.me.0).number ≡ self.number) × ((seated_of result.2.me.0).log ≡ self.log) }
@@ -218,16 +218,16 @@ impl Actor {
     pub fn step(&mut self, board: &Board, work: Option<Start>) -> u64
         requires own { IsOf board.now.table.shared.table_id board.now.table.shared.key.value self.old }
         requires world { IsWorld board.now.table.shared.key.value }
-        requires may { MayGo (has self.old) work }
+        requires may { MayGo (mutator_now self.old) work }
 
         ensures grows { self.new ≡ record self.old { log = self.old.log ++ beats work result } }
-        ensures learns { has self.new ≡ learnt (ready (has self.old) work) (Saw result) }
-        ensures steps { (has self.new).steps ≡ (ready (has self.old) work).steps + 1 }
-        ensures work { work_of (has self.new) ≡ work_of (ready (has self.old) work) }
-        ensures limit { IfSome (work_of (has self.new)) (λ work. (has self.new).steps ≤ limit_of (has self.new).slots work) }
-        ensures same { KeepsSizes (has self.old) (has self.new) }
-        ensures told { IsTold (has self.new).phase }
-        ensures machine { IsMachine (ready (has self.old) work) }
+        ensures learns { mutator_now self.new ≡ learnt (ready (mutator_now self.old) work) (Saw result) }
+        ensures steps { (mutator_now self.new).steps ≡ (ready (mutator_now self.old) work).steps + 1 }
+        ensures work { work_of (mutator_now self.new) ≡ work_of (ready (mutator_now self.old) work) }
+        ensures limit { IfSome (work_of (mutator_now self.new)) (λ work. (mutator_now self.new).steps ≤ limit_of (mutator_now self.new).slots work) }
+        ensures same { KeepsSizes (mutator_now self.old) (mutator_now self.new) }
+        ensures told { IsTold (mutator_now self.new).phase }
+        ensures machine { IsMachine (ready (mutator_now self.old) work) }
     {
         prepare(&mut self.machine, work);
         let op = self.machine.next();
@@ -243,13 +243,13 @@ impl Actor {
     fn scan(&mut self, board: &Board)
         requires own { IsOf board.now.table.shared.table_id board.now.table.shared.key.value self.old }
         requires world { IsWorld board.now.table.shared.key.value }
-        requires busy { is_busy (has self.old) ≡ true }
+        requires busy { is_busy (mutator_now self.old) ≡ true }
 
         ensures scanned { HasScanned self.old self.new }
-        ensures steps { (has self.old).steps ≤ (has self.new).steps }
-        ensures busy { is_busy (has self.new) ≡ true }
-        ensures work { work_of (has self.new) ≡ work_of (has self.old) }
-        ensures same { KeepsSizes (has self.old) (has self.new) }
+        ensures steps { (mutator_now self.old).steps ≤ (mutator_now self.new).steps }
+        ensures busy { is_busy (mutator_now self.new) ≡ true }
+        ensures work { work_of (mutator_now self.new) ≡ work_of (mutator_now self.old) }
+        ensures same { KeepsSizes (mutator_now self.old) (mutator_now self.new) }
     {
         let steps = self.machine.steps();
         if let Op::ClaimHeader(slot, _) = self.machine.next() {
@@ -270,7 +270,7 @@ impl Actor {
         requires world { IsWorld board.now.table.shared.key.value }
 
         ensures work { result.work ≡ work }
-        ensures from { result.from < (has self.now).slots }
+        ensures from { result.from < (mutator_now self.now).slots }
     {
         let _steps = self.machine.steps();
         if usize::from(self.cursor) < board.layout.slots {
@@ -284,36 +284,36 @@ impl Actor {
 
     // What came of the last work, if it is finished.
     fn answer(&self) -> Option<Made>
-        ensures answer { result ≡ answer_of (has self.now) }
+        ensures answer { result ≡ answer_of (mutator_now self.now) }
     {
         self.machine.answer()
     }
 
     // Whether it may be asked this.
     pub(crate) fn valid(&self, cmd: &Cmd) -> bool
-        ensures { IsTrue result ↔ HasOperands (has self.now) cmd.now }
+        ensures { IsTrue result ↔ HasOperands (mutator_now self.now) cmd.now }
     {
         self.machine.valid(cmd)
     }
 
     // What register `r` names.
     pub(crate) fn register(&self, r: u8) -> Option<u16>
-        requires { r < length (has self.now).registers }
-        ensures { result ≡ register (has self.now) r }
+        requires { r < length (mutator_now self.now).registers }
+        ensures { result ≡ register (mutator_now self.now) r }
     {
         self.machine.register(r)
     }
 
     // The epoch that it is in.
     pub(crate) fn epoch(&self) -> u32
-        ensures { result ≡ (has self.now).epoch }
+        ensures { result ≡ (mutator_now self.now).epoch }
     {
         self.machine.epoch()
     }
 
     // Its number.
     pub(crate) fn number(&self) -> u8
-        ensures { result ≡ (has self.now).number }
+        ensures { result ≡ (mutator_now self.now).number }
     {
         self.machine.number()
     }
@@ -322,18 +322,18 @@ impl Actor {
     pub fn work(&mut self, board: &Board, work: Work) -> Made
         requires own { IsOf board.now.table.shared.table_id board.now.table.shared.key.value self.old }
         requires world { IsWorld board.now.table.shared.key.value }
-        requires may { MayBegin (has self.old) work }
+        requires may { MayBegin (mutator_now self.old) work }
 
         ensures grows { Works work self.old.log self.new.log × (self.new ≡ record self.old { log = self.new.log }) }
-        ensures answer { answer_of (has self.new) ≡ Some result }
-        ensures line { Tells (has self.old) self.old.log self.new.log (line_of (Some work) (Some result)) }
-        ensures idle { is_busy (has self.new) ≡ false }
-        ensures work { work_of (has self.new) ≡ Some work }
-        ensures told { IsTold (has self.new).phase }
-        ensures same { KeepsSizes (has self.old) (has self.new) }
+        ensures answer { answer_of (mutator_now self.new) ≡ Some result }
+        ensures line { Tells (mutator_now self.old) self.old.log self.new.log (line_of (Some work) (Some result)) }
+        ensures idle { is_busy (mutator_now self.new) ≡ false }
+        ensures work { work_of (mutator_now self.new) ≡ Some work }
+        ensures told { IsTold (mutator_now self.new).phase }
+        ensures same { KeepsSizes (mutator_now self.old) (mutator_now self.new) }
         // A command's refusals have their causes in the list.
-        ensures causes { (cmd : Command) (told : Answers) → work ≡ works.Command cmd → result ≡ makes.Answered told → IsAnswered (has self.old) cmd self.old.log self.new.log (has self.new) told }
-        ensures polled { (epoch : Option ℕ) → work ≡ works.Poll → result ≡ makes.Crossed epoch → IsPolled (has self.old) self.old.log self.new.log epoch }
+        ensures causes { (cmd : Command) (told : Answers) → work ≡ works.Command cmd → result ≡ makes.Answered told → IsAnswered (mutator_now self.old) cmd self.old.log self.new.log (mutator_now self.new) told }
+        ensures polled { (epoch : Option ℕ) → work ≡ works.Poll → result ≡ makes.Crossed epoch → IsPolled (mutator_now self.old) self.old.log self.new.log epoch }
     {
         let start = self.start(board, work);
         self.step(board, Some(start));

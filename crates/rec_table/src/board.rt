@@ -2,7 +2,7 @@
 ghost use Rattle.std.specs.Prelude.{◌≡◌, ◌+◌, ◌<◌, ◌^◌, length};
 ghost use Rattle.std.specs.Prelude.{◌≤◌, IfOk, IfErr, map, [], All, vec_capacity};
 ghost use Rattle.rec_table.specs.Ends.{IsRunOf};
-ghost use Rattle.rec_table.specs.Held.{gathers_now, IsOwn};
+ghost use Rattle.rec_table.specs.Views.{collector_now, IsOwn};
 ghost use mathlib.Core.Option.{some};
 ghost use Rattle.rec_collector.specs.Step.{IsBetween};
 ghost use Rattle.rec_table.specs.Homes.{homes_of};
@@ -65,7 +65,7 @@ impl Board {
         requires few { length words.now < 2 ^ 63 }
         requires collector { (machine ≡ was.now.value.collector) × (boxes_out machine ≡ []) × IsBetween machine.phase }
 
-        ensures ok { IfOk result (λ r. (r.0.table.shared.key ≡ was.now) × (r.1 ≡ record { table = r.0.table.shared.table_id; opened = was.now.value.collector; crew = record { log = []; made = 0; known = [] } })) }
+        ensures ok { IfOk result (λ r. (r.0.table.shared.key ≡ was.now) × (r.1 ≡ record { table = r.0.table.shared.table_id; opened = was.now.value.collector; collecting = record { log = []; made = 0; known = [] } })) }
         ensures sizes { IfOk result (λ r. (r.0.table.shared.table_id.words ≡ length words.now) × (r.0.table.shared.table_id.slots ≡ length boxes.items)) }
         ensures err { IfErr result (λ r. (r.0.items ≡ boxes.items) × (r.1 ≡ machine)) }
     {
@@ -87,13 +87,13 @@ impl Board {
         boxes: &mut Vec<Option<Buffer>>,
     ) -> Machine
         requires own { IsOwn self.table.shared.table_id self.table.shared.key.value collector }
-        requires seats { (collector.crew.made ≡ self.table.shared.key.value.config.mutators) × (length collector.crew.known ≡ self.table.shared.key.value.config.mutators) }
-        requires none { boxes_out (gathers_now collector) ≡ [] }
+        requires seats { (collector.collecting.made ≡ self.table.shared.key.value.config.mutators) × (length collector.collecting.known ≡ self.table.shared.key.value.config.mutators) }
+        requires none { boxes_out (collector_now collector) ≡ [] }
         requires room { (words.old.items ≡ []) × (self.table.shared.table_id.words ≤ vec_capacity words.old) }
         requires room_boxes { (boxes.old.items ≡ []) × (self.table.shared.table_id.slots ≤ vec_capacity boxes.old) }
 
-        ensures machine { result ≡ gathers_now collector }
-        ensures run { IsRunOf self.table.shared.key.value collector.crew words.new.items boxes.new.items }
+        ensures machine { result ≡ collector_now collector }
+        ensures run { IsRunOf self.table.shared.key.value collector.collecting words.new.items boxes.new.items }
     {
         let count = self.table.word_count();
         let slots = self.table.slot_count();

@@ -7,10 +7,10 @@ ghost use Rattle.rec_collector.specs.Step.{IsBetween as IsBetweenTurns};
 ghost use Rattle.rec_collector.specs.Took.{turn_of};
 ghost use Rattle.rec_collector.specs.declared.phase.Phase.TheVariants as phases;
 ghost use Rattle.rec_table.specs.Beats.{gathered, gathered_all, births_told};
-ghost use Rattle.rec_table.specs.Held.{gathers, gathers_now, has, IsCollectorOf, IsOwn, PutsBack};
+ghost use Rattle.rec_table.specs.Views.{collector_view, collector_now, mutator_now, IsCollectorOf, IsOwn, PutsBack};
 ghost use Rattle.rec_core.specs.Row.{index_of};
 ghost use Rattle.rec_table.specs.Turn.{MakesTurn};
-ghost use Rattle.rec_table.specs.Rule.{boxes_out, crew_of, IsReturnOp, crew_more, word_of, Looks, NotLooking};
+ghost use Rattle.rec_table.specs.Rule.{boxes_out, collecting_of, IsReturnOp, collecting_more, word_of, Looks, NotLooking};
 ghost use Rattle.rec_table.specs.declared.views.Beat.{Beat as Beats};
 ghost use Rattle.rec_table.specs.declared.views.Beat.TheVariants.{Saw};
 ghost use Rattle.rec_table.specs.declared.views.View.TheVariants.{Collects};
@@ -47,27 +47,27 @@ impl Model for Collector {
     ghost use Rattle.rec_collector.specs.Step.{IsBetween};
     ghost use Rattle.rec_table.specs.declared.views.View.TheVariants.{Collects};
     ghost use Rattle.rec_table.specs.Beats.{gathered_all};
-    ghost use Rattle.rec_table.specs.Held.{Gathers, gathers};
-    ghost use Rattle.rec_table.specs.Rule.{crew_of, boxes_out};
+    ghost use Rattle.rec_table.specs.Views.{CollectorView, collector_view};
+    ghost use Rattle.rec_table.specs.Rule.{collecting_of, boxes_out};
 
-    ghost Value = { Gathers };
+    ghost Value = { CollectorView };
 
-    ghost view = { λ m. gathers m.seat.table_id m.opened.value (crew_of m.seat.me.0) };
+    ghost view = { λ m. collector_view m.seat.table_id m.opened.value (collecting_of m.seat.me.0) };
 
-    ghost invariant = { λ m. (m.seat.me ≡ (Collects (crew_of m.seat.me.0), boxes_out m.machine)) × (m.machine ≡ gathered_all m.opened.value (crew_of m.seat.me.0).log) × KeepsSizes m.opened.value m.machine × IsBetween m.machine.phase };
+    ghost invariant = { λ m. (m.seat.me ≡ (Collects (collecting_of m.seat.me.0), boxes_out m.machine)) × (m.machine ≡ gathered_all m.opened.value (collecting_of m.seat.me.0).log) × KeepsSizes m.opened.value m.machine × IsBetween m.machine.phase };
 }
 
 // Makes the operation of a turn that looks at no mailbox, and no more.
 fn make_turn<W: Turning>(board: &Board, seat: &mut Seat<Option<Buffer>, View>, op: Op) -> u64
     requires table { seat.old.table_id ≡ board.now.table.shared.table_id }
-    requires seat { seat.old.me ≡ (Collects (crew_of seat.old.me.0), boxes_out W.actor) }
-    requires actor { W.actor ≡ gathered_all board.now.table.shared.key.value.collector (crew_of seat.old.me.0).log }
+    requires seat { seat.old.me ≡ (Collects (collecting_of seat.old.me.0), boxes_out W.actor) }
+    requires actor { W.actor ≡ gathered_all board.now.table.shared.key.value.collector (collecting_of seat.old.me.0).log }
     requires between { IsBetweenTurns W.actor.phase }
     requires looks { NotLooking W.actor.phase }
     requires op { turn_next W.actor ≡ Some op }
     requires there { index_of (length board.now.table.shared.key.value.words) (length board.now.table.shared.key.value.headers) op < board.now.table.shared.table_id.words }
     ensures seat { (seat.new.table_id ≡ seat.old.table_id) × (seat.new.id ≡ seat.old.id) }
-    ensures view { seat.new.me ≡ (Collects (crew_more (crew_of seat.old.me.0) (Saw result)), []) }
+    ensures view { seat.new.me ≡ (Collects (collecting_more (collecting_of seat.old.me.0) (Saw result)), []) }
     ensures given { IsGiven W.actor result }
 {
     let word = board.index(op);
@@ -90,8 +90,8 @@ fn make_turn<W: Turning>(board: &Board, seat: &mut Seat<Option<Buffer>, View>, o
 // the collector waits it only loads the word, and so takes the word's line from no mutator.
 fn find<W: Turning>(board: &Board, seat: &mut Seat<Option<Buffer>, View>, t: u8, epoch: u32) -> u64
     requires table { seat.old.table_id ≡ board.now.table.shared.table_id }
-    requires seat { seat.old.me ≡ (Collects (crew_of seat.old.me.0), []) }
-    requires actor { (W.number ≡ t) × (W.actor ≡ gathered_all board.now.table.shared.key.value.collector (crew_of seat.old.me.0).log) }
+    requires seat { seat.old.me ≡ (Collects (collecting_of seat.old.me.0), []) }
+    requires actor { (W.number ≡ t) × (W.actor ≡ gathered_all board.now.table.shared.key.value.collector (collecting_of seat.old.me.0).log) }
     requires phase { (W.actor.phase ≡ phases.Looking t) × (W.actor.epoch ≡ epoch) }
     requires there { index_of (length board.now.table.shared.key.value.words) (length board.now.table.shared.key.value.headers) (ops.LookBox t epoch) < board.now.table.shared.table_id.words }
     ensures seat { (seat.new.table_id ≡ seat.old.table_id) × (seat.new.id ≡ seat.old.id) }
@@ -122,12 +122,12 @@ fn look<W: Turning>(
     epoch: u32,
 ) -> Turn
     requires table { seat.old.table_id ≡ board.now.table.shared.table_id }
-    requires seat { seat.old.me ≡ (Collects (crew_of seat.old.me.0), []) }
-    requires actor { (W.actor ≡ machine.old) × (W.number ≡ t) × (machine.old ≡ gathered_all board.now.table.shared.key.value.collector (crew_of seat.old.me.0).log) }
+    requires seat { seat.old.me ≡ (Collects (collecting_of seat.old.me.0), []) }
+    requires actor { (W.actor ≡ machine.old) × (W.number ≡ t) × (machine.old ≡ gathered_all board.now.table.shared.key.value.collector (collecting_of seat.old.me.0).log) }
     requires phase { (machine.old.phase ≡ phases.Looking t) × (machine.old.epoch ≡ epoch) × (1 ≤ t) }
     requires there { index_of (length board.now.table.shared.key.value.words) (length board.now.table.shared.key.value.headers) (ops.LookBox t epoch) < board.now.table.shared.table_id.words }
     ensures seat { (seat.new.table_id ≡ seat.old.table_id) × (seat.new.id ≡ seat.old.id) }
-    ensures turned { (b : Beats) × (seat.new.me ≡ (Collects (crew_more (crew_of seat.old.me.0) b), boxes_out machine.new)) × (machine.new ≡ gathered machine.old b) × (result ≡ turn_of machine.old (word_of b)) }
+    ensures turned { (b : Beats) × (seat.new.me ≡ (Collects (collecting_more (collecting_of seat.old.me.0) b), boxes_out machine.new)) × (machine.new ≡ gathered machine.old b) × (result ≡ turn_of machine.old (word_of b)) }
     ensures same { KeepsSizes machine.old machine.new }
     ensures between { IsBetweenTurns machine.new.phase }
 {
@@ -157,9 +157,9 @@ impl Collector {
         opened: Snapshot<Machine>,
         seat: Seat<Option<Buffer>, View>,
     ) -> Collector
-        requires seat { (seat.me ≡ (Collects (crew_of seat.me.0), boxes_out machine)) × ((crew_of seat.me.0).log ≡ []) }
+        requires seat { (seat.me ≡ (Collects (collecting_of seat.me.0), boxes_out machine)) × ((collecting_of seat.me.0).log ≡ []) }
         requires machine { (machine ≡ opened.value) × IsBetweenTurns machine.phase }
-        ensures { result ≡ gathers seat.table_id opened.value (crew_of seat.me.0) }
+        ensures { result ≡ collector_view seat.table_id opened.value (collecting_of seat.me.0) }
     {
         Collector {
             machine,
@@ -170,8 +170,8 @@ impl Collector {
 
     // Its machine and its seat, where it holds no mailbox.
     pub(crate) fn stood(self) -> (Machine, Seat<Option<Buffer>, View>)
-        ensures machine { result.0 ≡ gathers_now self }
-        ensures seat { (result.1.table_id ≡ self.table) × (result.1.me.0 ≡ Collects self.crew) }
+        ensures machine { result.0 ≡ collector_now self }
+        ensures seat { (result.1.table_id ≡ self.table) × (result.1.me.0 ≡ Collects self.collecting) }
     {
         let Collector {
             machine,
@@ -189,7 +189,7 @@ impl Collector {
         ensures turn { MakesTurn self.old self.new result }
 
         // No turn but a look at a mailbox ends with one held.
-        ensures free { NotLooking (gathers_now self.old).phase → boxes_out (gathers_now self.new) ≡ [] }
+        ensures free { NotLooking (collector_now self.old).phase → boxes_out (collector_now self.new) ≡ [] }
     {
         let _turns = self.machine.turns();
         let Some(op) = self.machine.next() else {
@@ -221,14 +221,14 @@ impl Collector {
 
     /// What became of the sets of possible garbage cycles that were tested since the opening.
     pub fn sets(&self) -> Sets
-        ensures { result ≡ (gathers_now self.now).sets }
+        ensures { result ≡ (collector_now self.now).sets }
     {
         self.machine.sets()
     }
 
     /// The epoch that it requested last.
     pub fn epoch(&self) -> u32
-        ensures { result ≡ (gathers_now self.now).epoch }
+        ensures { result ≡ (collector_now self.now).epoch }
     {
         self.machine.epoch()
     }
@@ -238,7 +238,7 @@ impl Collector {
         requires own { IsOwn board.now.table.shared.table_id board.now.table.shared.key.value self.old }
         requires world { IsWorld board.now.table.shared.key.value }
 
-        ensures none { boxes_out (gathers_now self.new) ≡ [] }
+        ensures none { boxes_out (collector_now self.new) ≡ [] }
         ensures returned { PutsBack self.old self.new }
     {
         let _turns = self.machine.turns();
@@ -260,12 +260,12 @@ impl Collector {
     ) -> Actor
         requires own { IsOwn board.now.table.shared.table_id board.now.table.shared.key.value self.old }
         requires world { IsWorld board.now.table.shared.key.value }
-        requires room { self.old.crew.made < board.now.table.shared.key.value.config.mutators }
-        requires machine { (machine ≡ opened.value) × (opened.value ≡ mutator board.now.table.shared.key.value (self.old.crew.made + 1)) }
+        requires room { self.old.collecting.made < board.now.table.shared.key.value.config.mutators }
+        requires machine { (machine ≡ opened.value) × (opened.value ≡ mutator board.now.table.shared.key.value (self.old.collecting.made + 1)) }
         requires idle { is_busy machine ≡ false }
 
-        ensures actor { result ≡ record { table = self.old.table; number = self.old.crew.made + 1; opened = opened.value; log = [] } }
-        ensures is { self.new ≡ record self.old { crew = record self.old.crew { made = self.old.crew.made + 1 } } }
+        ensures actor { result ≡ record { table = self.old.table; number = self.old.collecting.made + 1; opened = opened.value; log = [] } }
+        ensures is { self.new ≡ record self.old { collecting = record self.old.collecting { made = self.old.collecting.made + 1 } } }
     {
         let seat = split_seat(board, &mut self.seat);
         Actor::sat(machine, opened, seat, cursor)
@@ -274,12 +274,12 @@ impl Collector {
     // Takes in the list of the next mutator, and gives its machine and its births.
     pub(crate) fn take_in(&mut self, board: &Board, other: Actor) -> (Mutators, u64)
         requires table { (self.old.table ≡ board.now.table.shared.table_id) × (other.table ≡ board.now.table.shared.table_id) }
-        requires number { other.number ≡ length self.old.crew.known + 1 }
-        requires idle { is_busy (has other) ≡ false }
+        requires number { other.number ≡ length self.old.collecting.known + 1 }
+        requires idle { is_busy (mutator_now other) ≡ false }
 
-        ensures machine { result.0 ≡ has other }
+        ensures machine { result.0 ≡ mutator_now other }
         ensures births { result.1 ≡ births_told other.opened other.log % 2 ^ 64 }
-        ensures is { self.new ≡ record self.old { crew = record self.old.crew { known = self.old.crew.known ++ other.log ∷ [] } } }
+        ensures is { self.new ≡ record self.old { collecting = record self.old.collecting { known = self.old.collecting.known ++ other.log ∷ [] } } }
     {
         let (machine, births, seat) = other.stood();
         join_seat(board, &mut self.seat, seat);

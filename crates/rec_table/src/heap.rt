@@ -2,7 +2,7 @@
 ghost use Rattle.std.specs.Prelude.{◌≡◌, ℕ, ◌+◌, ◌*◌, ◌%◌, ◌<◌, ◌≤◌, [], All, map, length, slice_index_or, vec_capacity, IfOk, IfErr, IsOk};
 ghost use Rattle.rec_core.specs.Worked.{AreIdle};
 ghost use Rattle.rec_table.specs.Ends.{IsStopped};
-ghost use Rattle.rec_table.specs.Held.{AreMutatorsOf, Held as MutatorHeld, IsCollectorOf, fresh, fresh_collector, gathers_now};
+ghost use Rattle.rec_table.specs.Views.{AreMutatorsOf, MutatorView, IsCollectorOf, fresh, fresh_collector, collector_now};
 ghost use Rattle.rec_world.specs.Parts.{AreParts};
 ghost use Rattle.rec_world.specs.World.{IsWorld};
 
@@ -28,7 +28,7 @@ pub struct Heap {
 
 impl Model for Heap {
     ghost use Rattle.rec_core.specs.Worked.{AreIdle};
-    ghost use Rattle.rec_table.specs.Held.{Started, started};
+    ghost use Rattle.rec_table.specs.Views.{Started, started};
     ghost use Rattle.rec_table.specs.Room.{HasRoom};
     ghost use Rattle.rec_world.specs.World.{IsWorld};
 
@@ -51,7 +51,7 @@ impl Heap {
 
         ensures started { IfOk result (λ r. r.0.world ≡ world) }
         ensures mutators { IfOk result (λ r. AreMutatorsOf r.0 r.1.items) }
-        ensures fresh { IfOk result (λ r. (k : ℕ) (d : MutatorHeld) → k < length r.1.items → slice_index_or r.1.items k d ≡ fresh r.0 (k + 1)) }
+        ensures fresh { IfOk result (λ r. (k : ℕ) (d : MutatorView) → k < length r.1.items → slice_index_or r.1.items k d ≡ fresh r.0 (k + 1)) }
         ensures collector { IfOk result (λ r. IsCollectorOf r.0 r.2 × (r.2 ≡ fresh_collector r.0)) }
         ensures refused { IfErr result (λ r. r.0 ≡ world) }
     {
@@ -75,9 +75,9 @@ impl Heap {
         requires collector { IsCollectorOf self collector }
 
         ensures never_refused { IsOk result }
-        ensures stopped { IfOk result (λ world. IsStopped self.world collector.crew.log (map (λ m. m.log) mutators.items) world) }
+        ensures stopped { IfOk result (λ world. IsStopped self.world collector.collecting.log (map (λ m. m.log) mutators.items) world) }
         // No epoch is requested by that.
-        ensures requested { IfOk result (λ world. world.epoch ≡ (gathers_now collector).epoch) }
+        ensures requested { IfOk result (λ world. world.epoch ≡ (collector_now collector).epoch) }
         ensures idle { IfOk result AreIdle }
         ensures home { IfOk result (λ world. All (λ word. word % 2 ≡ 0) world.crossing) }
         ensures kept { IfOk result IsWorld }
@@ -124,7 +124,7 @@ fn run(
     requires mutators { (mutators.items ≡ []) × (length parts.machines.items ≤ vec_capacity mutators) }
 
     ensures started { IfOk result (λ r. r.0.world ≡ was.now.value) }
-    ensures mutators { IfOk result (λ r. (length r.1.items ≡ r.0.world.config.mutators) × ((k : ℕ) (d : MutatorHeld) → k < length r.1.items → slice_index_or r.1.items k d ≡ fresh r.0 (k + 1))) }
+    ensures mutators { IfOk result (λ r. (length r.1.items ≡ r.0.world.config.mutators) × ((k : ℕ) (d : MutatorView) → k < length r.1.items → slice_index_or r.1.items k d ≡ fresh r.0 (k + 1))) }
     ensures collector { IfOk result (λ r. r.2 ≡ fresh_collector r.0) }
     ensures refused { IfErr result (λ r. r.0 ≡ was.now.value) }
 {

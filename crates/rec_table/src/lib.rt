@@ -36,4 +36,4 @@ pub use rule::{
     Doing, Gives, Glanced, Looked, Makes, Passes, Returned, Running, Takes, Turned, Turning,
 };
 pub use start::Start;
-pub use views::{Beat, Crew, Seated, View};
+pub use views::{Beat, CollectorSeat, Seated, View};

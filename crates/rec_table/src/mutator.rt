@@ -4,7 +4,7 @@ ghost use Rattle.rec_mutator.specs.Private.{is_busy, answer_of, register, IsVali
 ghost use Rattle.rec_mutator.specs.declared.made.Made.TheVariants as makes;
 ghost use Rattle.rec_mutator.specs.declared.work.Work.TheVariants as works;
 ghost use Rattle.rec_table.specs.Answered.{IsAnswered, IsPolled};
-ghost use Rattle.rec_table.specs.Held.{has, IsMutatorOf, Works};
+ghost use Rattle.rec_table.specs.Views.{mutator_now, IsMutatorOf, Works};
 ghost use Rattle.rec_table.specs.Journals.{Tells};
 ghost use Rattle.rec_core.specs.Config.{HasLabel};
 
@@ -23,19 +23,19 @@ pub struct Mutator {
 impl Model for Mutator {
     ghost use Rattle.std.specs.Prelude.{◌≡◌, false};
     ghost use Rattle.rec_mutator.specs.Private.{is_busy};
-    ghost use Rattle.rec_table.specs.Held.{Held, has};
+    ghost use Rattle.rec_table.specs.Views.{MutatorView, mutator_now};
 
-    ghost Value = { Held };
+    ghost Value = { MutatorView };
 
     ghost view = { λ m. m.actor };
 
-    ghost invariant = { λ m. is_busy (has m.actor) ≡ false };
+    ghost invariant = { λ m. is_busy (mutator_now m.actor) ≡ false };
 }
 
 impl Mutator {
     // The mutator of an actor that has no unfinished work.
     pub(crate) fn of(actor: Actor) -> Mutator
-        requires { is_busy (has actor) ≡ false }
+        requires { is_busy (mutator_now actor) ≡ false }
         ensures { result ≡ actor }
     {
         Mutator { actor }
@@ -44,7 +44,7 @@ impl Mutator {
     // Its actor.
     pub(crate) fn into_actor(self) -> Actor
         ensures actor { result ≡ self }
-        ensures idle { is_busy (has result) ≡ false }
+        ensures idle { is_busy (mutator_now result) ≡ false }
     {
         let Mutator { actor } = self;
         actor
@@ -53,20 +53,20 @@ impl Mutator {
     /// Carries out a command, and tells the answer with the field words that it saw and left.
     pub fn command(&mut self, heap: &Heap, cmd: Cmd) -> Told
         requires own { IsMutatorOf heap.now self.old }
-        requires valid { IsValid (has self.old) (works.Command cmd) }
+        requires valid { IsValid (mutator_now self.old) (works.Command cmd) }
 
         // Its list grows by the command and its steps, and what is told is the answer that the list makes up.
         ensures grows { Works (works.Command cmd) self.old.log self.new.log }
         ensures is { self.new ≡ record self.old { log = self.new.log } }
-        ensures answer { answer_of (has self.new) ≡ Some (makes.Answered result) }
+        ensures answer { answer_of (mutator_now self.new) ≡ Some (makes.Answered result) }
 
         // Each refusal has its cause in the list: Full and Busy come where each probe found a taken header, between the first and the
         // last look at the freed word, and NoField where a write's first step found a leaf's header. The list also tells that an allocation
         // takes at most two steps more than there are slots, a write at most two, and each other command one.
-        ensures causes { IsAnswered (has self.old) cmd self.old.log self.new.log (has self.new) result }
-        ensures line { Tells (has self.old) self.old.log self.new.log ((cmd, result) ∷ []) }
-        ensures idle { is_busy (has self.new) ≡ false }
-        ensures same { KeepsSizes (has self.old) (has self.new) }
+        ensures causes { IsAnswered (mutator_now self.old) cmd self.old.log self.new.log (mutator_now self.new) result }
+        ensures line { Tells (mutator_now self.old) self.old.log self.new.log ((cmd, result) ∷ []) }
+        ensures idle { is_busy (mutator_now self.new) ≡ false }
+        ensures same { KeepsSizes (mutator_now self.old) (mutator_now self.new) }
     {
         let work = Work::Command(cmd);
         see_label(work);
@@ -83,12 +83,12 @@ impl Mutator {
 
         ensures grows { Works works.Poll self.old.log self.new.log }
         ensures is { self.new ≡ record self.old { log = self.new.log } }
-        ensures answer { answer_of (has self.new) ≡ Some (makes.Crossed result) }
+        ensures answer { answer_of (mutator_now self.new) ≡ Some (makes.Crossed result) }
         // The answer has its cause in the list: a poll takes one step, and three where it crosses.
-        ensures causes { IsPolled (has self.old) self.old.log self.new.log result }
-        ensures line { Tells (has self.old) self.old.log self.new.log [] }
-        ensures idle { is_busy (has self.new) ≡ false }
-        ensures same { KeepsSizes (has self.old) (has self.new) }
+        ensures causes { IsPolled (mutator_now self.old) self.old.log self.new.log result }
+        ensures line { Tells (mutator_now self.old) self.old.log self.new.log [] }
+        ensures idle { is_busy (mutator_now self.new) ≡ false }
+        ensures same { KeepsSizes (mutator_now self.old) (mutator_now self.new) }
     {
         match self.actor.work(heap.board(), Work::Poll) {
             Made::Crossed(epoch) => epoch,
@@ -98,30 +98,30 @@ impl Mutator {
 
     /// Whether it may ask this: the registers and the field are there.
     pub fn valid(&self, cmd: &Cmd) -> bool
-        ensures { IsTrue result ↔ IsValid (has self.now) (works.Command cmd.now) }
+        ensures { IsTrue result ↔ IsValid (mutator_now self.now) (works.Command cmd.now) }
     {
         self.actor.valid(cmd)
     }
 
     /// What register `r` names.
     pub fn register(&self, r: u8) -> Option<u16>
-        requires { r < length (has self.now).registers }
-        ensures { result ≡ register (has self.now) r }
+        requires { r < length (mutator_now self.now).registers }
+        ensures { result ≡ register (mutator_now self.now) r }
     {
         self.actor.register(r)
     }
 
     /// The epoch that it is in.
     pub fn epoch(&self) -> u32
-        ensures { result ≡ (has self.now).epoch }
+        ensures { result ≡ (mutator_now self.now).epoch }
     {
         self.actor.epoch()
     }
 
     /// Its number, from 1. Between two calls it has no unfinished work.
     pub fn number(&self) -> u8
-        ensures number { result ≡ (has self.now).number }
-        ensures idle { is_busy (has self.now) ≡ false }
+        ensures number { result ≡ (mutator_now self.now).number }
+        ensures idle { is_busy (mutator_now self.now) ≡ false }
     {
         self.actor.number()
     }

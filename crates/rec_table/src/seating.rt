@@ -4,7 +4,7 @@ ghost use Rattle.std.specs.List.{sum_by};
 ghost use Rattle.rec_core.specs.Worked.{AreIdle};
 ghost use Rattle.rec_mutator.specs.Private.{is_busy};
 ghost use Rattle.rec_table.specs.Beats.{births_told};
-ghost use Rattle.rec_table.specs.Held.{AreMutatorsOf, Held as MutatorHeld, IsOwn, fresh, has, started};
+ghost use Rattle.rec_table.specs.Views.{AreMutatorsOf, MutatorView, IsOwn, fresh, mutator_now, started};
 ghost use Rattle.rec_world.specs.World.{IsWorld};
 
 use crate::board::Board;
@@ -24,13 +24,13 @@ pub fn seat_all(
     requires world { IsWorld board.now.table.shared.key.value }
     requires idle { AreIdle board.now.table.shared.key.value }
     requires machines { machines.items ≡ board.now.table.shared.key.value.mutators }
-    requires none { collector.old.crew.made ≡ 0 }
+    requires none { collector.old.collecting.made ≡ 0 }
     requires room { (mutators.old.items ≡ []) × (length machines.items ≤ vec_capacity mutators.old) }
 
     ensures machines { (result.items ≡ []) × (vec_capacity result ≡ vec_capacity machines) }
     ensures all { length mutators.new.items ≡ length machines.items }
-    ensures each { (k : ℕ) (d : MutatorHeld) → k < length mutators.new.items → slice_index_or mutators.new.items k d ≡ fresh (started board.now.table.shared.table_id board.now.table.shared.key.value) (k + 1) }
-    ensures collector { collector.new ≡ record collector.old { crew = record collector.old.crew { made = length machines.items } } }
+    ensures each { (k : ℕ) (d : MutatorView) → k < length mutators.new.items → slice_index_or mutators.new.items k d ≡ fresh (started board.now.table.shared.table_id board.now.table.shared.key.value) (k + 1) }
+    ensures collector { collector.new ≡ record collector.old { collecting = record collector.old.collecting { made = length machines.items } } }
 {
     // Each mutator's first scan begins with a share of the slots of its own.
     let share = (board.layout.slots / machines.len().max(1)) as u16;
@@ -57,12 +57,12 @@ pub fn take_in_all(
 ) -> u64
     requires own { IsOwn board.now.table.shared.table_id board.now.table.shared.key.value collector.old }
     requires mutators { AreMutatorsOf (started board.now.table.shared.table_id board.now.table.shared.key.value) mutators.items }
-    requires none { collector.old.crew.known ≡ [] }
+    requires none { collector.old.collecting.known ≡ [] }
     requires room { (machines.old.items ≡ []) × (length mutators.items ≤ vec_capacity machines.old) }
 
-    ensures machines { machines.new.items ≡ map has mutators.items }
+    ensures machines { machines.new.items ≡ map mutator_now mutators.items }
     ensures idle { All (λ machine. is_busy machine ≡ false) machines.new.items }
-    ensures collector { collector.new ≡ record collector.old { crew = record collector.old.crew { known = map (λ m. m.log) mutators.items } } }
+    ensures collector { collector.new ≡ record collector.old { collecting = record collector.old.collecting { known = map (λ m. m.log) mutators.items } } }
     ensures made { result ≡ (made + sum_by (λ m. births_told m.opened m.log) mutators.items) % 2 ^ 64 }
 {
     while !mutators.is_empty() {

@@ -2,7 +2,7 @@
 ghost use Rattle.std.specs.Prelude.{◌≡◌, ℕ, ◌%◌, ◌<◌, [], All, map};
 ghost use Rattle.rec_core.specs.Worked.{AreIdle};
 ghost use Rattle.rec_table.specs.Ends.{Interleaves};
-ghost use Rattle.rec_table.specs.Held.{AreMutatorsOf, IsCollectorOf, gathers_now, started};
+ghost use Rattle.rec_table.specs.Views.{AreMutatorsOf, IsCollectorOf, collector_now, started};
 ghost use Rattle.rec_table.specs.Room.{HasRoom};
 ghost use Rattle.rec_table.specs.Rule.{boxes_out};
 ghost use Rattle.rec_world.specs.World.{IsWorld};
@@ -35,10 +35,10 @@ impl Spare {
         requires world { IsWorld board.table.shared.key.value }
         requires mutators { AreMutatorsOf (started board.table.shared.table_id board.table.shared.key.value) mutators.items }
         requires collector { IsCollectorOf (started board.table.shared.table_id board.table.shared.key.value) collector }
-        requires none { boxes_out (gathers_now collector) ≡ [] }
+        requires none { boxes_out (collector_now collector) ≡ [] }
 
-        ensures run { Interleaves board.table.shared.key.value collector.crew.log (map (λ m. m.log) mutators.items) result }
-        ensures collector { result.collector ≡ gathers_now collector }
+        ensures run { Interleaves board.table.shared.key.value collector.collecting.log (map (λ m. m.log) mutators.items) result }
+        ensures collector { result.collector ≡ collector_now collector }
         ensures idle { AreIdle result }
         ensures home { All (λ word. word % 2 ≡ 0) result.crossing }
         ensures kept { IsWorld result }

@@ -1,7 +1,7 @@
 //! What each thread does on a running heap.
 
 ghost use Rattle.std.specs.Prelude.{◌≡◌};
-ghost use Rattle.rec_table.specs.Held.{IsCollectorOf, IsMutatorOf};
+ghost use Rattle.rec_table.specs.Views.{IsCollectorOf, IsMutatorOf};
 
 use crate::signals::Signals;
 use rec_collector::Turn;

@@ -3,7 +3,7 @@
 ghost use Rattle.std.specs.Prelude.{◌≡◌, IfOk};
 ghost use Rattle.std.specs.Thread.{IsSync};
 ghost use Rattle.rec_core.specs.Worked.{AreIdle};
-ghost use Rattle.rec_table.specs.Held.{AreMutatorsOf, IsCollectorOf, IsMutatorOf};
+ghost use Rattle.rec_table.specs.Views.{AreMutatorsOf, IsCollectorOf, IsMutatorOf};
 
 use crate::crew::{Limits, Task, collect, mutate};
 use crate::settled::settles;

@@ -2,8 +2,8 @@
 use Rattle.std.proofs.Common.{◌≡◌, ℕ, ◌+◌, ◌-◌, Bool, MatchBool, true, false, List, [], ◌∷◌, ◌++◌, Some, length, slice_get, sym, ap, subst, ◌∙◌, arith}
 use Rattle.std.proofs.lemmas.Option.{get_or_from_slice_get}
 use Rattle.rec_model.specs.declared.command.Cmd.{Cmd}
-use Rattle.rec_script.specs.Script.{Contents}
-use Rattle.rec_table.specs.Held.{Gathers, Held, Started, IsCollectorOf}
+use Rattle.rec_script.specs.Script.{ScriptContents}
+use Rattle.rec_table.specs.Views.{CollectorView, MutatorView, Started, IsCollectorOf}
 use Rattle.rec_world.specs.Journal.{Notes}
 use Rattle.rec_threads.specs.Done.{AreReady, HasCollected, HasDone, HasEnded, HaveDone, IsReady, commands_at}
 use Rattle.rec_threads.specs.declared.crew.Crew.{Crew}
@@ -14,10 +14,10 @@ pub one_more : (b : Bool) (h : Started) (cmds : List (List Cmd)) (crew rest back
     → length rest.journals.items ≡ length rest.mutators.items → HasEnded b h cmds rest back → MatchBool b (HasDone (commands_at cmds (length rest.mutators.items)) w v) (v ≡ w)
     → all.mutators.items ≡ back.mutators.items ++ v.mutator ∷ [] → all.journals.items ≡ back.journals.items ++ v.journal ∷ [] → all.collector ≡ back.collector → HasEnded b h cmds crew all
 one_more true h cmds crew rest back all w v ms js col each ended last ms' js' col' = record {
-  done = subst (λ (x : List Held × List Notes × List Held × List Notes). HaveDone cmds x.0 x.1 x.2 x.3) (λ i. (sym ms i, sym js i, sym ms' i, sym js' i))
+  done = subst (λ (x : List MutatorView × List Notes × List MutatorView × List Notes). HaveDone cmds x.0 x.1 x.2 x.3) (λ i. (sym ms i, sym js i, sym ms' i, sym js' i))
       (done_more cmds rest.mutators.items back.mutators.items rest.journals.items back.journals.items w.mutator v.mutator w.journal v.journal each ended.done last);
   collector = subst (IsCollectorOf h) (sym col') ended.collector;
-  collected = subst (λ (x : Gathers × Gathers). HasCollected 10000000 x.0 x.1) (λ i. (col i, sym col' i)) ended.collected;
+  collected = subst (λ (x : CollectorView × CollectorView). HasCollected 10000000 x.0 x.1) (λ i. (col i, sym col' i)) ended.collected;
 }
 one_more false h cmds crew rest back all w v ms js col each ended last ms' js' col' = record {
   mutators = ms' ∙ (λ i. ended.mutators i ++ (last i).mutator ∷ []) ∙ sym ms;
@@ -26,10 +26,10 @@ one_more false h cmds crew rest back all w v ms js col each ended last ms' js' c
 }
 
 -- those before the last one, and the last one
-pub rest_ready : (h : Started) (script : Contents) (crew rest : Crew) (w : Worker) → crew.mutators.items ≡ rest.mutators.items ++ w.mutator ∷ [] → crew.journals.items ≡ rest.journals.items ++ w.journal ∷ [] → AreReady h script crew.mutators.items crew.journals.items
+pub rest_ready : (h : Started) (script : ScriptContents) (crew rest : Crew) (w : Worker) → crew.mutators.items ≡ rest.mutators.items ++ w.mutator ∷ [] → crew.journals.items ≡ rest.journals.items ++ w.journal ∷ [] → AreReady h script crew.mutators.items crew.journals.items
     → AreReady h script rest.mutators.items rest.journals.items × IsReady h script (length rest.mutators.items) w
 rest_ready h script crew rest w ms js ready =
-    let both : AreReady h script (rest.mutators.items ++ w.mutator ∷ []) (rest.journals.items ++ w.journal ∷ []) = subst (λ (x : List Held × List Notes). AreReady h script x.0 x.1) (λ i. (ms i, js i)) ready in
+    let both : AreReady h script (rest.mutators.items ++ w.mutator ∷ []) (rest.journals.items ++ w.journal ∷ []) = subst (λ (x : List MutatorView × List Notes). AreReady h script x.0 x.1) (λ i. (ms i, js i)) ready in
     (earlier_ready h script rest.mutators.items rest.journals.items w.mutator w.journal both, last_ready h script rest.mutators.items rest.journals.items w.mutator w.journal both)
 
 -- the commands of a mutator, by its number

@@ -3,29 +3,29 @@ use Rattle.std.proofs.Common.{◌≡◌, ℕ, ◌+◌, ◌<◌, List, [], ◌∷
 use Rattle.std.proofs.lemmas.Bool.{cases_lt}
 use Rattle.std.proofs.lemmas.List.{get_or_append_left, get_or_push, length-append}
 use Rattle.rec_model.specs.declared.command.Cmd.{Cmd}
-use Rattle.rec_script.specs.Script.{Contents}
-use Rattle.rec_table.specs.Held.{Held, Started}
+use Rattle.rec_script.specs.Script.{ScriptContents}
+use Rattle.rec_table.specs.Views.{MutatorView, Started}
 use Rattle.rec_world.specs.Journal.{Notes, no_notes}
 use Rattle.rec_threads.specs.Done.{AreReady, HasDone, HaveDone, IsReady, commands_at, worker_at}
 use Rattle.rec_threads.specs.declared.worker.Worker.{Worker}
 
 -- a mutator and its journal
-abbrev pub together : Held → Notes → Worker
+abbrev pub together : MutatorView → Notes → Worker
 together m j = record { mutator = m; journal = j }
 
 -- a worker before the last one
-before_last : (ms : List Held) (js : List Notes) (m : Held) (j : Notes) (k : ℕ) (d : Held) → length js ≡ length ms → k < length ms → worker_at (ms ++ m ∷ []) (js ++ j ∷ []) k d ≡ worker_at ms js k d
+before_last : (ms : List MutatorView) (js : List Notes) (m : MutatorView) (j : Notes) (k : ℕ) (d : MutatorView) → length js ≡ length ms → k < length ms → worker_at (ms ++ m ∷ []) (js ++ j ∷ []) k d ≡ worker_at ms js k d
 before_last ms js m j k d each lt = λ i. together (get_or_append_left ms (m ∷ []) d k lt i) (get_or_append_left js (j ∷ []) no_notes k (omega (arith, each, lt)) i)
 
 -- and the last one
-at_last : (ms : List Held) (js : List Notes) (m : Held) (j : Notes) (k : ℕ) (d : Held) → length js ≡ length ms → k ≡ length ms → worker_at (ms ++ m ∷ []) (js ++ j ∷ []) k d ≡ together m j
+at_last : (ms : List MutatorView) (js : List Notes) (m : MutatorView) (j : Notes) (k : ℕ) (d : MutatorView) → length js ≡ length ms → k ≡ length ms → worker_at (ms ++ m ∷ []) (js ++ j ∷ []) k d ≡ together m j
 at_last ms js m j k d each is = λ i. together (get_or_push ms m d k (sym is) i) (get_or_push js j no_notes k (each ∙ sym is) i)
 
 longer : {X : Type 0} (xs : List X) (x : X) → length (xs ++ x ∷ []) ≡ length xs + 1
 longer xs x = length-append xs (x ∷ [])
 
 -- those before the last one are ready
-pub earlier_ready : (h : Started) (script : Contents) (ms : List Held) (js : List Notes) (m : Held) (j : Notes) → AreReady h script (ms ++ m ∷ []) (js ++ j ∷ []) → AreReady h script ms js
+pub earlier_ready : (h : Started) (script : ScriptContents) (ms : List MutatorView) (js : List Notes) (m : MutatorView) (j : Notes) → AreReady h script (ms ++ m ∷ []) (js ++ j ∷ []) → AreReady h script ms js
 earlier_ready h script ms js m j ready =
     let many : length (ms ++ m ∷ []) ≡ length ms + 1 = longer ms m in
     let noted : length (js ++ j ∷ []) ≡ length js + 1 = longer js j in
@@ -37,7 +37,7 @@ earlier_ready h script ms js m j ready =
     }
 
 -- and so is the last one
-pub last_ready : (h : Started) (script : Contents) (ms : List Held) (js : List Notes) (m : Held) (j : Notes) → AreReady h script (ms ++ m ∷ []) (js ++ j ∷ []) → IsReady h script (length ms) (together m j)
+pub last_ready : (h : Started) (script : ScriptContents) (ms : List MutatorView) (js : List Notes) (m : MutatorView) (j : Notes) → AreReady h script (ms ++ m ∷ []) (js ++ j ∷ []) → IsReady h script (length ms) (together m j)
 last_ready h script ms js m j ready =
     let many : length (ms ++ m ∷ []) ≡ length ms + 1 = longer ms m in
     let noted : length (js ++ j ∷ []) ≡ length js + 1 = longer js j in
@@ -45,7 +45,7 @@ last_ready h script ms js m j ready =
     subst (IsReady h script (length ms)) (at_last ms js m j (length ms) m each refl) (ready.each (length ms) m (omega (arith, many)))
 
 -- what those before the last one have done, and what the last one has
-pub done_more : (cmds : List (List Cmd)) (ms ms' : List Held) (js js' : List Notes) (m m' : Held) (j j' : Notes) → length js ≡ length ms → HaveDone cmds ms js ms' js' → HasDone (commands_at cmds (length ms)) (together m j) (together m' j')
+pub done_more : (cmds : List (List Cmd)) (ms ms' : List MutatorView) (js js' : List Notes) (m m' : MutatorView) (j j' : Notes) → length js ≡ length ms → HaveDone cmds ms js ms' js' → HasDone (commands_at cmds (length ms)) (together m j) (together m' j')
     → HaveDone cmds (ms ++ m ∷ []) (js ++ j ∷ []) (ms' ++ m' ∷ []) (js' ++ j' ∷ [])
 done_more cmds ms ms' js js' m m' j j' each done last =
     let each' : length js' ≡ length ms' = done.journals_all ∙ each ∙ sym done.mutators_all in

@@ -13,8 +13,8 @@ use Rattle.rec_word.specs.Mailbox.{crossing_word}
 use Rattle.rec_word.specs.declared.mailbox.Mailbox.TheVariants.{Retired}
 use Rattle.rec_word.specs.declared.op.Op.{Op}
 use Rattle.rec_table.specs.Beats.{gathered}
-use Rattle.rec_table.specs.Held.{Gathers, gathers_now}
-use Rattle.rec_table.specs.Rule.{crew_more}
+use Rattle.rec_table.specs.Views.{CollectorView, collector_now}
+use Rattle.rec_table.specs.Rule.{collecting_more}
 use Rattle.rec_table.specs.Turn.{MakesTurn}
 use Rattle.rec_table.proofs.PutBack.{ended_epoch, swapped_epoch}
 use Rattle.rec_threads.specs.Done.{HasTurned, TurnsTo}
@@ -50,26 +50,26 @@ gathered_epoch p (Saw word) = took_epoch p word
 gathered_epoch p (Took word b) = let e = swapped_epoch (took_of p word) b in let t = took_epoch p word in omega (arith, e, t)
 
 -- none yet
-pub no_turn : (g : Gathers) → HasTurned 0 g g
+pub no_turn : (g : CollectorView) → HasTurned 0 g g
 no_turn g = record {
   path = TurnsTo.none;
   beats = [];
-  grows = λ i. record g { crew = record g.crew { log = sym (append-nil g.crew.log) i } };
+  grows = λ i. record g { collecting = record g.collecting { log = sym (append-nil g.collecting.log) i } };
   each = inl refl;
   requested = omega arith;
 }
 
-pub at_most : (turns : ℕ) (g g' : Gathers) (so : HasTurned turns g g') → length so.beats ≤ turns
+pub at_most : (turns : ℕ) (g g' : CollectorView) (so : HasTurned turns g g') → length so.beats ≤ turns
 at_most turns g g' so = elim so.each [
   | inl all ↦ omega (arith, all)
   | inr spent ↦ spent.1
 ]
 
 -- One turn more.
-pub one_turn : (turns : ℕ) (g a b : Gathers) (answer : Turn) → HasTurned turns g a → MakesTurn a b answer → HasTurned (turns + 1) g b
-one_turn turns g a b answer so one = by (next_of (gathers_now a)) refl
+pub one_turn : (turns : ℕ) (g a b : CollectorView) (answer : Turn) → HasTurned turns g a → MakesTurn a b answer → HasTurned (turns + 1) g b
+one_turn turns g a b answer so one = by (next_of (collector_now a)) refl
   where
-    by : (next : Option Op) → next_of (gathers_now a) ≡ next → HasTurned (turns + 1) g b
+    by : (next : Option Op) → next_of (collector_now a) ≡ next → HasTurned (turns + 1) g b
     by None e =
         let same : b ≡ a = (one.spent e).0 in
         let few : length so.beats ≤ turns = at_most turns g a so in
@@ -77,24 +77,24 @@ one_turn turns g a b answer so one = by (next_of (gathers_now a)) refl
           path = TurnsTo.more turns a b answer so.path one;
           beats = so.beats;
           grows = same ∙ so.grows;
-          each = inr (ap (λ (x : Gathers). next_of (gathers_now x)) same ∙ e, omega (arith, few));
-          requested = let r = so.requested in let n : (gathers_now b).epoch ≡ (gathers_now a).epoch = ap (λ (x : Gathers). (gathers_now x).epoch) same in omega (arith, r, n);
+          each = inr (ap (λ (x : CollectorView). next_of (collector_now x)) same ∙ e, omega (arith, few));
+          requested = let r = so.requested in let n : (collector_now b).epoch ≡ (collector_now a).epoch = ap (λ (x : CollectorView). (collector_now x).epoch) same in omega (arith, r, n);
         }
     by (Some op) e =
         let (beat, more, now, told) = one.turned op e in
-        let crew : (record g.crew { log = (g.crew.log ++ so.beats) ++ beat ∷ [] }) ≡ (record g.crew { log = g.crew.log ++ (so.beats ++ beat ∷ []) }) = λ i. record g.crew { log = append_assoc g.crew.log so.beats (beat ∷ []) i } in
+        let collecting : (record g.collecting { log = (g.collecting.log ++ so.beats) ++ beat ∷ [] }) ≡ (record g.collecting { log = g.collecting.log ++ (so.beats ++ beat ∷ []) }) = λ i. record g.collecting { log = append_assoc g.collecting.log so.beats (beat ∷ []) i } in
         let many : length (so.beats ++ beat ∷ []) ≡ length so.beats + 1 = length-append so.beats (beat ∷ []) in
         record {
           path = TurnsTo.more turns a b answer so.path one;
           beats = so.beats ++ beat ∷ [];
-          grows = more ∙ (λ i. record (so.grows i) { crew = crew_more (so.grows i).crew beat }) ∙ (λ i. record g { crew = crew i });
+          grows = more ∙ (λ i. record (so.grows i) { collecting = collecting_more (so.grows i).collecting beat }) ∙ (λ i. record g { collecting = collecting i });
           each = elim so.each [
             | inl all ↦ inl (omega (arith, all, many))
             | inr none ↦ let bad : ◌≡◌ {A = Option Op} None (Some op) = sym none.0 ∙ e in cc
           ];
           requested =
               let r = so.requested in
-              let n : (gathers_now b).epoch ≡ (gathered (gathers_now a) beat).epoch = ap (λ (p : Private). p.epoch) now in
-              let o = gathered_epoch (gathers_now a) beat in
+              let n : (collector_now b).epoch ≡ (gathered (collector_now a) beat).epoch = ap (λ (p : Private). p.epoch) now in
+              let o = gathered_epoch (collector_now a) beat in
               omega (arith, r, n, o);
         }

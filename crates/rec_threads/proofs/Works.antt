@@ -11,7 +11,7 @@ use Rattle.rec_mutator.specs.declared.work.Work.{Work}
 use Rattle.rec_mutator.specs.declared.work.Work.TheVariants as works
 use Rattle.rec_script.specs.Script.{IsCommand}
 use Rattle.rec_table.specs.Beats.{told}
-use Rattle.rec_table.specs.Held.{Held, Started, IsMutatorOf, Works, has}
+use Rattle.rec_table.specs.Views.{MutatorView, Started, IsMutatorOf, Works, mutator_now}
 use Rattle.rec_table.specs.Journals.{Tells, journal}
 use Rattle.rec_table.specs.Rule.{beats}
 use Rattle.rec_table.specs.declared.views.Beat.{Beat}
@@ -24,7 +24,7 @@ use Rattle.rec_threads.specs.Done.{HasMade, begun, begun_by}
 use Rattle.rec_threads.specs.declared.worker.Worker.{Worker}
 
 -- a mutator whose list grew is still this heap's
-pub still_own : (h : Started) (m n : Held) → n ≡ record m { log = n.log } → IsMutatorOf h m → IsMutatorOf h n
+pub still_own : (h : Started) (m n : MutatorView) → n ≡ record m { log = n.log } → IsMutatorOf h m → IsMutatorOf h n
 still_own h m n is own = subst (IsMutatorOf h) (sym is) own
 
 -- a list that grew by a work grew by beats that begin this work alone
@@ -39,13 +39,13 @@ begun_once work log log' bs works is =
     let (cs, same, one) = grown work log log' works in
     ap begun (append_cancel_left log bs cs (sym is ∙ same)) ∙ one
 
-abbrev tells_on : (m a b : Held) (xs ys : List Line) → a ≡ record m { log = a.log } → Tells (has m) m.log a.log xs → Tells (has a) a.log b.log ys → Tells (has m) m.log b.log (xs ++ ys)
+abbrev tells_on : (m a b : MutatorView) (xs ys : List Line) → a ≡ record m { log = a.log } → Tells (mutator_now m) m.log a.log xs → Tells (mutator_now a) a.log b.log ys → Tells (mutator_now m) m.log b.log (xs ++ ys)
 tells_on m a b xs ys is first then =
-    let now : has a ≡ told (has m) first.beats = ap has is ∙ ap (told m.opened) first.grows ∙ told_both m.opened m.log first.beats in
+    let now : mutator_now a ≡ told (mutator_now m) first.beats = ap mutator_now is ∙ ap (told m.opened) first.grows ∙ told_both m.opened m.log first.beats in
     record {
       beats = first.beats ++ then.beats;
       grows = then.grows ∙ ap (λ (l : List Beat). l ++ then.beats) first.grows ∙ append_assoc m.log first.beats then.beats;
-      tells = journal_both (has m) first.beats then.beats ∙ ap (λ (p : Private). journal (has m) first.beats ++ journal p then.beats) (sym now) ∙ (λ i. first.tells i ++ then.tells i);
+      tells = journal_both (mutator_now m) first.beats then.beats ∙ ap (λ (p : Private). journal (mutator_now m) first.beats ++ journal p then.beats) (sym now) ∙ (λ i. first.tells i ++ then.tells i);
     }
 
 -- what is made first, and what then
@@ -58,7 +58,7 @@ made_on xs ys ds es a b d first then = record {
   told = tells_on a.mutator b.mutator d.mutator first.lines then.lines first.mutator first.told then.told;
   begins = flat_map-append begun_by first.told.beats then.told.beats ∙ (λ i. first.begins i ++ then.begins i);
   mutator = then.mutator ∙ (λ i. record (first.mutator i) { log = d.mutator.log });
-  sizes = keeps_on (has a.mutator) (has b.mutator) (has d.mutator) first.sizes then.sizes;
+  sizes = keeps_on (mutator_now a.mutator) (mutator_now b.mutator) (mutator_now d.mutator) first.sizes then.sizes;
 }
 
 same_sizes : (p : Private) → KeepsSizes p p
@@ -74,11 +74,11 @@ made_none w = record {
   told = record { beats = []; grows = sym (append-nil w.mutator.log); tells = refl };
   begins = refl;
   mutator = refl;
-  sizes = same_sizes (has w.mutator);
+  sizes = same_sizes (mutator_now w.mutator);
 }
 
 -- a poll
-pub polled : (w v : Worker) → v.journal ≡ w.journal → Works works.Poll w.mutator.log v.mutator.log → v.mutator ≡ record w.mutator { log = v.mutator.log } → Tells (has w.mutator) w.mutator.log v.mutator.log [] → KeepsSizes (has w.mutator) (has v.mutator) → HasMade [] (works.Poll ∷ []) w v
+pub polled : (w v : Worker) → v.journal ≡ w.journal → Works works.Poll w.mutator.log v.mutator.log → v.mutator ≡ record w.mutator { log = v.mutator.log } → Tells (mutator_now w.mutator) w.mutator.log v.mutator.log [] → KeepsSizes (mutator_now w.mutator) (mutator_now v.mutator) → HasMade [] (works.Poll ∷ []) w v
 polled w v noted poll is tells sizes = record {
   lines = [];
   commands = refl;
@@ -92,7 +92,7 @@ polled w v noted poll is tells sizes = record {
 
 -- a command, whose line is noted
 pub commanded : (cmd : Cmd) (told : Told) (w v : Worker) → v.journal.lines ≡ w.journal.lines ++ (cmd, told) ∷ [] → v.journal.room ≡ w.journal.room - 1 → 0 < w.journal.room → Works (works.Command cmd) w.mutator.log v.mutator.log → v.mutator ≡ record w.mutator { log = v.mutator.log }
-    → Tells (has w.mutator) w.mutator.log v.mutator.log ((cmd, told) ∷ []) → KeepsSizes (has w.mutator) (has v.mutator) → HasMade (cmd ∷ []) (works.Command cmd ∷ []) w v
+    → Tells (mutator_now w.mutator) w.mutator.log v.mutator.log ((cmd, told) ∷ []) → KeepsSizes (mutator_now w.mutator) (mutator_now v.mutator) → HasMade (cmd ∷ []) (works.Command cmd ∷ []) w v
 commanded cmd told w v noted room some work is tells sizes = record {
   lines = (cmd, told) ∷ [];
   commands = refl;
@@ -106,7 +106,7 @@ commanded cmd told w v noted room some work is tells sizes = record {
 
 -- who has its registers and fields may be asked the same
 pub operands_kept : (p q : Private) → KeepsSizes p q → (cmd : Cmd) → HasOperands p cmd → HasOperands q cmd
-operands_kept p q k cmd has = operands_same cmd (sym k.registers) (sym k.fields) has
+operands_kept p q k cmd mutator_now = operands_same cmd (sym k.registers) (sym k.fields) mutator_now
 
 -- a script's commands may be asked of who has the script's registers and fields
 pub all_operands : (registers fields : ℕ) (p : Private) (cmds : List Cmd) → length p.registers ≡ registers → p.fields ≡ fields → All (IsCommand registers fields) cmds → All (HasOperands p) cmds

@@ -9,8 +9,8 @@ use Rattle.rec_mutator.specs.declared.work.Work.{Work}
 use Rattle.rec_mutator.specs.declared.work.Work.TheVariants as works
 use Rattle.rec_collector.specs.Next.{next_of}
 use Rattle.rec_collector.specs.declared.turn.Turn.{Turn}
-use Rattle.rec_script.specs.Script.{Contents}
-use Rattle.rec_table.specs.Held.{Gathers, Held, Started, IsCollectorOf, IsMutatorOf, gathers_now, has}
+use Rattle.rec_script.specs.Script.{ScriptContents}
+use Rattle.rec_table.specs.Views.{CollectorView, MutatorView, Started, IsCollectorOf, IsMutatorOf, collector_now, mutator_now}
 use Rattle.rec_table.specs.Journals.{Tells}
 use Rattle.rec_table.specs.Turn.{MakesTurn}
 use Rattle.rec_table.specs.declared.views.Beat.{Beat}
@@ -24,27 +24,27 @@ abbrev pub commands_at : List (List Cmd) → ℕ → List Cmd
 commands_at commands k = slice_index_or commands k []
 
 -- a mutator with its journal, by their index
-abbrev pub worker_at : List Held → List Notes → ℕ → Held → Worker
+abbrev pub worker_at : List MutatorView → List Notes → ℕ → MutatorView → Worker
 worker_at mutators journals k d = record { mutator = slice_index_or mutators k d; journal = slice_index_or journals k no_notes }
 
 -- Mutator k of this heap may carry out its commands: it has the script's registers and fields, and an empty journal with room.
-pub record IsReady (h : Started) (script : Contents) (k : ℕ) (w : Worker) : Type 0 where
+pub record IsReady (h : Started) (script : ScriptContents) (k : ℕ) (w : Worker) : Type 0 where
   pub own : IsMutatorOf h w.mutator
   pub number : w.mutator.number ≡ k + 1
-  pub named : (has w.mutator).number ≡ k + 1
-  pub registers : length (has w.mutator).registers ≡ script.registers
-  pub fields : (has w.mutator).fields ≡ script.fields
+  pub named : (mutator_now w.mutator).number ≡ k + 1
+  pub registers : length (mutator_now w.mutator).registers ≡ script.registers
+  pub fields : (mutator_now w.mutator).fields ≡ script.fields
   pub empty : w.journal.lines ≡ []
   pub room : length (commands_at script.commands k) ≤ w.journal.room
 
 -- The first so many mutators may, with a journal each.
-pub record AreReady (h : Started) (script : Contents) (mutators : List Held) (journals : List Notes) : Type 0 where
+pub record AreReady (h : Started) (script : ScriptContents) (mutators : List MutatorView) (journals : List Notes) : Type 0 where
   pub few : length mutators ≤ length script.commands
   pub one_each : length journals ≡ length mutators
-  pub each : (k : ℕ) (d : Held) → k < length mutators → IsReady h script k (worker_at mutators journals k d)
+  pub each : (k : ℕ) (d : MutatorView) → k < length mutators → IsReady h script k (worker_at mutators journals k d)
 
 -- The crew is the whole heap's, and the heap has the script's numbers.
-pub record IsCrewFor (h : Started) (script : Contents) (crew : Crew) : Type 0 where
+pub record IsCrewFor (h : Started) (script : ScriptContents) (crew : Crew) : Type 0 where
   pub all : length crew.mutators.items ≡ h.world.config.mutators
   pub script_all : length script.commands ≡ h.world.config.mutators
   pub ready : AreReady h script crew.mutators.items crew.journals.items
@@ -77,10 +77,10 @@ pub record HasMade (cmds : List Cmd) (done : List Work) (was now : Worker) : Typ
   pub commands : map (λ line. line.0) lines ≡ cmds
   pub noted : now.journal.lines ≡ was.journal.lines ++ lines
   pub room : now.journal.room + length cmds ≡ was.journal.room
-  pub told : Tells (has was.mutator) was.mutator.log now.mutator.log lines
+  pub told : Tells (mutator_now was.mutator) was.mutator.log now.mutator.log lines
   pub begins : begun told.beats ≡ done
   pub mutator : now.mutator ≡ record was.mutator { log = now.mutator.log }
-  pub sizes : KeepsSizes (has was.mutator) (has now.mutator)
+  pub sizes : KeepsSizes (mutator_now was.mutator) (mutator_now now.mutator)
 
 -- The worker carried out these commands by the rule: it polled once before each, and at most 65,536 times behind the last one.
 pub record HasDone (cmds : List Cmd) (was now : Worker) : Type 0 where
@@ -89,26 +89,26 @@ pub record HasDone (cmds : List Cmd) (was now : Worker) : Type 0 where
   pub made : HasMade cmds (driving_rule cmds polls) was now
 
 -- each mutator's worker carried out that mutator's commands
-pub record HaveDone (commands : List (List Cmd)) (mutators : List Held) (journals : List Notes) (mutators' : List Held) (journals' : List Notes) : Type 0 where
+pub record HaveDone (commands : List (List Cmd)) (mutators : List MutatorView) (journals : List Notes) (mutators' : List MutatorView) (journals' : List Notes) : Type 0 where
   pub mutators_all : length mutators' ≡ length mutators
   pub journals_all : length journals' ≡ length journals
-  pub each : (k : ℕ) (d : Held) → k < length mutators → HasDone (commands_at commands k) (worker_at mutators journals k d) (worker_at mutators' journals' k d)
+  pub each : (k : ℕ) (d : MutatorView) → k < length mutators → HasDone (commands_at commands k) (worker_at mutators journals k d) (worker_at mutators' journals' k d)
 
 -- the collectors to which so many turns lead, one after another
-pub data TurnsTo (g : Gathers) : ℕ → Gathers → Type 0 where
+pub data TurnsTo (g : CollectorView) : ℕ → CollectorView → Type 0 where
   none : TurnsTo g 0 g
-  more : (turns : ℕ) (a b : Gathers) (answer : Turn) → TurnsTo g turns a → MakesTurn a b answer → TurnsTo g (turns + 1) b
+  more : (turns : ℕ) (a b : CollectorView) (answer : Turn) → TurnsTo g turns a → MakesTurn a b answer → TurnsTo g (turns + 1) b
 
 -- The collector made so many turns: each is a beat of its list, but where the epochs were spent, and then no turn is one any more.
-pub record HasTurned (turns : ℕ) (g g' : Gathers) : Type 0 where
+pub record HasTurned (turns : ℕ) (g g' : CollectorView) : Type 0 where
   pub path : TurnsTo g turns g'
   pub beats : List Beat
-  pub grows : g' ≡ record g { crew = record g.crew { log = g.crew.log ++ beats } }
-  pub each : (length beats ≡ turns) ⊎ ((next_of (gathers_now g') ≡ None) × (length beats ≤ turns))
-  pub requested : (gathers_now g').epoch ≤ (gathers_now g).epoch + turns
+  pub grows : g' ≡ record g { collecting = record g.collecting { log = g.collecting.log ++ beats } }
+  pub each : (length beats ≡ turns) ⊎ ((next_of (collector_now g') ≡ None) × (length beats ≤ turns))
+  pub requested : (collector_now g').epoch ≤ (collector_now g).epoch + turns
 
 -- The collector made one turn at least, and at most so many.
-pub record HasCollected (most : ℕ) (g g' : Gathers) : Type 0 where
+pub record HasCollected (most : ℕ) (g g' : CollectorView) : Type 0 where
   pub turns : ℕ
   pub some : 0 < turns
   pub few : turns ≤ most

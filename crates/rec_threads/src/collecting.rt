@@ -2,7 +2,7 @@
 
 ghost use Rattle.std.specs.Prelude.{◌≡◌, ◌⊎◌, IsSome};
 ghost use Rattle.rec_model.specs.declared.limits.TheConstants.{MOST_TURNS};
-ghost use Rattle.rec_table.specs.Held.{IsCollectorOf};
+ghost use Rattle.rec_table.specs.Views.{IsCollectorOf};
 ghost use Rattle.rec_threads.specs.Done.{HasCollected, HasTurned};
 
 use crate::gate::Gate;

@@ -4,19 +4,12 @@ use Rattle.std.specs.List.{concat}
 use Rattle.std.proofs.lemmas.List.{length-append}
 use Rattle.std.proofs.lemmas.List.Sums.{fold-append}
 use Rattle.std.proofs.lemmas.Bool.{false≢true}
+use Rattle.rec_trial.proofs.Common.{target_of, State, IsKept, members_once, Phase, Idle, Marking, Scanning, Collecting, Run, IsAtWork, noted, begun, run_of, IsReady, LeadsToVisible, AllLeadToVisible, Machine, Work, NamesPlace, next_of, is_due_at, took_of, started_of}
 use Rattle.rec_word.specs.Place.{place_of}
-use Rattle.rec_word.specs.Word.{target_of}
 use Rattle.rec_word.specs.declared.op.Op.TheVariants.{LoadChild}
 use Rattle.rec_word.proofs.FieldPlaces.{place_within}
-use Rattle.rec_counts.specs.Counts.{State, IsKept}
 use Rattle.rec_counts.specs.Groups.{last_set, earlier_sets}
-use Rattle.rec_counts.proofs.Keeping.{members_once}
 use Rattle.rec_counts.proofs.Times.{length-once}
-use Rattle.rec_trial.specs.declared.phase.Phase.{Phase}
-use Rattle.rec_trial.specs.declared.phase.Phase.TheVariants.{Idle, Marking, Scanning, Collecting}
-use Rattle.rec_trial.specs.Loaded.{Run, IsAtWork, noted, begun, run_of}
-use Rattle.rec_trial.specs.Rules.{IsReady, LeadsToVisible, AllLeadToVisible}
-use Rattle.rec_trial.specs.Trial.{Machine, Work, NamesPlace, next_of, is_due_at, took_of, started_of}
 use Rattle.rec_trial.proofs.Course.{alive_range, first_view, due_seen, green_same, released_same}
 use Rattle.rec_trial.proofs.Deletion.{Deletion, Loads, due_at, queue_at}
 use Rattle.rec_trial.proofs.Holding.{inv_at}

@@ -4,18 +4,13 @@ use Rattle.std.specs.List.{concat}
 use Rattle.std.proofs.lemmas.List.{get_or-set_same, get_or-set_other, length-set, set-set, take_all}
 use Rattle.std.proofs.lemmas.Bool.{false_from_ne_true, false≢true}
 use Rattle.std.proofs.lemmas.Bool.Decides.{eqb_tells}
-use Rattle.rec_counts.specs.declared.colour.Colour.TheVariants.{Gray, White}
+use Rattle.rec_trial.proofs.Common.{Gray, White, State, IsKept, slot_at, with_slot, without_root, one, is_gray, is_white, field_kept, member_room, first_root_in_range, CanMark, CanScan, CanCollect}
 use Rattle.rec_counts.specs.declared.slot.Slot.{Slot}
-use Rattle.rec_counts.specs.Counts.{State, IsKept, slot_at, with_slot, without_root}
-use Rattle.rec_counts.specs.Lists.{one}
 use Rattle.rec_counts.specs.Lists as in_counts
 use Rattle.rec_counts.specs.Slot.{absent}
-use Rattle.rec_counts.specs.Colour.{is_gray, is_white}
-use Rattle.rec_counts.proofs.Keeping.{field_kept, member_room, first_root_in_range}
 use Rattle.rec_counts.proofs.Leaving.{all_of}
 use Rattle.rec_counts.proofs.Times.{times-nil, times-cons, times_more, times_at, in_range_once, one-same, one-none}
 use Rattle.rec_trial.specs.Moves.{with_colour, touched_if, whitened, whitened_if, all_whitened}
-use Rattle.rec_trial.specs.Rules.{CanMark, CanScan, CanCollect}
 
 pub unbuffered_white : (s : State) → IsKept s → CanCollect s → (x : ℕ) → is_white (slot_at s x).colour ≡ true → (slot_at s x).buffered ≡ false
 unbuffered_white s k c x e =

@@ -1,21 +1,12 @@
 -- What always holds of the counts still does after each move and each word of a trial.
 use Rattle.std.proofs.Common.{◌≡◌, ℕ, ◌<◌, true, false, Option, IsSome, [], ◌∷◌, length, refl, sym, ap, subst, ◌∙◌, arith}
 use Rattle.std.proofs.lemmas.List.{length-set, length-map, length-append}
-use Rattle.rec_word.specs.Word.{target_of, target_bits}
-use Rattle.rec_counts.specs.declared.colour.Colour.TheVariants.{Black, Gray, Orange}
+use Rattle.rec_trial.proofs.Common.{target_of, target_bits, Black, Gray, Orange, State, IsKept, slot_at, with_slot, without_root, one, is_gray, unreleased_within, field_kept, keep_slot, keep_pop_root, keep_begin, keep_join, relisted, Phase, IsAtWork, begins, learns, CanMark, CanScan, IsReady, LeadsToVisible, RulesAt, Machine, Work, next_of, settled, learnt_at, opened_of, started_of, took_of, advanced}
 use Rattle.rec_counts.specs.declared.slot.Slot.{Slot}
-use Rattle.rec_counts.specs.Counts.{State, IsKept, slot_at, with_slot, without_root}
-use Rattle.rec_counts.specs.Lists.{one}
 use Rattle.rec_counts.specs.Lists as in_counts
 use Rattle.rec_counts.specs.Slot.{is_in}
-use Rattle.rec_counts.specs.Colour.{is_gray}
-use Rattle.rec_counts.proofs.Keeping.{unreleased_within, field_kept, keep_slot, keep_pop_root, keep_begin, keep_join, relisted}
 use Rattle.rec_counts.proofs.Times.{once_none, once_push}
-use Rattle.rec_trial.specs.declared.phase.Phase.{Phase}
-use Rattle.rec_trial.specs.Loaded.{IsAtWork, begins, learns}
 use Rattle.rec_trial.specs.Moves.{touched_if, blackened_if, whitened, all_whitened, joined_if, with_new_set}
-use Rattle.rec_trial.specs.Rules.{CanMark, CanScan, IsReady, LeadsToVisible, RulesAt}
-use Rattle.rec_trial.specs.Trial.{Machine, Work, next_of, settled, learnt_at, opened_of, started_of, took_of, advanced}
 use Rattle.rec_trial.proofs.Conditions.{unbuffered_white, set_room, marked_in_range, root_range, first_there}
 use Rattle.rec_trial.proofs.Moving.{settled_by, Moved, scan_begins, root_freed, root_marked, root_passed, scan_passes, scan_blackens, collect_begins, set_passes, set_begins, ends, tried_slot, moved}
 use Rattle.rec_trial.proofs.Midway.{Midway, at_work_due, at_work_midway, going_midway, moved_midway, rules_midway}

@@ -4,17 +4,9 @@ use Rattle.std.specs.List.{concat}
 use Rattle.std.proofs.lemmas.List.{length-append, length-set}
 use Rattle.std.proofs.lemmas.Bool.{false_from_ne_true, false≢true}
 use Rattle.std.proofs.lemmas.Bool.Decides.{nat_tests}
-use Rattle.rec_word.specs.Word.{target_of, target_bits}
-use Rattle.rec_counts.specs.declared.colour.Colour.TheVariants.{Gray}
-use Rattle.rec_counts.specs.Counts.{State, slot_at, without_root}
-use Rattle.rec_counts.specs.Colour.{is_green, is_purple}
+use Rattle.rec_trial.proofs.Common.{target_of, target_bits, Gray, State, slot_at, without_root, is_green, is_purple, unreleased_within, Phase, Marking, Scanning, Collecting, LeadsToVisible, Machine, Work, next_of, learnt_at, advanced, begun_at, is_due_at, is_due, moved_at, opened_of}
 use Rattle.rec_counts.specs.Groups.{last_set, earlier_sets}
-use Rattle.rec_counts.proofs.Keeping.{unreleased_within}
-use Rattle.rec_trial.specs.declared.phase.Phase.{Phase}
-use Rattle.rec_trial.specs.declared.phase.Phase.TheVariants.{Marking, Scanning, Collecting}
-use Rattle.rec_trial.specs.Rules.{LeadsToVisible}
 use Rattle.rec_trial.specs.Moves.{touched_if, one_off, all_whitened, joined_if, with_new_set}
-use Rattle.rec_trial.specs.Trial.{Machine, Work, next_of, learnt_at, advanced, begun_at, is_due_at, is_due, moved_at, opened_of}
 use Rattle.rec_trial.proofs.Totals.{nonzero, times, times_here}
 use Rattle.rec_trial.proofs.Deletion.{Deletion, Loads, due_at, seen, with_load}
 use Rattle.rec_trial.proofs.Deletion as plain

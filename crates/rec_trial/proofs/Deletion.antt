@@ -1,10 +1,6 @@
 -- A trial as functions of its nodes: the theory speaks of it. A word is 0 for null, else the node plus one.
 use Rattle.std.proofs.Common.{ℕ, suc, ◌-◌, Bool, true, cond, ltb, List, [], ◌∷◌, ◌++◌, length, get_or}
-use Rattle.rec_counts.specs.declared.colour.Colour.{Colour}
-use Rattle.rec_counts.specs.declared.colour.Colour.TheVariants.{Black, Gray, White, Orange}
-use Rattle.rec_counts.specs.Colour.{is_gray}
-use Rattle.rec_trial.specs.declared.phase.Phase.{Phase}
-use Rattle.rec_trial.specs.declared.phase.Phase.TheVariants.{Idle, Marking, Scanning, Collecting}
+use Rattle.rec_trial.proofs.Common.{Colour, Black, Gray, White, Orange, is_gray, Phase, Idle, Marking, Scanning, Collecting}
 use Rattle.rec_trial.proofs.Totals.{changed}
 
 -- a field that was loaded, and the word that it gave

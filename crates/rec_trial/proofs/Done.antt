@@ -4,13 +4,9 @@ use Rattle.std.proofs.lemmas.List.{length-take-le}
 use Rattle.std.proofs.Math.Nat.{mul-le-mul_left}
 use Rattle.std.proofs.lemmas.Bool.{cases_lt, lt-ltb}
 use Rattle.std.proofs.lemmas.Bool.Decides.{nat_tests}
+use Rattle.rec_trial.proofs.Common.{one, Colour, is_black, is_gray, is_green, is_orange, is_white, Phase, Idle, Marking, Scanning, Collecting}
 use native.Mathlib.Decide.{dec_lt}
-use Rattle.rec_counts.specs.Lists.{one}
-use Rattle.rec_counts.specs.declared.colour.Colour.{Colour}
-use Rattle.rec_counts.specs.Colour.{is_black, is_gray, is_green, is_orange, is_white}
 use Rattle.rec_counts.proofs.Times.{length-once}
-use Rattle.rec_trial.specs.declared.phase.Phase.{Phase}
-use Rattle.rec_trial.specs.declared.phase.Phase.TheVariants.{Idle, Marking, Scanning, Collecting}
 use Rattle.rec_trial.proofs.Totals.{total, total_of_first, total_below, same, times, occurs, first_more, first_whole, first_le}
 use Rattle.rec_trial.proofs.Deletion.{Seen, Deletion, Loads}
 use Rattle.rec_trial.proofs.Holding.{Placed, loaded, SameOf, WhileCollecting, Finished, inv_at}

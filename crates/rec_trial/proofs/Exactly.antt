@@ -1,13 +1,9 @@
 -- What a trial promises on words that do not change.
 use Rattle.std.proofs.Common.{◌≡◌, ℕ, suc, ◌+◌, ◌-◌, ◌<◌, ◌≤◌, false, eqb, Some, List, [], ◌∷◌, map, refl, sym, ap, ◌∙◌, arith, ◌⊎◌, inl, inr, cond}
 use Rattle.std.proofs.lemmas.Bool.Decides.{nat_tests}
-use Rattle.rec_word.specs.Word.{target_of, is_slot, predecessor, target_bits}
-use Rattle.rec_counts.specs.Counts.{State, slot_at}
-use Rattle.rec_counts.specs.Lists.{one}
+use Rattle.rec_trial.proofs.Common.{target_of, is_slot, predecessor, target_bits, State, slot_at, one, is_green, is_white, Run, run_of}
 use Rattle.rec_counts.specs.Lists as in_counts
-use Rattle.rec_counts.specs.Colour.{is_green, is_white}
 use Rattle.rec_walk.specs.Load.{Load}
-use Rattle.rec_trial.specs.Loaded.{Run, run_of}
 use Rattle.rec_trial.specs.Still.{AreStill, IsReached, IsHeld, IsExact, TrialIsExact, rest, visible_words}
 use Rattle.rec_trial.specs.Still as still
 use Rattle.rec_trial.specs.Tried.{members}

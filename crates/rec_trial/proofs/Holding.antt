@@ -1,11 +1,6 @@
 -- What holds of a trial, phase by phase, on any words that name nodes which are not released.
 use Rattle.std.proofs.Common.{◌≡◌, ℕ, suc, ◌+◌, ◌-◌, ◌<◌, ◌≤◌, Bool, true, false, List, [], length, get_or, eqb, cond}
-use Rattle.rec_counts.specs.declared.colour.Colour.{Colour}
-use Rattle.rec_counts.specs.declared.colour.Colour.TheVariants.{Purple}
-use Rattle.rec_trial.specs.declared.phase.Phase.{Phase}
-use Rattle.rec_trial.specs.declared.phase.Phase.TheVariants.{Idle, Marking, Scanning, Collecting}
-use Rattle.rec_counts.specs.Lists.{one}
-use Rattle.rec_counts.specs.Colour.{is_green, is_black, is_gray, is_white, is_orange}
+use Rattle.rec_trial.proofs.Common.{Colour, Purple, Phase, Idle, Marking, Scanning, Collecting, one, is_green, is_black, is_gray, is_white, is_orange}
 use Rattle.rec_trial.proofs.Totals.{total, total_of_first, total_below, same, times}
 use Rattle.rec_trial.proofs.Deletion.{Seen, Deletion, Loads}
 

@@ -1,13 +1,8 @@
 -- What a trial leaves of the counts as it was, from its start to its end and from word to word.
 use Rattle.std.proofs.Common.{◌≡◌, ℕ, ◌*◌, ◌<◌, ◌≤◌, Bool, false, IsNone, IsSome, List, [], ◌++◌, length, refl, sym, ap, subst, ◌∙◌, arith}
 use Rattle.std.specs.List.{filter}
-use Rattle.rec_counts.specs.Counts.{State, slot_at}
-use Rattle.rec_counts.specs.Lists.{times}
-use Rattle.rec_counts.specs.Colour.{is_green, is_gray, is_white}
-use Rattle.rec_trial.specs.Loaded.{Run, IsAtWork, run_of}
-use Rattle.rec_trial.specs.Rules.{IsReady, LeadsToVisible, released_among}
+use Rattle.rec_trial.proofs.Common.{State, slot_at, times, is_green, is_gray, is_white, Run, IsAtWork, run_of, IsReady, LeadsToVisible, released_among, Machine, Work, next_of, started_of, took_of}
 use Rattle.rec_trial.specs.Tried.{IsCareful, IsOver, members}
-use Rattle.rec_trial.specs.Trial.{Machine, Work, next_of, started_of, took_of}
 use Rattle.rec_trial.proofs.AtWork.{run_none, took_at_work, took_before}
 use Rattle.rec_trial.proofs.Views.{same_functions}
 use Rattle.rec_trial.proofs.Whole.{whole_careful, whole_over}

@@ -1,15 +1,9 @@
 -- What one word does to the counts, case by case.
 use Rattle.std.proofs.Common.{◌≡◌, ℕ, zero, suc, ◌<◌, Bool, true, false, IfSome, IsSome, List, [], ◌∷◌, length, refl, arith}
 use Rattle.std.proofs.lemmas.Bool.{false≢true}
-use Rattle.rec_word.specs.Word.{predecessor}
-use Rattle.rec_counts.specs.Counts.{State, slot_at}
+use Rattle.rec_trial.proofs.Common.{predecessor, State, slot_at, is_gray, is_green, is_white, unreleased_within, Phase, Idle, Marking, Scanning, Collecting, Machine, next_of, is_due_at, learnt_at}
 use Rattle.rec_counts.specs.Groups.{last_set}
-use Rattle.rec_counts.specs.Colour.{is_gray, is_green, is_white}
-use Rattle.rec_counts.proofs.Keeping.{unreleased_within}
-use Rattle.rec_trial.specs.declared.phase.Phase.{Phase}
-use Rattle.rec_trial.specs.declared.phase.Phase.TheVariants.{Idle, Marking, Scanning, Collecting}
 use Rattle.rec_trial.specs.Moves.{touched_if, one_off, blackened_if, joined_if}
-use Rattle.rec_trial.specs.Trial.{Machine, next_of, is_due_at, learnt_at}
 use Rattle.rec_trial.proofs.Places.{ltb_yes}
 use Rattle.rec_trial.proofs.Views.{bits_suc}
 

@@ -1,3 +1,5 @@
+-- The modules of the proofs.
+pub mod Common
 pub mod Deletion
 pub mod Done
 pub mod Holding

@@ -1,9 +1,7 @@
 -- What holds after a word, after a root left, and after one more node is marked, blackened or collected, as functions.
 use Rattle.std.proofs.Common.{◌≡◌, ℕ, suc, ◌+◌, ◌-◌, ◌<◌, Bool, false, List, [], ◌∷◌, ◌++◌, refl, arith, ◌⊎◌, inl, inr, true, ◌≤◌, cond, eqb}
 use Rattle.std.proofs.lemmas.Bool.Decides.{nat_tests}
-use Rattle.rec_counts.specs.declared.colour.Colour.{Colour}
-use Rattle.rec_counts.specs.declared.colour.Colour.TheVariants.{Black, Gray, Orange}
-use Rattle.rec_counts.specs.Colour.{is_gray, is_green, is_white}
+use Rattle.rec_trial.proofs.Common.{Colour, Black, Gray, Orange, is_gray, is_green, is_white}
 use Rattle.rec_trial.proofs.Totals.{same, times, changed, total_append}
 use Rattle.rec_trial.proofs.Deletion.{Seen, Deletion}
 use Rattle.rec_trial.proofs.Holding.{BaseOf, GraysOf, SeedsOf, ScannedOf, CollectedOf, Hot, warm, edges, Seed, Reached, seed, along}

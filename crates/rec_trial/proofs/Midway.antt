@@ -2,17 +2,9 @@
 use Rattle.std.proofs.Common.{◌≡◌, ℕ, ◌+◌, ◌<◌, Bool, true, false, eqb, ltb, cond, List, [], ◌∷◌, ◌++◌, length, refl, sym, ap, subst, ◌∙◌, arith}
 use Rattle.std.specs.List.{concat}
 use Rattle.std.proofs.lemmas.Bool.Decides.{nat_tests}
-use Rattle.rec_counts.specs.Counts.{State, IsKept, slot_at}
-use Rattle.rec_counts.specs.Lists.{one}
+use Rattle.rec_trial.proofs.Common.{State, IsKept, slot_at, one, is_gray, roots_once, Phase, Idle, Marking, Scanning, Collecting, IsAtWork, GoesOn, begins, learns, run_of, IsReady, RulesAt, released_among, Machine, Work, is_due, moved_at, settled}
 use Rattle.rec_counts.specs.Lists as in_counts
-use Rattle.rec_counts.specs.Colour.{is_gray}
-use Rattle.rec_counts.proofs.Keeping.{roots_once}
 use Rattle.rec_counts.proofs.Times.{times-nil, times-cons, times-append, one-le}
-use Rattle.rec_trial.specs.declared.phase.Phase.{Phase}
-use Rattle.rec_trial.specs.declared.phase.Phase.TheVariants.{Idle, Marking, Scanning, Collecting}
-use Rattle.rec_trial.specs.Loaded.{IsAtWork, GoesOn, begins, learns, run_of}
-use Rattle.rec_trial.specs.Rules.{IsReady, RulesAt, released_among}
-use Rattle.rec_trial.specs.Trial.{Machine, Work, is_due, moved_at, settled}
 use Rattle.rec_trial.proofs.Course.{Course, learnt_course, first_view, moved_course, released_same}
 use Rattle.rec_trial.proofs.Deletion.{Loads}
 use Rattle.rec_trial.proofs.Holding.{inv_at}

@@ -2,18 +2,11 @@
 use Rattle.std.proofs.Common.{◌≡◌, ℕ, ◌+◌, ◌<◌, ◌≤◌, Bool, true, false, ltb, List, [], ◌∷◌, ◌++◌, length, get_or, refl, sym, arith, zero, suc, cond, ap, ◌∙◌}
 use Rattle.std.proofs.lemmas.Bool.{false≢true}
 use Rattle.std.proofs.lemmas.Bool.Decides.{nat_tests}
-use Rattle.rec_counts.specs.declared.colour.Colour.{Colour}
-use Rattle.rec_counts.specs.declared.colour.Colour.TheVariants.{Purple}
 use Rattle.rec_counts.specs.declared.slot.Slot.{Slot}
-use Rattle.rec_counts.specs.Counts.{slot_at, without_root}
-use Rattle.rec_counts.specs.Colour.{is_gray, is_purple, is_white}
-use Rattle.rec_counts.proofs.Keeping.{field_kept}
-use Rattle.rec_trial.specs.declared.phase.Phase.{Phase}
-use Rattle.rec_trial.specs.declared.phase.Phase.TheVariants.{Idle, Marking, Scanning, Collecting}
 use Rattle.rec_trial.specs.Moves.{touched_if, dropped_if, blackened_if, has_rest, all_whitened, joined_if, with_new_set, cleared}
-use Rattle.rec_trial.specs.Trial.{Machine, Work, begun_at, is_due_at, roots_moved, scan_moved, set_begun_if, collect_moved, moved_at, is_due, moves_left, settled_in, settled}
 use Rattle.rec_trial.proofs.Places.{ltb_no, ltb_yes}
 use Rattle.std.proofs.lemmas.List.{length-append}
+use Rattle.rec_trial.proofs.Common.{Colour, Purple, slot_at, without_root, is_gray, is_purple, is_white, field_kept, Phase, Idle, Marking, Scanning, Collecting, Machine, Work, begun_at, is_due_at, roots_moved, scan_moved, set_begun_if, collect_moved, moved_at, is_due, moves_left, settled_in, settled}
 
 -- the machine in this phase, after it looked at a marked slot
 abbrev pub next_try : Phase → Machine → Machine

@@ -1,12 +1,7 @@
 -- What a trial promises, from its beginning and from word to word.
 use Rattle.std.proofs.Common.{◌≡◌, ℕ, ◌<◌, List, [], ◌∷◌, ◌++◌, refl, sym, ap, subst, ◌∙◌}
-use Rattle.rec_word.specs.Word.{target_of}
-use Rattle.rec_counts.specs.Colour.{is_green}
-use Rattle.rec_counts.specs.Counts.{State, slot_at}
-use Rattle.rec_trial.specs.Loaded.{Run, noted, run_of}
+use Rattle.rec_trial.proofs.Common.{target_of, is_green, State, slot_at, Run, noted, run_of, IsReady, LeadsToVisible, AllLeadToVisible, Machine, Work, took_of, started_of}
 use Rattle.rec_trial.specs.Promised.{IsTrial, unloaded}
-use Rattle.rec_trial.specs.Rules.{IsReady, LeadsToVisible, AllLeadToVisible}
-use Rattle.rec_trial.specs.Trial.{Machine, Work, took_of, started_of}
 use Rattle.rec_trial.proofs.AtWork.{all_lead_more, run_more}
 use Rattle.rec_trial.proofs.Exactly.{whole_exact}
 use Rattle.rec_trial.proofs.Runs.{noted_work, still_visible}

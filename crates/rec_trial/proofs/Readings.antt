@@ -3,8 +3,7 @@ use Rattle.std.proofs.Common.{◌≡◌, ℕ, zero, suc, ◌+◌, Bool, true, fa
 use Rattle.std.specs.List.{count_by, sum_by, range_with_len}
 use Rattle.std.proofs.lemmas.Bool.Decides.{nat_tests}
 use Rattle.std.proofs.lemmas.List.Sums.{sum_by-cons}
-use Rattle.rec_word.specs.Word.{target_of, is_slot, predecessor, target_bits}
-use Rattle.rec_counts.specs.Lists.{one}
+use Rattle.rec_trial.proofs.Common.{target_of, is_slot, predecessor, target_bits, one}
 use Rattle.rec_walk.specs.Load.{Load, leads_to}
 use Rattle.rec_trial.specs.Tried as tried
 use Rattle.rec_trial.specs.Tried.{is_of}

@@ -2,15 +2,10 @@
 use Rattle.std.proofs.Common.{◌≡◌, ℕ, suc, ◌-◌, ◌<◌, ◌≤◌, Bool, true, false, cond, Some, List, [], ◌∷◌, ◌++◌, length, refl, sym, ap, ◌∙◌, arith, append_assoc}
 use Rattle.std.specs.List.{concat}
 use Rattle.std.proofs.lemmas.List.{length-set, length-map, length-append}
-use Rattle.rec_counts.specs.declared.colour.Colour.TheVariants.{Orange}
 use Rattle.rec_counts.specs.declared.slot.Slot.{Slot}
-use Rattle.rec_counts.specs.Counts.{State, slot_at, with_slot, without_root}
-use Rattle.rec_trial.specs.declared.phase.Phase.{Phase}
-use Rattle.rec_trial.specs.declared.phase.Phase.TheVariants.{Marking}
 use Rattle.rec_trial.specs.Moves.{whitened, joined_if}
-use Rattle.rec_trial.specs.Rules.{released_among}
-use Rattle.rec_trial.specs.Trial.{Work}
 use Rattle.std.proofs.Math.ListN.{set}
+use Rattle.rec_trial.proofs.Common.{Orange, State, slot_at, with_slot, without_root, Phase, Marking, released_among, Work}
 use Rattle.rec_trial.proofs.Learning.{Learnt, takes_one, marks, blackens, joins}
 use Rattle.rec_trial.proofs.Moving.{Moved, scan_begins, root_freed, root_marked, root_passed, scan_passes, scan_blackens, collect_begins, set_passes, set_begins, ends, tried_slot}
 use Rattle.rec_trial.proofs.Views.{concat_member, length_member, concat_new}

@@ -2,7 +2,8 @@
 use Rattle.std.proofs.Common.{◌≡◌, ℕ, zero, suc, ◌+◌, ◌<◌, ◌≤◌, cond, eqb, List, [], ◌∷◌, ◌++◌, length, take, drop, get_or, refl, ap, arith}
 use Rattle.std.proofs.Math.Seq.{take-suc, take-length}
 use Rattle.std.proofs.lemmas.List.{take-append-le, take-append-drop}
-use Rattle.rec_counts.specs.Lists.{one, times as count_times}
+use Rattle.rec_trial.proofs.Common.{one}
+use Rattle.rec_counts.specs.Lists.{times as count_times}
 use Rattle.rec_counts.proofs.Times.{times-nil, times-cons, times_at}
 
 -- the sum of a weight over a list

@@ -3,11 +3,7 @@ use Rattle.std.proofs.Common.{◌≡◌, ℕ, suc, ◌+◌, ◌-◌, ◌<◌, �
 use Rattle.std.proofs.Math.ListN.{get_or-append}
 use Rattle.std.proofs.lemmas.Bool.{false≢true, cases_lt}
 use Rattle.std.proofs.lemmas.Bool.Decides.{nat_tests}
-use Rattle.rec_counts.specs.Lists.{one}
-use Rattle.rec_counts.specs.declared.colour.Colour.{Colour}
-use Rattle.rec_counts.specs.declared.colour.Colour.TheVariants.{Purple}
-use Rattle.rec_counts.specs.Colour.{is_gray, is_green, is_white}
-use Rattle.rec_trial.specs.declared.phase.Phase.TheVariants.{Marking, Scanning, Collecting}
+use Rattle.rec_trial.proofs.Common.{one, Colour, Purple, is_gray, is_green, is_white, Marking, Scanning, Collecting}
 use Rattle.rec_trial.proofs.Totals.{total_of_first, same, times, times_here, first_more, first_whole}
 use Rattle.rec_trial.proofs.Deletion.{Seen, Deletion, Loads, with_load, touch, take_one, blacken, join, advance, seen, whiten}
 use Rattle.rec_trial.proofs.Holding.{WhileMarking, WhileScanning, WhileCollecting, OrderedOf, Reached, Hot, Seed, named}

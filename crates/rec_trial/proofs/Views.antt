@@ -4,22 +4,14 @@ use Rattle.std.proofs.Math.ListN.{get_or-map}
 use Rattle.std.specs.List.{concat}
 use Rattle.std.proofs.lemmas.List.{append-nil, get_or-set_same, get_or-set_other, length-set, length-append}
 use Rattle.std.proofs.lemmas.Bool.Decides.{eqb_tells, nat_tests}
-use Rattle.rec_counts.specs.declared.colour.Colour.{Colour}
-use Rattle.rec_counts.specs.declared.colour.Colour.TheVariants.{Black, Gray, White, Orange}
+use Rattle.rec_trial.proofs.Common.{Colour, Black, Gray, White, Orange, State, slot_at, with_slot, without_root, is_gray, field_kept, Phase, Idle, Marking, Scanning, Collecting, Machine, Work, advanced_if, advanced, predecessor}
 use Rattle.rec_counts.specs.declared.slot.Slot.{Slot}
-use Rattle.rec_counts.specs.Counts.{State, slot_at, with_slot, without_root}
 use Rattle.rec_counts.specs.Groups.{last_set, earlier_sets, with_member}
 use Rattle.rec_counts.specs.Slot.{absent}
-use Rattle.rec_counts.specs.Colour.{is_gray}
-use Rattle.rec_counts.proofs.Keeping.{field_kept}
-use Rattle.rec_trial.specs.declared.phase.Phase.{Phase}
-use Rattle.rec_trial.specs.declared.phase.Phase.TheVariants.{Idle, Marking, Scanning, Collecting}
 use Rattle.rec_trial.specs.Moves.{touched_if, one_off, blackened_if, whitened, whitened_if, all_whitened, joined_if}
-use Rattle.rec_trial.specs.Trial.{Machine, Work, advanced_if, advanced}
 use Rattle.rec_trial.proofs.Totals.{changed}
 use Rattle.rec_trial.proofs.Deletion.{Deletion, next_at, next_field}
 use Rattle.rec_trial.proofs.Deletion as plain
-use Rattle.rec_word.specs.Word.{predecessor}
 
 -- the number of a set, from 1; 0 for none
 abbrev pub set_code : Option ℕ → ℕ

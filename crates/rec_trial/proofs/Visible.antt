@@ -2,11 +2,7 @@
 use Rattle.std.proofs.Common.{◌≡◌, ◌≢◌, ℕ, Bool, true, false, if◌then◌else◌, Option, None, Some, IfSome, refl, sym, ap, subst, ◌∙◌, ◌<◌, length}
 use Rattle.std.proofs.lemmas.Bool.{eq-eqb, eqb-true, false≢true, ne_eqb}
 use Rattle.std.proofs.lemmas.Option.{same_Some}
-use Rattle.rec_word.specs.Word.{target_of, is_slot}
-use Rattle.rec_counts.specs.Colour.{is_green}
-use Rattle.rec_counts.specs.Counts.{State, slot_at}
-use Rattle.rec_trial.specs.Rules.{LeadsToUnreleased, LeadsToVisible, visible, visible_if}
-use Rattle.rec_counts.proofs.Keeping.{unreleased_within}
+use Rattle.rec_trial.proofs.Common.{target_of, is_slot, is_green, State, slot_at, LeadsToUnreleased, LeadsToVisible, visible, visible_if, unreleased_within}
 
 visible_by : (s : State) (word x : ℕ) (b : Bool) → is_green (slot_at s x).colour ≡ b → target_of word ≡ Some x → (slot_at s x).released ≡ false → LeadsToVisible s (if b then 0 else word)
 visible_by s word x true green is live = tt

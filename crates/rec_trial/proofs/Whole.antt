@@ -2,19 +2,11 @@
 use Rattle.std.proofs.Common.{◌≡◌, ℕ, suc, ◌+◌, ◌*◌, ◌<◌, ◌≤◌, false, Option, Some, IsNone, IsSome, List, [], ◌∷◌, length, map, fold, refl, sym, ap, subst, ◌∙◌, arith, inl, inr, ◌⊎◌}
 use Rattle.std.proofs.lemmas.Bool.{false_from_ne_true, false≢true, cases_lt}
 use Rattle.std.proofs.lemmas.List.{get_or_past, length-map}
-use Rattle.rec_counts.specs.declared.colour.Colour.{Colour}
+use Rattle.rec_trial.proofs.Common.{Colour, State, slot_at, one, is_black, is_gray, is_white, is_orange, Phase, Idle, Run, noted_at, noted, begun, run_of, IsReady, Machine, next_of}
 use Rattle.rec_counts.specs.declared.slot.Slot.{Slot}
-use Rattle.rec_counts.specs.Counts.{State, slot_at}
-use Rattle.rec_counts.specs.Lists.{one}
 use Rattle.rec_counts.specs.Lists as in_counts
 use Rattle.rec_counts.specs.Slot.{absent}
-use Rattle.rec_counts.specs.Colour.{is_black, is_gray, is_white, is_orange}
-use Rattle.rec_trial.specs.declared.phase.Phase.{Phase}
-use Rattle.rec_trial.specs.declared.phase.Phase.TheVariants.{Idle}
-use Rattle.rec_trial.specs.Loaded.{Run, noted_at, noted, begun, run_of}
-use Rattle.rec_trial.specs.Rules.{IsReady}
 use Rattle.rec_trial.specs.Tried.{IsCareful, IsOver, TrialIsCareful, TrialIsWhole, TrialEnds, members}
-use Rattle.rec_trial.specs.Trial.{Machine, next_of}
 use Rattle.rec_trial.proofs.AtWork.{told_place}
 use Rattle.rec_trial.proofs.Course.{first_view, released_same}
 use Rattle.rec_trial.proofs.Done.{greens_at, Walked, once_of, within_of, all_of, no_white_left, walked_at, few_loads}

@@ -1,3 +1,4 @@
+-- The modules of the definitions.
 pub mod Loaded
 pub mod Moves
 pub mod Rules

@@ -1,6 +1,6 @@
 //! The collector of a running heap turns so many times, whatever the mutators do meanwhile.
 
-ghost use Rattle.rec_table.specs.Held.{IsCollectorOf};
+ghost use Rattle.rec_table.specs.Views.{IsCollectorOf};
 
 use rec_table::{Collector, Heap};
 use rec_world::Turn;

@@ -2,7 +2,7 @@
 
 ghost use Rattle.std.specs.Prelude.{◌≡◌};
 ghost use Rattle.std.specs.Thread.{IsSync};
-ghost use Rattle.rec_table.specs.Held.{AreMutatorsOf, IsCollectorOf, IsMutatorOf};
+ghost use Rattle.rec_table.specs.Views.{AreMutatorsOf, IsCollectorOf, IsMutatorOf};
 
 use crate::collecting::collect;
 use crate::ring::make_on;

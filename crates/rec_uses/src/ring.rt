@@ -1,7 +1,7 @@
 //! A mutator makes a garbage cycle: two objects that name each other, and that no register names afterwards.
 
 ghost use Rattle.std.specs.Prelude.{◌≡◌};
-ghost use Rattle.rec_table.specs.Held.{IsMutatorOf};
+ghost use Rattle.rec_table.specs.Views.{IsMutatorOf};
 ghost use Rattle.rec_uses.specs.Ready.{IsReady};
 
 use rec_table::{Heap, Mutator};

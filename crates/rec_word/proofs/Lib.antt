@@ -1,3 +1,4 @@
+-- The modules of the proofs.
 pub mod FieldPlaces
 pub mod Headers
 pub mod Packing

@@ -1,3 +1,4 @@
+-- The modules of the definitions.
 pub mod Atom
 pub mod Header
 pub mod Mailbox

@@ -1,14 +1,10 @@
 -- What a world is taken apart into, and that its parts make it up again.
 use Rattle.std.proofs.Common.{◌≡◌, ℕ, ◌*◌, ◌<◌, List, [], ◌∷◌, zero, suc, Option, None, Some, length, map, slice_index_or, refl, sym, ap, ◌∙◌, subst, arith}
 use Rattle.std.specs.Option.{IsSome}
-use Rattle.rec_log.specs.declared.contents.Contents.{Contents}
-use Rattle.rec_core.specs.Cells.{Cells}
-use Rattle.rec_core.specs.Core.{Core, cells_of}
+use Rattle.rec_world.proofs.Common.{Contents, Cells, Core, cells_of, held, IsWorld}
 use Rattle.rec_core.specs.Row.{cells_of_row}
 use Rattle.rec_core.proofs.Row.{cells_row}
-use Rattle.rec_world.specs.Mailbox.{held}
 use Rattle.rec_world.specs.Parts.{AreParts}
-use Rattle.rec_world.specs.World.{IsWorld}
 use Rattle.rec_world.specs.declared.parts.Parts.{Parts}
 use Rattle.rec_world.proofs.Mailboxes.{held_some}
 

@@ -2,26 +2,16 @@
 use Rattle.std.proofs.Common.{◌≡◌, ◌-◌, ◌+◌, ℕ, List, Some, None, Option, true, false, map, length, slice_index_or, slice_set, arith, refl, sym, ap, subst, ◌∙◌}
 use Rattle.std.specs.Option.{is_none}
 use Rattle.std.proofs.lemmas.List.{set-set, get_or_default}
+use Rattle.rec_world.proofs.Common.{Contents, next_of, Private, is_busy, work_of, answer_of, begun_of, took_of, step_of, left_of, Cells, cell, with_cell, births_of, IsMutator, IsWork, HasLabel, Core, cells_of, mutator, nobody, Move, Fits, begun, stepped, core, IsWhole, held, IsWorld, IsFinished}
 use Rattle.rec_word.specs.Op.{written}
-use Rattle.rec_log.specs.declared.contents.Contents.{Contents}
-use Rattle.rec_mutator.specs.Next.{next_of}
-use Rattle.rec_mutator.specs.Private.{Private, is_busy, work_of, answer_of}
-use Rattle.rec_mutator.specs.Took.{begun_of, took_of, step_of, left_of}
 use Rattle.rec_mutator.specs.declared.made.Made.{Made}
 use Rattle.rec_mutator.specs.declared.work.Work.{Work}
-use Rattle.rec_core.specs.Cells.{Cells, cell, with_cell, births_of}
-use Rattle.rec_core.specs.Config.{IsMutator, IsWork, HasLabel}
-use Rattle.rec_core.specs.Core.{Core, cells_of, mutator, nobody}
 use Rattle.rec_core.specs.Kept.{IsKept}
-use Rattle.rec_core.specs.Met.{MayStep}
-use Rattle.rec_core.specs.Moves.{Move, Fits, begun, stepped}
+use Rattle.rec_core.specs.Preconditions.{MayStep}
 use Rattle.rec_core.specs.Worked.{StepsTo}
 use Rattle.rec_core.proofs.Showing.{mutator_left}
 use Rattle.rec_core.proofs.Unfinished.{waits_none, work_stays, step_busy}
 use Rattle.rec_core.proofs.Words.{may_step}
-use Rattle.rec_world.specs.Inside.{core, IsWhole}
-use Rattle.rec_world.specs.Mailbox.{held}
-use Rattle.rec_world.specs.World.{IsWorld, IsFinished}
 use Rattle.rec_world.specs.declared.world.World.TheInside.{Inside}
 use Rattle.rec_world.proofs.Calls.{Ready, ready, mutator_read, moved_world, own_work, world_kept, begun_found}
 use Rattle.rec_world.proofs.OneStep.{made_step_is}

@@ -8,28 +8,21 @@ use Rattle.std.proofs.lemmas.List.{get_or_default, get_or-replicate, get_or-set_
 use Rattle.std.proofs.lemmas.List.Elements.{All-from_get_or}
 use Rattle.std.proofs.lemmas.List.Sums.{sum_by-le}
 use Rattle.std.proofs.Math.Nat.{mul-le-mul}
+use Rattle.rec_world.proofs.Common.{Contents, next_of, Private, is_busy, IsValid, begun_of, took_of, step_of, swapped_of, left_of, Cells, cell, with_cell, births_of, IsConfig, IsMutator, IsWork, Core, cells_of, mutator, box, nobody, opened, opened_mutators, spare_of, Move, after_move, Fits, begun, stepped, found_by, looked_at, core, IsWhole, held, IsShaped, IsWorld, IsFinished}
 use Rattle.rec_word.specs.Op.{written}
 use Rattle.rec_word.specs.declared.op.Op.{Op}
 use Rattle.rec_word.specs.declared.op.Op.TheVariants as ops
 use Rattle.rec_word.specs.Mailbox.{crossing_word}
 use Rattle.rec_word.specs.declared.mailbox.Mailbox.TheVariants.{Spare}
-use Rattle.rec_log.specs.declared.contents.Contents.{Contents}
 use Rattle.rec_model.proofs.Opened.{map-replicate}
 use Rattle.rec_model.proofs.Operands.{operands_same}
 use Rattle.rec_mutator.specs.Causes.{is_giving}
-use Rattle.rec_mutator.specs.Next.{next_of}
-use Rattle.rec_mutator.specs.Private.{Private, is_busy, IsValid}
-use Rattle.rec_mutator.specs.Took.{begun_of, took_of, step_of, swapped_of, left_of}
 use Rattle.rec_mutator.specs.declared.made.Made.{Made}
 use Rattle.rec_mutator.specs.declared.phase.Phase as phases
 use Rattle.rec_mutator.specs.declared.work.Work.{Work}
 use Rattle.rec_mutator.specs.declared.work.Work.TheVariants as works
 use Rattle.rec_collector.specs.Private as collectors
-use Rattle.rec_core.specs.Cells.{Cells, cell, with_cell, births_of}
-use Rattle.rec_core.specs.Config.{IsConfig, IsMutator, IsWork}
-use Rattle.rec_core.specs.Core.{Core, cells_of, mutator, box, nobody, opened, opened_mutators, spare_of}
 use Rattle.rec_core.specs.Kept.{IsKept, entries_made}
-use Rattle.rec_core.specs.Moves.{Move, after_move, Fits, begun, stepped, found_by, looked_at}
 use Rattle.rec_core.specs.Pending.{epoch_at}
 use Rattle.rec_core.specs.Unfinished.{HasFound}
 use Rattle.rec_core.specs.Worked.{StepsTo, IsWorked}
@@ -39,9 +32,6 @@ use Rattle.rec_core.proofs.Runs.{looked_is, move_kept, end_kept, run_more, run_o
 use Rattle.rec_core.proofs.Showing.{mutator_left}
 use Rattle.rec_core.proofs.Steps.{actor_of}
 use Rattle.rec_core.proofs.Turns.{numbered}
-use Rattle.rec_world.specs.Inside.{core, IsWhole}
-use Rattle.rec_world.specs.Mailbox.{held}
-use Rattle.rec_world.specs.World.{IsShaped, IsWorld, IsFinished}
 use Rattle.rec_world.specs.declared.world.World.TheInside.{Inside}
 
 -- a world keeps what every heap with its collector keeps

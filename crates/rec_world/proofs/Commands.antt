@@ -1,6 +1,7 @@
 -- What a command and a poll are told, from what their steps say.
 use Rattle.std.proofs.Common.{◌≡◌, ◌≢◌, ◌↔◌, ℕ, ◌+◌, ◌%◌, ◌<◌, ◌≤◌, ◌&&◌, if◌then◌else◌, Bool, Option, None, Some, IfSome, true, false, List, length, slice_index_or, refl, sym, ap, subst, ◌∙◌, arith}
 use Rattle.std.proofs.lemmas.Bool.{false≢true}
+use Rattle.rec_world.proofs.Common.{Contents, next_of, next_at, Private, IsAt, is_busy, work_of, work_at, answer_of, probe_of, step_of, cell, IsMutator, Core, cells_of, box, sight, mutator, log_length, begun, stepped, found_by, WritesLeaf, FindsNone, IsFull, IsBusy, IsLowestFree, Refuses, Changes, Stays, IsFinished, IsCrossed}
 use Rattle.rec_word.specs.Header.{is_leaf}
 use Rattle.rec_word.specs.Word.{stamp_of}
 use Rattle.rec_model.specs.Asking.{is_done, refuses_new, allocation}
@@ -12,12 +13,8 @@ use Rattle.rec_model.specs.declared.answer.Answer.TheVariants as answers
 use Rattle.rec_model.specs.declared.command.Cmd.{Cmd}
 use Rattle.rec_model.specs.declared.command.Cmd.TheVariants as commands
 use Rattle.rec_model.specs.declared.told.Told.{Told}
-use Rattle.rec_log.specs.declared.contents.Contents.{Contents}
 use Rattle.rec_mutator.specs.Causes.{HasCause, LacksObject, MakesEntry, FoundNone, FoundNoneAt, is_refusal, is_giving}
-use Rattle.rec_mutator.specs.Next.{next_of, next_at}
-use Rattle.rec_mutator.specs.Private.{Private, IsAt, is_busy, work_of, work_at, answer_of, probe_of}
 use Rattle.rec_mutator.specs.Step.{IsLogFull as IsLogFullOf}
-use Rattle.rec_mutator.specs.Took.{step_of}
 use Rattle.rec_mutator.specs.declared.made.Made.{Made}
 use Rattle.rec_mutator.specs.declared.made.Made.TheVariants as makes
 use Rattle.rec_mutator.specs.declared.phase.Phase.{Phase}
@@ -26,12 +23,8 @@ use Rattle.rec_mutator.specs.declared.work.Work.{Work}
 use Rattle.rec_mutator.specs.declared.work.Work.TheVariants as works
 use Rattle.rec_mutator.proofs.Polls.{poll_has_cause}
 use Rattle.rec_mutator.proofs.Refusals.{same_command, same_told}
-use Rattle.rec_core.specs.Cells.{cell}
-use Rattle.rec_core.specs.Config.{IsMutator}
-use Rattle.rec_core.specs.Core.{Core, cells_of, box, sight, mutator, log_length}
 use Rattle.rec_core.specs.Kept.{IsKept}
-use Rattle.rec_core.specs.Moves.{begun, stepped, found_by}
-use Rattle.rec_core.specs.Shown.{may_answer, sight_told, probed_at, IsBirthplace, IsDecided, entries_of}
+use Rattle.rec_core.specs.StepAnswers.{may_answer, sight_told, probed_at, IsBirthplace, IsDecided, entries_of}
 use Rattle.rec_core.specs.Unfinished.{OnlyWorks, IsQuiet, HasFound, Waits}
 use Rattle.rec_core.specs.declared.config.Config.{Config}
 use Rattle.rec_core.proofs.Crossings.{giving_of}
@@ -39,7 +32,6 @@ use Rattle.rec_core.proofs.Showing.{Says, mutator_other, stepped_mutator, step_s
 use Rattle.rec_core.proofs.Steps.{actor_of}
 use Rattle.rec_core.proofs.Unfinished.{works_both, works_quiet, quiet_both, begun_works, waits_quiet, mutator_there, waits_epoch, answered_idle}
 use Rattle.rec_world.proofs.IntoLeaves.{allocates, into_leaf}
-use Rattle.rec_world.specs.World.{WritesLeaf, FindsNone, IsFull, IsBusy, IsLowestFree, Refuses, Changes, Stays, IsFinished, IsCrossed}
 
 -- A step that answers a command, in a heap in which nothing else moved since its begin.
 record Answering (w : Core) (t : ℕ) (cmd : Cmd) (told : Told) (v : Core) : Type 0 where

@@ -9,6 +9,7 @@ use Rattle.std.proofs.lemmas.Bool.{false≢true}
 use Rattle.std.proofs.lemmas.Grind.{flat_map-append}
 use Rattle.std.proofs.Math.ListN.{get_or-map as list_get_or-map}
 use Rattle.std.proofs.Math.Nat.{mul-le-mul_right}
+use Rattle.rec_world.proofs.Common.{Private, nobody}
 use Rattle.rec_word.specs.Word.{target_of}
 use Rattle.rec_model.specs.Reach.{named, is_in}
 use Rattle.rec_model.specs.Reach.IsReached.{child, root}
@@ -18,8 +19,6 @@ use Rattle.rec_model.specs.Sight.{Sight, Reaches, targets_of}
 use Rattle.rec_model.proofs.Firsts.{joined-append, joined-cases}
 use Rattle.rec_model.proofs.Members.{of_all, all_of}
 use Rattle.rec_model.proofs.Named.{joined-step, named-at}
-use Rattle.rec_mutator.specs.Private.{Private}
-use Rattle.rec_core.specs.Core.{nobody}
 use Rattle.rec_world.specs.Numbering.{sight_of, NamesBelow}
 
 -- the target of the next word joins those before it

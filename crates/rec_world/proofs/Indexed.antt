@@ -2,9 +2,9 @@
 use Rattle.std.proofs.Common.{◌≡◌, ℕ, ◌+◌, ◌-◌, ◌<◌, ◌≤◌, List, [], ◌∷◌, ◌++◌, length, get_or, set, take, replicate, append_assoc, length-set, sym, ap, subst, ◌∙◌, arith}
 use Rattle.std.specs.Vec.{with_item}
 use Rattle.std.proofs.lemmas.List.{get_or_default, set-get_or, take_all, length-replicate}
+use Rattle.rec_world.proofs.Common.{Cells, IsWithin, with_cell}
 use Rattle.rec_word.specs.Op.{written}
 use Rattle.rec_word.specs.declared.op.Op.{Op}
-use Rattle.rec_core.specs.Cells.{Cells, IsWithin, with_cell}
 use Rattle.rec_core.specs.Row.{row, index_of, cells_of_row}
 use Rattle.rec_core.proofs.Row.{cells_row, in_row, left_at, slots_are}
 use Rattle.rec_world.specs.Indexed.{cells, Finds, IsLaidOut}

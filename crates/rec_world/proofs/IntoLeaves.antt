@@ -1,27 +1,21 @@
 -- A write is answered NoField exactly where its object is a leaf and the log has room.
 use Rattle.std.proofs.Common.{◌≡◌, ◌↔◌, ℕ, ◌≤◌, Bool, true, false, Option, Some, length, slice_index_or, refl, sym, ap, subst, ◌∙◌, arith}
 use Rattle.std.proofs.lemmas.Bool.{false≢true, ne_eqb}
+use Rattle.rec_world.proofs.Common.{next_of, next_at, write_op, Private, IsStore, is_busy, is_busy_at, is_full, register, work_at, work_of, cell, IsMutator, Core, cells_of, mutator, found_by, WritesLeaf}
 use Rattle.rec_word.specs.Header.{is_leaf}
 use Rattle.rec_model.specs.Asking.{allocation}
 use Rattle.rec_model.specs.LegalOrder.{is_new}
 use Rattle.rec_model.specs.declared.command.Cmd.{Cmd}
 use Rattle.rec_model.specs.declared.command.Cmd.TheVariants as commands
 use Rattle.rec_mutator.specs.Causes.{FindsLeaf}
-use Rattle.rec_mutator.specs.Next.{next_of, next_at, write_op}
-use Rattle.rec_mutator.specs.Private.{Private, IsStore, is_busy, is_busy_at, is_full, register, work_at, work_of}
 use Rattle.rec_mutator.specs.Step.{HasRoom}
 use Rattle.rec_mutator.specs.declared.phase.Phase.{Phase}
 use Rattle.rec_mutator.specs.declared.phase.Phase.TheVariants.{Idle, Begun, Scanning, Scanned, Storing, Crossing, Swapping, Giving, Finished}
 use Rattle.rec_mutator.specs.declared.work.Work.{Work}
 use Rattle.rec_mutator.specs.declared.work.Work.TheVariants as works
 use Rattle.rec_mutator.proofs.Refusals.{at_phase, same_command}
-use Rattle.rec_core.specs.Cells.{cell}
-use Rattle.rec_core.specs.Config.{IsMutator}
-use Rattle.rec_core.specs.Core.{Core, cells_of, mutator}
 use Rattle.rec_core.specs.Kept.{IsKept, HasLearnt}
-use Rattle.rec_core.specs.Moves.{found_by}
 use Rattle.rec_core.proofs.Steps.{actor_of}
-use Rattle.rec_world.specs.World.{WritesLeaf}
 
 -- an allocation is new
 pub allocates : (reg label : ℕ) (leaf : Bool) → is_new (allocation leaf reg label) ≡ true

@@ -1,7 +1,9 @@
+-- The modules of the proofs.
 pub mod Apart
 pub mod Beginnings
 pub mod Calls
 pub mod Commands
+pub mod Common
 pub mod Filled
 pub mod Frees
 pub mod Indexed

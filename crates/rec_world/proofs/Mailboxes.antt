@@ -2,9 +2,7 @@
 use Rattle.std.proofs.Common.{◌≡◌, ℕ, Option, None, Some, refl, sym, ap, ◌∙◌}
 use Rattle.std.specs.Option.{IsSome}
 use Rattle.std.proofs.lemmas.Bool.{false≢true}
-use Rattle.rec_log.specs.declared.contents.Contents.{Contents}
-use Rattle.rec_mutator.specs.Private.{Private}
-use Rattle.rec_mutator.specs.Took.{swapped_of, left_of, left_at, IsSwapping, IsBetween}
+use Rattle.rec_world.proofs.Common.{Contents, Private, swapped_of, left_of, left_at, IsSwapping, IsBetween, held}
 use Rattle.rec_mutator.specs.declared.phase.Phase as phases
 use Rattle.rec_mutator.specs.declared.phase.Phase.TheVariants as at
 use Rattle.rec_mutator.proofs.Steps.{unswapped}
@@ -14,7 +12,6 @@ use Rattle.rec_collector.specs.Took as collector_took
 use Rattle.rec_collector.specs.declared.phase.Phase.{Phase}
 use Rattle.rec_collector.specs.declared.phase.Phase.TheVariants.{Swapping}
 use Rattle.rec_core.proofs.Crossings.{left_same}
-use Rattle.rec_world.specs.Mailbox.{held}
 
 -- a mailbox that is home
 pub held_some : (x : Option Contents) → IsSome x → x ≡ Some (held x)

@@ -4,13 +4,12 @@ use Rattle.std.proofs.lemmas.Bool.{false≢true, cases_lt, both_ways}
 use Rattle.std.proofs.lemmas.List.{drop_all}
 use Rattle.std.proofs.Math.Nat.{mul-le-mul_right}
 use Rattle.std.proofs.Math.Seq.{take-nil}
+use Rattle.rec_world.proofs.Common.{Core, sight, IsShaped}
 use Rattle.rec_word.specs.Word.{target_of}
 use Rattle.rec_model.specs.Reach.{named, is_in}
 use Rattle.rec_model.specs.Sight.{Sight, targets_of, words_of, IsTaken, IsSound}
 use Rattle.rec_model.proofs.Unfreed.{taken_within}
-use Rattle.rec_core.specs.Core.{Core, sight}
 use Rattle.rec_world.specs.Numbering.{NamesBelow, sight_of}
-use Rattle.rec_world.specs.World.{IsShaped}
 
 -- a free slot's fields name nothing
 nothing_named : (n fields : ℕ) → is_in n (named (map target_of (replicate fields 0))) ≡ false

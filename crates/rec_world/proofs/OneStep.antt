@@ -1,20 +1,11 @@
 -- A step of a mutator's machine is the one of the definitions.
 use Rattle.std.proofs.Common.{◌≡◌, ◌-◌, ◌+◌, ◌<◌, ℕ, List, Some, None, Option, true, map, length, slice_index_or, slice_set, refl, sym, ap, subst, ◌∙◌}
 use Rattle.std.specs.Option.{IsSome}
+use Rattle.rec_world.proofs.Common.{Contents, next_of, Private, is_busy, took_of, step_of, left_of, Cells, cell, with_cell, births_of, IsMutator, Core, cells_of, mutator, box, stepped, held, IsShaped}
 use Rattle.rec_word.specs.Op.{written}
-use Rattle.rec_log.specs.declared.contents.Contents.{Contents}
-use Rattle.rec_mutator.specs.Next.{next_of}
-use Rattle.rec_mutator.specs.Private.{Private, is_busy}
-use Rattle.rec_mutator.specs.Took.{took_of, step_of, left_of}
 use Rattle.rec_collector.specs.Private as collectors
-use Rattle.rec_core.specs.Cells.{Cells, cell, with_cell, births_of}
-use Rattle.rec_core.specs.Config.{IsMutator}
-use Rattle.rec_core.specs.Core.{Core, cells_of, mutator, box}
-use Rattle.rec_core.specs.Met.{MayStep}
-use Rattle.rec_core.specs.Moves.{stepped}
-use Rattle.rec_world.specs.Mailbox.{held}
+use Rattle.rec_core.specs.Preconditions.{MayStep}
 use Rattle.rec_world.specs.Stepping.{MakesStep}
-use Rattle.rec_world.specs.World.{IsShaped}
 use Rattle.rec_world.proofs.Calls.{box_read, box_home, stepped_is}
 
 -- a mutator that may step has a machine that may

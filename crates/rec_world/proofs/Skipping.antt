@@ -2,24 +2,17 @@
 use Rattle.std.proofs.Common.{◌≡◌, ◌≢◌, inl, inr, None, ℕ, zero, suc, ◌+◌, ◌-◌, ◌<◌, ◌≤◌, if◌then◌else◌, Bool, true, List, length, slice_index_or, slice_set, arith, refl, sym, ap, subst, ◌∙◌}
 use Rattle.std.proofs.lemmas.Bool.{cases_lt, ne_eqb}
 use Rattle.std.proofs.lemmas.List.{set-set, set-get_or}
+use Rattle.rec_world.proofs.Common.{Contents, next_of, Private, is_busy, work_of, answer_of, slot_behind, took_of, step_of, swapped_of, left_of, skipped_to, skipped_at, IsAhead, cell, IsMutator, Core, cells_of, sight, mutator, with_mutator, box, nobody, Move, stepped, performed, found_by, IsShaped, IsWorld}
 use Rattle.rec_word.specs.declared.op.Op.{Op}
 use Rattle.rec_word.specs.declared.op.Op.TheVariants as ops
 use Rattle.rec_model.specs.Sight.{IsTaken}
-use Rattle.rec_log.specs.declared.contents.Contents.{Contents}
-use Rattle.rec_mutator.specs.Next.{next_of}
-use Rattle.rec_mutator.specs.Private.{Private, is_busy, work_of, answer_of, slot_behind}
-use Rattle.rec_mutator.specs.Took.{took_of, step_of, swapped_of, left_of, skipped_to, skipped_at, IsAhead}
 use Rattle.rec_mutator.specs.declared.phase.Phase.{Phase}
 use Rattle.rec_mutator.specs.declared.phase.Phase.TheVariants.{Idle, Begun, Scanning, Scanned, Storing, Crossing, Swapping, Giving, Finished}
 use Rattle.rec_mutator.proofs.Around.{behind_first}
 use Rattle.rec_mutator.proofs.Skips.{skipped_next, skipped_none, skipped_further, skipped_alone, skipped_busy}
 use Rattle.rec_mutator.proofs.Refusals.{at_phase}
 use Rattle.rec_mutator.proofs.Polls.{busy_none}
-use Rattle.rec_core.specs.Cells.{cell}
-use Rattle.rec_core.specs.Config.{IsMutator}
-use Rattle.rec_core.specs.Core.{Core, cells_of, sight, mutator, with_mutator, box, nobody}
 use Rattle.rec_core.specs.Kept.{IsKept}
-use Rattle.rec_core.specs.Moves.{Move, stepped, performed, found_by}
 use Rattle.rec_core.specs.Unfinished.{HasFound, Waits}
 use Rattle.rec_core.specs.Worked.{StepsTo}
 use Rattle.rec_core.specs.declared.config.Config.{Config}
@@ -27,7 +20,6 @@ use Rattle.rec_core.proofs.Runs.{move_stays}
 use Rattle.rec_core.proofs.Showing.{mutator_left}
 use Rattle.rec_core.proofs.Steps.{actor_of}
 use Rattle.rec_core.proofs.Unfinished.{work_stays, steps_counted, waited, mutator_there}
-use Rattle.rec_world.specs.World.{IsShaped, IsWorld}
 use Rattle.rec_world.proofs.Calls.{world_kept, moved_world, mutator_read}
 use Rattle.rec_word.specs.Header.{header_word}
 

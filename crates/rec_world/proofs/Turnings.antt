@@ -2,11 +2,11 @@
 use Rattle.std.proofs.Common.{◌≡◌, ◌≢◌, ℕ, ◌+◌, ◌-◌, ◌<◌, ◌==◌, if◌then◌else◌, List, Option, None, Some, Bool, true, false, slice_set, slice_index_or, length, map, refl, sym, ap, subst, ◌∙◌}
 use Rattle.std.specs.Option.{IfSome, IsSome}
 use Rattle.std.proofs.lemmas.List.{get_or_default, map-set, set-get_or}
+use Rattle.rec_world.proofs.Common.{Contents, Cells, cell, with_cell, Core, cells_of, box, looked_at, left_by, turned, turned_at, turned_by, held, held_by, gathered_by, gathered_from}
 use Rattle.rec_word.specs.Mailbox.{crossing_word}
 use Rattle.rec_word.specs.declared.mailbox.Mailbox.TheVariants.{Retired}
 use Rattle.rec_word.specs.Op.{written}
 use Rattle.rec_word.specs.declared.op.Op.{Op}
-use Rattle.rec_log.specs.declared.contents.Contents.{Contents}
 use Rattle.rec_collector.specs.Given.{IsSwapping, swapping_for}
 use Rattle.rec_collector.specs.Next.{next_of}
 use Rattle.rec_collector.specs.Private as collectors
@@ -15,10 +15,6 @@ use Rattle.rec_collector.specs.Took.{left_at, left_of, took_of, took_at, step_of
 use Rattle.rec_collector.specs.declared.phase.Phase.{Phase}
 use Rattle.rec_collector.specs.declared.phase.Phase.TheVariants.{Looking, Swapping}
 use Rattle.rec_collector.proofs.Steps.{took_between}
-use Rattle.rec_core.specs.Cells.{Cells, cell, with_cell}
-use Rattle.rec_core.specs.Core.{Core, cells_of, box}
-use Rattle.rec_core.specs.Moves.{looked_at, left_by, turned, turned_at, turned_by}
-use Rattle.rec_world.specs.Mailbox.{held, held_by, gathered_by, gathered_from}
 use Rattle.rec_world.proofs.Calls.{box_read, home_again}
 use Rattle.rec_world.proofs.Mailboxes.{collector_leaves, collector_stays, gathered_stays}
 

@@ -1,3 +1,4 @@
+-- The modules of the definitions.
 pub mod Indexed
 pub mod Inside
 pub mod Journal
@@ -8,7 +9,7 @@ pub mod Order
 pub mod Parts
 pub mod Stepping
 pub mod World
-pub use Rattle.rec_core.specs.Asked
+pub use Rattle.rec_core.specs.RunAnswers
 pub use Rattle.rec_core.specs.Cells
 pub use Rattle.rec_core.specs.Config
 pub use Rattle.rec_core.specs.Core
@@ -17,7 +18,7 @@ pub use Rattle.rec_core.specs.CyclesAt
 pub use Rattle.rec_core.specs.Freed
 pub use Rattle.rec_core.specs.Kept
 pub use Rattle.rec_core.specs.Loads
-pub use Rattle.rec_core.specs.Met
+pub use Rattle.rec_core.specs.Preconditions
 pub use Rattle.rec_core.specs.Moves
 pub use Rattle.rec_core.specs.Pending
 pub use Rattle.rec_core.specs.Quiet
@@ -27,7 +28,7 @@ pub use Rattle.rec_core.specs.Row
 pub use Rattle.rec_core.specs.Scans
 pub use Rattle.rec_core.specs.Settled
 pub use Rattle.rec_core.specs.Settling
-pub use Rattle.rec_core.specs.Shown
+pub use Rattle.rec_core.specs.StepAnswers
 pub use Rattle.rec_core.specs.Swept
 pub use Rattle.rec_core.specs.Unfinished
 pub use Rattle.rec_core.specs.Worked

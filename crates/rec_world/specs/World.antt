@@ -14,8 +14,8 @@ use Rattle.rec_mutator.specs.declared.made.Made.{Made}
 use Rattle.rec_core.specs.Config.{IsConfig, IsMutator}
 pub use Rattle.rec_core.specs.Core.{Core, cells_of, sight, mutator, with_mutator, crossing_of, log_length, opened}
 use Rattle.rec_core.specs.Moves.{stepped, EndsRun}
-use Rattle.rec_core.specs.Shown.{IsFilled, sight_told}
-pub use Rattle.rec_core.specs.Shown.{entries_of}
+use Rattle.rec_core.specs.StepAnswers.{IsFilled, sight_told}
+pub use Rattle.rec_core.specs.StepAnswers.{entries_of}
 pub use Rattle.rec_core.specs.Turn.{TurnHasCause, step_seen}
 pub use Rattle.rec_core.specs.Unfinished.{OnlyWorks, IsQuiet, HasFound, Waits}
 use Rattle.rec_core.specs.Worked.{StepsTo}

@@ -42,7 +42,7 @@ pub use rec_core::{
     freed_slots_are_forgotten, loaded_words_stay_references, nothing_reached_is_freed,
     orange_members_stay_untouched, outside_counts_are_of_the_run, runs_begin_with_an_opening,
     runs_go_on, runs_keep, sets_that_pass_are_garbage, true_counts_are_the_formula,
-    turns_are_turns, zeros_are_exact,
+    turns_keep_their_promises, zeros_are_exact,
 };
 pub use rec_model::{Cmd, Told};
 pub use rec_mutator::{Made, Work};

@@ -3,7 +3,7 @@ ghost use Rattle.rec_word.specs.Header.{is_leaf};
 ghost use Rattle.rec_counts.specs.Counts.{slot_at};
 ghost use Rattle.rec_model.specs.Heap.{opening, register, registers_of};
 ghost use Rattle.rec_model.specs.Explained.{IsExplained};
-ghost use Rattle.rec_model.specs.Sight.{IsTaken, StandsFor, NumbersSlots};
+ghost use Rattle.rec_model.specs.Sight.{IsTaken, Represents, NumbersSlots};
 ghost use Rattle.rec_mutator.specs.Private.{is_busy, answer_of, work_of};
 ghost use Rattle.rec_mutator.specs.declared.made.Made.TheVariants as makes;
 ghost use Rattle.rec_mutator.specs.declared.work.Work.TheVariants as works;
@@ -71,7 +71,7 @@ impl World {
 
         ensures opened { IfOk result (λ world. world ≡ opened config) }
         ensures mutators { IfOk result (λ world. (t : ℕ) → IsMutator config t → mutator world t ≡ opened_mutator config t) }
-        ensures stands { IfOk result (λ world. StandsFor (opening config.fields config.registers config.mutators) (sight world)) }
+        ensures stands { IfOk result (λ world. Represents (opening config.fields config.registers config.mutators) (sight world)) }
         ensures kept { IfOk result IsWorld }
     {
         if let Some(field) = config.first_wrong() {

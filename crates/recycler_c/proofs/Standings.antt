@@ -4,7 +4,7 @@ use Rattle.std.proofs.lemmas.Bool.Decides.{nat_tests}
 use Rattle.std.proofs.lemmas.List.{get_or_default, length-set}
 use Rattle.std.specs.Arc.{arc_value}
 use Rattle.rec_core.specs.Core.{Core}
-use Rattle.rec_table.specs.Held.{Held, Started}
+use Rattle.rec_table.specs.Views.{MutatorView, Started}
 use Rattle.recycler_c.specs.Calls.{IsOut}
 use Rattle.recycler_c.specs.Standing.{Out, held_at, can_collect, collects_in, mutates_in, rests_in, seat_in}
 use Rattle.recycler_c.specs.declared.end.Collecting.{Collecting}
@@ -103,7 +103,7 @@ seat_out (Some (ends.Collecting c)) o e = absurd (cc)
 seat_out (Some (ends.Mutating m)) o e = record { mutating = m; is = refl; heap = ap (λ (x : Option (Option Out)). heap_in x o.heap) e; number = ap number_in e }
 
 -- and the seat of such a handle
-pub out_seat : (s : Started) (x : Held) (h : Option End) → IsOut s x h → seat_in h ≡ Some (Some (record { heap = s; number = x.number }))
+pub out_seat : (s : Started) (x : MutatorView) (h : Option End) → IsOut s x h → seat_in h ≡ Some (Some (record { heap = s; number = x.number }))
 out_seat s x None out = absurd (none_some out.mutating out.is)
 out_seat s x (Some ends.Vacant) out = absurd (none_some out.mutating out.is)
 out_seat s x (Some (ends.Resting v)) out = absurd (none_some out.mutating out.is)
@@ -111,7 +111,7 @@ out_seat s x (Some (ends.Collecting c)) out = absurd (none_some out.mutating out
 out_seat s x (Some (ends.Mutating m)) out =
     let same : m ≡ out.mutating = some_same m out.mutating out.is in
     let heap : arc_value m.heap ≡ s = ap (λ (y : Mutating). arc_value y.heap) same ∙ out.heap in
-    let number : m.mutator.number ≡ x.number = ap (λ (y : Mutating). y.mutator.number) same ∙ ap (λ (y : Held). y.number) out.mutator in
+    let number : m.mutator.number ≡ x.number = ap (λ (y : Mutating). y.mutator.number) same ∙ ap (λ (y : MutatorView). y.number) out.mutator in
     λ i. Some (Some (record { heap = heap i; number = number i }))
 
 -- the choice by a test of numbers

@@ -1,7 +1,7 @@
 -- What a heap that was to be set running came to.
 use Rattle.std.proofs.Common.{◌≡◌, ℕ, Option, Some, true, List, refl, sym, ap, ◌∙◌, subst, arith}
 use Rattle.rec_core.specs.Core.{Core}
-use Rattle.rec_table.specs.Held.{Held, Started, fresh}
+use Rattle.rec_table.specs.Views.{MutatorView, Started, fresh}
 use Rattle.recycler_c.specs.Calls.{IsFresh, IsOut, NotRun, Starts}
 use Rattle.recycler_c.specs.Standing.{AreTied, can_collect, collects_in}
 use Rattle.recycler_c.specs.declared.code.Code.{Code}
@@ -13,7 +13,7 @@ use Rattle.recycler_c.specs.declared.handle.Handle.{Handle}
 use Rattle.recycler_c.proofs.Ties.{rests_high, rests_low, tied_home}
 
 -- a mutator that is out is fresh, by whatever name its heap has
-pub out_moved : (s t : Started) (x : Held) (n : ℕ) (h : Option End) → x ≡ fresh s n → t ≡ s → IsOut s x h → IsOut t (fresh t n) h
+pub out_moved : (s t : Started) (x : MutatorView) (n : ℕ) (h : Option End) → x ≡ fresh s n → t ≡ s → IsOut s x h → IsOut t (fresh t n) h
 out_moved s t x n h is e out = record { mutating = out.mutating; is = out.is; heap = out.heap ∙ sym e; mutator = out.mutator ∙ is ∙ ap (λ (z : Started). fresh z n) (sym e) }
 
 -- the heap that is left running has all its mutators home

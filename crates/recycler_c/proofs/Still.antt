@@ -8,7 +8,7 @@ use Rattle.rec_word.specs.declared.op.Op.{Op}
 use Rattle.rec_table.proofs.Closing.{none_out_where_even}
 use Rattle.rec_table.specs.Beats.{beats_of, turn_at, Offerless}
 use Rattle.rec_table.specs.Ends.{IsStopped}
-use Rattle.rec_table.specs.Held.{Held}
+use Rattle.rec_table.specs.Views.{MutatorView}
 use Rattle.rec_table.specs.declared.views.Beat.{Beat}
 use Rattle.rec_table.specs.declared.views.Beat.TheVariants.{Begins, Saw}
 use Rattle.rec_world.proofs.Calls.{world_kept}
@@ -56,7 +56,7 @@ still key lists w is even none s =
     sym s.run.ends ∙ no_moves key s.run.run s.run.fit s.run.offerless (sym s.run.collector ∙ back) (λ k lt. sym (s.run.mutators k lt) ∙ none k)
 
 -- lists of mutators that have told nothing
-pub no_logs : (ms : List Held) → ((k : ℕ) (e : Held) → k < length ms → (slice_index_or ms k e).log ≡ []) → (k : ℕ) → slice_index_or (map (λ m. m.log) ms) k [] ≡ []
+pub no_logs : (ms : List MutatorView) → ((k : ℕ) (e : MutatorView) → k < length ms → (slice_index_or ms k e).log ≡ []) → (k : ℕ) → slice_index_or (map (λ m. m.log) ms) k [] ≡ []
 no_logs [] h k = refl
 no_logs (m ∷ ms) h zero = h 0 m (omega arith)
 no_logs (m ∷ ms) h (suc k) = no_logs ms (λ j e lt. h (suc j) e (omega (arith, lt))) k

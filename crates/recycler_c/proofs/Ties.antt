@@ -3,21 +3,15 @@ use Rattle.std.proofs.Common.{◌≡◌, ℕ, ◌+◌, ◌<◌, ◌≤◌, Bool,
 use Rattle.std.proofs.lemmas.Bool.{ltb-true, ltb-false}
 use Rattle.std.specs.Arc.{arc_value}
 use Rattle.rec_core.specs.Core.{Core}
-use Rattle.rec_core.specs.declared.config.Config.{Config}
 use Rattle.rec_core.proofs.Runs.{config_after}
 use Rattle.rec_table.specs.Ends.{IsStopped}
-use Rattle.rec_table.specs.Held.{Held}
 use Rattle.rec_table.specs.declared.views.Beat.{Beat}
-use Rattle.recycler_c.specs.Calls.{HasSettled, HasTurned, KeepsMutator}
-use Rattle.recycler_c.specs.Standing.{AreTied, held_at, mutates_in, out_beside, seat_beside, seat_in}
+use Rattle.recycler_c.specs.Standing.{AreTied, held_at, out_beside, seat_beside, seat_in}
 use Rattle.recycler_c.specs.declared.end.Collecting.{Collecting}
 use Rattle.recycler_c.specs.declared.end.End.{End}
 use Rattle.recycler_c.specs.declared.end.End.TheVariants as ends
-use Rattle.recycler_c.specs.declared.end.Mutating.{Mutating}
 use Rattle.recycler_c.specs.declared.handle.Handle.{Handle}
-use Rattle.recycler_c.specs.declared.told.Settled.{Settled}
-use Rattle.recycler_c.specs.declared.told.Turned.{Turned}
-use Rattle.recycler_c.proofs.Standings.{above, below, collects_is, mutates_is, rests_is}
+use Rattle.recycler_c.proofs.Standings.{above, below}
 
 by_test_at : {P : Type 0} (k n : ℕ) (b : Bool) → nat_lt k n ≡ b → (k < n → P) → (n ≤ k → P) → P
 by_test_at k n true e f g = f (ltb-true k n e)
@@ -102,25 +96,3 @@ runs_high c w hs tied e k d lt over = tied k d lt ∙ ap (λ (x : Option End). s
 -- Stopping keeps the numbers of a heap.
 pub stopped_config : (key : Core) (log : List Beat) (lists : List (List Beat)) (w : Core) → IsStopped key log lists w → w.config ≡ key.config
 stopped_config key log lists w s = ap (λ (x : Core). x.config) (sym s.run.ends) ∙ config_after key s.run.run
-
--- What ties handles stays where what they stand for does: after a turn, a command, a poll and settling.
-pub tied_turned : (h h' : Option End) (w w' : Collecting) (hs : List Handle) → h ≡ Some (ends.Collecting w) → h' ≡ Some (ends.Collecting w')
-    → arc_value w'.heap ≡ arc_value w.heap → w'.home.items ≡ w.home.items → w'.count ≡ w.count → AreTied h hs → AreTied h' hs
-tied_turned h h' w w' hs e e' heap home count tied k d lt =
-    let beside : (if nat_lt k w.count then Some (if nat_lt 0 (length w.home.items) then None else Some (record { heap = arc_value w.heap; number = k + 1 })) else None)
-    ≡ (if nat_lt k w'.count then Some (if nat_lt 0 (length w'.home.items) then None else Some (record { heap = arc_value w'.heap; number = k + 1 })) else None)
-    = λ i. if nat_lt k (sym count i) then Some (if nat_lt 0 (length (sym home i)) then None else Some (record { heap = sym heap i; number = k + 1 })) else None in
-    tied k d lt ∙ ap (λ (x : Option End). seat_beside x k) e ∙ beside ∙ ap (λ (x : Option End). seat_beside x k) (sym e')
-
-pub turn_ties : (h h' : Option End) (told : Turned) (hs : List Handle) → HasTurned h h' told → AreTied h hs → AreTied h' hs
-turn_ties h h' told hs t = tied_turned h h' t.before t.after hs (collects_is h t.before t.was) (collects_is h' t.after t.is) t.heap t.home t.count
-
-pub settle_ties : (h h' : Option End) (told : Settled) (hs : List Handle) → HasSettled h h' told → AreTied h hs → AreTied h' hs
-settle_ties h h' told hs t tied k d lt =
-    tied k d lt ∙ ap (λ (x : Option End). seat_beside x k) (rests_is h t.before t.was) ∙
-    ap (λ (x : ℕ). if nat_lt k x then Some None else None) (ap (λ (c : Config). c.mutators) (sym t.config)) ∙
-    ap (λ (x : Option End). seat_beside x k) (sym (rests_is h' t.after t.is))
-
-pub mutator_stands : (h h' : Option End) (m m' : Mutating) → mutates_in h ≡ Some m → mutates_in h' ≡ Some m' → KeepsMutator m m' → seat_in h' ≡ seat_in h
-mutator_stands h h' m m' e e' kept =
-    ap seat_in (mutates_is h' m' e') ∙ (λ i. Some (Some (record { heap = kept.heap i; number = ap (λ (x : Held). x.number) kept.is i }))) ∙ ap seat_in (sym (mutates_is h m e))

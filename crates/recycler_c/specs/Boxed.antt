@@ -1,3 +1,4 @@
+-- The end that a caller of the C library holds, boxed, and what it owns.
 use base.Fml.{Fml, ftrue}
 use denote.Param.{param}
 use denote.RawPtr.{Ptr}

@@ -1,6 +1,7 @@
 -- What each call comes to, code by code: why that code came, and what the call left.
-use Rattle.std.specs.Prelude.{◌≡◌, ℕ, ◌+◌, ◌%◌, ◌^◌, ◌<◌, ◌≤◌, All, Option, Some, None, IsSome, List, [], ◌∷◌, length, map, slice_index_or, unwrap_or}
+use Rattle.std.specs.Prelude.{◌≡◌, ℕ, ◌+◌, ◌%◌, ◌<◌, ◌≤◌, All, Option, Some, None, IsSome, List, [], ◌∷◌, length, map, slice_index_or, unwrap_or}
 use Rattle.std.specs.Arc.{arc_value}
+use Rattle.rec_word.specs.declared.word.TheConstants.{LAST_EPOCH}
 use Rattle.rec_collector.specs.declared.turn.Turn.{Turn}
 use Rattle.rec_core.specs.Config.{IsConfig}
 use Rattle.rec_core.specs.Core.{Core, opened, sight}
@@ -17,7 +18,7 @@ use Rattle.rec_settle.specs.Collecting.{taken_slots}
 use Rattle.rec_settle.specs.Whole as whole
 use Rattle.rec_table.specs.Answered.{IsAnswered, IsPolled}
 use Rattle.rec_table.specs.Ends.{IsStopped}
-use Rattle.rec_table.specs.Held.{Gathers, Held, Started, Works, fresh, fresh_collector, gathers_now, has}
+use Rattle.rec_table.specs.Views.{MutatorView, Started, Works, fresh, fresh_collector, collector_now, mutator_now}
 use Rattle.rec_table.specs.Journals.{Tells}
 use Rattle.rec_table.specs.Turn.{MakesTurn}
 use Rattle.rec_world.specs.OpenError.{IsRefused}
@@ -102,7 +103,7 @@ Closes h hs codes.Ok h' hs' = Rests h × IsClosed h'
 Closes h hs code h' hs' = LacksRest h code × IsSame h hs h' hs'
 
 -- a handle holds this mutator of this heap
-pub record IsOut (s : Started) (e : Held) (h : Option End) : Type 0 where
+pub record IsOut (s : Started) (e : MutatorView) (h : Option End) : Type 0 where
   pub mutating : Mutating
   pub is : mutates_in h ≡ Some mutating
   pub heap : arc_value mutating.heap ≡ s
@@ -124,7 +125,7 @@ pub record IsFresh (world : Core) (c : Collecting) : Type 0 where
   pub started : (arc_value c.heap).world ≡ world
   pub collector : c.collector ≡ fresh_collector (arc_value c.heap)
   pub all : length c.home.items ≡ world.config.mutators
-  pub home : (k : ℕ) (e : Held) → k < world.config.mutators → slice_index_or c.home.items k e ≡ fresh (arc_value c.heap) (k + 1)
+  pub home : (k : ℕ) (e : MutatorView) → k < world.config.mutators → slice_index_or c.home.items k e ≡ fresh (arc_value c.heap) (k + 1)
 
 -- a heap that isn't set running rests as before; or it runs, with its mutators at home
 abbrev pub NotRun : Core → Code → End → Type 0
@@ -147,28 +148,28 @@ Starts h hs codes.Shared h' hs' = StartsHome h hs h' hs'
 Starts h hs code h' hs' = LacksRest h code × IsSame h hs h' hs'
 
 -- these are the mutators of the running heap, in order of number: those that are home, or else those in the handles
-pub record AreGathered (c : Collecting) (hs : List Handle) (ms : List Held) : Type 0 where
+pub record AreGathered (c : Collecting) (hs : List Handle) (ms : List MutatorView) : Type 0 where
   pub all : length ms ≡ c.count
   pub home : 0 < length c.home.items → ms ≡ c.home.items
-  pub out : length c.home.items ≡ 0 → (k : ℕ) (d : Handle) (e : Held) → k < c.count → IsOut (arc_value c.heap) (slice_index_or ms k e) (held_at hs k d)
+  pub out : length c.home.items ≡ 0 → (k : ℕ) (d : Handle) (e : MutatorView) → k < c.count → IsOut (arc_value c.heap) (slice_index_or ms k e) (held_at hs k d)
 
 -- the heap that ran rests, as the lists of all its actors left it
 pub record HasStopped (h : Option End) (hs : List Handle) (h' : Option End) (hs' : List Handle) : Type 0 where
   pub collecting : Collecting
   pub was : collects_in h ≡ Some collecting
-  pub mutators : List Held
+  pub mutators : List MutatorView
   pub gathered : AreGathered collecting hs mutators
   pub world : Core
   pub is : rests_in h' ≡ Some world
-  pub stopped : IsStopped (arc_value collecting.heap).world collecting.collector.crew.log (map (λ m. m.log) mutators) world
-  pub requested : world.epoch ≡ (gathers_now collecting.collector).epoch
+  pub stopped : IsStopped (arc_value collecting.heap).world collecting.collector.collecting.log (map (λ m. m.log) mutators) world
+  pub requested : world.epoch ≡ (collector_now collecting.collector).epoch
   pub home : All (λ word. word % 2 ≡ 0) world.crossing
 
 -- it still runs, with all its mutators home
 pub record ComesHome (h : Option End) (hs : List Handle) (h' : Option End) (hs' : List Handle) : Type 0 where
   pub collecting : Collecting
   pub was : collects_in h ≡ Some collecting
-  pub mutators : List Held
+  pub mutators : List MutatorView
   pub gathered : AreGathered collecting hs mutators
   pub collecting' : Collecting
   pub is : collects_in h' ≡ Some collecting'
@@ -199,7 +200,7 @@ pub record HasSettled (h h' : Option End) (told : Settled) : Type 0 where
 pub record HasFewEpochs (h : Option End) : Type 0 where
   pub world : Core
   pub is : rests_in h ≡ Some world
-  pub few : 2 ^ 24 ≤ world.epoch + 4
+  pub few : LAST_EPOCH < world.epoch + 4
 
 abbrev pub Settles : Option End → Settled → Code → Option End → Settled → Type 0
 Settles h told codes.Ok h' told' = HasSettled h h' told'
@@ -234,22 +235,22 @@ pub record KeepsMutator (before after : Mutating) : Type 0 where
 pub record HasAsked (h : Option End) (cmd : Cmd) (h' : Option End) (told : Asked) : Type 0 where
   pub before : Mutating
   pub was : mutates_in h ≡ Some before
-  pub valid : IsValid (has before.mutator) (works.Command cmd)
+  pub valid : IsValid (mutator_now before.mutator) (works.Command cmd)
   pub after : Mutating
   pub is : mutates_in h' ≡ Some after
   pub kept : KeepsMutator before after
   pub answer : Told
   pub grows : Works (works.Command cmd) before.mutator.log after.mutator.log
-  pub answered : answer_of (has after.mutator) ≡ Some (makes.Answered answer)
-  pub causes : IsAnswered (has before.mutator) cmd before.mutator.log after.mutator.log (has after.mutator) answer
-  pub line : Tells (has before.mutator) before.mutator.log after.mutator.log ((cmd, answer) ∷ [])
+  pub answered : answer_of (mutator_now after.mutator) ≡ Some (makes.Answered answer)
+  pub causes : IsAnswered (mutator_now before.mutator) cmd before.mutator.log after.mutator.log (mutator_now after.mutator) answer
+  pub line : Tells (mutator_now before.mutator) before.mutator.log after.mutator.log ((cmd, answer) ∷ [])
   pub told_so : told ≡ asked_of answer.answer
 
 -- a mutator may not ask this: a register or the field isn't there
 pub record LacksOperand (h : Option End) (asked : Option Cmd) : Type 0 where
   pub mutating : Mutating
   pub is : mutates_in h ≡ Some mutating
-  pub lacks : (cmd : Cmd) → asked ≡ Some cmd → IsValid (has mutating.mutator) (works.Command cmd) → ⊥
+  pub lacks : (cmd : Cmd) → asked ≡ Some cmd → IsValid (mutator_now mutating.mutator) (works.Command cmd) → ⊥
 
 abbrev pub Asks : Option End → Option Cmd → Asked → Code → Option End → Asked → Type 0
 Asks h asked told codes.Ok h' told' = (cmd : Cmd) × (asked ≡ Some cmd) × HasAsked h cmd h' told'
@@ -265,9 +266,9 @@ pub record HasPolled (h h' : Option End) (crossed : ℕ) : Type 0 where
   pub kept : KeepsMutator before after
   pub epoch : Option ℕ
   pub grows : Works works.Poll before.mutator.log after.mutator.log
-  pub answered : answer_of (has after.mutator) ≡ Some (makes.Crossed epoch)
-  pub cause : IsPolled (has before.mutator) before.mutator.log after.mutator.log epoch
-  pub line : Tells (has before.mutator) before.mutator.log after.mutator.log []
+  pub answered : answer_of (mutator_now after.mutator) ≡ Some (makes.Crossed epoch)
+  pub cause : IsPolled (mutator_now before.mutator) before.mutator.log after.mutator.log epoch
+  pub line : Tells (mutator_now before.mutator) before.mutator.log after.mutator.log []
   pub told_so : crossed ≡ unwrap_or epoch 0
 
 abbrev pub Polls : Option End → ℕ → Code → Option End → ℕ → Type 0

@@ -1,3 +1,4 @@
+-- The modules of the definitions.
 pub mod Boxed
 pub mod Calls
 pub mod Codes

@@ -2,7 +2,7 @@
 use Rattle.std.specs.Prelude.{◌≡◌, ℕ, ◌+◌, ◌<◌, Bool, true, false, Option, Some, None, List, length, nat_lt, slice_index_or, if◌then◌else◌}
 use Rattle.std.specs.Arc.{arc_value}
 use Rattle.rec_core.specs.Core.{Core}
-use Rattle.rec_table.specs.Held.{Started}
+use Rattle.rec_table.specs.Views.{Started}
 use Rattle.recycler_c.specs.declared.end.Collecting.{Collecting}
 use Rattle.recycler_c.specs.declared.end.End.{End}
 use Rattle.recycler_c.specs.declared.end.End.TheVariants as ends

@@ -1,7 +1,7 @@
 //! What a handle owns.
 ghost use Rattle.std.specs.Prelude.{◌≡◌, ◌%◌, ◌<◌, ◌≤◌, All, length, vec_capacity};
 ghost use Rattle.std.specs.Arc.{arc_value};
-ghost use Rattle.rec_table.specs.Held.{IsCollectorOf, IsMutatorOf};
+ghost use Rattle.rec_table.specs.Views.{IsCollectorOf, IsMutatorOf};
 ghost use Rattle.recycler_c.specs.First.{AreFirst};
 ghost use Rattle.rec_core.specs.Worked.{AreIdle};
 ghost use Rattle.rec_world.specs.World.{IsWorld};
@@ -90,11 +90,11 @@ impl Mutating {
     ghost use Rattle.std.specs.Prelude.{◌↔◌, IsTrue};
     ghost use Rattle.rec_mutator.specs.Private.{IsValid};
     ghost use Rattle.rec_mutator.specs.declared.work.Work.TheVariants as works;
-    ghost use Rattle.rec_table.specs.Held.{has};
+    ghost use Rattle.rec_table.specs.Views.{mutator_now};
 
     /// Whether its registers and the field are there.
     pub fn can_ask(&self, cmd: &Cmd) -> bool
-        ensures { IsTrue result ↔ IsValid (has self.now.mutator) (works.Command cmd.now) }
+        ensures { IsTrue result ↔ IsValid (mutator_now self.now.mutator) (works.Command cmd.now) }
     {
         self.mutator.valid(cmd)
     }

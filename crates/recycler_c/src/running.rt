@@ -3,7 +3,7 @@ ghost use Rattle.std.specs.Prelude.{◌≡◌, ℕ, ◌+◌, ◌%◌, ◌<◌, �
 ghost use Rattle.std.specs.Arc.{arc_value};
 ghost use Rattle.rec_core.specs.Worked.{AreIdle};
 ghost use Rattle.rec_table.specs.Ends.{IsStopped};
-ghost use Rattle.rec_table.specs.Held.{AreMutatorsOf, Held as MutatorHeld, IsCollectorOf, fresh, fresh_collector, gathers_now};
+ghost use Rattle.rec_table.specs.Views.{AreMutatorsOf, MutatorView, IsCollectorOf, fresh, fresh_collector, collector_now};
 ghost use Rattle.rec_world.specs.World.{IsWorld};
 ghost use Rattle.recycler_c.specs.Calls.{AreGathered, IsFresh, IsOut, NotRun, Starts, Stops};
 ghost use Rattle.recycler_c.specs.Standing.{AreTied, can_collect, held_at, seat_in};
@@ -75,7 +75,7 @@ fn send_out(
     ensures collector { result.collector ≡ running.collector }
     ensures home { result.home.items ≡ [] }
     ensures count { result.count ≡ running.count }
-    ensures out { (k : ℕ) (d : Handles) (e : MutatorHeld) → k < running.count → IsOut (arc_value running.heap) (slice_index_or running.home.items k e) (held_at mutators.new k d) }
+    ensures out { (k : ℕ) (d : Handles) (e : MutatorView) → k < running.count → IsOut (arc_value running.heap) (slice_index_or running.home.items k e) (held_at mutators.new k d) }
     ensures others { (k : ℕ) (d : Handles) → running.count ≤ k → held_at mutators.new k d ≡ held_at mutators.old k d }
 {
     hand_out(alloc, mutators, &mut running.home, heaps);
@@ -106,7 +106,7 @@ fn share(
     collector: Collector,
 ) -> Result<(Collecting, Vec<Arc<Heap>>), (End, Code)>
     requires mutators { AreMutatorsOf heap home.items }
-    requires fresh { (k : ℕ) (e : MutatorHeld) → k < length home.items → slice_index_or home.items k e ≡ fresh heap (k + 1) }
+    requires fresh { (k : ℕ) (e : MutatorView) → k < length home.items → slice_index_or home.items k e ≡ fresh heap (k + 1) }
     requires collector { IsCollectorOf heap collector × (collector ≡ fresh_collector heap) }
     requires home { All (λ word. word % 2 ≡ 0) heap.world.crossing }
     requires kept { IsWorld heap.world }
@@ -225,8 +225,8 @@ fn call_home(alloc: Global, mut running: Collecting, mutators: &mut [Handle]) ->
 fn unshare(alloc: Global, running: Collecting) -> Result<Resting, Collecting>
     requires { length running.home.items ≡ running.count }
 
-    ensures stopped { IfOk result (λ world. IsStopped (arc_value running.heap).world running.collector.crew.log (map (λ m. m.log) running.home.items) world) }
-    ensures requested { IfOk result (λ world. world.epoch ≡ (gathers_now running.collector).epoch) }
+    ensures stopped { IfOk result (λ world. IsStopped (arc_value running.heap).world running.collector.collecting.log (map (λ m. m.log) running.home.items) world) }
+    ensures requested { IfOk result (λ world. world.epoch ≡ (collector_now running.collector).epoch) }
     ensures home { IfOk result (λ world. All (λ word. word % 2 ≡ 0) world.crossing) }
     ensures shared { IfErr result (λ other. (arc_value other.heap ≡ arc_value running.heap) × (other.collector ≡ running.collector) × (other.home.items ≡ running.home.items)) }
 {
@@ -252,8 +252,8 @@ fn rest(alloc: Global, heap: Heap, home: Vec<Mutator>, collector: Collector) -> 
     requires mutators { AreMutatorsOf heap home.items }
     requires collector { IsCollectorOf heap collector }
 
-    ensures stopped { IsStopped heap.world collector.crew.log (map (λ m. m.log) home.items) result }
-    ensures requested { result.epoch ≡ (gathers_now collector).epoch }
+    ensures stopped { IsStopped heap.world collector.collecting.log (map (λ m. m.log) home.items) result }
+    ensures requested { result.epoch ≡ (collector_now collector).epoch }
     ensures home { All (λ word. word % 2 ≡ 0) result.crossing }
 {
     match heap.stop(alloc, home, collector) {

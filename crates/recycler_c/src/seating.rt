@@ -1,7 +1,7 @@
 //! Mutators go out into their handles as a heap starts, and come home as it stops.
 ghost use Rattle.std.specs.Prelude.{◌≡◌, ℕ, ◌<◌, ◌≤◌, All, IsSome, Some, [], length, vec_capacity, slice_index_or};
 ghost use Rattle.std.specs.Arc.{arc_value};
-ghost use Rattle.rec_table.specs.Held.{Held as MutatorHeld, Started};
+ghost use Rattle.rec_table.specs.Views.{MutatorView, Started};
 ghost use Rattle.recycler_c.specs.Calls.{IsOut};
 ghost use Rattle.recycler_c.specs.First.{AreFirst};
 ghost use Rattle.recycler_c.specs.Standing.{held_at, mutates_in};
@@ -29,7 +29,7 @@ pub fn hand_out(
 
     ensures home { home.new.items ≡ [] }
     ensures capacity { vec_capacity home.new ≡ vec_capacity home.old }
-    ensures out { (s : Started) → All (λ heap. arc_value heap ≡ s) heaps.items → (k : ℕ) (d : Handles) (e : MutatorHeld) → k < length home.old.items → IsOut s (slice_index_or home.old.items k e) (held_at handles.new k d) }
+    ensures out { (s : Started) → All (λ heap. arc_value heap ≡ s) heaps.items → (k : ℕ) (d : Handles) (e : MutatorView) → k < length home.old.items → IsOut s (slice_index_or home.old.items k e) (held_at handles.new k d) }
     ensures others { (k : ℕ) (d : Handles) → length home.old.items ≤ k → held_at handles.new k d ≡ held_at handles.old k d }
 {
     while let Some(mutator) = home.pop() {
@@ -49,7 +49,7 @@ pub fn gather(alloc: Global, handles: &mut [Handle], home: &mut Vec<Mutator>, co
 
     ensures count { length home.new.items ≡ count }
     ensures capacity { vec_capacity home.new ≡ vec_capacity home.old }
-    ensures home { (k : ℕ) (d : Handles) (e : MutatorHeld) (m : Out) → k < count → mutates_in (held_at handles.old k d) ≡ Some m → slice_index_or home.new.items k e ≡ m.mutator }
+    ensures home { (k : ℕ) (d : Handles) (e : MutatorView) (m : Out) → k < count → mutates_in (held_at handles.old k d) ≡ Some m → slice_index_or home.new.items k e ≡ m.mutator }
     ensures vacant { (k : ℕ) (d : Handles) → k < count → held_at handles.new k d ≡ Some ends.Vacant }
     ensures others { (k : ℕ) (d : Handles) → count ≤ k → held_at handles.new k d ≡ held_at handles.old k d }
 {

@@ -3,7 +3,7 @@ use Rattle.std.specs.Prelude.{◌≡◌, ◌⊎◌, ℕ, ◌+◌, ◌-◌, ◌^�
 use Rattle.std.specs.Io.KnownBytes.{Appends}
 use Rattle.std.specs.Fmt.{styled_decimal, format_spec}
 use Rattle.rec_core.specs.Core.{opened}
-use Rattle.rec_script.specs.Script.{Contents}
+use Rattle.rec_script.specs.Script.{ScriptContents}
 use Rattle.rec_play.specs.Numbers.{config_of}
 use Rattle.rec_play.specs.Played.{lengths_of}
 use Rattle.rec_play.specs.Playing.{generator_of}
@@ -19,7 +19,7 @@ use Rattle.recycler_watch.specs.declared.request.Request.{Request}
 use Rattle.recycler_watch.specs.declared.request.Request.TheVariants.{Graph}
 
 -- The walk that is asked: the run of the script at its opening, with the seed and the most drawn turns that the words name.
-pub record IsAsked (contents : Contents) (asked : Asked) (walk : Watched) : Type 0 where
+pub record IsAsked (contents : ScriptContents) (asked : Asked) (walk : Watched) : Type 0 where
   pub script : walk.script ≡ contents
   pub rule : walk.rule ≡ record { left = lengths_of contents; generator = generator_of asked.seed; turns = asked.turns }
   pub rest : walk.rest ≡ walk.rule

@@ -1,26 +1,16 @@
 -- The preparation of the sets that the first collection found: from load to load, and what it leaves.
 use Rattle.std.proofs.Common.{◌≡◌, ℕ, ◌*◌, ◌<◌, Option, None, Some, List, [], ◌++◌, IfSome, length, refl, sym, ap, subst, ◌∙◌}
-use Rattle.rec_counts.specs.declared.slot.Slot.{Slot}
-use Rattle.rec_counts.specs.Counts.{State}
+use Rattle.rec_core.proofs.Common.{Slot, State, PreparedTo, loaded_at, Parts, Preparing, still, Core, IsKept, PrepRests, SetsRest, AreLoadsOf, is_green}
 use Rattle.rec_sigma.specs.declared.at.At as loads
 use Rattle.rec_sigma.specs.Prepare.{Machine, Work, took_of}
-use Rattle.rec_sigma.specs.Prepared.{PreparedTo, loaded_at}
 use Rattle.rec_sigma.proofs.Runs.{Came, came_on}
 use Rattle.rec_collector.specs.Kept as collector_kept
-use Rattle.rec_collector.specs.Parts.{Parts}
-use Rattle.rec_collector.specs.declared.phase.Phase.TheVariants.{Preparing}
-use Rattle.rec_collector.proofs.Goings.{still}
-use Rattle.rec_core.specs.Core.{Core}
-use Rattle.rec_core.specs.Kept.{IsKept}
-use Rattle.rec_core.specs.Resting.{PrepRests, SetsRest}
-use Rattle.rec_core.specs.Settling.{AreLoadsOf}
 use Rattle.rec_core.proofs.TurnCases.{word_at}
 use Rattle.rec_core.proofs.Landed.{HasLanded}
 use Rattle.rec_core.proofs.Rest.FirstTrial.{words_landed}
 use Rattle.rec_core.proofs.Rest.SettlingPrepared.{loads_more}
 use Rattle.rec_core.proofs.Rest.SettlingTests.{unheld_prepared}
 use Rattle.rec_core.proofs.Turns.{now_at}
-use Rattle.rec_counts.specs.Colour.{is_green}
 
 -- A field was loaded for the preparation, and the word that stands there was found.
 pub prep_rests_more : (w : Core) (m : Machine) (a : loads.At) → IsKept w → w.collector.phase ≡ Preparing m → m.at ≡ Some a → PrepRests w w.words (record { machine = m; counts = w.collector.counts })

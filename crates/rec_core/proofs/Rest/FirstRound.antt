@@ -1,32 +1,16 @@
 -- The collection whose trial is offered every slot, over a whole turn of the collector.
 use Rattle.std.proofs.Common.{◌≡◌, ℕ, ◌<◌, true, Option, None, Some, List, length, refl, sym, ap, subst, ◌∙◌, arith}
 use Rattle.std.proofs.lemmas.Bool.{le-leb}
-use Rattle.rec_counts.specs.Counts.{State}
-use Rattle.rec_walk.specs.declared.member.Member.{Member}
+use Rattle.rec_core.proofs.Common.{State, Member, Work, started_of, IsClearingIn, relieved_at, with_freed, with_offers, Parts, parts_of, with_parts, ClearsOn, IsTested, PreparesOn, TriesOn, Begun, moved, Phase, Idle, Looking, Returning, Releasing, Freeing, Trying, Preparing, Opening, Sweeping, Closing, Turn, still, IsMutator, Core, IsKept, AreCounted, TrialRests, PrepRests, Round, RestsIn, ComesTo}
 use Rattle.rec_trial.specs.Rules.{IsReady}
-use Rattle.rec_trial.specs.Trial.{Work, started_of}
 use Rattle.rec_trial.proofs.Counted.{started_counted}
 use Rattle.rec_trial.proofs.Keeps.{started_keeps}
 use Rattle.rec_release.specs.CycleFree as frees
 use Rattle.rec_sigma.specs.Prepare as preps
-use Rattle.rec_collector.specs.Clearing.{IsClearingIn}
-use Rattle.rec_collector.specs.Followed.{relieved_at, with_freed, with_offers}
-use Rattle.rec_collector.specs.Parts.{Parts}
-use Rattle.rec_collector.specs.Private.{Private, parts_of, with_parts}
-use Rattle.rec_collector.specs.Step.{ClearsOn, IsTested, PreparesOn, TriesOn}
-use Rattle.rec_collector.specs.Testing.{Begun}
-use Rattle.rec_collector.specs.Took.{moved}
-use Rattle.rec_collector.specs.declared.phase.Phase.{Phase}
-use Rattle.rec_collector.specs.declared.phase.Phase.TheVariants.{Idle, Looking, Returning, Releasing, Freeing, Trying, Preparing, Opening, Sweeping, Closing}
-use Rattle.rec_collector.specs.declared.turn.Turn.{Turn}
-use Rattle.rec_collector.proofs.Goings.{still}
+use Rattle.rec_collector.specs.Private.{Private}
 use Rattle.rec_collector.proofs.Offering.{where_ready}
 use Rattle.rec_collector.proofs.Testing.{clear_ready}
-use Rattle.rec_core.specs.Config.{IsMutator}
-use Rattle.rec_core.specs.Core.{Core}
-use Rattle.rec_core.specs.Kept.{IsKept}
 use Rattle.rec_core.specs.Quiet.{gathered, AreGathered}
-use Rattle.rec_core.specs.Resting.{AreCounted, TrialRests, PrepRests, Round, RestsIn, ComesTo}
 use Rattle.rec_core.proofs.TurnCases.{TurnCase, word_at}
 use Rattle.rec_core.proofs.Begun.{applied_lands}
 use Rattle.rec_core.proofs.Freeing.{freed_lands}

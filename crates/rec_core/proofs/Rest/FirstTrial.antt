@@ -4,41 +4,24 @@ use Rattle.std.proofs.Math.Nat.{mod-lt, div-add-mod, mul_comm}
 use Rattle.std.proofs.lemmas.Bool.{cases_lt, eq-eqb, eqb-true, false≢true}
 use Rattle.std.proofs.lemmas.List.{get_or_default, get_or_past}
 use Rattle.std.proofs.lemmas.Nat.{div_below}
-use Rattle.rec_word.specs.Place.{place_of}
-use Rattle.rec_word.specs.Word.{target_of}
-use Rattle.rec_word.specs.declared.op.Op.{Op}
+use Rattle.rec_core.proofs.Common.{place_of, target_of, Op, is_dead, Pending, registers_name_the_taken, Slot, State, slot_at, one, no_set, some_set, unreleased_within, named, visible, Machine, Work, op_at, started_of, PreparedTo, prep_started, with_offers, Parts, new_prep, Trying, still, Core, sight, IsKept, holds, AreCounted, AreFound, AreLeaves, AreUnnamed, TrialRests, PrepRests, heap_sum, offered_slots, IsOffered, FindsGarbage, AreEmptied, LeadBack, is_green}
 use Rattle.rec_word.specs.declared.op.Op.TheVariants.{LoadChild}
-use Rattle.rec_model.specs.Accounted.{is_dead}
 use Rattle.rec_model.specs.Heap.{roots}
-use Rattle.rec_model.specs.Pending.{Pending}
 use Rattle.rec_model.specs.Reach.{is_in}
-use Rattle.rec_model.proofs.Consequences.{registers_name_the_taken}
-use Rattle.rec_counts.specs.declared.slot.Slot.{Slot}
-use Rattle.rec_counts.specs.Counts.{State, slot_at, IsKept as IsKeptCounts}
-use Rattle.rec_counts.specs.Lists.{one}
-use Rattle.rec_counts.proofs.Keeping.{no_set, some_set, unreleased_within}
-use Rattle.rec_apply.specs.Targets.{named}
+use Rattle.rec_counts.specs.Counts.{IsKept as IsKeptCounts}
 use Rattle.rec_trial.specs.Loaded.{Run, noted, noted_at}
 use Rattle.rec_trial.specs.Promised.{unloaded}
-use Rattle.rec_trial.specs.Rules.{IsReady, visible}
+use Rattle.rec_trial.specs.Rules.{IsReady}
 use Rattle.rec_trial.specs.Still.{AreStill, references, visible_words}
-use Rattle.rec_trial.specs.Trial.{Machine, Work, next_of as trial_next, op_at, started_of, took_of}
+use Rattle.rec_trial.specs.Trial.{next_of as trial_next, took_of}
 use Rattle.rec_trial.specs.declared.phase.Phase as trial_phases
 use Rattle.rec_trial.specs.declared.phase.Phase.TheVariants as trial_at
 use Rattle.rec_trial.proofs.Promised.{begun_promised, took_promised, took_recorded}
 use Rattle.rec_sigma.specs.Prepare as preps
-use Rattle.rec_sigma.specs.Prepared.{PreparedTo}
 use Rattle.rec_sigma.proofs.Runs.{Came, came_first, started_is}
-use Rattle.rec_collector.specs.Followed.{prep_started, with_offers}
 use Rattle.rec_collector.specs.Offered.{AreOffered, KeepsOffered}
-use Rattle.rec_collector.specs.Parts.{Parts, new_prep}
-use Rattle.rec_collector.specs.declared.phase.Phase.TheVariants.{Trying}
-use Rattle.rec_collector.proofs.Goings.{still}
 use Rattle.rec_collector.proofs.Offering.{offers_whole, where_ready}
-use Rattle.rec_core.specs.Core.{Core, sight}
-use Rattle.rec_core.specs.Kept.{IsKept}
-use Rattle.rec_core.specs.Resting.{holds, AreCounted, AreFound, AreLeaves, AreUnnamed, TrialRests, PrepRests}
-use Rattle.rec_core.specs.Settling.{word_in, heap_sum, offered_slots, IsOffered, FindsGarbage, AreEmptied, LeadBack}
+use Rattle.rec_core.specs.Settling.{word_in}
 use Rattle.rec_core.proofs.Counts.{counted_slot}
 use Rattle.rec_core.proofs.Landed.{landed_pending, HasLanded}
 use Rattle.rec_core.proofs.Reach.{sight_is}
@@ -50,7 +33,6 @@ use Rattle.rec_core.proofs.Trying.{loaded_leads}
 use Rattle.rec_core.proofs.Turns.{now_at}
 use Rattle.rec_core.proofs.Zeros.{landed_empty, leaf_empty}
 use Rattle.rec_core.proofs.Rest.Rested.{named_root}
-use Rattle.rec_counts.specs.Colour.{is_green}
 use Rattle.rec_trial.proofs.Visible.{visible_leads, visible_same}
 
 module _ {w : Core} {crossing words : List ℕ} {v : Parts} (l : HasLanded w crossing words (still v)) where

@@ -4,31 +4,10 @@ use Rattle.std.proofs.Common.{◌≡◌, inl, inr, ℕ, ◌+◌, ◌-◌, ◌<�
 use Rattle.std.specs.List.{sum_by}
 use Rattle.std.proofs.lemmas.Bool.{cases_eq, eq-eqb, ne_eqb}
 use Rattle.std.proofs.lemmas.List.{get_or_default}
-use Rattle.rec_word.specs.Word.{target_of, is_slot}
-use Rattle.rec_model.specs.Accounted.{names, IsAccounted}
-use Rattle.rec_model.specs.Pending.{node_of, Dated, is_at}
+use Rattle.rec_core.proofs.Common.{target_of, is_slot, names, IsAccounted, node_of, Dated, is_at, only_if, one_if_same, sum_at, sum_by-map, sum_at_same, one_if_self, none_if_differs, Contents, State, slot_at, one, Slot, named, Private, blank, buffer_at, Begun, Phase, Idle, IsMutator, Core, sight, mutator, box, spare_of, nobody, IsBufferOf, HasMutators, Handshake, stand_at, IsHandshake, IsKept, Filed, code, dated_names, older_at, applied_at, epoch_at, pending, snapshots_of, holds, AreCounted, leading, heap_sum}
 use Rattle.rec_model.specs.Reach.{named as named_slots}
-use Rattle.rec_model.specs.Sums.{only_if, one_if_same, sum_at}
-use Rattle.rec_model.proofs.Sums.{sum_by-map, sum_at_same}
-use Rattle.rec_model.proofs.Weights.{one_if_self, none_if_differs}
-use Rattle.rec_log.specs.declared.contents.Contents.{Contents}
-use Rattle.rec_counts.specs.Counts.{State, slot_at}
-use Rattle.rec_counts.specs.Lists.{one}
-use Rattle.rec_counts.specs.declared.slot.Slot.{Slot}
-use Rattle.rec_apply.specs.Targets.{named}
-use Rattle.rec_mutator.specs.Private.{Private}
 use Rattle.rec_collector.specs.Kept.{under_way}
-use Rattle.rec_collector.specs.Private.{blank, buffer_at}
-use Rattle.rec_collector.specs.Testing.{Begun}
-use Rattle.rec_collector.specs.declared.phase.Phase.{Phase}
-use Rattle.rec_collector.specs.declared.phase.Phase.TheVariants.{Idle}
-use Rattle.rec_core.specs.Config.{IsMutator}
-use Rattle.rec_core.specs.Core.{Core, sight, mutator, box, spare_of, nobody}
-use Rattle.rec_core.specs.Kept.{IsBufferOf, HasMutators, Stand, stand_at, IsHandshake, IsKept}
-use Rattle.rec_core.specs.Pending.{Filed, code, dated_names, older_at, applied_at, epoch_at, pending, snapshots_of}
 use Rattle.rec_core.specs.Quiet.{IsRetired, AreQuiet, AreGathered}
-use Rattle.rec_core.specs.Resting.{holds, AreCounted}
-use Rattle.rec_core.specs.Settling.{leading, heap_sum}
 use Rattle.rec_core.proofs.Batches.{none_of}
 use Rattle.rec_core.proofs.Counts.{accounts_with, counted_slot}
 use Rattle.rec_core.proofs.Landed.{landed_pending, HasLanded}
@@ -90,12 +69,12 @@ record IsHome (w : Core) (i : ℕ) : Type 0 where
   spare : buffer_at w.boxes i ≡ spare_of w.config
 
 -- so it is where no mailbox is still to be gathered
-home_of : (first : ℕ) (w : Core) {phase : Phase} {crossing : List ℕ} → HasMutators w.config w.epoch phase w.mutators crossing w.boxes → ((t : ℕ) → stand_at phase t ≡ Stand.Done)
+home_of : (first : ℕ) (w : Core) {phase : Phase} {crossing : List ℕ} → HasMutators w.config w.epoch phase w.mutators crossing w.boxes → ((t : ℕ) → stand_at phase t ≡ Handshake.Done)
     → AreQuiet first w → first < w.epoch → (i : ℕ) → i < w.config.mutators → IsHome w i
 home_of first w {phase = phase} {crossing = crossing} mutators done quiet early = by_place w.config (IsHome w) (λ t is.
     let actor = mutators.each t is in
-    let stands : Stand → Type 0 = IsHandshake w.config w.epoch (mutator w t) (slice_index_or crossing (t - 1) 0) (box w t) in
-    let home : stands Stand.Done = subst stands (done t) actor.handshake in
+    let stands : Handshake → Type 0 = IsHandshake w.config w.epoch (mutator w t) (slice_index_or crossing (t - 1) 0) (box w t) in
+    let home : stands Handshake.Done = subst stands (done t) actor.handshake in
     let epoch : (mutator w t).epoch ≡ w.epoch = home.0.epoch in
     record { entries = (quiet t is).log (omega (arith, epoch, early)); unwritten = actor.unwritten; spare = home.1 })
 
@@ -144,7 +123,7 @@ retired_names w epoch x row many long buffers retired =
 
 -- The batch of an epoch without writes was applied: the newer buffers are its, and the older ones those of the epoch before. So it is
 -- with these words and counts, as long as they are accounted for.
-pub accounted_count : (first : ℕ) (w : Core) (words : List ℕ) (s : State) {phase : Phase} {crossing : List ℕ} → IsKept w → HasMutators w.config w.epoch phase w.mutators crossing w.boxes → ((t : ℕ) → stand_at phase t ≡ Stand.Done)
+pub accounted_count : (first : ℕ) (w : Core) (words : List ℕ) (s : State) {phase : Phase} {crossing : List ℕ} → IsKept w → HasMutators w.config w.epoch phase w.mutators crossing w.boxes → ((t : ℕ) → stand_at phase t ≡ Handshake.Done)
     → under_way w.collector.phase ≡ 1 → older_at w.epoch w.collector.phase ≡ w.epoch - 2 → IsAccounted (landed_pending w words s) → length s.slots ≡ w.config.slots → AreQuiet first w → AreGathered w → first < w.epoch → AreCounted w words s
 accounted_count first w words s kept mutators stands way behind accounted slots quiet done early x below =
     let c = kept.collector in

@@ -3,24 +3,13 @@
 use Rattle.std.proofs.Common.{◌≡◌, ◌≢◌, inl, inr, ℕ, ◌+◌, ◌-◌, ◌<◌, ◌≤◌, ◌==◌, if◌then◌else◌, Bool, true, false, [], None, Some, length, slice_set, refl, sym, ap, subst, ◌∙◌, arith, add-zero}
 use Rattle.std.proofs.lemmas.Bool.{cases_eq, false≢true}
 use Rattle.std.proofs.lemmas.List.{set-get_or, get_or-set_same, get_or-set_other}
-use Rattle.rec_word.specs.Mailbox.{crossing_word}
-use Rattle.rec_word.specs.declared.mailbox.Mailbox.TheVariants.{Retired, WithMutator}
+use Rattle.rec_core.proofs.Common.{crossing_word, Retired, WithMutator, Contents, next_of, next_at, Private, is_busy, is_busy_at, begun_of, took_of, took_at, swapped_of, swapped_at, left_of, left_at, retired, polled, crossed, blank, buffer_at, cell, IsMutator, Core, cells_of, mutator, box, crossing_of, nobody, with_mutator, IsKept, performed, stepped, begun, older_at}
 use Rattle.rec_word.specs.declared.op.Op.TheVariants as ops
-use Rattle.rec_log.specs.declared.contents.Contents.{Contents}
-use Rattle.rec_mutator.specs.Next.{next_of, next_at}
-use Rattle.rec_mutator.specs.Private.{Private, is_busy, is_busy_at}
-use Rattle.rec_mutator.specs.Took.{begun_of, took_of, took_at, swapped_of, swapped_at, left_of, left_at, step_of, retired, moved, polled, crossed}
+use Rattle.rec_mutator.specs.Took.{step_of, moved}
 use Rattle.rec_mutator.specs.declared.made.Made.TheVariants as makes
 use Rattle.rec_mutator.specs.declared.phase.Phase.{Phase}
 use Rattle.rec_mutator.specs.declared.phase.Phase.TheVariants.{Idle, Begun, Scanning, Scanned, Storing, Crossing, Swapping, Giving, Finished}
 use Rattle.rec_mutator.specs.declared.work.Work.TheVariants as works
-use Rattle.rec_collector.specs.Private.{blank, buffer_at}
-use Rattle.rec_core.specs.Cells.{cell}
-use Rattle.rec_core.specs.Config.{IsMutator}
-use Rattle.rec_core.specs.Core.{Core, cells_of, mutator, box, crossing_of, nobody, with_mutator}
-use Rattle.rec_core.specs.Kept.{IsKept}
-use Rattle.rec_core.specs.Moves.{performed, stepped, begun}
-use Rattle.rec_core.specs.Pending.{older_at}
 use Rattle.rec_core.specs.Quiet.{IsRetired, gathered, IsQuietOf, AreQuiet}
 use Rattle.rec_core.specs.Worked.{StepsTo, IsWorked}
 use Rattle.rec_core.proofs.Crossings.{behind_of, giving_of, begun_kept, step_kept}

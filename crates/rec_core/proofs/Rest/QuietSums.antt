@@ -4,24 +4,10 @@ use Rattle.std.specs.List.{All, sum_by}
 use Rattle.std.proofs.lemmas.Bool.{lt-leb}
 use Rattle.std.proofs.lemmas.List.Elements.{All-head, All-tail}
 use Rattle.std.proofs.lemmas.List.Sums.{sum_by-cons}
-use Rattle.rec_model.specs.Accounted.{puts_after, replaces_from, is_from}
-use Rattle.rec_model.specs.Moves.{puts_in}
-use Rattle.rec_model.specs.Pending.{node_of, epoch_of, Write, Dated, dated, is_at, dated_birth}
+use Rattle.rec_core.proofs.Common.{puts_after, replaces_from, is_from, puts_in, node_of, epoch_of, Write, Dated, dated, is_at, dated_birth, only_if, one_if_same, none_if_not_lt, Contents, Entry, named, new_target, Private, blank, buffer_at, IsMutator, Core, nobody, IsMadeIn, IsBufferOf, Filed, writes_in, births_in, dated_names, older_at, epoch_at, writes_of, births_of, Config}
 use Rattle.rec_model.specs.Reach.{named as named_slots}
-use Rattle.rec_model.specs.Sums.{only_if, one_if_same}
-use Rattle.rec_model.proofs.Weights.{none_if_not_lt}
-use Rattle.rec_log.specs.declared.contents.Contents.{Contents}
-use Rattle.rec_log.specs.declared.entry.Entry.{Entry}
 use Rattle.rec_log.specs.declared.entry.Entry.TheVariants as entries
-use Rattle.rec_apply.specs.Targets.{named, new_target}
 use Rattle.rec_apply.proofs.Naming.{named-nil}
-use Rattle.rec_mutator.specs.Private.{Private}
-use Rattle.rec_collector.specs.Private.{blank, buffer_at}
-use Rattle.rec_core.specs.Config.{IsMutator}
-use Rattle.rec_core.specs.Core.{Core, nobody}
-use Rattle.rec_core.specs.Kept.{IsMadeIn, IsBufferOf}
-use Rattle.rec_core.specs.Pending.{Filed, writes_in, births_in, dated_names, older_at, epoch_at, writes_of, births_of}
-use Rattle.rec_core.specs.declared.config.Config.{Config}
 use Rattle.rec_core.proofs.Batches.{gain_named, gain_none, none_of, sum_parts}
 use Rattle.rec_core.proofs.Sums.{share, log_share, buffers_sum}
 

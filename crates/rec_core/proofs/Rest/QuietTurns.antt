@@ -2,28 +2,14 @@
 use Rattle.std.proofs.Common.{◌≡◌, ◌≢◌, ◌⊎◌, inl, inr, ℕ, ◌+◌, ◌-◌, ◌≤◌, true, false, Option, Some, List, length, slice_get, slice_index_or, slice_set, refl, sym, ap, subst, ◌∙◌, arith}
 use Rattle.std.proofs.lemmas.Bool.{cases_eq, false≢true, ltb-true, lt-ltb, leb-true, le-leb}
 use Rattle.std.proofs.lemmas.List.{get_or-set_same, get_or-set_other}
-use Rattle.rec_word.specs.Mailbox.{crossing_word}
+use Rattle.rec_core.proofs.Common.{crossing_word, Retired, Spare, WithCollector, WithMutator, Contents, is_busy, IsClearingIn, Parts, blank, buffer_at, spare, with_parts, PreparesOn, TriesOn, ClearsOn, Begun, ended, moved, Phase, Idle, Looking, Swapping, Returning, Releasing, Freeing, Trying, Preparing, Opening, Sweeping, Closing, Turn, IsMutator, Core, mutator, box, crossing_of, Handshake, stand_at, IsHandshake, IsKept, older_at, Config}
 use Rattle.rec_word.specs.declared.mailbox.Mailbox.{Mailbox}
-use Rattle.rec_word.specs.declared.mailbox.Mailbox.TheVariants.{Retired, Spare, WithCollector, WithMutator}
-use Rattle.rec_log.specs.declared.contents.Contents.{Contents}
-use Rattle.rec_mutator.specs.Private.{is_busy}
 use Rattle.rec_mutator.specs.Private as mutators
 use Rattle.rec_sigma.specs.Prepare as preps
 use Rattle.rec_trial.specs.Trial as trials
-use Rattle.rec_collector.specs.Clearing.{IsClearingIn}
 use Rattle.rec_collector.specs.Kept.{under_way}
-use Rattle.rec_collector.specs.Parts.{Parts}
-use Rattle.rec_collector.specs.Private.{Private, blank, buffer_at, spare, with_parts}
-use Rattle.rec_collector.specs.Step.{GoesOn, PreparesOn, TriesOn, ClearsOn}
-use Rattle.rec_collector.specs.Testing.{Begun}
-use Rattle.rec_collector.specs.Took.{ended, moved}
-use Rattle.rec_collector.specs.declared.phase.Phase.{Phase}
-use Rattle.rec_collector.specs.declared.phase.Phase.TheVariants.{Idle, Looking, Swapping, Returning, Releasing, Freeing, Trying, Preparing, Opening, Sweeping, Closing}
-use Rattle.rec_collector.specs.declared.turn.Turn.{Turn}
-use Rattle.rec_core.specs.Config.{IsMutator}
-use Rattle.rec_core.specs.Core.{Core, mutator, box, crossing_of}
-use Rattle.rec_core.specs.Kept.{Stand, stand_at, IsHandshake, IsKept}
-use Rattle.rec_core.specs.Pending.{older_at}
+use Rattle.rec_collector.specs.Private.{Private}
+use Rattle.rec_collector.specs.Step.{GoesOn}
 use Rattle.rec_core.specs.Quiet.{IsRetired, gathered, AreQuiet}
 use Rattle.rec_core.proofs.Begun.{applied_lands}
 use Rattle.rec_core.proofs.Freeing.{freed_lands}
@@ -31,15 +17,14 @@ use Rattle.rec_core.proofs.Landed.{HasCleared}
 use Rattle.rec_core.proofs.Releasing.{released_lands}
 use Rattle.rec_core.proofs.SetTests.{tested_lands}
 use Rattle.rec_core.proofs.TurnCases.{crossing_with, words_without, swept_by, TurnCase}
-use Rattle.rec_core.specs.declared.config.Config.{Config}
 
 -- no mutator is past the requested epoch
-epoch_most : (config : Config) (requested : ℕ) (p : mutators.Private) (crossing : ℕ) (b : Contents) (stand : Stand) → IsHandshake config requested p crossing b stand → p.epoch ≤ requested
-epoch_most config requested p crossing b Stand.Done h = let e : p.epoch ≡ requested = h.0.epoch in omega (arith, e)
-epoch_most config requested p crossing b Stand.Held h = let e : p.epoch ≡ requested = h.0.epoch in omega (arith, e)
-epoch_most config requested p crossing b Stand.Due (inl behind) = let e : p.epoch + 1 ≡ requested = behind.epoch in omega (arith, e)
-epoch_most config requested p crossing b Stand.Due (inr (inl crosses)) = let e : p.epoch + 1 ≡ requested = crosses.epoch in omega (arith, e)
-epoch_most config requested p crossing b Stand.Due (inr (inr crossed)) = let e : p.epoch ≡ requested = crossed.epoch in omega (arith, e)
+epoch_most : (config : Config) (requested : ℕ) (p : mutators.Private) (crossing : ℕ) (b : Contents) (stand : Handshake) → IsHandshake config requested p crossing b stand → p.epoch ≤ requested
+epoch_most config requested p crossing b Handshake.Done h = let e : p.epoch ≡ requested = h.0.epoch in omega (arith, e)
+epoch_most config requested p crossing b Handshake.Held h = let e : p.epoch ≡ requested = h.0.epoch in omega (arith, e)
+epoch_most config requested p crossing b Handshake.Due (inl behind) = let e : p.epoch + 1 ≡ requested = behind.epoch in omega (arith, e)
+epoch_most config requested p crossing b Handshake.Due (inr (inl crosses)) = let e : p.epoch + 1 ≡ requested = crosses.epoch in omega (arith, e)
+epoch_most config requested p crossing b Handshake.Due (inr (inr crossed)) = let e : p.epoch ≡ requested = crossed.epoch in omega (arith, e)
 
 -- no older buffer is
 older_most : (requested : ℕ) (phase : Phase) → older_at requested phase ≤ requested
@@ -163,8 +148,8 @@ requests_quiet : (first : ℕ) (w : Core) → IsKept w → w.collector.phase ≡
     → AreQuiet first (record w { epoch = w.epoch + 1; collector = moved (record w.collector { epoch = w.collector.epoch + 1 }) (Looking 1) })
 requests_quiet first w kept idle quiet t is =
     let k = quiet t is in
-    let stands : Stand → Type 0 = IsHandshake w.config w.epoch (mutator w t) (crossing_of w t) (box w t) in
-    let home : stands Stand.Done = subst stands (ap (λ phase. stand_at phase t) idle) (kept.mutators.each t is).handshake in
+    let stands : Handshake → Type 0 = IsHandshake w.config w.epoch (mutator w t) (crossing_of w t) (box w t) in
+    let home : stands Handshake.Done = subst stands (ap (λ phase. stand_at phase t) idle) (kept.mutators.each t is).handshake in
     let word : crossing_of w t ≡ crossing_word w.epoch Spare = home.0.word in
     let last : older_at w.epoch w.collector.phase ≡ w.epoch - 1 = ap (older_at w.epoch) idle in
     record {

@@ -3,8 +3,9 @@ use Rattle.std.proofs.Common.{◌≡◌, ◌⊎◌, inl, inr, ℕ, zero, suc, �
 use Rattle.std.specs.List.{flat_map}
 use Rattle.std.proofs.lemmas.Bool.{cases_Bool, false≢true}
 use Rattle.std.proofs.lemmas.List.{length-append}
+use Rattle.rec_core.proofs.Common.{IsReached}
 use Rattle.rec_model.specs.Numbering.{IsDistinct}
-use Rattle.rec_model.specs.Reach.{is_in, IsReached}
+use Rattle.rec_model.specs.Reach.{is_in}
 use Rattle.rec_model.specs.Reach.IsReached.{root, child}
 use Rattle.rec_model.proofs.Members.{is_in-left, is_in-right, is_in-head, is_in-tail, is_in-cons, is_in-cases, is_in-flat_map, in_flat_map, IsDistinct-push, distinct_below}
 use Rattle.rec_model.proofs.Numbered.{closed_has_reached}

@@ -5,26 +5,16 @@ use Rattle.std.proofs.lemmas.Bool.{false≢true, cases_lt}
 use Rattle.std.proofs.lemmas.Bool.Decides.{eqb_tells}
 use Rattle.std.proofs.lemmas.List.{get_or_past, get_or_default}
 use Rattle.std.proofs.lemmas.List.Sums.{sum_by-cons}
-use Rattle.rec_word.specs.Word.{target_of, is_slot}
+use Rattle.rec_core.proofs.Common.{target_of, is_slot, IsTaken, Reaches, words_of, targets_of, reached_is_taken, word_in, slot_at, one, named, Idle, Core, sight, IsKept, IsHeldIn, AreCounted, AreWithinReach, heap_sum, IsReachable}
 use Rattle.rec_model.specs.Heap.{roots}
 use Rattle.rec_model.specs.Reach.{is_in, named as names}
 use Rattle.rec_model.specs.Reach.IsReached.{root, child}
-use Rattle.rec_model.specs.Sight.{IsTaken, Reaches, words_of, targets_of}
 use Rattle.rec_model.proofs.Names.{named_at}
-use Rattle.rec_model.proofs.Standing.{reached_is_taken, word_in}
 use Rattle.rec_model.proofs.Words.{named-nulls}
-use Rattle.rec_counts.specs.Counts.{slot_at}
-use Rattle.rec_counts.specs.Lists.{one}
 use Rattle.rec_model.proofs.Members.{is_in-left, is_in-right, is_in-head, is_in-tail}
-use Rattle.rec_apply.specs.Targets.{named}
 use Rattle.rec_apply.proofs.Naming.{named-nil, named-cons}
-use Rattle.rec_collector.specs.declared.phase.Phase.TheVariants.{Idle}
 use Rattle.rec_collector.proofs.Following.{none_released}
-use Rattle.rec_core.specs.Core.{Core, sight}
-use Rattle.rec_core.specs.Kept.{IsKept}
-use Rattle.rec_core.specs.Resting.{IsHeldIn, AreCounted, AreWithinReach}
 use Rattle.rec_core.specs.Settled.{IsSettled}
-use Rattle.rec_core.specs.Settling.{heap_sum, IsReachable}
 use Rattle.rec_core.proofs.Rest.Reachable.{reached_or_not}
 use Rattle.rec_core.proofs.Steps.{taken_slot}
 use Rattle.rec_core.proofs.Turns.{now_at}

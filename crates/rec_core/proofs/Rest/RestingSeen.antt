@@ -1,16 +1,9 @@
 -- What is known of a heap at rest is said of what is held in it alone: of headers and registers.
 use Rattle.std.proofs.Common.{◌≡◌, ℕ, false, None, Some, List, sym, ap, subst}
-use Rattle.rec_counts.specs.Counts.{State, slot_at}
+use Rattle.rec_core.proofs.Common.{State, slot_at, Work, Phase, Idle, Looking, Swapping, Returning, Releasing, Freeing, Trying, Preparing, Opening, Sweeping, Closing, Core, sight, holds, AreFound, AreUnnamed, AreWithinReach, TrialRests, PrepRests, SetsRest, Round, RestsIn, IsReachable, IsOffered, Config, is_green}
 use Rattle.rec_sigma.specs.Prepare as preps
-use Rattle.rec_trial.specs.Trial.{Work}
 use Rattle.rec_collector.specs.Private.{Private}
-use Rattle.rec_collector.specs.declared.phase.Phase.{Phase}
-use Rattle.rec_collector.specs.declared.phase.Phase.TheVariants.{Idle, Looking, Swapping, Returning, Releasing, Freeing, Trying, Preparing, Opening, Sweeping, Closing}
-use Rattle.rec_core.specs.Core.{Core, sight}
-use Rattle.rec_core.specs.Resting.{holds, AreFound, AreUnnamed, AreWithinReach, TrialRests, PrepRests, SetsRest, Round, RestsIn}
-use Rattle.rec_core.specs.Settling.{word_in, IsReachable, IsOffered}
-use Rattle.rec_core.specs.declared.config.Config.{Config}
-use Rattle.rec_counts.specs.Colour.{is_green}
+use Rattle.rec_core.specs.Settling.{word_in}
 
 -- a heap with the numbers of another
 abbrev seen_as : Core → Core → Core

@@ -1,13 +1,8 @@
 -- A heap at rest, over the turns of the collection whose trial is offered every slot and of the one that frees its sets.
 use Rattle.std.proofs.Common.{◌≡◌, ◌⊎◌, inl, inr, ℕ, ◌+◌, ◌≤◌, Option, Some, drop, slice_get, slice_set, refl, sym, ap, subst, ◌∙◌, arith}
 use Rattle.std.proofs.lemmas.Bool.{false≢true}
-use Rattle.rec_collector.specs.declared.phase.Phase.{Phase}
-use Rattle.rec_collector.specs.declared.phase.Phase.TheVariants.{Idle, Looking, Returning, Releasing, Freeing, Trying, Preparing, Opening, Sweeping, Closing}
-use Rattle.rec_core.specs.Core.{Core, sight}
-use Rattle.rec_core.specs.Kept.{IsKept}
-use Rattle.rec_core.specs.Moves.{turned}
+use Rattle.rec_core.proofs.Common.{Phase, Idle, Looking, Returning, Releasing, Freeing, Trying, Preparing, Opening, Sweeping, Closing, Core, sight, IsKept, turned, holds, Round, RestsIn, ComesTo, TurnsTo, epochs_before}
 use Rattle.rec_core.specs.Quiet.{gathered, AreQuiet, AreGathered}
-use Rattle.rec_core.specs.Resting.{holds, Round, RestsIn, ComesTo, TurnsTo, epochs_before}
 use Rattle.rec_core.proofs.TurnCases.{TurnCase, header_freed, swept_by}
 use Rattle.rec_core.proofs.Rest.FirstRound.{first_turned}
 use Rattle.rec_core.proofs.Rest.QuietCounts.{landed_count}

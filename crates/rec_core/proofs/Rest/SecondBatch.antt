@@ -1,29 +1,12 @@
 -- The batch of a heap at rest: it counts what registers name, and no register names a member of a set. So nothing holds the sets still.
 use Rattle.std.proofs.Common.{◌≡◌, ℕ, ◌+◌, ◌-◌, ◌<◌, Bool, false, Option, None, Some, List, [], length, map, sym, ap, subst, ◌∙◌, arith, ◌/◌, ◌≢◌, ◌∷◌, true, inl, inr, refl, slice_index_or}
 use Rattle.std.proofs.lemmas.List.Sums.{get_or-le-sum_by}
-use Rattle.rec_model.proofs.Sums.{sum_by-map}
-use Rattle.rec_log.specs.declared.contents.Contents.{Contents}
-use Rattle.rec_log.specs.declared.entry.Entry.{Entry}
-use Rattle.rec_counts.specs.Counts.{State, slot_at}
 use Rattle.rec_apply.specs.Batch.{batch, names, IsBatch}
-use Rattle.rec_apply.specs.Targets.{added, leaf_born, leaves, named, new_target, old_target, taken}
 use Rattle.rec_apply.proofs.Naming.{named-nil}
-use Rattle.rec_release.specs.Release.{started_of, IsReady, emptied, next_from, without_first}
-use Rattle.rec_mutator.specs.Private.{Private}
-use Rattle.rec_collector.specs.Clearing.{IsCleared}
-use Rattle.rec_collector.specs.Parts.{Parts}
+use Rattle.rec_release.specs.Release.{started_of}
 use Rattle.rec_collector.specs.Private as collectors
-use Rattle.rec_collector.specs.Private.{buffer_at, parts_of}
-use Rattle.rec_collector.specs.Testing.{Begun, zeros_released, releasing_at}
-use Rattle.rec_collector.specs.Took.{batched}
-use Rattle.rec_collector.specs.declared.phase.Phase.{Phase}
-use Rattle.rec_collector.specs.declared.phase.Phase.TheVariants.{Returning, Freeing}
 use Rattle.rec_collector.proofs.Following.{batched_clear, none_released, resting_cleared}
-use Rattle.rec_core.specs.Config.{IsMutator}
-use Rattle.rec_core.specs.Core.{Core, mutator, nobody, sight}
-use Rattle.rec_core.specs.Kept.{IsKept}
 use Rattle.rec_core.specs.Quiet.{IsRetired}
-use Rattle.rec_core.specs.Resting.{AreCounted, FreesRest, SetsRest, holds, AreLeaves}
 use Rattle.rec_core.proofs.Applying.{is_counted}
 use Rattle.rec_core.proofs.Batches.{none_of}
 use Rattle.rec_core.proofs.Rest.SecondReach.{green_zeros_rest}
@@ -31,15 +14,8 @@ use Rattle.rec_core.proofs.Rest.SettlingBetween.{unheld_batch}
 use Rattle.rec_core.proofs.Turns.{now_at}
 use Rattle.std.proofs.lemmas.Bool.{cases_eq, cases_lt, false≢true}
 use Rattle.std.proofs.lemmas.List.{get_or_past}
-use Rattle.rec_counts.specs.Colour.{is_green}
-use Rattle.rec_counts.specs.Lists.{times}
-use Rattle.rec_counts.specs.Slot.{absent, is_in}
-use Rattle.rec_counts.specs.declared.slot.Slot.{Slot}
-use Rattle.rec_counts.proofs.Keeping.{field_kept}
-use Rattle.rec_counts.proofs.Times.{one-same, times-cons}
-use Rattle.rec_release.specs.declared.at.At.{At}
+use Rattle.rec_core.proofs.Common.{sum_by-map, Contents, Entry, State, slot_at, added, leaf_born, leaves, named, new_target, old_target, taken, IsReady, emptied, next_from, without_first, Private, IsCleared, Parts, buffer_at, parts_of, Begun, zeros_released, releasing_at, batched, Phase, Returning, Freeing, IsMutator, Core, mutator, nobody, sight, IsKept, AreCounted, FreesRest, SetsRest, holds, AreLeaves, is_green, times, absent, is_in, Slot, field_kept, one-same, times-cons, At, AreUnheld}
 use Rattle.rec_release.proofs.Keeping.{each_next, emptied_zeros, released_first, released_same}
-use Rattle.rec_core.specs.Settling.{AreUnheld}
 use Rattle.rec_core.proofs.Begun.{batch_comes}
 use Rattle.rec_core.proofs.Counts.{emptied_alike}
 use Rattle.rec_core.proofs.Rest.FirstTrial.{leaves_landed}

@@ -3,26 +3,11 @@
 use Rattle.std.proofs.Common.{◌≡◌, ℕ, ◌+◌, ◌/◌, ◌<◌, ◌≤◌, true, Option, Some, None, List, [], ◌∷◌, ◌++◌, drop, length, refl, sym, ap, subst, ◌∙◌, arith, ◌%◌, inl, inr, slice_index_or}
 use Rattle.std.proofs.lemmas.List.{drop_all, drop_more, get_or-replicate, get_or-set_other, length-set}
 use Rattle.std.proofs.lemmas.Nat.{div-mul-add}
-use Rattle.rec_word.specs.Place.{place_of, places_from, places_of}
-use Rattle.rec_word.specs.Word.{target_of}
 use Rattle.rec_word.proofs.FieldPlaces.{places_step, places_end}
-use Rattle.rec_counts.specs.Counts.{State, slot_at}
-use Rattle.rec_walk.specs.declared.member.Member.{Member}
-use Rattle.rec_release.specs.CycleFree.{Machine, listed, IsAtWork}
-use Rattle.rec_release.specs.Release.{IsReady}
+use Rattle.rec_release.specs.CycleFree.{Machine}
 use Rattle.rec_walk.specs.Walk.{places_left}
-use Rattle.rec_release.specs.TakenOff.{taken_off}
 use Rattle.rec_release.proofs.TakenOff.{ready_off}
-use Rattle.rec_collector.specs.Clearing.{IsFreeing, IsTidy}
-use Rattle.rec_collector.specs.Followed.{with_freed}
-use Rattle.rec_collector.specs.Private.{parts_of}
-use Rattle.rec_collector.specs.declared.phase.Phase.TheVariants.{Freeing}
-use Rattle.rec_collector.proofs.Goings.{field_behind, freed_by, freed_last, freed_listed, freed_on, member_behind}
 use Rattle.rec_collector.proofs.Tidy.{tidy_off}
-use Rattle.rec_core.specs.Core.{Core, sight}
-use Rattle.rec_core.specs.Kept.{IsKept}
-use Rattle.rec_core.specs.Resting.{AreCounted, FreesRest, SetsRest, AreLeaves}
-use Rattle.rec_core.specs.Settling.{AreUnheld}
 use Rattle.rec_core.proofs.TurnCases.{word_at, words_without}
 use Rattle.rec_core.proofs.Freeing as freeing
 use Rattle.rec_core.proofs.Taken as taken
@@ -32,9 +17,7 @@ use Rattle.rec_core.proofs.Rest.SettlingTests.{unheld_alike, unheld_cleared}
 use Rattle.rec_core.proofs.Turns.{now_at}
 use Rattle.std.proofs.Math.Nat.{mod-lt, div-add-mod, mul_comm}
 use Rattle.std.proofs.lemmas.Bool.{cases_eq}
-use Rattle.rec_counts.specs.Colour.{is_green}
-use Rattle.rec_counts.specs.Lists.{times}
-use Rattle.rec_model.proofs.Standing.{word_in}
+use Rattle.rec_core.proofs.Common.{place_of, places_from, places_of, target_of, State, slot_at, Member, listed, IsAtWork, IsReady, taken_off, IsFreeing, IsTidy, with_freed, parts_of, Freeing, field_behind, freed_by, freed_last, freed_listed, freed_on, member_behind, Core, sight, IsKept, AreCounted, FreesRest, SetsRest, AreLeaves, AreUnheld, is_green, times, word_in}
 use Rattle.rec_release.proofs.Freeing.{off_work}
 use Rattle.rec_collector.proofs.Freeing.{listed_ready}
 

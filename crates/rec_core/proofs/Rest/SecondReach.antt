@@ -3,27 +3,10 @@ use Rattle.std.proofs.Common.{◌≡◌, ◌≢◌, inl, inr, ℕ, ◌+◌, ◌-
 use Rattle.std.proofs.lemmas.Bool.{cases_lt, eq-eqb, false≢true}
 use Rattle.std.proofs.lemmas.Bool.Decides.{eqb_tells}
 use Rattle.std.proofs.lemmas.List.{get_or_default, get_or_past, get_or-set_other}
-use Rattle.rec_word.specs.Place.{place_of}
-use Rattle.rec_word.specs.Word.{target_of, is_slot}
-use Rattle.rec_model.specs.Accounted.{is_dead}
-use Rattle.rec_model.specs.Pending.{home, node_of, word_in as pending_word}
+use Rattle.rec_model.specs.Pending.{word_in as pending_word}
 use Rattle.rec_model.specs.Reach.IsReached.{root}
-use Rattle.rec_model.proofs.Consequences.{fields_name_the_taken}
-use Rattle.rec_model.proofs.Sums.{get_or-le-sum_at}
 use Rattle.rec_model.proofs.Unfreed.{taken_within}
-use Rattle.rec_counts.specs.declared.slot.Slot.{Slot}
-use Rattle.rec_counts.specs.Counts.{State, slot_at}
-use Rattle.rec_counts.specs.Lists.{one, times}
 use Rattle.rec_counts.specs.Rest.{AreZeros}
-use Rattle.rec_counts.proofs.Times.{one-same, times-nil}
-use Rattle.rec_counts.proofs.Keeping.{unreleased_within, set_there}
-use Rattle.rec_apply.specs.Targets.{named}
-use Rattle.rec_release.specs.TakenOff.{IsApart}
-use Rattle.rec_core.specs.Core.{Core, sight}
-use Rattle.rec_core.specs.Kept.{IsKept}
-use Rattle.rec_core.specs.Pending.{code, pending}
-use Rattle.rec_core.specs.Resting.{AreCounted, IsHeldIn, SetsRest, holds, AreFound, AreWithinReach}
-use Rattle.rec_core.specs.Settling.{heap_sum, leading}
 use Rattle.rec_core.specs.Settling.IsReachable.{held, along}
 use Rattle.rec_core.proofs.TurnCases.{words_without}
 use Rattle.rec_core.proofs.Counts.{counted_slot}
@@ -31,13 +14,10 @@ use Rattle.rec_core.proofs.Moves.{code_target, home_of}
 use Rattle.rec_core.proofs.Places.{place_within}
 use Rattle.rec_core.proofs.Reach.{reached_stays}
 use Rattle.rec_core.proofs.Rest.Rested.{named_root}
-use Rattle.rec_counts.specs.Colour.{is_green}
 use Rattle.rec_core.proofs.Landed.{HasLanded}
-use Rattle.rec_collector.specs.Clearing.{IsCleared}
-use Rattle.rec_collector.specs.Parts.{Parts}
-use Rattle.rec_collector.proofs.Goings.{still}
 use Rattle.rec_core.proofs.Rest.FirstTrial.{emptied_landed, leaves_landed}
 use Rattle.std.proofs.Math.Nat.{mod-lt, div-add-mod, mul_comm}
+use Rattle.rec_core.proofs.Common.{place_of, target_of, is_slot, is_dead, home, node_of, fields_name_the_taken, get_or-le-sum_at, Slot, State, slot_at, one, times, one-same, times-nil, unreleased_within, set_there, named, IsApart, Core, sight, IsKept, code, pending, AreCounted, IsHeldIn, SetsRest, holds, AreFound, AreWithinReach, heap_sum, leading, is_green, IsCleared, Parts, still}
 
 -- what a field leads to is counted
 led_counted : (words : List ℕ) (place x : ℕ) → target_of (get_or words place 0) ≡ Some x → 0 < heap_sum words x

@@ -2,38 +2,22 @@
 -- reach, and a trial begins.
 use Rattle.std.proofs.Common.{◌≡◌, ℕ, ◌+◌, ◌-◌, ◌<◌, Bool, true, false, Option, Some, None, List, [], ◌∷◌, ◌++◌, length, slice_get, refl, sym, ap, subst, ◌∙◌, arith}
 use Rattle.std.proofs.lemmas.Bool.{false≢true}
-use Rattle.rec_word.specs.Place.{places_of}
-use Rattle.rec_counts.specs.declared.slot.Slot.{Slot}
-use Rattle.rec_counts.specs.Counts.{IsKept, slot_at}
+use Rattle.rec_core.proofs.Common.{places_of, Slot, slot_at, is_in, Member, given_up, IsCleared, with_offers, Parts, new_freeing, with_parts, ClearsOn, IsTested, TriesOn, Begun, freeing_at, with_freeing, moved, Phase, Freeing, Turn, still, Core, ComesTo, RestsIn, Round, SetsRest, AreFound, is_green}
+use Rattle.rec_counts.specs.Counts.{IsKept}
 use Rattle.rec_counts.specs.Groups.{last_set}
-use Rattle.rec_counts.specs.Slot.{is_in}
-use Rattle.rec_walk.specs.declared.member.Member.{Member}
 use Rattle.rec_walk.specs.Walk.{first_member}
-use Rattle.rec_release.specs.CycleFree.{given_up, started_of}
+use Rattle.rec_release.specs.CycleFree.{started_of}
 use Rattle.rec_walk.specs.Walk.{places_left}
 use Rattle.rec_sigma.specs.Judged.{AreOrange, cyclic_sum}
 use Rattle.rec_trial.specs.Trial as trials
-use Rattle.rec_collector.specs.Clearing.{IsCleared}
-use Rattle.rec_collector.specs.Followed.{with_offers}
-use Rattle.rec_collector.specs.Parts.{Parts, new_freeing}
-use Rattle.rec_collector.specs.Private.{Private, with_parts}
-use Rattle.rec_collector.specs.Step.{ClearsOn, IsTested, TriesOn}
-use Rattle.rec_collector.specs.Testing.{Begun, freeing_at, with_freeing}
-use Rattle.rec_collector.specs.Took.{moved}
-use Rattle.rec_collector.specs.declared.phase.Phase.{Phase}
-use Rattle.rec_collector.specs.declared.phase.Phase.TheVariants.{Freeing}
+use Rattle.rec_collector.specs.Private.{Private}
 use Rattle.rec_collector.specs.declared.sets.Sets.{Sets}
-use Rattle.rec_collector.specs.declared.turn.Turn.{Turn}
-use Rattle.rec_collector.proofs.Goings.{still}
-use Rattle.rec_core.specs.Core.{Core}
-use Rattle.rec_core.specs.Resting.{ComesTo, RestsIn, Round, SetsRest, AreFound}
 use Rattle.rec_core.specs.Resting.ComesTo.{goes_on}
 use Rattle.rec_core.proofs.Landed.{HasCleared}
 use Rattle.rec_core.proofs.Rest.SecondBatch.{FreesIn, FreesOn}
 use Rattle.rec_core.proofs.Rest.SettlingPasses.{IsGivenUp, given, still_in, unheld_given_up, unheld_passes}
 use Rattle.rec_core.proofs.SetTests.{tested_lands}
 use Rattle.rec_core.proofs.Zeros.{some_fields}
-use Rattle.rec_counts.specs.Colour.{is_green}
 
 -- all fields of the members are still to be exchanged as the freeing of a set begins
 places_begun : (fields : ℕ) (members : List ℕ) → places_of fields members ≡ places_left fields members (first_member (slice_get members 0))

@@ -1,29 +1,15 @@
 -- The collection that frees the sets, turn by turn, but for the sweep of a slot, which changes what is held.
 use Rattle.std.proofs.Common.{◌≡◌, ℕ, ◌+◌, ◌-◌, ◌<◌, true, Option, Some, List, [], length, slice_index_or, refl, sym, ap, subst, ◌∙◌, arith}
-use Rattle.rec_word.specs.Word.{target_of}
-use Rattle.rec_counts.specs.declared.slot.Slot.{Slot}
+use Rattle.rec_core.proofs.Common.{target_of, Slot, taken_off, Member, Work, started_of, with_offers, Parts, TriesOn, Phase, Idle, Looking, Returning, Releasing, Freeing, Trying, Preparing, Opening, Sweeping, Closing, Turn, still, Core, IsKept, older_at, AreCounted, Round, RestsIn, ComesTo, AreFound, visible}
 use Rattle.rec_release.specs.CycleFree as frees
-use Rattle.rec_release.specs.TakenOff.{taken_off}
-use Rattle.rec_walk.specs.declared.member.Member.{Member}
 use Rattle.rec_release.proofs.TakenOff.{off_most}
 use Rattle.rec_sigma.specs.Prepare as preps
-use Rattle.rec_trial.specs.Trial.{Work, started_of, took_of}
+use Rattle.rec_trial.specs.Trial.{took_of}
 use Rattle.rec_trial.proofs.Keeps.{took_keeps}
-use Rattle.rec_collector.specs.Followed.{with_offers}
-use Rattle.rec_collector.specs.Parts.{Parts}
 use Rattle.rec_collector.specs.Private.{Private}
-use Rattle.rec_collector.specs.Step.{TriesOn}
-use Rattle.rec_collector.specs.declared.phase.Phase.{Phase}
-use Rattle.rec_collector.specs.declared.phase.Phase.TheVariants.{Idle, Looking, Returning, Releasing, Freeing, Trying, Preparing, Opening, Sweeping, Closing}
-use Rattle.rec_collector.specs.declared.turn.Turn.{Turn}
-use Rattle.rec_collector.proofs.Goings.{still}
 use Rattle.rec_collector.proofs.Testing.{clear_ready}
 use Rattle.rec_collector.proofs.Trying.{took_others}
-use Rattle.rec_core.specs.Core.{Core}
-use Rattle.rec_core.specs.Kept.{IsKept}
-use Rattle.rec_core.specs.Pending.{older_at}
 use Rattle.rec_core.specs.Quiet.{AreQuiet, AreGathered}
-use Rattle.rec_core.specs.Resting.{AreCounted, Round, RestsIn, ComesTo, AreFound}
 use Rattle.rec_core.proofs.TurnCases.{TurnCase, word_at, words_without}
 use Rattle.rec_core.proofs.Begun.{applied_lands, batch_comes}
 use Rattle.rec_core.proofs.Freeing.{freed_lands, may_empty}
@@ -37,7 +23,6 @@ use Rattle.rec_core.proofs.Rest.Within.{within_begun, within_same, within_tries,
 use Rattle.rec_core.proofs.Taken.{off_accounted, MayEmpty}
 use Rattle.rec_core.proofs.Trying.{loaded_leads}
 use Rattle.rec_core.proofs.Turns.{now_at}
-use Rattle.rec_trial.specs.Rules.{visible}
 use Rattle.rec_trial.proofs.Visible.{visible_leads}
 use Rattle.rec_core.proofs.Rest.SecondReach.{within_all}
 

@@ -2,16 +2,8 @@
 -- member.
 use Rattle.std.proofs.Common.{◌≡◌, ℕ, ◌/◌, ◌<◌, Bool, true, false, ltb, Some, None, List, [], length, get_or, refl, sym, ap, ◌∙◌}
 use Rattle.std.proofs.lemmas.Bool.{false≢true, ltb-true}
-use Rattle.rec_word.specs.Word.{target_of}
-use Rattle.rec_log.specs.declared.contents.Contents.{Contents}
-use Rattle.rec_counts.specs.declared.slot.Slot.{Slot}
-use Rattle.rec_counts.specs.Counts.{State, slot_at}
-use Rattle.rec_counts.specs.Lists.{times}
-use Rattle.rec_counts.specs.Slot.{is_in}
-use Rattle.rec_counts.proofs.Times.{times-nil}
+use Rattle.rec_core.proofs.Common.{target_of, Contents, Slot, State, slot_at, times, is_in, times-nil, Swept, swept_if, AreUnheld}
 use Rattle.rec_apply.specs.Batch.{names, IsBatch}
-use Rattle.rec_release.specs.Sweep.{Swept, swept_if}
-use Rattle.rec_core.specs.Settling.{AreUnheld}
 use Rattle.rec_core.proofs.Rest.SettlingTests.{outside_same, unheld_alike}
 
 -- A batch that names no member.

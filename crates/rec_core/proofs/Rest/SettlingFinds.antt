@@ -3,14 +3,7 @@ use Rattle.std.proofs.Common.{◌≡◌, ◌||◌, ℕ, zero, suc, ◌+◌, ◌<
 use Rattle.std.specs.List.{count_by, range_with_len}
 use Rattle.std.proofs.lemmas.Bool.Decides.{nat_tests}
 use Rattle.std.proofs.lemmas.Bool.{false≢true}
-use Rattle.rec_word.specs.Word.{target_of, is_slot}
-use Rattle.rec_model.specs.Sums.{only_if}
-use Rattle.rec_counts.specs.Counts.{State, slot_at}
-use Rattle.rec_counts.specs.Lists.{one, times}
-use Rattle.rec_counts.specs.Slot.{absent, stays}
-use Rattle.rec_counts.specs.declared.slot.Slot.{Slot}
-use Rattle.rec_counts.specs.Colour.{is_green}
-use Rattle.rec_counts.proofs.Keeping.{unreleased_within}
+use Rattle.rec_core.proofs.Common.{target_of, is_slot, only_if, State, slot_at, one, times, absent, stays, Slot, is_green, unreleased_within, offered_slots, IsOffered, IsReachable, IsGarbage, FindsGarbage}
 use Rattle.rec_trial.specs.Loaded.{Run}
 use Rattle.rec_trial.specs.Promised.{IsTrial}
 use Rattle.rec_trial.specs.Still.{AreStill, IsHeld, IsExact, references, rest, visible_words}
@@ -18,7 +11,6 @@ use Rattle.rec_trial.specs.Still as still
 use Rattle.rec_trial.specs.Tried.{IsOver}
 use Rattle.rec_trial.specs.Trial.{next_of}
 use Rattle.rec_trial.proofs.Exactly.{reached_other}
-use Rattle.rec_core.specs.Settling.{offered_slots, IsOffered, IsReachable, IsGarbage, FindsGarbage}
 use Rattle.rec_core.specs.Settling as settling
 use Rattle.rec_core.proofs.Rest.SettlingSums.{sum_by_alike, times-range, times-filter}
 

@@ -3,24 +3,13 @@ use Rattle.std.proofs.Common.{◌≡◌, ◌≢◌, inl, inr, ℕ, ◌-◌, ◌/
 use Rattle.std.proofs.lemmas.Bool.Decides.{eqb_tells}
 use Rattle.std.proofs.lemmas.Bool.{false≢true}
 use Rattle.std.proofs.lemmas.List.Sums.{sum_by-cons}
-use Rattle.rec_word.specs.Word.{target_of, is_slot}
-use Rattle.rec_word.specs.Place.{places_of}
-use Rattle.rec_model.specs.Sums.{only_if}
-use Rattle.rec_model.proofs.Sums.{sum_at_same}
+use Rattle.rec_core.proofs.Common.{target_of, is_slot, places_of, only_if, sum_at_same, Slot, State, slot_at, one, times, is_in, unbuffered_if, one-same, times-nil, times-cons, one-some, set_there, dead_if, given_up, members_of, leading, leading_outside, outside_sum, AreUnheld}
 use Rattle.rec_model.proofs.Places.{sum_at_none-from_get_or}
-use Rattle.rec_counts.specs.declared.slot.Slot.{Slot}
-use Rattle.rec_counts.specs.Counts.{State, IsKept, slot_at}
+use Rattle.rec_counts.specs.Counts.{IsKept}
 use Rattle.rec_counts.specs.Groups.{last_set}
-use Rattle.rec_counts.specs.Lists.{one, times}
-use Rattle.rec_counts.specs.Slot.{is_in, unbuffered_if}
-use Rattle.rec_counts.proofs.Times.{one-same, times-nil, times-cons, one-some}
-use Rattle.rec_counts.proofs.Keeping.{set_there}
-use Rattle.rec_release.specs.CycleFree.{dead_if, given_up}
 use Rattle.rec_release.proofs.Giving.{given_slot}
 use Rattle.rec_sigma.specs.Judged.{AreOrange, cyclic_sum}
-use Rattle.rec_sigma.specs.Prepare.{members_of}
 use Rattle.rec_sigma.proofs.Cyclics.{in_set, other_set, own_set}
-use Rattle.rec_core.specs.Settling.{leading, leading_outside, outside_sum, AreUnheld}
 use Rattle.rec_core.proofs.Rest.SettlingSums.{times_places}
 
 -- a slot that was given up is released, and in no set; any other stays

@@ -5,19 +5,9 @@ use Rattle.std.proofs.lemmas.List.{append-nil}
 use Rattle.std.proofs.lemmas.List.Elements.{All-nil, All-cons, All-append, All-head, All-tail}
 use Rattle.std.proofs.lemmas.List.Sums.{sum_by-cons}
 use Rattle.std.proofs.lemmas.Nat.{div-mul-add}
-use Rattle.rec_word.specs.Place.{place_of}
-use Rattle.rec_word.specs.Word.{target_of, is_slot}
-use Rattle.rec_model.specs.Sums.{only_if, sum_at}
-use Rattle.rec_model.proofs.Sums.{sum_at_split}
-use Rattle.rec_counts.specs.Counts.{State, IsKept, slot_at}
-use Rattle.rec_counts.specs.Lists.{one, times}
-use Rattle.rec_counts.specs.Slot.{is_in}
-use Rattle.rec_counts.proofs.Keeping.{members_once, set_there}
-use Rattle.rec_counts.proofs.Times.{in_range_once, one-le, times_part}
+use Rattle.rec_core.proofs.Common.{place_of, target_of, is_slot, only_if, sum_at, sum_at_split, State, slot_at, one, times, is_in, members_once, set_there, in_range_once, one-le, times_part, Load, place_loaded, PreparedTo, loaded_at, seen, leading, heap_sum, leading_outside, outside_sum, IsLoadOf, AreLoadsOf}
+use Rattle.rec_counts.specs.Counts.{IsKept}
 use Rattle.rec_sigma.specs.declared.at.At.{At}
-use Rattle.rec_walk.specs.Load.{Load, place_loaded}
-use Rattle.rec_sigma.specs.Prepared.{PreparedTo, loaded_at, seen}
-use Rattle.rec_core.specs.Settling.{leading, heap_sum, leading_outside, outside_sum, IsLoadOf, AreLoadsOf}
 use Rattle.rec_core.proofs.Rest.SettlingSums.{sum_at_same-from_get_or, sum_of_slots}
 
 -- the loads of a preparation, one after another

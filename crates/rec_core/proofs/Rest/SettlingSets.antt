@@ -6,29 +6,20 @@ use Rattle.std.proofs.lemmas.Bool.{eq-eqb}
 use Rattle.std.proofs.lemmas.List.Sums.{sum_by-cons}
 use Rattle.std.proofs.lemmas.Nat.{div-add-mod'}
 use Rattle.std.proofs.Math.Nat.{mod-lt}
-use Rattle.rec_word.specs.Place.{place_of, places_from}
-use Rattle.rec_word.specs.Word.{target_of, is_slot}
-use Rattle.rec_model.proofs.Sums.{sum_by_same, sum_by-map, sum_by-flat_map}
+use Rattle.rec_core.proofs.Common.{place_of, places_from, target_of, is_slot, sum_by_same, sum_by-map, sum_by-flat_map, State, slot_at, one, times, is_orange, is_green, no_set, some_set, times-nil, Load, offered_slots, IsOffered, IsGarbage, LeadsToEarlier, LeadsFromMembers, leading, heap_sum, AreEmptied, LeadBack, stays, AreLeaves}
 use Rattle.rec_counts.specs.declared.colour.Colour.{Colour}
 use Rattle.rec_counts.specs.declared.colour.Colour.TheVariants.{Orange}
-use Rattle.rec_counts.specs.Counts.{State, IsKept, slot_at}
-use Rattle.rec_counts.specs.Lists.{one, times}
-use Rattle.rec_counts.specs.Colour.{is_orange, is_green}
-use Rattle.rec_counts.proofs.Keeping.{no_set, some_set}
-use Rattle.rec_counts.proofs.Times.{times-nil}
-use Rattle.rec_walk.specs.Load.{Load}
+use Rattle.rec_counts.specs.Counts.{IsKept}
 use Rattle.rec_trial.specs.Loaded.{Run}
 use Rattle.rec_trial.specs.Promised.{IsTrial}
 use Rattle.rec_trial.specs.Still.{AreStill, IsExact, references, visible_words}
 use Rattle.rec_trial.specs.Still as still
 use Rattle.rec_trial.specs.Tried.{IsOver, is_of, loaded, edges, members}
 use Rattle.rec_trial.specs.Trial.{next_of}
-use Rattle.rec_core.specs.Settling.{offered_slots, IsOffered, IsGarbage, LeadsToEarlier, LeadsFromMembers, word_in, leading, heap_sum, AreEmptied, LeadBack}
+use Rattle.rec_core.specs.Settling.{word_in}
 use Rattle.rec_core.proofs.Rest.SettlingFinds.{all_greened, garbage_unheld, times_offered, trial_finds_garbage, offered_inside, offered_where}
 use Rattle.rec_core.proofs.Rest.SettlingSums.{sum_at_same-from_get_or, sum_of_slots}
-use Rattle.rec_counts.specs.Slot.{stays}
 use Rattle.rec_trial.proofs.Visible.{seen_where_led}
-use Rattle.rec_core.specs.Resting.{AreLeaves}
 
 -- what leads to a slot passes the test
 leads_yes : (x : ℕ) (target : Option ℕ) → target ≡ Some x → is_slot x target ≡ true

@@ -6,12 +6,8 @@ use Rattle.std.proofs.lemmas.Bool.Decides.{nat_tests, eqb_tells}
 use Rattle.std.proofs.lemmas.Bool.{cases_lt, eq-eqb, ne_eqb}
 use Rattle.std.proofs.lemmas.List.Sums.{sum_by-cons}
 use Rattle.std.proofs.lemmas.Nat.{div-add-mod'}
-use Rattle.rec_word.specs.Place.{places_from, places_of}
-use Rattle.rec_model.specs.Sums.{only_if, sum_at}
+use Rattle.rec_core.proofs.Common.{places_from, places_of, only_if, sum_at, sum_at_none, sum_at_same, sum_at_split, one, times, times-nil, times-cons, times-append, one-same}
 use Rattle.rec_model.proofs.Places.{sum_at_only, sum_at-le-from_get_or}
-use Rattle.rec_model.proofs.Sums.{sum_at_none, sum_at_same, sum_at_split}
-use Rattle.rec_counts.specs.Lists.{one, times}
-use Rattle.rec_counts.proofs.Times.{times-nil, times-cons, times-append, one-same}
 use Rattle.rec_core.proofs.Places.{in_row, within_row}
 
 -- equal weights have equal sums, compared where each element stands

@@ -3,26 +3,14 @@ use Rattle.std.proofs.Common.{◌≡◌, ◌≢◌, inl, inr, ℕ, ◌+◌, ◌-
 use Rattle.std.proofs.lemmas.Bool.Decides.{eqb_tells}
 use Rattle.std.proofs.lemmas.Bool.{cases_lt, false≢true, ne_eqb}
 use Rattle.std.proofs.lemmas.List.{get_or-set_same, get_or-set_other, get_or_past, length-set}
-use Rattle.rec_word.specs.Word.{target_of, is_slot}
-use Rattle.rec_model.specs.Sums.{only_if}
-use Rattle.rec_model.proofs.Sums.{sum_at_same, sum_at-set}
+use Rattle.rec_core.proofs.Common.{target_of, is_slot, only_if, sum_at_same, sum_at-set, Slot, State, slot_at, with_slot, decremented, one, absent, is_in, lessened, lowered, is_orange, field_kept, times-cons, down_if, taken_off, Load, PreparedTo, leading, heap_sum, leading_outside, outside_sum, AreLoadsOf, LeadBack, AreUnheld}
 use Rattle.rec_counts.specs.declared.colour.Colour.{Colour}
 use Rattle.rec_counts.specs.declared.colour.Colour.TheVariants.{Black, Purple, Gray, White, Orange, Green}
-use Rattle.rec_counts.specs.declared.slot.Slot.{Slot}
-use Rattle.rec_counts.specs.Counts.{State, IsKept, slot_at, with_slot, decremented}
-use Rattle.rec_counts.specs.Lists.{one}
+use Rattle.rec_counts.specs.Counts.{IsKept}
 use Rattle.rec_counts.specs.Rest.{KeepsRest}
-use Rattle.rec_counts.specs.Slot.{absent, is_in, lessened, lowered}
-use Rattle.rec_counts.specs.Colour.{is_orange}
 use Rattle.rec_counts.proofs.Decrementing.{rest_decremented, same_slot}
-use Rattle.rec_counts.proofs.Keeping.{field_kept}
-use Rattle.rec_counts.proofs.Times.{times-cons}
-use Rattle.rec_release.specs.TakenOff.{down_if, taken_off}
 use Rattle.rec_release.proofs.Orange.{orange_from}
-use Rattle.rec_walk.specs.Load.{Load}
-use Rattle.rec_sigma.specs.Prepared.{PreparedTo}
 use Rattle.rec_sigma.proofs.Cyclics.{in_set}
-use Rattle.rec_core.specs.Settling.{leading, heap_sum, leading_outside, outside_sum, AreLoadsOf, LeadBack, AreUnheld}
 use Rattle.rec_core.proofs.Rest.SettlingPrepared.{prepared_at_rest}
 
 -- the same sum, where the same slots are in the set

@@ -2,42 +2,27 @@
 use Rattle.std.proofs.Common.{◌≡◌, ◌⊎◌, inl, inr, ℕ, ◌+◌, ◌-◌, ◌%◌, ◌^◌, ◌==◌, Bool, true, Option, None, Some, List, IsNone, drop, slice_get, slice_index_or, slice_set, refl, sym, ap, subst, ◌∙◌}
 use Rattle.std.proofs.lemmas.Bool.{eq-eqb, ne_eqb, cond-true, cond-false}
 use Rattle.std.proofs.lemmas.List.{set-get_or}
-use Rattle.rec_word.specs.Mailbox.{crossing_word}
-use Rattle.rec_word.specs.declared.mailbox.Mailbox.TheVariants.{Retired, Spare, WithCollector}
+use Rattle.rec_core.proofs.Common.{crossing_word, Retired, Spare, WithCollector, place_of, Op, Contents, At, Member, with_freed, with_released, parts_of, ClearsOn, TriesOn, PreparesOn, IsNext, step_of, turn_of, moved, Phase, Idle, Looking, Returning, Releasing, Freeing, Trying, Preparing, Opening, Sweeping, Closing, Turn, cell, Core, cells_of, box, crossing_of, IsKept, looked_at, left_by, collected, turned, visible}
 use Rattle.rec_word.specs.Op.{written}
-use Rattle.rec_word.specs.Place.{place_of}
-use Rattle.rec_word.specs.declared.op.Op.{Op}
 use Rattle.rec_word.specs.declared.op.Op.TheVariants as ops
-use Rattle.rec_log.specs.declared.contents.Contents.{Contents}
-use Rattle.rec_release.specs.declared.at.At.{At}
-use Rattle.rec_walk.specs.declared.member.Member.{Member}
 use Rattle.rec_release.specs.CycleFree.{next_of as freeing_next, op_at as freeing_op_at}
 use Rattle.rec_release.specs.Release.{next_of as release_next, op_at as release_op_at}
 use Rattle.rec_release.specs.Sweep as sweeps
 use Rattle.rec_collector.specs.Causes.{HasCause}
 use Rattle.rec_sigma.specs.Prepare as preps
 use Rattle.rec_trial.specs.Trial as trials
-use Rattle.rec_collector.specs.Followed.{with_freed, with_released}
 use Rattle.rec_collector.specs.Next.{next_of}
 use Rattle.rec_collector.specs.Private as collectors
-use Rattle.rec_collector.specs.Private.{Private, parts_of}
-use Rattle.rec_collector.specs.Step.{Step, ClearsOn, TriesOn, PreparesOn, IsNext}
-use Rattle.rec_collector.specs.Took.{step_of, took_of, turn_of, moved}
-use Rattle.rec_collector.specs.declared.phase.Phase.{Phase}
-use Rattle.rec_collector.specs.declared.phase.Phase.TheVariants.{Idle, Looking, Returning, Releasing, Freeing, Trying, Preparing, Opening, Sweeping, Closing}
-use Rattle.rec_collector.specs.declared.turn.Turn.{Turn}
+use Rattle.rec_collector.specs.Private.{Private}
+use Rattle.rec_collector.specs.Step.{Step}
+use Rattle.rec_collector.specs.Took.{took_of}
 use Rattle.rec_collector.proofs.Steps.{has_cause, spends}
-use Rattle.rec_core.specs.Cells.{cell}
-use Rattle.rec_core.specs.Core.{Core, cells_of, box, crossing_of}
-use Rattle.rec_core.specs.Kept.{IsKept}
-use Rattle.rec_core.specs.Moves.{looked_at, left_by, collected, turned}
 use Rattle.rec_core.proofs.TurnCases.{TurnCase, word_at, swept_by}
 use Rattle.rec_core.proofs.Preparing.{loads_due}
 use Rattle.rec_core.proofs.Runs.{rule_of}
 use Rattle.rec_core.proofs.Trying.{loads_child}
 use Rattle.rec_core.proofs.Turning.{plain_left, mutator_at, some_op, freed_more, turn_case}
 use Rattle.rec_core.proofs.Turns.{now_at}
-use Rattle.rec_trial.specs.Rules.{visible}
 
 -- what a turn leaves where no mailbox is taken, with its operation named
 plain : (w : Core) (op its : Op) (word : ℕ) (q : Private) (phase : Phase) → w.collector.phase ≡ phase → left_by w.collector word (box w (looked_at phase)) phase ≡ box w (looked_at phase) → op ≡ its

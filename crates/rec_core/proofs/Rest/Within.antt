@@ -2,37 +2,18 @@
 use Rattle.std.proofs.Common.{◌≡◌, ◌≢◌, inl, inr, ℕ, ◌+◌, ◌<◌, ◌==◌, nat_lt, true, Some, List, [], ◌∷◌, drop, length, slice_get, slice_index_or, slice_set, sum_by, refl, sym, ap, subst, ◌∙◌, arith}
 use Rattle.std.proofs.lemmas.Bool.{cases_eq, false≢true, lt-ltb, ne_eqb}
 use Rattle.std.proofs.lemmas.List.{get_or-set_same, get_or-set_other, length-set}
-use Rattle.rec_counts.specs.Counts.{State, slot_at}
-use Rattle.rec_counts.specs.Lists.{one, times}
-use Rattle.rec_counts.specs.Slot.{absent, swept_clean}
-use Rattle.rec_counts.specs.declared.slot.Slot.{Slot}
-use Rattle.rec_counts.proofs.Times.{times-nil, times-cons, one-same}
-use Rattle.rec_apply.specs.Targets.{named}
-use Rattle.rec_release.specs.Sweep.{Swept, swept, swept_if}
+use Rattle.rec_core.proofs.Common.{State, slot_at, one, times, absent, swept_clean, Slot, times-nil, times-cons, one-same, named, Swept, swept, swept_if, Work, started_of, KeepsOthers, prep_started, with_offers, Parts, PreparesOn, TriesOn, Sweeping, Turn, still, Core, sight, IsKept, holds, IsHeldIn, AreFound, AreWithinReach, SetsRest, Round, ComesTo, IsReachable, is_green}
 use Rattle.rec_trial.specs.Rules.{IsReady}
-use Rattle.rec_trial.specs.Trial.{Work, started_of}
 use Rattle.rec_trial.proofs.Keeps.{started_keeps}
 use Rattle.rec_sigma.specs.Prepare as preps
-use Rattle.rec_sigma.specs.Prepared.{KeepsOthers}
 use Rattle.rec_sigma.proofs.Runs.{next_set_others}
-use Rattle.rec_collector.specs.Followed.{prep_started, with_offers}
-use Rattle.rec_collector.specs.Parts.{Parts}
 use Rattle.rec_collector.specs.Private.{Private}
-use Rattle.rec_collector.specs.Step.{PreparesOn, TriesOn}
-use Rattle.rec_collector.specs.declared.phase.Phase.TheVariants.{Sweeping}
-use Rattle.rec_collector.specs.declared.turn.Turn.{Turn}
-use Rattle.rec_collector.proofs.Goings.{still}
 use Rattle.rec_collector.proofs.Offering.{where_keeps, where_ready}
-use Rattle.rec_core.specs.Core.{Core, sight}
-use Rattle.rec_core.specs.Kept.{IsKept}
-use Rattle.rec_core.specs.Resting.{holds, IsHeldIn, AreFound, AreWithinReach, SetsRest, Round, ComesTo}
-use Rattle.rec_core.specs.Settling.{IsReachable}
 use Rattle.rec_core.proofs.TurnCases.{header_freed}
 use Rattle.rec_core.proofs.Landed.{HasLanded}
 use Rattle.rec_core.proofs.Rest.SettlingBetween.{unheld_swept}
 use Rattle.rec_core.proofs.Sweeping.{swept_below, due_released}
 use Rattle.rec_core.proofs.Turns.{now_at}
-use Rattle.rec_counts.specs.Colour.{is_green}
 
 -- what releases nothing anew, and nothing less
 pub within_same : (w : Core) (words : List ℕ) (s t : State) → ((x : ℕ) → (slot_at t x).released ≡ (slot_at s x).released) → AreWithinReach w words s → AreWithinReach w words t

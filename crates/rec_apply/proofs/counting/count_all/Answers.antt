@@ -1,3 +1,4 @@
+-- The contract of `count_all`: counts what all these buffers name, buffer by buffer.
 use Rattle.std.proofs.Common.{◌≡◌, ◌+◌, List, ℕ, ◌++◌, get_or, take, drop, sym, ap, subst, ◌∙◌}
 use Rattle.std.specs.List.{flat_map}
 use Rattle.rec_counts.specs.Counts.{State}

@@ -1,3 +1,4 @@
+-- The loops of `count_all`: counts what all these buffers name, buffer by buffer.
 use Rattle.std.proofs.Common.{◌≡◌, take}
 use Rattle.std.specs.List.{flat_map}
 use Rattle.rec_apply.specs.Batch.{all_counted, targets_of}

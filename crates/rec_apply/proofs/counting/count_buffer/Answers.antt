@@ -1,3 +1,4 @@
+-- The contract of `count_buffer`: counts what one buffer names: its entries, and then its snapshot.
 use Rattle.std.proofs.Common.{map, sym}
 use Rattle.rec_apply.specs.Batch.{snapshot_of}
 use Rattle.rec_apply.specs.Targets.{entry_target}

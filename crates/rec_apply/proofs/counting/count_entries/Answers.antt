@@ -1,3 +1,4 @@
+-- The contract of `count_entries`: counts what the entries of a log name.
 use Rattle.std.proofs.Common.{◌≡◌, ◌<◌, Option, None, List, ℕ, length, map, get_or, sym, ap, arith, ◌∙◌}
 use Rattle.std.proofs.lemmas.List.{length-map, get_or-map}
 use Rattle.rec_counts.specs.Counts.{State}

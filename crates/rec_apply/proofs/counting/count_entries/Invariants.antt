@@ -1,3 +1,4 @@
+-- The loops of `count_entries`: counts what the entries of a log name.
 use Rattle.std.proofs.Common.{◌≡◌, map, take}
 use Rattle.rec_apply.specs.Targets.{entry_target}
 use Rattle.rec_apply.specs.Batch.{all_counted}

@@ -1,3 +1,4 @@
+-- The contract of `count_slots`: counts the slots that a snapshot names.
 use Rattle.std.proofs.Common.{None, get_or, sym, ap, ◌∙◌}
 use Rattle.rec_counts.specs.Counts.{State}
 use Rattle.rec_apply.specs.Batch.{counted}

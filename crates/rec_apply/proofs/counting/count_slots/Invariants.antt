@@ -1,3 +1,4 @@
+-- The loops of `count_slots`: counts the slots that a snapshot names.
 use Rattle.std.proofs.Common.{◌≡◌, take}
 use Rattle.rec_apply.specs.Batch.{all_counted}
 use Rattle.rec_apply.proofs.counting.count_slots.Given as goal

@@ -1,6 +1,6 @@
+-- The contract of `clear_all`: clears each of these buffers.
 use Rattle.std.proofs.Common.{List, get_or, set, ap, ◌∙◌}
-use Rattle.rec_log.specs.declared.contents.Contents.{Contents}
-use Rattle.rec_collector.specs.Took.{cleared}
+use Rattle.rec_collector.proofs.Common.{Contents, cleared}
 use Rattle.rec_collector.proofs.Rows.{cleared_more}
 use Rattle.rec_collector.proofs.buffers.clear_all.Goals as goal
 

@@ -1,3 +1,4 @@
+-- The contract of `offer`: one slot is offered.
 use Rattle.std.proofs.Common.{sym, ◌∙◌}
 use Rattle.rec_collector.proofs.Offering.{pushed_one}
 use Rattle.rec_collector.proofs.offer.offer.Goals as goal

@@ -1,5 +1,6 @@
+-- The contract of `offer_slots`: makes each slot that is neither released nor Green a candidate root: it is Purple, and goes into the root buffer where it is in no buffer.
 use Rattle.std.proofs.Common.{◌<◌, length, arith, ap, ◌∙◌}
-use Rattle.rec_counts.specs.Counts.{State}
+use Rattle.rec_collector.proofs.Common.{State}
 use Rattle.rec_collector.specs.Offered.{offered_one}
 use Rattle.rec_collector.proofs.Offering.{none_offered, to_all, to_next, to_range}
 use Rattle.rec_collector.proofs.offer.offer_slots.Goals as goal

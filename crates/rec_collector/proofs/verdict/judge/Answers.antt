@@ -1,3 +1,4 @@
+-- The contract of `judge`: tests set `set`: Delta first.
 use Rattle.std.proofs.Common.{◌≡◌, ◌<◌, ℕ, inl, inr, arith, sym, ◌∙◌}
 use Rattle.std.proofs.lemmas.Bool.{cases_lt, false≢true}
 use Rattle.rec_sigma.specs.Judged.{cyclic_sum}

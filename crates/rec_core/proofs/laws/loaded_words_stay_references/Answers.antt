@@ -1,3 +1,4 @@
+-- The contract of `loaded_words_stay_references`: what the collector loads from fields stays what it is, whether marking, blackening, collecting or preparation loads it, until the sets that the trial found are tested.
 use Rattle.rec_core.proofs.Loads.{all_known}
 use Rattle.rec_core.proofs.Trials.{no_trial}
 use Rattle.rec_core.proofs.Runs.{end_kept}

@@ -1,6 +1,5 @@
 -- What a run keeps tells what is reached.
-use Rattle.rec_core.specs.Core.{sight}
-use Rattle.rec_core.specs.Moves.{turned}
+use Rattle.rec_core.proofs.Common.{sight, turned}
 use Rattle.rec_core.proofs.Reach.{reached_stays, turned_keeps, keeps_stands_by, steps_keep_taken}
 use Rattle.rec_core.proofs.Runs.{end_kept}
 use Rattle.rec_core.proofs.laws.nothing_reached_is_freed.Goals as goal

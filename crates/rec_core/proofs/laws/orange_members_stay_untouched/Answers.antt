@@ -1,3 +1,4 @@
+-- The contract of `orange_members_stay_untouched`: a member of a prepared set that is Orange still was touched by nothing since.
 use Rattle.rec_core.proofs.Trials.{no_trial}
 use Rattle.rec_core.proofs.Outside.{all_untouched}
 use Rattle.rec_core.proofs.Runs.{end_kept}

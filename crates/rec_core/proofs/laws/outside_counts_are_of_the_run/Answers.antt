@@ -1,8 +1,7 @@
+-- The contract of `outside_counts_are_of_the_run`: the outside count of a member is read off the run.
 use Rattle.std.proofs.Common.{List}
-use Rattle.rec_core.specs.Config.{IsConfig}
-use Rattle.rec_core.specs.Core.{Core}
+use Rattle.rec_core.proofs.Common.{IsConfig, Core, AllFit, after_moves, EndsRun, Move, turned}
 use Rattle.rec_core.specs.Loads.{IsSameTrial}
-use Rattle.rec_core.specs.Moves.{AllFit, after_moves, EndsRun, Move, turned}
 use Rattle.rec_core.proofs.Trials.{BeginsNoTrial, no_trial}
 use Rattle.rec_core.proofs.Outside.{run_outside, run_passed, run_places}
 use Rattle.rec_core.proofs.Runs.{end_kept, move_kept}

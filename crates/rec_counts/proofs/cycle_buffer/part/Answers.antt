@@ -1,3 +1,4 @@
+-- The contract of `part`: the part of `members` from one of these places up to the next, or to the end.
 use Rattle.std.proofs.Common.{◌≡◌, ℕ, ◌+◌, ◌-◌, ◌<◌, ◌≤◌, List, [], length, take, drop, get_or, sym, ◌∙◌, add-one}
 use Rattle.rec_counts.specs.Groups.{parts_at, IsRising}
 use Rattle.rec_counts.proofs.Parts.{rising_at, parts-at}

@@ -1,3 +1,4 @@
+-- The contract of `unbuffer`: takes the members out of their buffer.
 use Rattle.std.proofs.Common.{◌≡◌, ◌<◌, length, get_or, arith, refl, ap, ◌∙◌}
 use Rattle.std.proofs.lemmas.List.{get_or_default}
 use Rattle.rec_counts.specs.Slot.{absent, unbuffered, unbuffered_if}

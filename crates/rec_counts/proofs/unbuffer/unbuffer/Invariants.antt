@@ -1,3 +1,4 @@
+-- The loops of `unbuffer`: takes the members out of their buffer.
 use Rattle.std.proofs.Common.{◌≡◌, ℕ, ltb, take, get_or}
 use Rattle.rec_counts.specs.Lists.{times}
 use Rattle.rec_counts.specs.Slot.{absent, unbuffered_if}

@@ -3,7 +3,7 @@ use Rattle.std.proofs.Common.{◌≡◌, ℕ, ◌+◌, ◌*◌, ◌≤◌, List,
 use Rattle.std.specs.List.{sum}
 use Rattle.std.proofs.lemmas.Result.{IfOk-weaker}
 use Rattle.rec_world.specs.Order.{Turns}
-use Rattle.rec_script.specs.Script.{Contents}
+use Rattle.rec_script.specs.Script.{ScriptContents}
 use Rattle.rec_play.specs.Played.{lengths_of}
 use Rattle.rec_play.proofs.Due.{few_mutators}
 use Rattle.rec_play.proofs.Ready.{lengths_more, lengths_all, sum_more}
@@ -16,7 +16,7 @@ overflow_add-room c =
 
 pub loop-index-preserved : goal.loop-index-preserved
 loop-index-preserved c =
-    let script : Contents = c.args.script.now in
+    let script : ScriptContents = c.args.script.now in
     let so : List ℕ = take c.loop-index.index (lengths_of script) in
     let next : 200000 * (c.loop-index.index + 1) ≡ 200000 * c.loop-index.index + 200000 = omega arith in
     record {
@@ -27,7 +27,7 @@ loop-index-preserved c =
 
 pub returns : goal.returns
 returns c =
-    let script : Contents = c.args.script.now in
+    let script : ScriptContents = c.args.script.now in
     let end : take c.loop-index.index (lengths_of script) ≡ lengths_of script = lengths_all script.commands c.loop-index.index (omega (arith, c.loop-index-test.false, c.mutators-index-end.ensures.value)) in
     let all : c.loop-index.room ≡ sum (lengths_of script) = c.loop-index.invariant.counted ∙ ap sum end in
     IfOk-weaker c.open.result _ _ (λ order is. (

@@ -8,7 +8,7 @@ use Rattle.rec_core.specs.Worked.{AreIdle}
 use Rattle.rec_core.proofs.OpenedMutators.{mutator_opened}
 use Rattle.rec_world.specs.Journal.{Notes}
 use Rattle.rec_world.specs.Order.{Turns}
-use Rattle.rec_script.specs.Script.{Contents, IsScript}
+use Rattle.rec_script.specs.Script.{ScriptContents, IsScript}
 use Rattle.rec_play.specs.declared.moves.Move.{Move}
 use Rattle.rec_play.specs.declared.moves.Move.TheVariants.{Command, Step}
 use Rattle.rec_play.specs.Moves.{Makes, MakesCommand, Player}
@@ -18,7 +18,7 @@ use Rattle.rec_play.proofs.Rounds.{Between, HasRoom, all_played, command_made, h
 use Rattle.rec_play.proofs.whole.play.Goals as goal
 use Rattle.rec_play.proofs.whole.play.Goals.{In-Command}
 
-idle_opened : (script : Contents) → AreIdle (opened (config_of script))
+idle_opened : (script : ScriptContents) → AreIdle (opened (config_of script))
 idle_opened script t there = ap is_busy (mutator_opened (config_of script) t there)
 
 pub loop-made-init : goal.loop-made-init
@@ -58,7 +58,7 @@ loop-made-preserved-in-Command c =
     (c.next.ensures.config ∙ ap config_of (c.next.ensures.script ∙ c.loop-made.invariant.of)))
 
 -- a move that is no command is a step
-stepped : (script : Contents) (seed turns : ℕ) (before after : Core) (journals : List Notes) (noted : Turns) (p q : Player) (move : Move) → ((t : ℕ) (cmd : Cmd) (told : Told) → move ≡ Command t cmd told → ⊥) → Makes p q before after move
+stepped : (script : ScriptContents) (seed turns : ℕ) (before after : Core) (journals : List Notes) (noted : Turns) (p q : Player) (move : Move) → ((t : ℕ) (cmd : Cmd) (told : Told) → move ≡ Command t cmd told → ⊥) → Makes p q before after move
     → q.script ≡ p.script → AreIdle after → after.config ≡ config_of script → Between script seed turns before journals noted p → Between script seed turns after journals noted q
 stepped script seed turns before after journals noted p q (Command t cmd told) other makes same idle config so = absurd (other t cmd told refl)
 stepped script seed turns before after journals noted p q (Step seen turn) other makes same idle config so = step_made script seed turns before after journals noted p q seen turn makes same idle config so

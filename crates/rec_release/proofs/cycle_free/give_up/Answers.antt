@@ -1,3 +1,4 @@
+-- The contract of `give_up`: the last set is gone: its members are released and Black, and stand in the work list.
 use Rattle.std.proofs.Common.{◌≡◌, ℕ, ◌<◌, ◌-◌, true, length, get_or, refl, arith, ap, ◌∙◌}
 use Rattle.std.proofs.lemmas.List.{length-map}
 use Rattle.rec_counts.specs.Counts.{State, slot_at, with_slot, without_last_set}

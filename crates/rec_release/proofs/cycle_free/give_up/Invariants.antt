@@ -1,3 +1,4 @@
+-- The loops of `give_up`: the last set is gone: its members are released and Black, and stand in the work list.
 use Rattle.rec_counts.specs.Counts.{without_last_set}
 use Rattle.rec_counts.specs.Groups.{last_set}
 use Rattle.rec_counts.proofs.Changing.{Changed}

@@ -1,3 +1,4 @@
+-- The contract of `give_up_slot`: the slot is released and Black.
 use Rattle.std.proofs.Common.{refl}
 use Rattle.std.proofs.lemmas.List.{get_or-set_same, set-set}
 use Rattle.rec_counts.specs.Slot.{absent}

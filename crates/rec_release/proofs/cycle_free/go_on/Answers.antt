@@ -1,3 +1,4 @@
+-- The contract of `go_on`: the field behind this one comes next; behind the last one all members go to the free list.
 use Rattle.std.proofs.Common.{length, arith, ap}
 use Rattle.rec_counts.proofs.Times.{length-once}
 use Rattle.rec_release.proofs.cycle_free.go_on.Goals as goal

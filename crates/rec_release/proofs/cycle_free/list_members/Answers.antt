@@ -1,3 +1,4 @@
+-- The contract of `list_members`: the members go to the free list.
 use Rattle.std.proofs.Common.{◌≡◌, ℕ, ◌<◌, ltb, Some, List, [], ◌∷◌, ◌++◌, length, drop, slice_get, arith, sym, subst, ap, ◌∙◌, append_assoc}
 use Rattle.rec_counts.specs.Counts.{State, IsKept}
 use Rattle.rec_counts.specs.Lists.{times, EachOnce}

@@ -1,3 +1,4 @@
+-- The loops of `list_members`: the members go to the free list.
 use Rattle.std.proofs.Common.{◌≡◌, length}
 use Rattle.rec_release.specs.CycleFree.{listed}
 use Rattle.rec_release.proofs.cycle_free.list_members.Given as goal

@@ -1,3 +1,4 @@
+-- The contract of `go_on`: the next field of the same slot comes next; after its last one the slot is emptied, and the next zero is released.
 use Rattle.std.proofs.Common.{◌<◌, arith, sym, subst}
 use Rattle.rec_release.specs.Release.{IsReady}
 use Rattle.rec_release.proofs.Keeping.{next_field, ready_emptied}

@@ -1,3 +1,4 @@
+-- The contract of `release_first`: the first of the zeros leaves them and is released; None where there are no zeros.
 use Rattle.std.proofs.Common.{◌≡◌, ◌<◌, Some, length, slice_get, arith, sym, ap, ◌∙◌}
 use Rattle.rec_counts.specs.Counts.{State}
 use Rattle.rec_counts.proofs.Front.{first_in}

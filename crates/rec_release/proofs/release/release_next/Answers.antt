@@ -1,3 +1,4 @@
+-- The contract of `release_next`: the first of the zeros is released, and its first field is due.
 use Rattle.std.proofs.Common.{◌≡◌, Some, arith, length, sym, subst, ap, ◌∙◌}
 use Rattle.rec_counts.specs.Counts.{State}
 use Rattle.rec_counts.specs.Lists.{times}

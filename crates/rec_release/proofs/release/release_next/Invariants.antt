@@ -1,3 +1,4 @@
+-- The loops of `release_next`: the first of the zeros is released, and its first field is due.
 use Rattle.std.proofs.Common.{length}
 use Rattle.rec_release.proofs.Keeping.{OnTheWay}
 use Rattle.rec_release.proofs.release.release_next.Given as goal

@@ -5,7 +5,7 @@ use Rattle.rec_model.specs.LegalOrder.{Line, actors}
 use Rattle.rec_core.specs.Core.{Core}
 use Rattle.rec_core.specs.declared.config.Config.{Config}
 use Rattle.rec_play.specs.Played.{last_moment, lines_of}
-use Rattle.rec_script.specs.Script.{Contents}
+use Rattle.rec_script.specs.Script.{ScriptContents}
 use Rattle.rec_world.specs.Order.{Turns}
 use Rattle.rec_run.specs.Headline.{Answers, is_summary, printed, printed_order}
 use Rattle.rec_run.specs.declared.command_line.How.{How}
@@ -30,7 +30,7 @@ write_text-requires-clause-room g c = c.in_ok-outcome.ensures.outcome.has_run.no
 
 pub returns : goal.returns
 returns g c =
-    let script : Contents = c.args.script.now in
+    let script : ScriptContents = c.args.script.now in
     let how : How = c.args.how in
     let o = c.in_ok-outcome.outcome in
     let is = c.in_ok-outcome.ensures.outcome in

@@ -3,23 +3,23 @@ use Rattle.std.proofs.Common.{◌≡◌, ◌∙◌, ◌≤◌, ℕ, List, ◌++�
 use Rattle.rec_core.specs.Core.{Core, opened}
 use Rattle.rec_world.specs.Journal.{Notes}
 use Rattle.rec_world.specs.Order.{Turns}
-use Rattle.rec_table.specs.Held.{Gathers, Held, Started, fresh, fresh_collector}
+use Rattle.rec_table.specs.Views.{CollectorView, MutatorView, Started, fresh, fresh_collector}
 use Rattle.rec_table.specs.declared.views.Beat.{Beat}
 use Rattle.rec_threads.specs.Done.{HasCollected, HaveDone}
 use Rattle.rec_core.proofs.Runs.{config_after}
 use Rattle.rec_threads.proofs.Requests.{at_most}
 use Rattle.rec_order.specs.Naming.{first_naming, named_after_all}
 use Rattle.rec_play.specs.Played.{config_of}
-use Rattle.rec_script.specs.Script.{Contents}
+use Rattle.rec_script.specs.Script.{ScriptContents}
 use Rattle.rec_run.proofs.Driven.{was_driven}
 use Rattle.rec_run.specs.Running.{IsSetRunning}
 use Rattle.rec_run.proofs.driving.drive_script.Goals as goal
 
 -- a new collector's list has the turns that it made
-few_turns : (s : Started) (g g' : Gathers) → g ≡ fresh_collector s → HasCollected 10000000 g g' → length g'.crew.log ≤ 10000000
+few_turns : (s : Started) (g g' : CollectorView) → g ≡ fresh_collector s → HasCollected 10000000 g g' → length g'.collecting.log ≤ 10000000
 few_turns s g g' new did =
     let turned = did.turned in
-    let list : g'.crew.log ≡ turned.beats = ap (λ (x : Gathers). x.crew.log) turned.grows ∙ ap (λ (x : Gathers). x.crew.log ++ turned.beats) new in
+    let list : g'.collecting.log ≡ turned.beats = ap (λ (x : CollectorView). x.collecting.log) turned.grows ∙ ap (λ (x : CollectorView). x.collecting.log ++ turned.beats) new in
     let many : length turned.beats ≤ did.turns = at_most did.turns g g' turned in
     let few = did.few in
     subst (λ (l : List Beat). length l ≤ 10000000) (sym list) (omega (arith, many, few))
@@ -27,11 +27,11 @@ few_turns s g g' new did =
 pub returns-clause-outcome : goal.returns-clause-outcome
 returns-clause-outcome g c =
     let so : IsSetRunning c.args.script.now c.in_ok-heap.heap c.in_ok-heap.crew = c.in_ok-heap.ensures.running in
-    let script : Contents = c.args.script.now in
-    let ms : List Held = c.in_ok-heap.crew.mutators.items in
+    let script : ScriptContents = c.args.script.now in
+    let ms : List MutatorView = c.in_ok-heap.crew.mutators.items in
     let js : List Notes = c.in_ok-heap.crew.journals.items in
     let one_each = so.whole.ready.one_each in
-    let (events, has_run, made) = was_driven script c.in_ok-heap.heap ms c.in-Ok.crew.mutators.items js c.stop.result.journals.items c.in-Ok.crew.collector.crew.log c.stop.result.world
+    let (events, has_run, made) = was_driven script c.in_ok-heap.heap ms c.in-Ok.crew.mutators.items js c.stop.result.journals.items c.in-Ok.crew.collector.collecting.log c.stop.result.world
     (record {
       opens = so.started.opens;
       some_slots = so.started.config.some_slots;

@@ -3,7 +3,7 @@ use Rattle.std.proofs.Common.{◌≡◌, ℕ, ◌++◌, List, Some, length, take
 use Rattle.std.proofs.Math.Seq.{take-append_seam}
 use Rattle.rec_model.specs.LegalOrder.{Event}
 use Rattle.rec_play.specs.Played.{lines_of}
-use Rattle.rec_script.specs.Script.{Contents}
+use Rattle.rec_script.specs.Script.{ScriptContents}
 use Rattle.rec_world.specs.Journal.{Notes}
 use Rattle.rec_run.specs.declared.command_line.How.TheVariants as hows
 use Rattle.rec_run.specs.Headline.{HasRun}
@@ -18,7 +18,7 @@ pub returns-clause-outcome : goal.returns-clause-outcome
 returns-clause-outcome c =
     let (events, played, stood, made) = c.play.ensures.played in
     let js : List Notes = c.play.new.journals in
-    let script : Contents = c.args.script.now in
+    let script : ScriptContents = c.args.script.now in
     let all : length js ≡ length script.commands = many script (lines_of js) events c.play.new.world js refl played.commands in
     let len : c.in_ok-journals.journals.len ≡ length js = sym c.as_mut_slice.ensures.len ∙ ap length c.as_mut_slice.ensures.value ∙ c.in_ok-journals.ensures.one_each ∙ sym all in
     record {

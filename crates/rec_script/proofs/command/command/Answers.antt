@@ -1,3 +1,4 @@
+-- The contract of `command`: the command of a line with this first word and what is behind it, in a mutator that has so many, in a script of this version.
 use Rattle.std.proofs.Common.{sym}
 use Rattle.std.proofs.lemmas.Result.{IfErr-weaker, IfOk-weaker}
 use Rattle.rec_script.specs.Lines.{words}

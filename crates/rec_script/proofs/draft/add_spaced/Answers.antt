@@ -1,3 +1,4 @@
+-- The contract of `add_spaced`: adds the command at the front of the bytes, where it is spaced and there is room for it; gives what is behind its line.
 use Rattle.std.proofs.Common.{arith}
 use Rattle.rec_script.specs.Script.{spelled}
 use Rattle.rec_script.proofs.Regrouping.{AreSmall}

@@ -1,3 +1,4 @@
+-- The contract of `add_to_script`: a script with one line more that counts, of this first word and what is behind it.
 use Rattle.std.proofs.Common.{◌∷◌, refl, sym, ◌∙◌}
 use Rattle.rec_script.specs.Lines.{words}
 use Rattle.rec_script.specs.Script.{Fits, spelled}

@@ -1,3 +1,4 @@
+-- The contract of `size`: a number from 1 to the greatest one.
 use Rattle.std.proofs.Common.{arith}
 use Rattle.rec_script.proofs.Numerals.{same_number}
 use Rattle.rec_script.proofs.heap.size.Goals as goal

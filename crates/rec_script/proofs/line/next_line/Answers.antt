@@ -1,3 +1,4 @@
+-- The contract of `next_line`: the first line, and the bytes after it.
 use Rattle.std.proofs.Common.{◌≡◌, ◌<◌, ◌+◌, ◌∷◌, ℕ, List, length, take, drop, sym, ap, ◌∙◌, arith}
 use Rattle.std.proofs.lemmas.Grind.{common_steps}
 use Rattle.rec_script.specs.Lines.{without_cr, lines}

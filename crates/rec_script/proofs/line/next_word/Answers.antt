@@ -1,3 +1,4 @@
+-- The contract of `next_word`: the first word of a line, and the bytes after it.
 use Rattle.std.proofs.Common.{◌≡◌, ◌<◌, length, arith}
 use Rattle.std.proofs.lemmas.Grind.{common_steps}
 use Rattle.rec_script.proofs.Cuts.{all_blank, first_word}

@@ -1,3 +1,4 @@
+-- The contract of `without_cr`: the bytes without the CR that may stand at their end.
 use Rattle.std.proofs.Common.{sym, arith}
 use Rattle.rec_script.proofs.Cuts.{with_cr, no_cr}
 use Rattle.rec_script.proofs.line.without_cr.Goals as goal

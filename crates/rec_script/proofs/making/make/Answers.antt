@@ -1,3 +1,4 @@
+-- The contract of `make`: a script of version 1, of so many mutators with so many commands each, drawn from a seed as the profile says (`docs/PROFILE.md`, "Made scripts").
 use Rattle.std.proofs.Common.{◌≡◌, ◌≤◌, ◌∙◌, ◌++◌, ℕ, List, length, sym, ap, subst, arith}
 use Rattle.std.specs.Prelude.{codes}
 use Rattle.rec_script.specs.Lines.{lines}

@@ -1,3 +1,4 @@
+-- The loops of `make`: a script of version 1, of so many mutators with so many commands each, drawn from a seed as the profile says (`docs/PROFILE.md`, "Made scripts").
 use Rattle.std.proofs.Common.{◌≡◌, ◌*◌, string_bytes}
 use Rattle.rec_script.specs.Made.{after_commands, generator_of, made_text}
 use Rattle.rec_script.proofs.making.make.Given as goal

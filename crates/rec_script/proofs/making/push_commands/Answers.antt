@@ -1,3 +1,4 @@
+-- The contract of `push_commands`: adds the lines of so many commands.
 use Rattle.std.proofs.Common.{sym, refl}
 use Rattle.std.proofs.lemmas.List.{append-nil}
 use Rattle.rec_script.specs.Made.{after_commands}

@@ -1,3 +1,4 @@
+-- The loops of `push_commands`: adds the lines of so many commands.
 use Rattle.std.proofs.Common.{◌≡◌, ◌++◌, map, string_bytes}
 use Rattle.rec_script.specs.Script.{command_line}
 use Rattle.rec_script.specs.Made.{after_commands, commands_from, text_of}

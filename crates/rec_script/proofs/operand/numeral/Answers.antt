@@ -1,3 +1,4 @@
+-- The contract of `numeral`: the number that a numeral spells; a numeral has no leading zeros and is at most 4,294,967,295.
 use Rattle.std.proofs.Common.{◌≡◌, ◌<◌, ◌+◌, ◌*◌, ℕ, length, get_or, refl, sym, ap, ◌∙◌, below_more, arith}
 use Rattle.std.proofs.lemmas.Grind.{common_steps}
 use Rattle.rec_script.proofs.Numerals.{no_empty_numeral, nought, no_leading_zero, no_other_byte, digit_range, no_digit, one_more, too_large, is_numeral, whole}

@@ -1,3 +1,4 @@
+-- The loops of `numeral`: the number that a numeral spells; a numeral has no leading zeros and is at most 4,294,967,295.
 use Rattle.std.proofs.Common.{◌≡◌, ◌<◌, ◌^◌, ℕ, get_or, take}
 use Rattle.std.specs.Int.{IsInRange}
 use Rattle.std.specs.Str.Parse.{digits_value}

@@ -1,3 +1,4 @@
+-- The contract of `one_operand`: the operand of a line that has one, behind so many commands.
 use Rattle.std.proofs.Common.{◌∷◌, [], refl}
 use Rattle.std.proofs.lemmas.Result.{err_from_is_err_and, IfErr-weaker}
 use Rattle.rec_script.specs.Operands.{AreMisread}

@@ -1,3 +1,4 @@
+-- The contract of `two_operands`: the operands of a line that has two, behind so many commands.
 use Rattle.std.proofs.Common.{◌∷◌, [], refl}
 use Rattle.std.proofs.lemmas.Result.{err_from_is_err_and}
 use Rattle.rec_script.specs.Operands.{AreMisread}

@@ -1,3 +1,4 @@
+-- The loops of `read`: the script that the bytes spell.
 use Rattle.std.proofs.Common.{length}
 use Rattle.rec_script.proofs.Endings.{IsReadTo}
 use Rattle.rec_script.proofs.reading.read.Given as goal

@@ -1,3 +1,4 @@
+-- The contract of `long_numeral`: a numeral of any length at the front, with this byte behind it, and what is behind that.
 use Rattle.std.proofs.Common.{◌+◌, ◌*◌, ℕ, get_or, refl, sym, ap, ◌∙◌, below_more, arith}
 use Rattle.rec_script.proofs.Numerals.{digit_range, one_more}
 use Rattle.rec_script.proofs.Spacing.{long_front}

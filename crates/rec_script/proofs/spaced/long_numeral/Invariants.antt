@@ -1,3 +1,4 @@
+-- The loops of `long_numeral`: a numeral of any length at the front, with this byte behind it, and what is behind that.
 use Rattle.std.proofs.Common.{◌≡◌, ◌<◌, ◌^◌, ℕ, get_or, take}
 use Rattle.std.specs.Int.{IsInRange}
 use Rattle.std.specs.Str.Parse.{digits_value}

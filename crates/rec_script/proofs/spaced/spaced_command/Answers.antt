@@ -1,3 +1,4 @@
+-- The contract of `spaced_command`: a command at the front, spaced, and what is behind its line.
 use Rattle.std.proofs.Common.{◌≡◌, ◌++◌, sym, ◌∙◌}
 use Rattle.std.proofs.lemmas.List.{take-append-drop}
 use Rattle.std.proofs.lemmas.Option.{IfSome_then}

@@ -1,3 +1,4 @@
+-- The contract of `delta`: whether each member of set `set` is Orange.
 use Rattle.std.proofs.Common.{◌≡◌, ◌<◌, length, get_or, IsTrue, arith, sym, subst, ap, ◌∙◌}
 use Rattle.std.proofs.lemmas.Bool.{false≢true}
 use Rattle.rec_counts.specs.declared.colour.Colour.TheVariants.{Orange}

@@ -1,3 +1,4 @@
+-- The loops of `delta`: whether each member of set `set` is Orange.
 use Rattle.std.proofs.Common.{◌≡◌, ℕ, ◌<◌, take}
 use Rattle.rec_counts.specs.declared.colour.Colour.TheVariants.{Orange}
 use Rattle.rec_counts.specs.Counts.{slot_at}

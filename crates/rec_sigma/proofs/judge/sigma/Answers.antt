@@ -1,3 +1,4 @@
+-- The contract of `sigma`: whether the cyclic counts of the members of set `set` sum to zero: no reference was left to a member, but those seen in fields of members.
 use Rattle.std.proofs.Common.{◌≡◌, ℕ, zero, suc, ◌<◌, List, [], ◌∷◌, length, get_or, arith, sym, ap, ◌∙◌, inl, inr}
 use Rattle.std.specs.List.{sum_by}
 use Rattle.std.proofs.lemmas.List.Sums.{sum_by-cons, sum_by_more}

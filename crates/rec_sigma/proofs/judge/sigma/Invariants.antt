@@ -1,3 +1,4 @@
+-- The loops of `sigma`: whether the cyclic counts of the members of set `set` sum to zero: no reference was left to a member, but those seen in fields of members.
 use Rattle.std.proofs.Common.{◌≡◌, take}
 use Rattle.std.specs.List.{sum_by}
 use Rattle.rec_counts.specs.Counts.{slot_at}

@@ -1,3 +1,4 @@
+-- The loops of `first_member`: the first member of the first set that has one, from this number on.
 use Rattle.std.proofs.Common.{◌≡◌, drop}
 use Rattle.rec_sigma.specs.Prepare.{first_of}
 use Rattle.rec_sigma.proofs.prepare.first_member.Given as goal

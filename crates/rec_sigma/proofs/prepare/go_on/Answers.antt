@@ -1,3 +1,4 @@
+-- The contract of `go_on`: the field behind this one comes next; behind the last one of its set, the first of the next set.
 use Rattle.std.proofs.Common.{length, arith, ap}
 use Rattle.rec_counts.proofs.Keeping.{each_once}
 use Rattle.rec_counts.proofs.Times.{length-once}

@@ -1,3 +1,4 @@
+-- The contract of `renew`: the cyclic count of each member becomes its true count.
 use Rattle.std.proofs.Common.{◌≡◌, ℕ, ◌<◌, true, List, length, get_or, refl, arith, sym, ap, ◌∙◌}
 use Rattle.std.proofs.lemmas.List.{length-map}
 use Rattle.rec_counts.specs.declared.slot.Slot.{Slot}

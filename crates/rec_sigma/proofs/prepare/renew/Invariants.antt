@@ -1,3 +1,4 @@
+-- The loops of `renew`: the cyclic count of each member becomes its true count.
 use Rattle.rec_counts.proofs.Changing.{Changed}
 use Rattle.rec_sigma.specs.Prepare.{members_of, renewed_if}
 use Rattle.rec_sigma.proofs.prepare.renew.Given as goal

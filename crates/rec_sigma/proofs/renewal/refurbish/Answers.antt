@@ -1,3 +1,4 @@
+-- The contract of `refurbish`: takes set `set`, the last one, out of the cycle buffer, and gives each of its members its place, in the order of the set.
 use Rattle.std.proofs.Common.{◌≡◌, ℕ, ◌-◌, Option, [], length, drop, get_or, slice_get, arith, sym, ap, ◌∙◌}
 use Rattle.rec_counts.specs.Counts.{State, slot_at}
 use Rattle.rec_counts.specs.Groups.{last_set}

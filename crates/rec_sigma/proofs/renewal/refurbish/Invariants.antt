@@ -1,3 +1,4 @@
+-- The loops of `refurbish`: takes set `set`, the last one, out of the cycle buffer, and gives each of its members its place, in the order of the set.
 use Rattle.std.proofs.Common.{length}
 use Rattle.rec_sigma.proofs.Renewals.{Waits}
 use Rattle.rec_sigma.proofs.renewal.refurbish.Given as goal

@@ -1,3 +1,4 @@
+-- The contract of `settle`: gives a slot that is in no buffer its place.
 use Rattle.std.proofs.Common.{refl}
 use Rattle.std.proofs.lemmas.List.{get_or-set_same, set-set}
 use Rattle.rec_counts.specs.Slot.{absent}

@@ -3,7 +3,7 @@ use Rattle.std.proofs.Common.{◌≡◌, ◌==◌, ◌<◌, ℕ, [], sym, ap, �
 use mathlib.Core.Option.{none}
 use prog.Atomic.{either}
 use Rattle.atomic_table.specs.Table.{step}
-use Rattle.rec_table.proofs.Common.{gathered_all, crew_of, Looks, Collects}
+use Rattle.rec_table.proofs.Common.{gathered_all, collecting_of, Looks, Collects}
 use Rattle.rec_word.specs.Mailbox.{crossing_word}
 use Rattle.rec_word.specs.declared.mailbox.Mailbox.TheVariants.{Retired}
 use Rattle.rec_table.proofs.Gathering.{allows_glance, allows_look}
@@ -23,7 +23,7 @@ compare_exchange-requires g c =
       c.load-seen.ensures.0 ∙ c.requires.table,
       subst (λ (i : ℕ). i < c.args.board.now.table.shared.table_id.words) (sym c.index-word.ensures) c.requires.there,
       allows_look c.args.board.now.table.shared.key.value _ _ c.index-word.result c.load-seen.new.seat.me c.args.t c.args.epoch g.W.Turning.number g.W.Turning.actor (step c.args.board.now.table.shared.table_id.slots c.index-word.result c.crossing-due.result c.crossing.result none)
-          (same ∙ c.requires.seat ∙ (λ k. (Collects (crew_of (sym same k).0), []))) c.requires.actor.0 (c.requires.actor.1 ∙ (λ k. gathered_all c.args.board.now.table.shared.key.value.collector (crew_of (sym same k).0).log)) c.requires.phase.0 c.requires.phase.1 c.index-word.ensures
+          (same ∙ c.requires.seat ∙ (λ k. (Collects (collecting_of (sym same k).0), []))) c.requires.actor.0 (c.requires.actor.1 ∙ (λ k. gathered_all c.args.board.now.table.shared.key.value.collector (collecting_of (sym same k).0).log)) c.requires.phase.0 c.requires.phase.1 c.index-word.ensures
           _ (λ n. (λ k. either (n == c.crossing-due.ensures k) (c.crossing.ensures k) n)),
     )
 

@@ -4,7 +4,7 @@ use Rattle.atomic_table.specs.Table.{rest}
 use Rattle.rec_word.specs.Mailbox.{crossing_word}
 use Rattle.rec_word.specs.declared.mailbox.Mailbox.TheVariants.{Retired}
 use Rattle.std.specs.Option.{is_some}
-use Rattle.rec_table.proofs.Common.{crew_of, crew_more, Saw, Took, Collects}
+use Rattle.rec_table.proofs.Common.{collecting_of, collecting_more, Saw, Took, Collects}
 use Rattle.rec_collector.specs.Private.{Private}
 use Rattle.rec_table.proofs.Making.{first_is}
 use Rattle.rec_table.proofs.Gathering.{given_looking, look_hits, look_misses, hit_sized, hit_swaps, hit_turn, miss_turn}
@@ -79,7 +79,7 @@ pub returns-else-found-crossing-clause-turned : goal.returns-else-found-crossing
 returns-else-found-crossing-clause-turned g c =
     let m = miss_turn c.args.machine.now c.took-turn.new.self c.args.t c.find-found.result c.requires.phase.0 (λ e. c.if-found-crossing.false (e ∙ ap (λ (x : ℕ). crossing_word x Retired) c.requires.phase.1 ∙ sym c.crossing.ensures)) c.took-turn.ensures.took in (
       Saw c.find-found.result,
-      look_misses c.args.machine.now g.W.Turning.actor c.args.t g.W.Turning.number c.args.epoch c.find-found.result c.args.seat.now.me c.find-found.new.seat.me c.requires.seat c.requires.actor.0 c.requires.phase.1 (λ e. c.if-found-crossing.false (e ∙ sym c.crossing.ensures)) c.find-found.ensures.looked ∙ (λ k. (Collects (crew_more (crew_of c.args.seat.now.me.0) (Saw c.find-found.result)), sym m.0 k)),
+      look_misses c.args.machine.now g.W.Turning.actor c.args.t g.W.Turning.number c.args.epoch c.find-found.result c.args.seat.now.me c.find-found.new.seat.me c.requires.seat c.requires.actor.0 c.requires.phase.1 (λ e. c.if-found-crossing.false (e ∙ sym c.crossing.ensures)) c.find-found.ensures.looked ∙ (λ k. (Collects (collecting_more (collecting_of c.args.seat.now.me.0) (Saw c.find-found.result)), sym m.0 k)),
       c.took-turn.ensures.took,
       c.took-turn.ensures.turn,
     )

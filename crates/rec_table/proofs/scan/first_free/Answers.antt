@@ -1,4 +1,4 @@
--- The contract of `first_free`: passes taken headers, from the slot to which a scan has come after so many probes, until one is free or the scan has gone
+-- The contract of `first_free`: passes taken headers until one is free, or the scan has gone round.
 use Rattle.std.proofs.Common.{◌≡◌, ◌+◌, ◌-◌, ◌<◌, ℕ, arith, subst}
 use Rattle.rec_table.proofs.Common.{seated_of, Passed}
 use Rattle.rec_table.proofs.Scanning.{comes_round, passed_both, scans_on}

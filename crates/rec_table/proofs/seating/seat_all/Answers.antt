@@ -6,7 +6,7 @@ use mathlib.Core.Logic.{dite}
 use native.Mathlib.Decide.{ℕ_discrete}
 use Rattle.std.proofs.Math.Seq.{get_or-append_seam}
 use Rattle.std.proofs.lemmas.List.{get_or_append_left}
-use Rattle.rec_table.proofs.Common.{Private, is_busy, Core, mutator, nobody, Gathers, Held, Started, fresh, has, started}
+use Rattle.rec_table.proofs.Common.{Private, is_busy, Core, mutator, nobody, CollectorView, MutatorView, Started, fresh, mutator_now, started}
 use Rattle.rec_table.proofs.Lists.{Next, none_left, taken_off}
 use Rattle.rec_table.proofs.seating.seat_all.Goals as goal
 use Rattle.rec_table.proofs.seating.seat_all.Goals.{After-loop-machines, After-of-opened}
@@ -27,8 +27,8 @@ next c =
     let new = c.remove-machine.new.self in
     taken_off c.args.machines.items old.items new.items (so_far c) c.remove-machine.result c.loop-machines.invariant.rest (omega (arith, c.remove-machine.ensures.len, old.ok.0)) c.remove-machine.ensures.value c.remove-machine.ensures.items
 
-made : (c : After-of-opened) → c.loop-machines.collector.crew.made ≡ so_far c
-made c = ap (λ (g : Gathers). g.crew.made) c.loop-machines.invariant.collector
+made : (c : After-of-opened) → c.loop-machines.collector.collecting.made ≡ so_far c
+made c = ap (λ (g : CollectorView). g.collecting.made) c.loop-machines.invariant.collector
 
 below : (c : After-of-opened) → so_far c < (key c).config.mutators
 below c =
@@ -51,13 +51,13 @@ loop-machines-init c =
       rest = ap (λ (n : ℕ). drop n c.args.machines.items) (sym none);
       each = λ k d lt. absurd (omega (arith, none, lt));
       few = omega (arith, none);
-      collector = λ i. record c.args.collector.now { crew = record c.args.collector.now.crew { made = (c.requires.none ∙ sym none) i } };
+      collector = λ i. record c.args.collector.now { collecting = record c.args.collector.now.collecting { made = (c.requires.none ∙ sym none) i } };
       capacity = refl;
       room = c.requires.room.1;
     }
 
 pub seat_next-actor-requires-clause-own : goal.seat_next-actor-requires-clause-own
-seat_next-actor-requires-clause-own c = (ap (λ (g : Gathers). g.table) c.loop-machines.invariant.collector ∙ c.requires.own.0, ap (λ (g : Gathers). g.opened) c.loop-machines.invariant.collector ∙ c.requires.own.1)
+seat_next-actor-requires-clause-own c = (ap (λ (g : CollectorView). g.table) c.loop-machines.invariant.collector ∙ c.requires.own.0, ap (λ (g : CollectorView). g.opened) c.loop-machines.invariant.collector ∙ c.requires.own.1)
 
 pub seat_next-actor-requires-clause-room : goal.seat_next-actor-requires-clause-room
 seat_next-actor-requires-clause-room c = let a : After-of-opened = (goal.at.seat_next-actor-requires-clause-room c).After-of-opened in omega (arith, made a, below a)
@@ -73,7 +73,7 @@ seat_next-actor-requires-clause-idle c = idle (goal.at.seat_next-actor-requires-
 pub of-requires : goal.of-requires
 of-requires c =
     let a : After-of-opened = (goal.at.of-requires c).After-of-opened in
-    ap (λ (h : Held). is_busy (has h)) c.seat_next-actor.ensures.actor ∙ ap is_busy c.of-opened.ensures ∙ idle a
+    ap (λ (h : MutatorView). is_busy (mutator_now h)) c.seat_next-actor.ensures.actor ∙ ap is_busy c.of-opened.ensures ∙ idle a
 
 pub push_reserved-requires : goal.push_reserved-requires
 push_reserved-requires c =
@@ -85,21 +85,21 @@ loop-machines-preserved c =
     let a : After-of-opened = (goal.at.loop-machines-preserved c).After-of-opened in
     let n : ℕ = so_far a in
     let i = c.loop-machines.invariant in
-    let old : List Held = c.loop-machines.mutators.items in
-    let one : Held = c.of.result in
+    let old : List MutatorView = c.loop-machines.mutators.items in
+    let one : MutatorView = c.of.result in
     let its : one ≡ fresh (heap a) (n + 1) = c.of.ensures ∙ c.seat_next-actor.ensures.actor
-    ∙ (λ j. record { table = (ap (λ (g : Gathers). g.table) i.collector ∙ c.requires.own.0) j; number = made a j + 1; opened = (c.of-opened.ensures ∙ own_machine a) j; log = [] }) in
+    ∙ (λ j. record { table = (ap (λ (g : CollectorView). g.table) i.collector ∙ c.requires.own.0) j; number = made a j + 1; opened = (c.of-opened.ensures ∙ own_machine a) j; log = [] }) in
     let items : c.push_reserved.new.self.items ≡ old ++ one ∷ [] = c.push_reserved.ensures.items in
     let long : length c.push_reserved.new.self.items ≡ n + 1 = ap length items ∙ length-append old (one ∷ []) in
     let next_n : suc n ≡ length c.push_reserved.new.self.items = omega (arith, long) in
     record {
       rest = sym (next a).ahead ∙ ap (λ (k : ℕ). drop k c.args.machines.items) next_n;
-      each = λ k d lt. ap (λ (l : List Held). get_or l k d) items ∙ dite (ℕ_discrete k n)
+      each = λ k d lt. ap (λ (l : List MutatorView). get_or l k d) items ∙ dite (ℕ_discrete k n)
           (λ (e : k ≡ n). ap (λ (j : ℕ). get_or (old ++ one ∷ []) j d) e ∙ get_or-append_seam old one [] d ∙ its ∙ ap (λ (j : ℕ). fresh (heap a) (j + 1)) (sym e))
           (λ (ne : k ≢ n). get_or_append_left old (one ∷ []) d k (omega (arith, lt, long, ne)) ∙ i.each k d (omega (arith, lt, long, ne)));
       few = omega (arith, long, (next a).there);
-      collector = c.seat_next-actor.ensures.is ∙ (λ j. record (i.collector j) { crew = record (i.collector j).crew { made = (i.collector j).crew.made + 1 } })
-          ∙ (λ j. record c.args.collector.now { crew = record c.args.collector.now.crew { made = sym long j } });
+      collector = c.seat_next-actor.ensures.is ∙ (λ j. record (i.collector j) { collecting = record (i.collector j).collecting { made = (i.collector j).collecting.made + 1 } })
+          ∙ (λ j. record c.args.collector.now { collecting = record c.args.collector.now.collecting { made = sym long j } });
       capacity = c.remove-machine.ensures.capacity ∙ i.capacity;
       room = omega (arith, i.room, c.push_reserved.ensures.capacity);
     }
@@ -123,4 +123,4 @@ pub returns-clause-each : goal.returns-clause-each
 returns-clause-each c = c.loop-machines.invariant.each
 
 pub returns-clause-collector : goal.returns-clause-collector
-returns-clause-collector c = c.loop-machines.invariant.collector ∙ (λ j. record c.args.collector.now { crew = record c.args.collector.now.crew { made = all c j } })
+returns-clause-collector c = c.loop-machines.invariant.collector ∙ (λ j. record c.args.collector.now { collecting = record c.args.collector.now.collecting { made = all c j } })

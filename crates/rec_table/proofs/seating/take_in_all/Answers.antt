@@ -5,7 +5,7 @@ use native.Mathlib.Decide.{ℕ_discrete}
 use Rattle.std.specs.List.{sum_by}
 use Rattle.std.proofs.Math.Seq.{get_or-append_seam}
 use Rattle.std.proofs.lemmas.List.{get_or_append_left, map-append}
-use Rattle.rec_table.proofs.Common.{Private, is_busy, births_told, Held, has}
+use Rattle.rec_table.proofs.Common.{Private, is_busy, births_told, MutatorView, mutator_now}
 use Rattle.rec_table.proofs.Lists.{Next, sum_more, taken_off}
 use Rattle.rec_table.proofs.seating.take_in_all.Goals as goal
 
@@ -18,12 +18,12 @@ idle_more ps p all one = λ k d lt.
 
 pub loop-mutators-preserved : goal.loop-mutators-preserved
 loop-mutators-preserved c =
-    let ms : List Held = c.args.mutators.items in
+    let ms : List MutatorView = c.args.mutators.items in
     let old = c.loop-mutators.mutators in
     let i = c.loop-mutators.invariant in
     let done : List Private = c.loop-mutators.machines.items in
     let d : ℕ = length done in
-    let x : Held = c.remove.result in
+    let x : MutatorView = c.remove.result in
     let n : Next ms d x c.remove.new.self.items = taken_off ms old.items c.remove.new.self.items d x i.rest (omega (arith, c.remove.ensures.len, old.ok.0)) c.remove.ensures.value c.remove.ensures.items in
     let own : c.into_actor-actor.result ≡ x = c.into_actor-actor.ensures.actor in
     let t = c.take_in-machine.ensures in
@@ -32,18 +32,18 @@ loop-mutators-preserved c =
     let long : length c.push_reserved.new.self.items ≡ d + 1 = ap length items ∙ length-append done (machine ∷ []) in
     let next_d : suc d ≡ length c.push_reserved.new.self.items = omega (arith, long) in
     let taken : take (length c.push_reserved.new.self.items) ms ≡ take d ms ++ x ∷ [] = ap (λ (k : ℕ). take k ms) (sym next_d) ∙ n.behind in
-    let is_machine : machine ≡ has x = t.machine ∙ ap has own in
-    let added : sum_by (λ (m : Held). births_told m.opened m.log) (take (length c.push_reserved.new.self.items) ms) ≡ sum_by (λ (m : Held). births_told m.opened m.log) (take d ms) + births_told x.opened x.log =
-    ap (sum_by (λ (m : Held). births_told m.opened m.log)) taken ∙ sum_more (λ (m : Held). births_told m.opened m.log) (take d ms) x in
-    let its : c.take_in-machine.result.1 ≡ births_told x.opened x.log % 2 ^ 64 = t.births ∙ ap (λ (m : Held). births_told m.opened m.log % 2 ^ 64) own in
+    let is_machine : machine ≡ mutator_now x = t.machine ∙ ap mutator_now own in
+    let added : sum_by (λ (m : MutatorView). births_told m.opened m.log) (take (length c.push_reserved.new.self.items) ms) ≡ sum_by (λ (m : MutatorView). births_told m.opened m.log) (take d ms) + births_told x.opened x.log =
+    ap (sum_by (λ (m : MutatorView). births_told m.opened m.log)) taken ∙ sum_more (λ (m : MutatorView). births_told m.opened m.log) (take d ms) x in
+    let its : c.take_in-machine.result.1 ≡ births_told x.opened x.log % 2 ^ 64 = t.births ∙ ap (λ (m : MutatorView). births_told m.opened m.log % 2 ^ 64) own in
     let so_far = i.made in
     record {
       rest = sym n.ahead ∙ ap (λ (k : ℕ). drop k ms) next_d;
-      machines = items ∙ (λ j. i.machines j ++ is_machine j ∷ []) ∙ sym (map-append has (take d ms) (x ∷ [])) ∙ ap (map has) (sym taken);
+      machines = items ∙ (λ j. i.machines j ++ is_machine j ∷ []) ∙ sym (map-append mutator_now (take d ms) (x ∷ [])) ∙ ap (map mutator_now) (sym taken);
       idle = subst (λ (l : List Private). All (λ (q : Private). is_busy q ≡ false) l) (sym items) (idle_more done machine i.idle (ap is_busy (t.machine) ∙ c.into_actor-actor.ensures.idle));
       known = t.is
-          ∙ (λ j. record (i.known j) { crew = record (i.known j).crew { known = (i.known j).crew.known ++ (own j).log ∷ [] } })
-          ∙ (λ j. record c.args.collector.now { crew = record c.args.collector.now.crew { known = (sym (map-append (λ (m : Held). m.log) (take d ms) (x ∷ [])) ∙ ap (map (λ (m : Held). m.log)) (sym taken)) j } });
+          ∙ (λ j. record (i.known j) { collecting = record (i.known j).collecting { known = (i.known j).collecting.known ++ (own j).log ∷ [] } })
+          ∙ (λ j. record c.args.collector.now { collecting = record c.args.collector.now.collecting { known = (sym (map-append (λ (m : MutatorView). m.log) (take d ms) (x ∷ [])) ∙ ap (map (λ (m : MutatorView). m.log)) (sym taken)) j } });
       made = omega (arith, so_far, its, added);
       room = omega (arith, i.room, c.push_reserved.ensures.capacity);
     }

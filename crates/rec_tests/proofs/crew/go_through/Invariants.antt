@@ -1,6 +1,6 @@
 -- The loops of `go_through`: carries out the commands in order, with a poll after each.
 use Rattle.std.proofs.Common.{◌≡◌}
-use Rattle.rec_table.specs.Held.{IsMutatorOf}
+use Rattle.rec_table.specs.Views.{IsMutatorOf}
 use Rattle.rec_tests.proofs.crew.go_through.Given as goal
 
 abbrev pub invariant-loop-cmd : goal.invariant-loop-cmd

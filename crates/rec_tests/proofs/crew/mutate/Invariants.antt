@@ -1,6 +1,6 @@
 -- The loops of `mutate`: meets the others, and goes through the commands of a task, as many times as it says or until it is enough.
 use Rattle.std.proofs.Common.{◌≡◌}
-use Rattle.rec_table.specs.Held.{IsMutatorOf}
+use Rattle.rec_table.specs.Views.{IsMutatorOf}
 use Rattle.rec_tests.proofs.crew.mutate.Given as goal
 
 abbrev pub invariant-loop : goal.invariant-loop

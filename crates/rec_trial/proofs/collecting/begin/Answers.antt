@@ -1,5 +1,6 @@
+-- The contract of `begin`: begins a set with a White slot.
 use Rattle.std.proofs.Common.{ap, ◌∙◌}
-use Rattle.rec_counts.specs.Counts.{State, slot_at}
+use Rattle.rec_trial.proofs.Common.{State, slot_at}
 use Rattle.rec_trial.proofs.Conditions.{set_room, unbuffered_white}
 use Rattle.rec_trial.proofs.collecting.begin.Goals as goal
 

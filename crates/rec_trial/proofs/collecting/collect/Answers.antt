@@ -1,3 +1,4 @@
+-- The contract of `collect`: lets what a field of a member leads to join the last set, where it is White.
 use Rattle.std.proofs.Common.{refl}
 use Rattle.rec_trial.proofs.Conditions.{unbuffered_white}
 use Rattle.rec_trial.proofs.collecting.collect.Goals as goal

@@ -1,6 +1,6 @@
+-- The contract of `touch`: a slot that is not Gray becomes Gray, its cyclic count is its true count, and it is marked.
 use Rattle.std.proofs.Common.{◌≡◌, false, rules}
-use Rattle.rec_counts.specs.Counts.{slot_at}
-use Rattle.rec_counts.specs.Colour.{is_gray}
+use Rattle.rec_trial.proofs.Common.{slot_at, is_gray}
 use Rattle.rec_trial.proofs.Conditions.{touched_made}
 use Rattle.rec_trial.proofs.marking.touch.Goals as goal
 

@@ -1,6 +1,6 @@
+-- The contract of `whiten`: makes every Gray slot White: all of them are marked.
 use Rattle.std.proofs.Common.{◌≡◌, ◌<◌, length, get_or, arith, rules, refl, ap, ◌∙◌, true, false}
-use Rattle.rec_counts.specs.Counts.{slot_at}
-use Rattle.rec_counts.specs.Colour.{is_gray}
+use Rattle.rec_trial.proofs.Common.{slot_at, is_gray}
 use Rattle.rec_trial.proofs.Conditions.{whiten_first, whiten_gray, whiten_other, whiten_last, whiten_marked, whiten_range}
 use Rattle.rec_trial.proofs.scanning.whiten.Goals as goal
 use Rattle.rec_trial.proofs.scanning.whiten.Goals.{in-Gray, in_default}

@@ -1,3 +1,4 @@
+-- The loops of `whiten`: makes every Gray slot White: all of them are marked.
 use Rattle.rec_trial.proofs.Conditions.{Whitening}
 use Rattle.rec_trial.proofs.scanning.whiten.Given as goal
 

@@ -1,6 +1,6 @@
 -- The loops of `make_on`: a mutator of a running heap makes the cycle, with a poll after each command.
 use Rattle.std.proofs.Common.{◌≡◌}
-use Rattle.rec_table.specs.Held.{IsMutatorOf}
+use Rattle.rec_table.specs.Views.{IsMutatorOf}
 use Rattle.rec_uses.proofs.ring.make_on.Given as goal
 
 abbrev pub invariant-loop-cmd : goal.invariant-loop-cmd

@@ -2,7 +2,7 @@
 use Rattle.std.proofs.Common.{◌≡◌, ◌≤◌, Some, length, ap, ◌∙◌, arith}
 use Rattle.std.proofs.lemmas.List.{length-replicate}
 use Rattle.std.specs.Vec.{vec_capacity}
-use Rattle.rec_core.specs.Core.{spare_of}
+use Rattle.rec_world.proofs.Common.{spare_of}
 use Rattle.rec_world.proofs.mailbox.open_boxes.Goals as goal
 
 pub push_reserved-requires : goal.push_reserved-requires

@@ -1,7 +1,7 @@
 -- The mailboxes so far hold spares, and there is room for the others.
 use Rattle.std.proofs.Common.{◌≡◌, ◌≤◌, Some, replicate}
 use Rattle.std.specs.Vec.{vec_capacity}
-use Rattle.rec_core.specs.Core.{spare_of}
+use Rattle.rec_world.proofs.Common.{spare_of}
 use Rattle.rec_world.proofs.mailbox.open_boxes.Given as goal
 
 abbrev pub invariant-loop : goal.invariant-loop

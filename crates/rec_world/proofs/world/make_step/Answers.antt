@@ -1,9 +1,6 @@
 -- The machine learns the word that its operation found.
 use Rattle.std.proofs.Common.{ap, ◌∙◌}
-use Rattle.rec_mutator.specs.Private.{Private}
-use Rattle.rec_mutator.specs.Took.{took_of, step_of, swapped_of}
-use Rattle.rec_core.specs.Cells.{cell}
-use Rattle.rec_world.specs.Mailbox.{held}
+use Rattle.rec_world.proofs.Common.{Private, took_of, step_of, swapped_of, cell, held}
 use Rattle.rec_world.proofs.world.make_step.Goals as goal
 
 pub returns-clause-machine : goal.returns-clause-machine

@@ -1,8 +1,6 @@
 -- The parts make up the heap as it is opened.
 use Rattle.std.proofs.Common.{◌≡◌, map, sym, subst}
-use Rattle.rec_core.specs.Core.{Core, opened}
-use Rattle.rec_world.specs.Mailbox.{held}
-use Rattle.rec_world.specs.World.{IsWorld}
+use Rattle.rec_world.proofs.Common.{Core, opened, held, IsWorld}
 use Rattle.rec_world.proofs.Calls.{opened_parts, opened_world, opened_home}
 use Rattle.rec_world.proofs.world.open_in_range.Goals as goal
 use Rattle.rec_world.proofs.world.open_in_range.Goals.{In_ok-collector}

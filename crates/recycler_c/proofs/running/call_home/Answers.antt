@@ -1,7 +1,7 @@
 -- The contract of `call_home`: the mutators that are out come home.
 use Rattle.std.proofs.Common.{◌≡◌, ◌<◌, ◌∙◌, Some, List, [], ◌∷◌, length, vec_len, refl, sym, ap, arith}
 use Rattle.std.proofs.lemmas.Bool.{eqb-false, eqb-true}
-use Rattle.rec_table.specs.Held.{Held}
+use Rattle.rec_table.specs.Views.{MutatorView}
 use Rattle.recycler_c.specs.Standing.{seat_in}
 use Rattle.recycler_c.specs.declared.end.End.TheVariants as ends
 use Rattle.recycler_c.proofs.Runs.{AreTaken, first_out, gathered_home, gathered_out, out_some}
@@ -9,7 +9,7 @@ use Rattle.recycler_c.proofs.Ties.{runs_high, runs_home}
 use Rattle.recycler_c.proofs.running.call_home.Goals as goal
 use Rattle.recycler_c.proofs.running.call_home.Goals.{After-gather}
 
-none_in : (xs : List Held) → length xs ≡ 0 → xs ≡ []
+none_in : (xs : List MutatorView) → length xs ≡ 0 → xs ≡ []
 none_in [] e = refl
 none_in (x ∷ xs) e = absurd (omega (arith, e))
 

@@ -1,7 +1,7 @@
 -- The contract of `send_out`: all mutators go out.
 use Rattle.std.proofs.Common.{List, length, refl, sym, ap, subst, arith}
 use Rattle.std.specs.Arc.{arc_value}
-use Rattle.rec_table.specs.Held.{Held}
+use Rattle.rec_table.specs.Views.{MutatorView}
 use Rattle.recycler_c.specs.First.{AreFirst}
 use Rattle.recycler_c.proofs.running.send_out.Goals as goal
 
@@ -22,7 +22,7 @@ invariant_of-running c = record {
   own = c.args.running.own;
   counted = c.args.running.counted;
   few = c.args.running.few;
-  first = subst (λ (l : List Held). AreFirst (arc_value c.args.running.heap) l) (sym c.hand_out.ensures.home) (λ k d lt. absurd (omega (arith, lt)));
+  first = subst (λ (l : List MutatorView). AreFirst (arc_value c.args.running.heap) l) (sym c.hand_out.ensures.home) (λ k d lt. absurd (omega (arith, lt)));
   whole = λ some. absurd (omega (arith, some, ap length c.hand_out.ensures.home));
   room = omega (arith, c.hand_out.ensures.capacity, c.args.running.room);
 }

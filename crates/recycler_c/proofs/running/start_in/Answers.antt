@@ -2,7 +2,7 @@
 use Rattle.std.proofs.Common.{◌≡◌, ℕ, ◌+◌, ◌<◌, ◌∙◌, Some, length, refl, sym, ap, subst, arith}
 use Rattle.std.specs.Arc.{arc_value}
 use Rattle.rec_core.specs.Core.{Core}
-use Rattle.rec_table.specs.Held.{Started, fresh, fresh_collector}
+use Rattle.rec_table.specs.Views.{Started, fresh, fresh_collector}
 use Rattle.recycler_c.specs.Calls.{IsOut, NotRun, Starts}
 use Rattle.recycler_c.specs.Standing.{AreTied, held_at, rests_in, seat_in}
 use Rattle.recycler_c.specs.declared.end.End.{End}

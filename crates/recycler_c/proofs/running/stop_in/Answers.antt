@@ -2,7 +2,7 @@
 use Rattle.std.proofs.Common.{◌≡◌, ◌∙◌, Some, length, refl, sym, ap, subst, arith}
 use Rattle.std.specs.Arc.{arc_value}
 use Rattle.rec_core.specs.declared.config.Config.{Config}
-use Rattle.rec_table.specs.Held.{Gathers, gathers_now}
+use Rattle.rec_table.specs.Views.{CollectorView, collector_now}
 use Rattle.recycler_c.specs.Standing.{AreTied, collects_in}
 use Rattle.recycler_c.specs.declared.end.End.{End}
 use Rattle.recycler_c.specs.declared.end.End.TheVariants as ends
@@ -29,7 +29,7 @@ returns-in-Ok-clause-stops c = record {
   world = c.in-Ok.resting;
   is = refl;
   stopped = stopped_of (arc_value c.in-Collecting.running.heap) (arc_value c.call_home.result.heap) c.in-Collecting.running.collector c.call_home.result.collector c.call_home.result.home.items c.in-Ok.resting c.call_home.ensures.heap c.call_home.ensures.collector c.in-Ok.ensures.stopped;
-  requested = c.in-Ok.ensures.requested ∙ ap (λ (g : Gathers). (gathers_now g).epoch) c.call_home.ensures.collector;
+  requested = c.in-Ok.ensures.requested ∙ ap (λ (g : CollectorView). (collector_now g).epoch) c.call_home.ensures.collector;
   home = c.in-Ok.ensures.home;
 }
 

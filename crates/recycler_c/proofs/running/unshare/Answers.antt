@@ -2,7 +2,7 @@
 use Rattle.std.proofs.Common.{◌∙◌, map, refl, sym, ap, subst}
 use Rattle.std.specs.Arc.{arc_value}
 use Rattle.rec_table.specs.Ends.{IsStopped}
-use Rattle.rec_table.specs.Held.{Held, Started, IsCollectorOf}
+use Rattle.rec_table.specs.Views.{MutatorView, Started, IsCollectorOf}
 use Rattle.recycler_c.proofs.Runs.{all_of}
 use Rattle.recycler_c.proofs.running.unshare.Goals as goal
 
@@ -14,7 +14,7 @@ rest-requires-clause-collector c = subst (λ (s : Started). IsCollectorOf s c.ar
 
 pub returns-in-Ok-clause-stopped : goal.returns-in-Ok-clause-stopped
 returns-in-Ok-clause-stopped c =
-    subst (λ (s : Started). IsStopped s.world c.args.running.collector.crew.log (map (λ (m : Held). m.log) c.args.running.home.items) c.rest.result) c.in-Ok.ensures.ok c.rest.ensures.stopped
+    subst (λ (s : Started). IsStopped s.world c.args.running.collector.collecting.log (map (λ (m : MutatorView). m.log) c.args.running.home.items) c.rest.result) c.in-Ok.ensures.ok c.rest.ensures.stopped
 
 pub returns-in-Err-clause-shared : goal.returns-in-Err-clause-shared
 returns-in-Err-clause-shared c = (ap arc_value c.in-Err.ensures.err, refl, refl)

@@ -4,7 +4,7 @@ use Rattle.std.proofs.Math.Seq.{get_or-append_seam}
 use Rattle.std.proofs.lemmas.List.{get_or_append_left}
 use mathlib.Core.Logic.{dite}
 use native.Mathlib.Decide.{ℕ_discrete}
-use Rattle.rec_table.specs.Held.{Held}
+use Rattle.rec_table.specs.Views.{MutatorView}
 use Rattle.recycler_c.specs.Standing.{mutates_in}
 use Rattle.recycler_c.specs.declared.end.End.{End}
 use Rattle.recycler_c.specs.declared.handle.Handle.{Handle}
@@ -16,8 +16,8 @@ loop-k-preserved c =
     let n : ℕ = c.loop-k.k in
     let i = c.loop-k.invariant in
     let hs : List Handle = c.loop-k.handles in
-    let old : List Held = c.loop-k.home.items in
-    let one : Held = c.mutator_of.result in
+    let old : List MutatorView = c.loop-k.home.items in
+    let one : MutatorView = c.mutator_of.result in
     let g : Handle = c.take-seat.new.self in
     let h : Handle = c.put.new.self in
     let there : n < length hs = omega arith in
@@ -26,7 +26,7 @@ loop-k-preserved c =
     record {
       many = omega (arith, long, i.many);
       capacity = c.push_reserved.ensures.capacity ∙ i.capacity;
-      home = λ k d e m lt is. ap (λ (l : List Held). get_or l k e) items ∙ dite (ℕ_discrete k n)
+      home = λ k d e m lt is. ap (λ (l : List MutatorView). get_or l k e) items ∙ dite (ℕ_discrete k n)
           (λ (same : k ≡ n). ap (λ (j : ℕ). get_or (old ++ one ∷ []) j e) (same ∙ sym i.many) ∙ get_or-append_seam old one [] e
           ∙ c.mutator_of.ensures m (ap (λ (x : End). mutates_in (Some x)) c.replace-out.ensures.value ∙ ap mutates_in (sym c.take-seat.ensures.was)
           ∙ ap mutates_in (sym (read_at hs k n c.index-handles-k.result d same there)) ∙ ap mutates_in (i.others k d (omega (arith, same))) ∙ is))

@@ -5,7 +5,7 @@ use Rattle.std.proofs.lemmas.List.{get_or_append_left}
 use mathlib.Core.Logic.{dite}
 use native.Mathlib.Decide.{ℕ_discrete}
 use Rattle.std.specs.Arc.{arc_value}
-use Rattle.rec_table.specs.Held.{Held, IsMutatorOf, Started}
+use Rattle.rec_table.specs.Views.{MutatorView, IsMutatorOf, Started}
 use Rattle.recycler_c.specs.Calls.{IsOut}
 use Rattle.recycler_c.specs.Standing.{mutates_in}
 use Rattle.recycler_c.specs.declared.handle.Handle.{Handle}
@@ -27,10 +27,10 @@ leaves c = c.in-Some.ensures.items
 long : (c : After-unwrap-heap) → length c.loop-mutator.home.items ≡ length c.pop.new.self.items + 1
 long c = ap length (leaves c) ∙ length-append c.pop.new.self.items (c.in-Some.mutator ∷ [])
 
-own_is : (c : After-unwrap-heap) (e : Held) → c.in-Some.mutator ≡ get_or c.args.home.now.items (length c.pop.new.self.items) e
+own_is : (c : After-unwrap-heap) (e : MutatorView) → c.in-Some.mutator ≡ get_or c.args.home.now.items (length c.pop.new.self.items) e
 own_is c e =
-    let new : List Held = c.pop.new.self.items in
-    sym (get_or-append_seam new c.in-Some.mutator [] e) ∙ ap (λ (l : List Held). get_or l (length new) e) (sym (leaves c)) ∙ c.loop-mutator.invariant.first (length new) e (omega (arith, long c))
+    let new : List MutatorView = c.pop.new.self.items in
+    sym (get_or-append_seam new c.in-Some.mutator [] e) ∙ ap (λ (l : List MutatorView). get_or l (length new) e) (sym (leaves c)) ∙ c.loop-mutator.invariant.first (length new) e (omega (arith, long c))
 
 -- and so is the pointer
 left : (c : After-unwrap-heap) → c.loop-mutator.heaps.items ≡ c.pop-in-Some.new.self.items ++ c.unwrap-heap.result ∷ []
@@ -43,9 +43,9 @@ pub invariant_of-fill : goal.invariant_of-fill
 invariant_of-fill c =
     let a : After-unwrap-heap = (goal.at.invariant_of-fill c).After-unwrap-heap in
     let s : Started = c.requires.own.0 in
-    let m : Held = c.in-Some.mutator in
+    let m : MutatorView = c.in-Some.mutator in
     let first : IsMutatorOf s (get_or c.args.home.now.items (length c.pop.new.self.items) m) = (c.requires.own.2 (length c.pop.new.self.items) m (omega (arith, long a, c.loop-mutator.invariant.few))).0 in
-    let own : IsMutatorOf s m = subst (λ (x : Held). IsMutatorOf s x) (sym (own_is a m)) first in
+    let own : IsMutatorOf s m = subst (λ (x : MutatorView). IsMutatorOf s x) (sym (own_is a m)) first in
     record { own = subst (λ (t : Started). IsMutatorOf t m) (sym (heap_is a s c.requires.own.1)) own }
 
 pub loop-mutator-preserved : goal.loop-mutator-preserved
@@ -53,7 +53,7 @@ loop-mutator-preserved c =
     let a : After-unwrap-heap = (goal.at.loop-mutator-preserved c).After-unwrap-heap in
     let i = c.loop-mutator.invariant in
     let hs : List Handle = c.loop-mutator.handles in
-    let new : List Held = c.pop.new.self.items in
+    let new : List MutatorView = c.pop.new.self.items in
     let n : ℕ = c.len-own.result in
     let g : Handle = c.take-seat.new.self in
     let h : Handle = c.put.new.self in
@@ -63,7 +63,7 @@ loop-mutator-preserved c =
     record {
       few = omega (arith, long a, i.few);
       capacity = c.pop.ensures.capacity ∙ i.capacity;
-      first = λ k e lt. sym (get_or_append_left new (c.in-Some.mutator ∷ []) e k lt) ∙ ap (λ (l : List Held). get_or l k e) (sym (leaves a)) ∙ i.first k e (omega (arith, lt, long a));
+      first = λ k e lt. sym (get_or_append_left new (c.in-Some.mutator ∷ []) e k lt) ∙ ap (λ (l : List MutatorView). get_or l k e) (sym (leaves a)) ∙ i.first k e (omega (arith, lt, long a));
       many = omega (arith, long a, fewer, i.many);
       heaps = λ s all. rest_of (λ heap. arc_value heap ≡ s) c.pop-in-Some.new.self.items c.unwrap-heap.result (subst (λ l. All (λ heap. arc_value heap ≡ s) l) (left a) (i.heaps s all));
       waiting = λ k d lt. twice_other hs n k g h d (λ same. omega (arith, lt, same, is_n)) ∙ i.waiting k d (omega (arith, lt, long a));

@@ -1,9 +1,9 @@
+-- The contract of `Machine::end`: the collection is complete: the older buffers become spares, and the newer ones the older.
 use Rattle.std.proofs.Common.{◌≡◌, map, ap, sym, ◌∙◌}
 use Rattle.std.specs.Vec.{with_items}
 use Rattle.std.proofs.lemmas.List.{length-map, with_items_is}
+use Rattle.rec_collector.proofs.Common.{Private, cleared}
 use Rattle.rec_collector.specs.Inside.{private}
-use Rattle.rec_collector.specs.Private.{Private}
-use Rattle.rec_collector.specs.Took.{cleared}
 use Rattle.rec_collector.proofs.Sweeping.{ended_keeps}
 use Rattle.rec_collector.proofs.machine.Machine.end.Goals as goal
 

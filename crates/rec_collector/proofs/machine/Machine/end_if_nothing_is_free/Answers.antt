@@ -1,7 +1,6 @@
+-- The contract of `Machine::end_if_nothing_is_free`: where nothing is to be swept, the collection is complete without a sweep.
 use Rattle.std.proofs.Common.{sym, ap, ◌∙◌}
-use Rattle.rec_collector.specs.Private.{Private}
-use Rattle.rec_collector.specs.Took.{came_turn, ended_if, took_at, turn_at}
-use Rattle.rec_collector.specs.declared.phase.Phase.{Phase}
+use Rattle.rec_collector.proofs.Common.{Private, came_turn, ended_if, took_at, turn_at, Phase}
 use Rattle.rec_collector.proofs.machine.Machine.end_if_nothing_is_free.Goals as goal
 
 pub returns-in-Closing-clause-took : goal.returns-in-Closing-clause-took

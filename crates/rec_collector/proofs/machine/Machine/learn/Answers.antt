@@ -1,5 +1,5 @@
-use Rattle.rec_collector.specs.Given.{IsGiven, IsGivenAt}
-use Rattle.rec_collector.specs.Took.{took_at, took_of, turn_at, turn_of}
+-- The contract of `Machine::learn`: learns a word, by the phase.
+use Rattle.rec_collector.proofs.Common.{IsGiven, IsGivenAt, took_at, took_of, turn_at, turn_of}
 use Rattle.rec_collector.proofs.Keeping.{asked, learnt}
 use Rattle.rec_collector.proofs.machine.Machine.learn.Goals as goal
 

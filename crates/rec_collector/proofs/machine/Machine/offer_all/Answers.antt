@@ -1,3 +1,4 @@
+-- The contract of `Machine::offer_all`: makes the next trial begin by offering every slot: each that is neither released nor Green is then a candidate root.
 use Rattle.std.proofs.Common.{true}
 use Rattle.rec_collector.specs.Inside.{private}
 use Rattle.rec_collector.proofs.Keeping.{offers_kept}

@@ -1,6 +1,7 @@
+-- The contract of `Machine::open`: the collector of a heap with so many slots, and fields per object, and so many mutators, each with `regs` registers and buffers for `cap` entries.
 use Rattle.std.proofs.Common.{◌≡◌, ℕ, Option, Some, List, set, subst, refl, ap, ◌∙◌}
-use Rattle.rec_counts.specs.Counts.{State, IsKept as IsKeptCounts, opened as opened_counts}
-use Rattle.rec_collector.specs.Private.{first_registers}
+use Rattle.rec_collector.proofs.Common.{State, first_registers}
+use Rattle.rec_counts.specs.Counts.{IsKept as IsKeptCounts, opened as opened_counts}
 use Rattle.rec_collector.proofs.Rows.{first_row}
 use Rattle.rec_collector.proofs.Opening.{opened_keeps}
 use Rattle.rec_collector.proofs.machine.Machine.open.Goals as goal

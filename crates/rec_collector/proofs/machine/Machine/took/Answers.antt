@@ -1,5 +1,6 @@
+-- The contract of `Machine::took`: learns the word that the operation of `next` found: the turn is made.
 use Rattle.std.proofs.Common.{◌∙◌}
-use Rattle.rec_collector.specs.Kept.{IsMachine}
+use Rattle.rec_collector.proofs.Common.{IsMachine}
 use Rattle.rec_collector.proofs.Steps.{has_cause, waits, spends}
 use Rattle.rec_collector.proofs.Always.{within_limit}
 use Rattle.rec_collector.proofs.machine.Machine.took.Goals as goal

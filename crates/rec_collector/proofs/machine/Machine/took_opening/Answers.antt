@@ -1,3 +1,4 @@
+-- The contract of `Machine::took_opening`: a sweep has begun.
 use Rattle.rec_collector.proofs.Sweeping.{opening_on, same_machine, same_phase}
 use Rattle.rec_collector.proofs.machine.Machine.took_opening.Goals as goal
 

@@ -1,9 +1,8 @@
+-- The contract of `Machine::took_return`: a mailbox was given back.
 use Rattle.std.proofs.Common.{true, false, refl, ◌≡◌, length, ap, sym, ◌∙◌}
 use Rattle.std.proofs.lemmas.Bool.{eq-eqb, ne_eqb}
-use Rattle.rec_collector.specs.Given.{IsGivenAt}
+use Rattle.rec_collector.proofs.Common.{IsGivenAt, Private, parts_of, Returning}
 use Rattle.rec_collector.specs.Inside.{private}
-use Rattle.rec_collector.specs.Private.{Private, parts_of}
-use Rattle.rec_collector.specs.declared.phase.Phase.TheVariants.{Returning}
 use Rattle.rec_collector.proofs.Following.{none_released, resting_cleared}
 use Rattle.rec_collector.proofs.Landing.{now_at}
 use Rattle.rec_collector.proofs.Keeping.{batch_follows, returned_as, turned, turned_keeps}

@@ -1,7 +1,7 @@
+-- The contract of `Machine::took_sweep`: a slot more is swept.
 use Rattle.std.proofs.Common.{◌≡◌, ◌+◌, is_some, not, Option, true, false, sym, ◌∙◌, ap}
-use Rattle.rec_word.specs.declared.op.Op.{Op}
+use Rattle.rec_collector.proofs.Common.{Op, Closing, Sweeping}
 use Rattle.rec_release.specs.Sweep.{next_of}
-use Rattle.rec_collector.specs.declared.phase.Phase.TheVariants.{Closing, Sweeping}
 use Rattle.rec_collector.proofs.Sweeping.{same_machine, slot_due, sweeping_on, sweeps_last, sweeps_more}
 use Rattle.rec_collector.proofs.machine.Machine.took_sweep.Goals as goal
 use Rattle.rec_collector.proofs.machine.Machine.took_sweep.Goals.{then-is_none, else-is_none}

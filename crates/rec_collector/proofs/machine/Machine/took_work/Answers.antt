@@ -1,10 +1,7 @@
+-- The contract of `Machine::took_work`: a word came out of a field, or was loaded from one, for the machine at work.
 use Rattle.std.proofs.Common.{◌≡◌, arith, refl, sym, ◌∙◌, subst}
-use Rattle.rec_collector.specs.Followed.{Next}
-use Rattle.rec_collector.specs.Given.{IsGivenAt, IsWork}
+use Rattle.rec_collector.proofs.Common.{Next, IsGivenAt, IsWork, KeepsSizes, Private, took_at, turn_at}
 use Rattle.rec_collector.specs.Inside.{private}
-use Rattle.rec_collector.specs.Kept.{KeepsSizes}
-use Rattle.rec_collector.specs.Private.{Private}
-use Rattle.rec_collector.specs.Took.{took_at, turn_at}
 use Rattle.rec_collector.proofs.Always.{turns_fit}
 use Rattle.rec_collector.proofs.Keeping.{may_work, turned, turned_keeps, work_is, work_took, works_there}
 use Rattle.rec_collector.proofs.machine.Machine.took_work.Goals as goal

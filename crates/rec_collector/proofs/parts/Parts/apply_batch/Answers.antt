@@ -1,8 +1,6 @@
+-- The contract of `Parts::apply_batch`: the batch of these buffers is applied, and its zeros are to be released.
 use Rattle.std.proofs.Common.{◌≡◌, ◌<◌, false, sym, ◌∙◌, ap, subst}
-use Rattle.rec_counts.specs.Counts.{IsKept, State}
-use Rattle.rec_collector.specs.Clearing.{IsClear}
-use Rattle.rec_collector.specs.Parts.{Parts}
-use Rattle.rec_collector.specs.Testing.{Begun, zeros_released}
+use Rattle.rec_collector.proofs.Common.{IsKept, State, IsClear, Parts, Begun, zeros_released}
 use Rattle.rec_apply.specs.Batch.{batch}
 use Rattle.rec_collector.proofs.Answering.{batch_clear}
 use Rattle.rec_collector.proofs.parts.Parts.apply_batch.Goals as goal

@@ -1,11 +1,8 @@
+-- The contract of `Parts::follow`: what follows where this was begun: while nothing was, the next set is tested, and after the last one a trial begins.
 use Rattle.std.proofs.Common.{◌≡◌, ◌<◌, is_some, Option, length, arith, sym, ◌∙◌, ap, subst}
 use Rattle.std.proofs.lemmas.Bool.{false≢true}
 use Rattle.std.proofs.lemmas.List.{nil_from_length}
-use Rattle.rec_counts.specs.Counts.{IsKept}
-use Rattle.rec_collector.specs.Clearing.{IsClearingIn, IsCleared}
-use Rattle.rec_collector.specs.Parts.{Parts}
-use Rattle.rec_collector.specs.Testing.{Begun}
-use Rattle.rec_collector.specs.declared.phase.Phase.{Phase}
+use Rattle.rec_collector.proofs.Common.{IsKept, IsClearingIn, IsCleared, Parts, Begun, Phase}
 use Rattle.rec_collector.proofs.Answering.{last_under_test, none_of, starts_test, test_begins, test_ends}
 use Rattle.rec_collector.proofs.Goings.{last_sets}
 use Rattle.rec_collector.proofs.Testing.{clear_ready}

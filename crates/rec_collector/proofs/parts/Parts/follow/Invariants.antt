@@ -1,3 +1,4 @@
+-- The loops of `Parts::follow`: what follows where this was begun: while nothing was, the next set is tested, and after the last one a trial begins.
 use Rattle.std.proofs.Common.{length}
 use Rattle.rec_collector.proofs.Answering.{IsUnderTest}
 use Rattle.rec_collector.proofs.parts.Parts.follow.Given as goal

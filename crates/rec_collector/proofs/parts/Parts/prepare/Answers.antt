@@ -1,8 +1,7 @@
+-- The contract of `Parts::prepare`: the sets that the trial found are to be prepared.
 use Rattle.std.proofs.Common.{is_some, Option, sym, ◌∙◌, ap}
-use Rattle.rec_word.specs.declared.op.Op.{Op}
-use Rattle.rec_collector.specs.Parts.{Parts}
+use Rattle.rec_collector.proofs.Common.{Op, Parts, prep_started, prepared}
 use Rattle.rec_sigma.specs.Prepare as preps
-use Rattle.rec_collector.specs.Followed.{prep_started, prepared}
 use Rattle.rec_collector.proofs.Answering.{more_prepared, over_prepared}
 use Rattle.rec_collector.proofs.parts.Parts.prepare.Goals as goal
 

@@ -1,9 +1,8 @@
+-- The contract of `Parts::start_trial`: a trial begins.
 use Rattle.std.proofs.Common.{◌≡◌, is_some, Option, sym, ◌∙◌, ap, subst}
-use Rattle.rec_word.specs.declared.op.Op.{Op}
-use Rattle.rec_collector.specs.Parts.{Parts}
+use Rattle.rec_collector.proofs.Common.{Op, Parts, tried, with_offers}
 use Rattle.rec_trial.specs.Rules.{IsReady}
 use Rattle.rec_trial.specs.Trial as trials
-use Rattle.rec_collector.specs.Followed.{tried, with_offers}
 use Rattle.rec_collector.proofs.Answering.{more_tried, over_tried}
 use Rattle.rec_collector.proofs.Offering.{where_ready}
 use Rattle.rec_collector.proofs.parts.Parts.start_trial.Goals as goal

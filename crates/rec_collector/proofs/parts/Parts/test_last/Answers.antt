@@ -1,10 +1,6 @@
+-- The contract of `Parts::test_last`: tests the last set, and begins to free it where it passes.
 use Rattle.std.proofs.Common.{◌≡◌, ◌-◌, length, arith, sym, ◌∙◌, ap, subst}
-use Rattle.rec_counts.specs.Counts.{IsKept}
-use Rattle.rec_release.specs.CycleFree.{IsFreeable}
-use Rattle.rec_sigma.specs.Refurbish.{IsRefusable}
-use Rattle.rec_collector.specs.Parts.{Parts}
-use Rattle.rec_collector.specs.Testing.{last_tested, verdict_of}
-use Rattle.rec_collector.specs.declared.verdict.Verdict.TheVariants.{Passed}
+use Rattle.rec_collector.proofs.Common.{IsKept, IsFreeable, IsRefusable, Parts, last_tested, verdict_of, Passed}
 use Rattle.rec_collector.proofs.Answering.{passed_last, refused_last}
 use Rattle.rec_collector.proofs.Judging.{last_freeable, last_refusable}
 use Rattle.rec_collector.proofs.parts.Parts.test_last.Goals as goal

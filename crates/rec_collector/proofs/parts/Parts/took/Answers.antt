@@ -1,13 +1,8 @@
+-- The contract of `Parts::took`: a word came out of a field or was loaded from one, for the machine that is at work.
 use Rattle.std.proofs.Common.{◌≡◌, ℕ, ◌<◌, true, false, is_some, not, Bool, Option, sym, ◌∙◌, ap, subst}
-use Rattle.rec_word.specs.declared.op.Op.{Op}
-use Rattle.rec_counts.specs.Counts.{IsKept}
-use Rattle.rec_collector.specs.Clearing.{IsClear}
-use Rattle.rec_collector.specs.Followed.{followed, prepared, relieved, tried, with_freed, with_loaded, with_released, with_tried, worked}
-use Rattle.rec_collector.specs.Parts.{Parts}
-use Rattle.rec_collector.specs.Testing.{with_release, zeros_released}
+use Rattle.rec_collector.proofs.Common.{Op, IsKept, IsClear, followed, prepared, relieved, tried, with_freed, with_loaded, with_released, with_tried, worked, Parts, with_release, zeros_released, Freeing, Releasing}
 use Rattle.rec_collector.specs.Works.{MayWork}
 use Rattle.rec_collector.specs.declared.parts.Parts.TheInside.{Inside}
-use Rattle.rec_collector.specs.declared.phase.Phase.TheVariants.{Freeing, Releasing}
 use Rattle.rec_release.specs.CycleFree as frees
 use Rattle.rec_release.specs.Release as releases
 use Rattle.rec_sigma.specs.Prepare as preps

@@ -1,3 +1,4 @@
+-- The contract of `Counts::begin_set`: begins a set without members, behind the others.
 use Rattle.rec_counts.proofs.Keeping.{keep_begin}
 use Rattle.rec_counts.proofs.counts.Counts.begin_set.Goals as goal
 

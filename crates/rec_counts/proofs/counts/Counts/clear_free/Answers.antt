@@ -1,3 +1,4 @@
+-- The contract of `Counts::clear_free`: empties the free list.
 use Rattle.rec_counts.proofs.Keeping.{relisted}
 use Rattle.rec_counts.proofs.Times.{once_none}
 use Rattle.rec_counts.proofs.counts.Counts.clear_free.Goals as goal

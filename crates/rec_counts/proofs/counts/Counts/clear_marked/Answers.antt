@@ -1,3 +1,4 @@
+-- The contract of `Counts::clear_marked`: empties the marked list.
 use Rattle.rec_counts.proofs.Keeping.{relisted}
 use Rattle.rec_counts.proofs.Times.{once_none}
 use Rattle.rec_counts.proofs.counts.Counts.clear_marked.Goals as goal

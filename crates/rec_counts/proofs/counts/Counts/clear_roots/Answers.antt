@@ -1,3 +1,4 @@
+-- The contract of `Counts::clear_roots`: empties the root buffer.
 use Rattle.std.proofs.Common.{◌≡◌, ◌++◌, length, map, take, drop, refl, ◌∙◌}
 use Rattle.std.proofs.lemmas.List.{take_at, length-map}
 use Rattle.rec_counts.specs.Slot.{unrooted}

@@ -1,3 +1,4 @@
+-- The contract of `Counts::decrement`: counts one reference to `slot` less.
 use Rattle.std.proofs.Common.{◌≡◌, ◌<◌, length, get_or, arith, sym, ◌∙◌, ap}
 use Rattle.std.proofs.lemmas.List.{get_or_read, length-set}
 use Rattle.rec_counts.specs.declared.slot.Slot.{Slot}

@@ -1,3 +1,4 @@
+-- The contract of `Counts::drop_set`: takes the last set out of the cycle buffer.
 use Rattle.std.proofs.Common.{◌≡◌, ℕ, ◌+◌, ◌-◌, ◌<◌, ◌≤◌, ◌++◌, [], length, map, take, drop, get_or, arith, refl, ap, ◌∙◌}
 use Rattle.std.proofs.lemmas.List.{take_at, length-map}
 use Rattle.rec_counts.specs.Slot.{out_of_set}

@@ -1,3 +1,4 @@
+-- The contract of `Counts::join_set`: lets `slot`, which is in no buffer, join the last set.
 use Rattle.std.proofs.Common.{◌≡◌, ◌-◌, ◌<◌, false, length, get_or, Some, arith, ap, refl}
 use Rattle.std.proofs.lemmas.List.{length-set}
 use Rattle.rec_counts.specs.Slot.{absent}

@@ -1,3 +1,4 @@
+-- The contract of `Counts::open`: counts for this many slots.
 use Rattle.std.proofs.Common.{◌∙◌}
 use Rattle.std.proofs.lemmas.List.{length-set, length-replicate}
 use Rattle.rec_counts.proofs.Keeping.{keep_open}

@@ -1,3 +1,4 @@
+-- The contract of `Counts::pop_free`: takes the first slot out of the free list, or answers None where that is empty.
 use Rattle.rec_counts.proofs.Keeping.{relisted}
 use Rattle.rec_counts.proofs.Times.{once_rest}
 use Rattle.rec_counts.proofs.counts.Counts.pop_free.Goals as goal

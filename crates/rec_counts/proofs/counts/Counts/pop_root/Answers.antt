@@ -1,3 +1,4 @@
+-- The contract of `Counts::pop_root`: takes the first slot out of the root buffer, or answers None where that is empty.
 use Rattle.std.proofs.Common.{◌≡◌, ◌<◌, length, get_or, ◌∷◌, drop, rules, sym, ◌∙◌, ap, refl}
 use Rattle.std.proofs.lemmas.List.{get_or_read, length-set}
 use Rattle.rec_counts.specs.declared.slot.Slot.{Slot}

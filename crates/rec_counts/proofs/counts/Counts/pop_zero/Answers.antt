@@ -1,3 +1,4 @@
+-- The contract of `Counts::pop_zero`: takes the first slot out of the zeros, or answers None where they are empty.
 use Rattle.rec_counts.proofs.Keeping.{relisted}
 use Rattle.rec_counts.proofs.Times.{once_rest}
 use Rattle.rec_counts.proofs.counts.Counts.pop_zero.Goals as goal

@@ -1,3 +1,4 @@
+-- The contract of `Counts::push_free`: appends `slot` to the free list.
 use Rattle.std.proofs.Common.{◌≡◌, ◌<◌, length, arith}
 use Rattle.rec_counts.specs.Lists.{times}
 use Rattle.rec_counts.proofs.Keeping.{relisted}

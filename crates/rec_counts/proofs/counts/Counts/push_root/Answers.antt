@@ -1,3 +1,4 @@
+-- The contract of `Counts::push_root`: appends `slot`, which is in no buffer, to the root buffer.
 use Rattle.std.proofs.Common.{◌≡◌, ◌<◌, false, length, get_or, arith, ap, refl}
 use Rattle.std.proofs.lemmas.List.{get_or_read, length-set}
 use Rattle.rec_counts.specs.declared.slot.Slot.{Slot}

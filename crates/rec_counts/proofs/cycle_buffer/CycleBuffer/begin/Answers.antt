@@ -1,3 +1,4 @@
+-- The contract of `CycleBuffer::begin`: begins a set without members.
 use Rattle.std.proofs.Common.{◌≡◌, ℕ, ◌<◌, List, [], ◌∷◌, ◌++◌, length, refl, arith}
 use Rattle.rec_counts.specs.Groups.{Groups, parts_at, IsGrouped}
 use Rattle.rec_counts.proofs.Parts as parts

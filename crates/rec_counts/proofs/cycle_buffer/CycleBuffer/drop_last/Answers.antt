@@ -1,3 +1,4 @@
+-- The contract of `CycleBuffer::drop_last`: takes out the last set.
 use Rattle.std.proofs.Common.{◌≡◌, ℕ, ◌-◌, ◌<◌, List, length, take, get_or, refl, arith}
 use Rattle.std.proofs.lemmas.List.{length-take-le}
 use Rattle.rec_counts.specs.Groups.{Groups, parts_at, IsRising, IsGrouped, earlier_sets}

@@ -1,3 +1,4 @@
+-- The contract of `CycleBuffer::join`: lets `slot` join the last set.
 use Rattle.std.proofs.Common.{◌≡◌, ℕ, ◌<◌, List, [], ◌∷◌, ◌++◌, length, drop, refl, arith, ◌∙◌, ap}
 use Rattle.std.specs.List.{concat}
 use Rattle.std.proofs.lemmas.List.{length_push}

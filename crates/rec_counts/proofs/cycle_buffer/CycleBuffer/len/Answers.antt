@@ -1,3 +1,4 @@
+-- The contract of `CycleBuffer::len`: how many sets there are.
 use Rattle.std.proofs.Common.{sym, ◌∙◌}
 use Rattle.rec_counts.proofs.Parts as parts
 use Rattle.rec_counts.proofs.cycle_buffer.CycleBuffer.len.Goals as goal

@@ -1,3 +1,4 @@
+-- The contract of `CycleBuffer::set`: the members of set `number`.
 use Rattle.std.proofs.Common.{◌<◌, length, arith}
 use Rattle.rec_counts.specs.Groups.{parts_at}
 use Rattle.rec_counts.proofs.Parts.{length-parts}

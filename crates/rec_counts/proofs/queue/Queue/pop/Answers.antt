@@ -1,3 +1,4 @@
+-- The contract of `Queue::pop`: takes the first out, or answers None where there is none.
 use Rattle.std.proofs.Common.{ℕ, List, length, arith, ap}
 use Rattle.rec_counts.specs.Shelf.{Shelf}
 use Rattle.rec_counts.proofs.Windows.{window_rest}

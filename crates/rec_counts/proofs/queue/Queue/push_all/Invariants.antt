@@ -1,3 +1,4 @@
+-- The loops of `Queue::push_all`: appends all of `slots`, in their order.
 use Rattle.std.proofs.Common.{◌≡◌, ◌++◌, take}
 use Rattle.rec_counts.proofs.queue.Queue.push_all.Given as goal
 

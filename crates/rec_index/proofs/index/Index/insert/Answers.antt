@@ -1,3 +1,4 @@
+-- The contract of `Index::insert`: makes the slot a member.
 use Rattle.std.proofs.Common.{rules}
 use Rattle.rec_index.proofs.Levels.{tells_inserted}
 use Rattle.rec_index.proofs.index.Index.insert.Goals as goal

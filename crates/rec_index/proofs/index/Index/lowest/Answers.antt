@@ -1,3 +1,4 @@
+-- The contract of `Index::lowest`: the lowest member, or `None` where there is none.
 use Rattle.std.proofs.Common.{◌≡◌, ℕ, List, refl, subst}
 use Rattle.rec_index.specs.Sets.{bit, IsLowest}
 use Rattle.rec_index.proofs.Levels.{none_at_all, lowest_of}

@@ -1,3 +1,4 @@
+-- The contract of `Index::remove`: takes a member out.
 use Rattle.std.proofs.Common.{ℕ, ◌/◌, List, rules, sym, subst, ◌∙◌}
 use Rattle.std.proofs.lemmas.Bool.{false≢true}
 use Rattle.rec_index.specs.Sets.{Holds}

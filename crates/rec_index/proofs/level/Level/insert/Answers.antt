@@ -1,3 +1,4 @@
+-- The contract of `Level::insert`: makes `i` a member.
 use Rattle.rec_index.proofs.Words.{inserted}
 use Rattle.rec_index.proofs.level.Level.insert.Goals as goal
 

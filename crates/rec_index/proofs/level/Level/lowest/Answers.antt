@@ -1,3 +1,4 @@
+-- The contract of `Level::lowest`: the lowest member of those in a word, or `None` where there is none.
 use Rattle.std.proofs.Common.{rules}
 use Rattle.rec_index.proofs.Words.{lowest_in}
 use Rattle.rec_index.proofs.level.Level.lowest.Goals as goal

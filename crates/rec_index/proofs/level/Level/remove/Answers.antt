@@ -1,3 +1,4 @@
+-- The contract of `Level::remove`: takes `i` out, where it is a member, and answers whether its word is 0 then.
 use Rattle.rec_index.proofs.Words.{removed}
 use Rattle.rec_index.proofs.level.Level.remove.Goals as goal
 

@@ -1,3 +1,4 @@
+-- The contract of `Machine::learn`: learns the word that was found, by phase.
 use Rattle.std.proofs.Common.{◌≡◌, sym, ap, ◌∙◌}
 use Rattle.rec_mutator.specs.Private.{Private}
 use Rattle.rec_mutator.specs.declared.phase.Phase.TheVariants.{Begun}

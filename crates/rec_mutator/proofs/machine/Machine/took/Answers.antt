@@ -1,3 +1,4 @@
+-- The contract of `Machine::took`: learns the word that the operation of `next` found: the step is made.
 use Rattle.std.proofs.Common.{sym, subst, ap, ◌∙◌}
 use Rattle.rec_mutator.specs.Causes.{HasCause, PollHasCause}
 use Rattle.rec_mutator.specs.Private.{Private, answer_of}

@@ -1,3 +1,4 @@
+-- The contract of `CycleFree::start`: begins to free set `set`, the last one: its members leave the cycle buffer, and are released and Black.
 use Rattle.std.proofs.Common.{◌≡◌, [], get_or, refl, arith, ap, ◌∙◌}
 use Rattle.rec_walk.specs.Walk.{first_in}
 use Rattle.rec_counts.specs.Counts.{State}

@@ -1,3 +1,4 @@
+-- The contract of `CycleFree::took`: learns the word that came out of the field: its target has one reference less.
 use Rattle.std.proofs.Common.{◌≡◌, ℕ, ◌++◌, true, Option, Some, IfSome, IsSome, is_some, refl, sym, subst, ap, ◌∙◌}
 use Rattle.rec_word.specs.Word.{target_of}
 use Rattle.rec_walk.specs.declared.member.Member.{Member}

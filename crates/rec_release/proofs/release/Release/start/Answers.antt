@@ -1,3 +1,4 @@
+-- The contract of `Release::start`: begins to release the zeros, as far as no field is due: the first of them is released, and each Green one before the first that isn't.
 use Rattle.std.proofs.Common.{◌≡◌, ◌∙◌, ℕ, Bool, false, true, IsNone, [], refl, sym, subst}
 use Rattle.rec_counts.specs.Counts.{State}
 use Rattle.rec_release.specs.Release.{Work, next_of, started_of, with_next, IsAtWork}

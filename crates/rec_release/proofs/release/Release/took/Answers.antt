@@ -1,3 +1,4 @@
+-- The contract of `Release::took`: learns the word that came out of the field: its target has one reference less.
 use Rattle.std.proofs.Common.{◌≡◌, ℕ, ◌++◌, Bool, Option, Some, None, IsSome, [], ◌∷◌, take, sym, subst, ap, ◌∙◌}
 use Rattle.std.proofs.lemmas.Bool.{false≢true}
 use Rattle.rec_word.specs.Place.{places_from}

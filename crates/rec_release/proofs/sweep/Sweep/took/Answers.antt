@@ -1,3 +1,4 @@
+-- The contract of `Sweep::took`: learns that the header is freed: the slot leaves the free list with one reference, Black and not released.
 use Rattle.std.proofs.Common.{◌≡◌, ◌<◌, Some, length, slice_get, arith, rules, sym, ap, ◌∙◌}
 use Rattle.rec_counts.specs.Counts.{State, slot_at}
 use Rattle.rec_counts.proofs.Front.{first_in}

@@ -1,3 +1,4 @@
+-- The contract of `Draft::add`: takes a line that counts, of this first word and what is behind it.
 use Rattle.std.proofs.Common.{◌∷◌}
 use Rattle.rec_script.specs.Lines.{words}
 use Rattle.rec_script.specs.Script.{Fits}

@@ -1,3 +1,4 @@
+-- The contract of `Draft::close`: the script, where the lines so far spell one; else the need that stands open.
 use Rattle.rec_script.proofs.Faults.{need_nothing, need_header, need_sized}
 use Rattle.rec_script.proofs.draft.Draft.close.Goals as goal
 

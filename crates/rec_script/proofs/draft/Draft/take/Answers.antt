@@ -1,3 +1,4 @@
+-- The contract of `Draft::take`: takes a line.
 use Rattle.std.proofs.Common.{[], ◌∷◌}
 use Rattle.rec_script.specs.Lines.{words}
 use Rattle.rec_script.specs.Script.{IsFault}

@@ -1,3 +1,4 @@
+-- The contract of `Draft::take_words`: takes the first line of the bytes by its words, and gives what is behind it.
 use Rattle.std.proofs.Common.{◌≡◌, Result, Err, ap}
 use Rattle.rec_script.specs.declared.error.ScriptError.{ScriptError}
 use Rattle.rec_script.specs.declared.error.ScriptError.TheVariants.{Bad}

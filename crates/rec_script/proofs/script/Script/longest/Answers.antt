@@ -1,3 +1,4 @@
+-- The contract of `Script::longest`: the greatest number of commands that a mutator has.
 use Rattle.std.proofs.Common.{◌≡◌, ◌-◌, ◌+◌, ℕ, [], Some, length, get_or, subst, ap, sym, arith}
 use Rattle.std.specs.Prelude.{Any, slice_get}
 use Rattle.std.proofs.lemmas.List.{get_or_default}

@@ -1,3 +1,4 @@
+-- The loops of `Script::longest`: the greatest number of commands that a mutator has.
 use Rattle.std.proofs.Common.{◌≡◌, ◌<◌, ◌≤◌, ℕ, [], length, get_or}
 use Rattle.std.specs.Prelude.{Any}
 use Rattle.rec_script.proofs.script.Script.longest.Given as goal

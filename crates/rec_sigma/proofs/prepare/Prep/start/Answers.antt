@@ -1,3 +1,4 @@
+-- The contract of `Prep::start`: begins to prepare the sets: each member of the first one has its true count as its cyclic count.
 use Rattle.std.proofs.Common.{◌<◌, IfSome, [], sym, subst, ap}
 use Rattle.rec_sigma.specs.declared.at.At.{At}
 use Rattle.rec_sigma.specs.Prepare.{Next, work_of, started_of}

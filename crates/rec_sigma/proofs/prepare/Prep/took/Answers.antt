@@ -1,3 +1,4 @@
+-- The contract of `Prep::took`: learns the word that was found in the field: where it leads to a member of the same set, it takes one off that member's cyclic count, not below zero.
 use Rattle.std.proofs.Common.{◌≡◌, ℕ, ◌++◌, Option, Some, None, IfSome, IsSome, sym, subst, ap, ◌∙◌}
 use Rattle.std.proofs.lemmas.Bool.{false≢true}
 use Rattle.rec_word.specs.Word.{target_of}

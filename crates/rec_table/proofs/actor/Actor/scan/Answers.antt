@@ -2,7 +2,7 @@
 use Rattle.std.proofs.Common.{◌≡◌, ◌<◌, ◌≤◌, ◌+◌, ◌-◌, ◌++◌, ◌%◌, ◌^◌, ℕ, fold, length, Option, sym, ap, subst, ◌∙◌, arith}
 use Rattle.rec_word.specs.declared.op.Op.TheVariants as ops
 use Rattle.atomic_table.specs.Table.{Me}
-use Rattle.rec_table.proofs.Common.{Private, KeepsSizes, is_busy, work_of, took_of, skipped_to, IsAhead, Contents, IsMutator, Core, mutator, actor_of, world_kept, Held, held, has, told, seated_of, hands_at, Passed, ScansFrom, saw_all, Seated, View, Mutates}
+use Rattle.rec_table.proofs.Common.{Private, KeepsSizes, is_busy, work_of, took_of, skipped_to, IsAhead, Contents, IsMutator, Core, mutator, actor_of, world_kept, MutatorView, mutator_view, mutator_now, told, seated_of, hands_at, Passed, ScansFrom, saw_all, Seated, View, Mutates}
 use Rattle.rec_table.proofs.Acting.{opened_is}
 use Rattle.rec_table.proofs.Making.{keeps_on}
 use Rattle.rec_table.proofs.Scanning.{Claims, Ends, claims, claims_slot, ends}
@@ -32,7 +32,7 @@ probed_is c =
 
 many : (c : After-from) → c.self.inside.machine.slots ≡ c.args.board.now.layout.slots
 many c =
-    let is : IsMutator (key c).config (seated c).number = subst (λ (n : ℕ). IsMutator (key c).config n) (sym (ap (λ (x : Held). x.number) c.self.view_is)) c.requires.own.1 in
+    let is : IsMutator (key c).config (seated c).number = subst (λ (n : ℕ). IsMutator (key c).config n) (sym (ap (λ (x : MutatorView). x.number) c.self.view_is)) c.requires.own.1 in
     let kept = world_kept (key c) c.requires.world in
     let own = (actor_of (key c) (seated c).number kept is).own in
     c.self.invariant.3.slots ∙ ap (λ (p : Private). p.slots) (opened c) ∙ own.slots ∙ sym kept.headers ∙ sym c.args.board.now.wide.1
@@ -43,7 +43,7 @@ finds_free-requires c =
     let key : Core = c.args.board.now.table.shared.key.value in
     let t : Seated = seated_of c.self.inside.seat.me.0 in
     let opened : c.self.inside.opened.value ≡ mutator key t.number = opened_is c.args.board.now.table.shared.table_id c.self.inside.seat.table_id key c.self.inside.opened.value t c.args.self.now c.self.view_is c.requires.own in
-    let is : IsMutator key.config t.number = subst (λ (n : ℕ). IsMutator key.config n) (sym (ap (λ (x : Held). x.number) c.self.view_is)) c.requires.own.1 in
+    let is : IsMutator key.config t.number = subst (λ (n : ℕ). IsMutator key.config n) (sym (ap (λ (x : MutatorView). x.number) c.self.view_is)) c.requires.own.1 in
     let kept = world_kept key c.requires.world in
     let own = (actor_of key t.number kept is).own in
     let many : c.self.inside.machine.slots ≡ c.args.board.now.layout.slots = c.self.invariant.3.slots ∙ ap (λ (p : Private). p.slots) opened ∙ own.slots ∙ sym kept.headers ∙ sym c.args.board.now.wide.1 in
@@ -107,8 +107,8 @@ invariant_of-self c =
     (e.seat, e.told, e.names, keeps_on c.self.inside.opened.value c.self.inside.machine c.skip_to.new.self c.self.invariant.3 c.skip_to.ensures.same, e.between, c.self.invariant.5 ∙ ap (λ n. n % 2 ^ 64) (sym e.births))
 
 -- its record before
-was : (c : After-from) → c.self.inside.machine ≡ has c.args.self.now
-was c = c.self.invariant.1 ∙ ap has c.self.view_is
+was : (c : After-from) → c.self.inside.machine ≡ mutator_now c.args.self.now
+was c = c.self.invariant.1 ∙ ap mutator_now c.self.view_is
 
 pub returns-else-finds_free-clause-scanned : goal.returns-else-finds_free-clause-scanned
 returns-else-finds_free-clause-scanned c =
@@ -116,9 +116,9 @@ returns-else-finds_free-clause-scanned c =
     let e = ended a c.skip_to.new.self c.first_free-count.result c.first_free-count.new.seat.me c.first_free-count.ensures.passed c.first_free-count.ensures.few c.skip_to.ensures.skipped in
     let s = c.self.inside in
     let passed = c.first_free-count.ensures.passed in
-    let new : Held = held c.first_free-count.new.seat.table_id s.opened.value (seated_of c.first_free-count.new.seat.me.0) in
-    let grows : new ≡ record (held s.seat.table_id s.opened.value (seated_of s.seat.me.0)) { log = (seated_of s.seat.me.0).log ++ saw_all passed.words } =
-    λ k. held (c.first_free-count.ensures.seat.0 k) s.opened.value (seated_of (passed.grows k).0) in
+    let new : MutatorView = mutator_view c.first_free-count.new.seat.table_id s.opened.value (seated_of c.first_free-count.new.seat.me.0) in
+    let grows : new ≡ record (mutator_view s.seat.table_id s.opened.value (seated_of s.seat.me.0)) { log = (seated_of s.seat.me.0).log ++ saw_all passed.words } =
+    λ k. mutator_view (c.first_free-count.ensures.seat.0 k) s.opened.value (seated_of (passed.grows k).0) in
     record {
       words = passed.words;
       taken = passed.taken;

@@ -1,6 +1,6 @@
 -- The cursor is a slot of the heap, or slot 0 is taken in its place.
 use Rattle.std.proofs.Common.{◌≡◌, ℕ, arith, sym, ap, subst, ◌∙◌}
-use Rattle.rec_table.proofs.Common.{Private, IsMutator, Core, mutator, actor_of, world_kept, Held, has, seated_of, Seated}
+use Rattle.rec_table.proofs.Common.{Private, IsMutator, Core, mutator, actor_of, world_kept, MutatorView, mutator_now, seated_of, Seated}
 use Rattle.rec_table.proofs.Acting.{opened_is}
 use Rattle.rec_table.proofs.actor.Actor.start.Goals as goal
 
@@ -9,10 +9,10 @@ returns-then-from-board-clause-from c =
     let key : Core = c.args.board.now.table.shared.key.value in
     let t : Seated = seated_of c.self.inside.seat.me.0 in
     let opened : c.self.inside.opened.value ≡ mutator key t.number = opened_is c.args.board.now.table.shared.table_id c.self.inside.seat.table_id key c.self.inside.opened.value t c.args.self.now c.self.view_is c.requires.own in
-    let is : IsMutator key.config t.number = subst (λ (n : ℕ). IsMutator key.config n) (sym (ap (λ (x : Held). x.number) c.self.view_is)) c.requires.own.1 in
+    let is : IsMutator key.config t.number = subst (λ (n : ℕ). IsMutator key.config n) (sym (ap (λ (x : MutatorView). x.number) c.self.view_is)) c.requires.own.1 in
     let kept = world_kept key c.requires.world in
     let own = (actor_of key t.number kept is).own in
-    let was : c.self.inside.machine ≡ has c.args.self.now = c.self.invariant.1 ∙ ap has c.self.view_is in
-    let many : (has c.args.self.now).slots ≡ c.args.board.now.layout.slots
+    let was : c.self.inside.machine ≡ mutator_now c.args.self.now = c.self.invariant.1 ∙ ap mutator_now c.self.view_is in
+    let many : (mutator_now c.args.self.now).slots ≡ c.args.board.now.layout.slots
     = sym (ap (λ (p : Private). p.slots) was) ∙ c.self.invariant.3.slots ∙ ap (λ (p : Private). p.slots) opened ∙ own.slots ∙ sym kept.headers ∙ sym c.args.board.now.wide.1 in
     omega (arith, many, c.from.ensures, c.if-from-board.true)

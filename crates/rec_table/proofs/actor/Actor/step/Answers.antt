@@ -4,9 +4,9 @@ use Rattle.rec_mutator.specs.Next.{next_of}
 use Rattle.std.specs.Option.{IfSome}
 use Rattle.rec_mutator.specs.Step.{NamesSlots}
 use Rattle.atomic_table.specs.Table.{Me}
-use Rattle.rec_table.proofs.Common.{Op, Private, IsMachine, KeepsSizes, work_of, limit_of, IsTold, IsFound, IsBetween, IsMutator, Core, mutator, world_kept, actor_of, Contents, births_of, View, told, learnt, births_told, Held, has, index_of, me_after, ready, MayGo, seated_of, hands, Saw, Mutates}
+use Rattle.rec_table.proofs.Common.{Op, Private, IsMachine, KeepsSizes, work_of, limit_of, IsTold, IsFound, IsBetween, IsMutator, Core, mutator, world_kept, actor_of, Contents, births_of, View, told, learnt, births_told, MutatorView, mutator_now, index_of, me_after, ready, MayGo, seated_of, hands, Saw, Mutates}
 use Rattle.rec_table.proofs.Acting.{own_record, opened_is, seen_record, ready_names}
-use Rattle.rec_table.proofs.Making.{births_more, Counted, counted, ready_hands, ready_between, made_out, made_hand, made_me, made_told}
+use Rattle.rec_table.proofs.Making.{births_more, keeps_on, Counted, counted, ready_hands, ready_between, made_out, made_hand, made_me, made_told}
 use Rattle.rec_table.proofs.Within.{there}
 use Rattle.rec_table.proofs.actor.Actor.step.Goals as goal
 use Rattle.rec_table.proofs.actor.Actor.step.Goals.{After-next-op}
@@ -18,7 +18,7 @@ key c = c.args.board.now.table.shared.key.value
 abbrev now : (c : After-next-op) → Private
 now c = told (mutator (key c) (seated_of c.self.inside.seat.me.0).number) (seated_of c.self.inside.seat.me.0).log
 
-picked : (c : After-next-op) → has c.args.self.now ≡ now c
+picked : (c : After-next-op) → mutator_now c.args.self.now ≡ now c
 picked c = seen_record c.args.board.now.table.shared.table_id c.self.inside.seat.table_id (key c) c.self.inside.opened.value (seated_of c.self.inside.seat.me.0) c.args.self.now c.self.view_is c.requires.own
 
 machine_is : (c : After-next-op) → c.self.inside.machine ≡ now c
@@ -34,16 +34,7 @@ between : (c : After-next-op) → IsBetween (ready (now c) c.args.work).phase
 between c = ready_between (now c) c.args.work (subst (λ (p : Private). IsBetween p.phase) (machine_is c) c.self.invariant.4)
 
 is_mutator : (c : After-next-op) → IsMutator (key c).config (seated_of c.self.inside.seat.me.0).number
-is_mutator c = subst (λ (n : ℕ). IsMutator (key c).config n) (sym (ap (λ (x : Held). x.number) c.self.view_is)) c.requires.own.1
-
-keeps : (a b d : Private) → KeepsSizes a b → KeepsSizes b d → KeepsSizes a d
-keeps a b d x y = record {
-  number = y.number ∙ x.number;
-  slots = y.slots ∙ x.slots;
-  fields = y.fields ∙ x.fields;
-  registers = y.registers ∙ x.registers;
-  capacity = y.capacity ∙ x.capacity;
-}
+is_mutator c = subst (λ (n : ℕ). IsMutator (key c).config n) (sym (ap (λ (x : MutatorView). x.number) c.self.view_is)) c.requires.own.1
 
 opened : (c : After-next-op) → c.self.inside.opened.value ≡ mutator (key c) (seated_of c.self.inside.seat.me.0).number
 opened c = opened_is c.args.board.now.table.shared.table_id c.self.inside.seat.table_id (key c) c.self.inside.opened.value (seated_of c.self.inside.seat.me.0) c.args.self.now c.self.view_is c.requires.own
@@ -66,12 +57,12 @@ told_now c word me me' m is at learns =
     made_told s.opened.value (now c) (ready (now c) c.args.work) m t c.args.work word me me' (ap (λ (p : Private). told p t.log) (sym (opened c))) refl (learns ∙ ap (λ (p : Private). learnt p (Saw word)) (prepared c)) is at
 
 learns_now : (c : After-next-op) (word : ℕ) (me me' : Me (Option Contents) View) (m : Private) → me ≡ me_after (seated_of c.self.inside.seat.me.0) (ready (now c) c.args.work) c.args.work word
-    → me' ≡ (me.0, hands (seated_of me.0) m) → m ≡ learnt c.prepare.new.machine (Saw word) → told c.self.inside.opened.value (seated_of me'.0).log ≡ learnt (ready (has c.args.self.now) c.args.work) (Saw word)
+    → me' ≡ (me.0, hands (seated_of me.0) m) → m ≡ learnt c.prepare.new.machine (Saw word) → told c.self.inside.opened.value (seated_of me'.0).log ≡ learnt (ready (mutator_now c.args.self.now) c.args.work) (Saw word)
 learns_now c word me me' m is at learns =
     sym (told_now c word me me' m is at learns) ∙ learns ∙ ap (λ (p : Private). learnt p (Saw word)) (prepared c) ∙ ap (λ (p : Private). learnt (ready p c.args.work) (Saw word)) (sym (picked c))
 
-counts : (c : After-next-op) (word : ℕ) → Counted (has c.args.self.now) c.args.work word
-counts c word = counted (has c.args.self.now) c.args.work word c.requires.may (subst (λ (p : Private). IsBetween p.phase) (machine_is c ∙ sym (picked c)) c.self.invariant.4)
+counts : (c : After-next-op) (word : ℕ) → Counted (mutator_now c.args.self.now) c.args.work word
+counts c word = counted (mutator_now c.args.self.now) c.args.work word c.requires.may (subst (λ (p : Private). IsBetween p.phase) (machine_is c ∙ sym (picked c)) c.self.invariant.4)
 
 pub make-word-requires-clause-seat : goal.make-word-requires-clause-seat
 make-word-requires-clause-seat c =
@@ -106,7 +97,7 @@ make-word-requires-clause-there c =
     let names : NamesSlots c.prepare.new.machine = subst NamesSlots (sym c.prepare.ensures.ready) (ready_names s.machine c.args.work c.self.invariant.2) in
     subst (λ (o : Op). index_of (length (key a).words) (length (key a).headers) o < c.args.board.now.table.shared.table_id.words) (sym c.next-op.ensures)
     (there (key a) t.number s.opened.value c.prepare.new.machine c.args.board.now.table.shared.table_id.words c.requires.world (is_mutator a) (opened a)
-    (keeps s.opened.value s.machine c.prepare.new.machine c.self.invariant.3 c.prepare.ensures.same) c.prepare.ensures.kept names (omega (arith, wide.0, wide.1, wide.2)))
+    (keeps_on s.opened.value s.machine c.prepare.new.machine c.self.invariant.3 c.prepare.ensures.same) c.prepare.ensures.kept names (omega (arith, wide.0, wide.1, wide.2)))
 
 pub learn-requires-clause-between : goal.learn-requires-clause-between
 learn-requires-clause-between c =
@@ -147,7 +138,7 @@ invariant_of-self c =
       made_me t q m c.args.work c.make-word.result c.make-word.new.seat.me c.learn.new.seat.me c.make-word.ensures.view c.learn.ensures.me,
       made_told s.opened.value (now a) q m t c.args.work c.make-word.result c.make-word.new.seat.me c.learn.new.seat.me (ap (λ (p : Private). told p t.log) (sym (opened a))) refl learns c.make-word.ensures.view c.learn.ensures.me,
       subst NamesSlots (sym learns) c.make-word.ensures.names,
-      keeps s.opened.value s.machine m c.self.invariant.3 (keeps s.machine c.prepare.new.machine m c.prepare.ensures.same c.learn.ensures.same),
+      keeps_on s.opened.value s.machine m c.self.invariant.3 (keeps_on s.machine c.prepare.new.machine m c.prepare.ensures.same c.learn.ensures.same),
       c.learn.ensures.between,
       births_told_now a c.make-word.result c.learn.new.seat.me c.make-word.new.seat.me m c.make-word.ensures.view c.learn.ensures.me ((s.births + c.births.result) % 2 ^ 64) (ap (λ (n : ℕ). (s.births + n) % 2 ^ 64) (c.births.ensures ∙ ap (λ (o : Op). births_of o c.make-word.result) (c.next-op.ensures ∙ ap next_of (prepared a)))),
     )
@@ -175,7 +166,7 @@ returns-clause-limit c =
 pub returns-clause-same : goal.returns-clause-same
 returns-clause-same c =
     let a : After-next-op = (goal.at.returns-clause-same c).After-next-op in
-    subst (KeepsSizes (has c.args.self.now)) (sym (learns_now a c.make-word.result c.make-word.new.seat.me c.learn.new.seat.me c.learn.new.machine c.make-word.ensures.view c.learn.ensures.me c.learn.ensures.machine)) (counts a c.make-word.result).same
+    subst (KeepsSizes (mutator_now c.args.self.now)) (sym (learns_now a c.make-word.result c.make-word.new.seat.me c.learn.new.seat.me c.learn.new.machine c.make-word.ensures.view c.learn.ensures.me c.learn.ensures.machine)) (counts a c.make-word.result).same
 
 pub returns-clause-told : goal.returns-clause-told
 returns-clause-told c =

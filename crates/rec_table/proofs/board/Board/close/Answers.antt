@@ -50,9 +50,9 @@ returns-clause-run c =
     let xs : List (Option Buffer) = slots_items closed.slots in
     let counts = c.close_with-closed.ensures.counts in
     let i = c.loop-k.invariant in
-    let run = ended key seat.id seat.me.0 c.args.collector.crew ws xs c.stood-machine.ensures.seat.1 c.requires.seats.0 c.requires.seats.1 c.close_with-closed.ensures.values.2 in
+    let run = ended key seat.id seat.me.0 c.args.collector.collecting ws xs c.stood-machine.ensures.seat.1 c.requires.seats.0 c.requires.seats.1 c.close_with-closed.ensures.values.2 in
     let le : length ws ≤ c.loop-i.i = omega (arith, closed.words.ok.0, counts.0, c.word_count-count.ensures) in
     let words : c.loop-i.words.items ≡ ws = c.loop-i.invariant.items ∙ take_whole ws c.loop-i.i le in
     let le' : length (slots_items c.loop-k.closed.slots) ≤ c.loop-k.k = omega (arith, c.loop-k.closed.slots.ok.0, i.long) in
     let boxes : c.loop-k.boxes.items ≡ xs = i.items ∙ (take_whole (slots_items c.loop-k.closed.slots) c.loop-k.k le' ∙ i.same) in
-    subst (λ (y : List ℕ × List (Option Buffer)). IsRunOf key c.args.collector.crew y.0 y.1) (λ j. (sym words j, sym boxes j)) run
+    subst (λ (y : List ℕ × List (Option Buffer)). IsRunOf key c.args.collector.collecting y.0 y.1) (λ j. (sym words j, sym boxes j)) run

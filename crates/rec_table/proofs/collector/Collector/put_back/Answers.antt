@@ -1,6 +1,6 @@
 -- The contract of `Collector::put_back`: gives back a mailbox that it holds, by a turn.
 use Rattle.std.proofs.Common.{◌≡◌, Option, Some, true, false, sym, ap, ◌∙◌, subst}
-use Rattle.rec_table.proofs.Common.{Op, gathers_now}
+use Rattle.rec_table.proofs.Common.{Op, collector_now}
 use Rattle.rec_collector.specs.Next.{next_of}
 use Rattle.rec_collector.specs.Private.{Private}
 use Rattle.rec_collector.specs.Step.{IsBetween}
@@ -9,10 +9,10 @@ use Rattle.rec_table.proofs.collector.Collector.put_back.Goals as goal
 use Rattle.rec_table.proofs.collector.Collector.put_back.Goals.{In-Some}
 
 abbrev now : (c : In-Some) → Private
-now c = gathers_now c.args.self.now
+now c = collector_now c.args.self.now
 
 machine_is : (c : In-Some) → c.self.inside.machine ≡ now c
-machine_is c = c.self.invariant.1 ∙ ap gathers_now c.self.view_is
+machine_is c = c.self.invariant.1 ∙ ap collector_now c.self.view_is
 
 named : (c : In-Some) → ◌≡◌ {A = Option Op} (next_of (now c)) (Some c.in-Some.op)
 named c = ap next_of (sym (machine_is c)) ∙ sym c.next.ensures.next ∙ c.in-Some.is

@@ -1,6 +1,6 @@
 -- The contract of `Collector::turn_on`: one turn.
 use Rattle.std.proofs.Common.{◌≡◌, ◌<◌, ℕ, length, Option, Some, refl, sym, ap, ◌∙◌, subst, arith}
-use Rattle.rec_table.proofs.Common.{Op, Core, gathered, gathered_all, Gathers, gathers_now, index_of, crew_of, crew_more, boxes_out, word_of, NotLooking, Saw, Crew, Collects}
+use Rattle.rec_table.proofs.Common.{Op, Core, gathered, gathered_all, CollectorView, collector_now, index_of, collecting_of, collecting_more, boxes_out, word_of, NotLooking, Saw, CollectorSeat, Collects}
 use Rattle.rec_word.specs.declared.op.Op.TheVariants as ops
 use Rattle.rec_collector.specs.Given.{IsGiven}
 use Rattle.rec_collector.specs.Kept.{IsMachine, KeepsSizes}
@@ -18,17 +18,17 @@ use Rattle.rec_table.proofs.collector.Collector.turn_on.Goals.{In-Some}
 abbrev key : (c : In-Some) → Core
 key c = c.args.board.now.table.shared.key.value
 
-abbrev crew : (c : In-Some) → Crew
-crew c = crew_of c.self.inside.seat.me.0
+abbrev collecting : (c : In-Some) → CollectorSeat
+collecting c = collecting_of c.self.inside.seat.me.0
 
 opened : (c : In-Some) → c.self.inside.opened.value ≡ (key c).collector
-opened c = ap (λ (g : Gathers). g.opened) c.self.view_is ∙ c.requires.own.1
+opened c = ap (λ (g : CollectorView). g.opened) c.self.view_is ∙ c.requires.own.1
 
 table : (c : In-Some) → c.self.inside.seat.table_id ≡ c.args.board.now.table.shared.table_id
-table c = ap (λ (g : Gathers). g.table) c.self.view_is ∙ c.requires.own.0
+table c = ap (λ (g : CollectorView). g.table) c.self.view_is ∙ c.requires.own.0
 
-machine_is : (c : In-Some) → c.self.inside.machine ≡ gathered_all (key c).collector (crew c).log
-machine_is c = c.self.invariant.1 ∙ ap (λ (p : Private). gathered_all p (crew c).log) (opened c)
+machine_is : (c : In-Some) → c.self.inside.machine ≡ gathered_all (key c).collector (collecting c).log
+machine_is c = c.self.invariant.1 ∙ ap (λ (p : Private). gathered_all p (collecting c).log) (opened c)
 
 named : (c : In-Some) → ◌≡◌ {A = Option Op} (next_of c.self.inside.machine) (Some c.in-Some.op)
 named c = sym c.next.ensures.next ∙ c.in-Some.is
@@ -45,18 +45,18 @@ looking : (c : In-Some) (t e : ℕ) → c.in-Some.op ≡ ops.LookBox t e → (c.
 looking c t e is = looking_of c.self.inside.machine c.in-Some.op t e c.self.invariant.3 (named c) is
 
 -- what is known of the collector's record as the turn begins
-now : (c : In-Some) → c.self.inside.machine ≡ gathers_now c.args.self.now
-now c = c.self.invariant.1 ∙ ap gathers_now c.self.view_is
+now : (c : In-Some) → c.self.inside.machine ≡ collector_now c.args.self.now
+now c = c.self.invariant.1 ∙ ap collector_now c.self.view_is
 
-machine : (c : In-Some) → IsMachine (gathers_now c.args.self.now)
+machine : (c : In-Some) → IsMachine (collector_now c.args.self.now)
 machine c = subst IsMachine (now c) c.turns-turns.ensures.kept
 
-its_op : (c : In-Some) → ◌≡◌ {A = Option Op} (next_of (gathers_now c.args.self.now)) (Some c.in-Some.op)
+its_op : (c : In-Some) → ◌≡◌ {A = Option Op} (next_of (collector_now c.args.self.now)) (Some c.in-Some.op)
 its_op c = ap next_of (sym (now c)) ∙ named c
 
 pub returns-in_default-clause-turn : goal.returns-in_default-clause-turn
 returns-in_default-clause-turn c =
-    let is : c.self.inside.machine ≡ gathers_now c.args.self.now = c.self.invariant.1 ∙ ap gathers_now c.self.view_is in
+    let is : c.self.inside.machine ≡ collector_now c.args.self.now = c.self.invariant.1 ∙ ap collector_now c.self.view_is in
     makes_none c.args.self.now (subst IsMachine is c.turns-turns.ensures.kept) (ap next_of (sym is) ∙ sym c.next.ensures.next ∙ c.in_default.is)
 
 pub look-requires-clause-table : goal.look-requires-clause-table
@@ -65,7 +65,7 @@ look-requires-clause-table c = table (goal.at.look-requires-clause-table c).In-S
 pub look-requires-clause-seat : goal.look-requires-clause-seat
 look-requires-clause-seat c =
     let a : In-Some = (goal.at.look-requires-clause-seat c).In-Some in
-    c.self.invariant.0 ∙ (λ k. (Collects (crew a), looking_boxes c.self.inside.machine c.in-LookBox.t (looking a c.in-LookBox.t c.in-LookBox.epoch c.in-LookBox.is).0 k))
+    c.self.invariant.0 ∙ (λ k. (Collects (collecting a), looking_boxes c.self.inside.machine c.in-LookBox.t (looking a c.in-LookBox.t c.in-LookBox.epoch c.in-LookBox.is).0 k))
 
 pub look-requires-clause-actor : goal.look-requires-clause-actor
 look-requires-clause-actor c = (refl, refl, machine_is (goal.at.look-requires-clause-actor c).In-Some)
@@ -87,7 +87,7 @@ make_turn-word-requires c =
     let a : In-Some = (goal.at.make_turn-word-requires c).In-Some in
     record {
       table = table a;
-      seat = c.self.invariant.0 ∙ (λ k. (Collects (crew a), boxes_out (machine_is a k)));
+      seat = c.self.invariant.0 ∙ (λ k. (Collects (collecting a), boxes_out (machine_is a k)));
       actor = refl;
       between = subst (λ (p : Private). IsBetween p.phase) (machine_is a) c.self.invariant.3;
       looks = subst (λ (p : Private). NotLooking p.phase) (machine_is a) (not_looking c.self.inside.machine c.in-Some.op c.self.invariant.3 (named a) c.in_default-op.not-LookBox);
@@ -103,8 +103,8 @@ invariant_of-self c =
     let a : In-Some = (goal.at.invariant_of-self c).In-Some in
     let s = c.self.inside in
     let t = c.look.ensures.turned in (
-      turn_me (crew a) t.0 c.look.new.machine c.look.new.seat.me t.1,
-      turn_log s.opened.value s.machine c.look.new.machine (crew a) t.0 c.look.new.seat.me c.self.invariant.1 t.2 t.1,
+      turn_me (collecting a) t.0 c.look.new.machine c.look.new.seat.me t.1,
+      turn_log s.opened.value s.machine c.look.new.machine (collecting a) t.0 c.look.new.seat.me c.self.invariant.1 t.2 t.1,
       keeps s.opened.value s.machine c.look.new.machine c.self.invariant.2 c.look.ensures.same,
       c.look.ensures.between,
     )
@@ -115,9 +115,9 @@ invariant_of-self-in_default-op c =
     let s = c.self.inside in
     let b = Saw c.make_turn-word.result in
     let out = lone_out s.machine c.took.new.self c.make_turn-word.result c.self.invariant.3 (not_looking s.machine c.in-Some.op c.self.invariant.3 (named a) c.in_default-op.not-LookBox) c.took.ensures.took in
-    let seated : c.make_turn-word.new.seat.me ≡ (Collects (crew_more (crew a) b), boxes_out c.took.new.self) = c.make_turn-word.ensures.view ∙ (λ k. (Collects (crew_more (crew a) b), sym out.0 k)) in (
-      turn_me (crew a) b c.took.new.self c.make_turn-word.new.seat.me seated,
-      turn_log s.opened.value s.machine c.took.new.self (crew a) b c.make_turn-word.new.seat.me c.self.invariant.1 c.took.ensures.took seated,
+    let seated : c.make_turn-word.new.seat.me ≡ (Collects (collecting_more (collecting a) b), boxes_out c.took.new.self) = c.make_turn-word.ensures.view ∙ (λ k. (Collects (collecting_more (collecting a) b), sym out.0 k)) in (
+      turn_me (collecting a) b c.took.new.self c.make_turn-word.new.seat.me seated,
+      turn_log s.opened.value s.machine c.took.new.self (collecting a) b c.make_turn-word.new.seat.me c.self.invariant.1 c.took.ensures.took seated,
       keeps s.opened.value s.machine c.took.new.self c.self.invariant.2 c.took.ensures.same,
       out.1,
     )
@@ -127,14 +127,14 @@ returns-in-LookBox-clause-turn c =
     let a : In-Some = (goal.at.returns-in-LookBox-clause-turn c).In-Some in
     let s = c.self.inside in
     let t = c.look.ensures.turned in
-    let e = turn_end s.seat.table_id c.look.new.seat.table_id s.opened.value s.machine c.look.new.machine (crew a) t.0 c.look.new.seat.me c.args.self.now c.self.view_is c.look.ensures.seat.0 c.self.invariant.1 t.2 t.1 in
+    let e = turn_end s.seat.table_id c.look.new.seat.table_id s.opened.value s.machine c.look.new.machine (collecting a) t.0 c.look.new.seat.me c.args.self.now c.self.view_is c.look.ensures.seat.0 c.self.invariant.1 t.2 t.1 in
     makes_one c.args.self.now _ c.in-Some.op t.0 c.look.result (machine a) (its_op a) e.0 e.1 (t.3 ∙ ap (λ (p : Private). turn_of p (word_of t.0)) (now a))
 
 pub returns-in-LookBox-clause-free : goal.returns-in-LookBox-clause-free
 returns-in-LookBox-clause-free c = λ looks_none.
     let a : In-Some = (goal.at.returns-in-LookBox-clause-free c).In-Some in
     let looks : c.self.inside.machine.phase ≡ Looking c.in-LookBox.t = (looking a c.in-LookBox.t c.in-LookBox.epoch c.in-LookBox.is).0 in
-    absurd (subst (λ (f : Phase). NotLooking f) (ap (λ (p : Private). p.phase) (sym (c.self.invariant.1 ∙ ap gathers_now c.self.view_is)) ∙ looks) looks_none)
+    absurd (subst (λ (f : Phase). NotLooking f) (ap (λ (p : Private). p.phase) (sym (c.self.invariant.1 ∙ ap collector_now c.self.view_is)) ∙ looks) looks_none)
 
 pub returns-in_default-op : goal.returns-in_default-op
 returns-in_default-op c =
@@ -142,9 +142,9 @@ returns-in_default-op c =
     let s = c.self.inside in
     let b = Saw c.make_turn-word.result in
     let out = lone_out s.machine c.took.new.self c.make_turn-word.result c.self.invariant.3 (not_looking s.machine c.in-Some.op c.self.invariant.3 (named a) c.in_default-op.not-LookBox) c.took.ensures.took in
-    let seated : c.make_turn-word.new.seat.me ≡ (Collects (crew_more (crew a) b), boxes_out c.took.new.self) = c.make_turn-word.ensures.view ∙ (λ k. (Collects (crew_more (crew a) b), sym out.0 k)) in
-    let e = turn_end s.seat.table_id c.make_turn-word.new.seat.table_id s.opened.value s.machine c.took.new.self (crew a) b c.make_turn-word.new.seat.me c.args.self.now c.self.view_is c.make_turn-word.ensures.seat.0 c.self.invariant.1 c.took.ensures.took seated in
+    let seated : c.make_turn-word.new.seat.me ≡ (Collects (collecting_more (collecting a) b), boxes_out c.took.new.self) = c.make_turn-word.ensures.view ∙ (λ k. (Collects (collecting_more (collecting a) b), sym out.0 k)) in
+    let e = turn_end s.seat.table_id c.make_turn-word.new.seat.table_id s.opened.value s.machine c.took.new.self (collecting a) b c.make_turn-word.new.seat.me c.args.self.now c.self.view_is c.make_turn-word.ensures.seat.0 c.self.invariant.1 c.took.ensures.took seated in
     record {
       turn = makes_one c.args.self.now _ c.in-Some.op b c.took.result (machine a) (its_op a) e.0 e.1 (c.took.ensures.turn ∙ ap (λ (p : Private). turn_of p c.make_turn-word.result) (now a));
-      free = λ looks_none. ap boxes_out (e.1 ∙ ap (λ (p : Private). gathered p b) (sym (c.self.invariant.1 ∙ ap gathers_now c.self.view_is)) ∙ sym c.took.ensures.took) ∙ out.0;
+      free = λ looks_none. ap boxes_out (e.1 ∙ ap (λ (p : Private). gathered p b) (sym (c.self.invariant.1 ∙ ap collector_now c.self.view_is)) ∙ sym c.took.ensures.took) ∙ out.0;
     }

@@ -1,7 +1,7 @@
 -- The contract of `Spare::fill`: takes all off the table, and puts a world together from it.
 use Rattle.std.proofs.Common.{◌≡◌, ℕ, ◌+◌, ◌%◌, ◌^◌, [], slice_index_or, All, List, refl, sym, ap, ◌∙◌, subst}
 use Rattle.std.specs.List.{sum_by}
-use Rattle.rec_table.proofs.Common.{Private, Core, after_moves, births_told, gathered_all, Gathers, Held, Started, gathers_now, started, boxes_out, Beat}
+use Rattle.rec_table.proofs.Common.{Private, Core, after_moves, births_told, gathered_all, CollectorView, MutatorView, Started, collector_now, started, boxes_out, Beat}
 use Rattle.rec_collector.specs.Private as collectors
 use Rattle.rec_core.specs.Worked.{AreIdle}
 use Rattle.rec_world.specs.Parts.{AreParts}
@@ -14,26 +14,26 @@ use Rattle.rec_table.proofs.spare.Spare.fill.Goals.{After-close-collector}
 abbrev heap : (c : After-close-collector) → Started
 heap c = started c.args.board.table.shared.table_id c.args.board.table.shared.key.value
 
-abbrev after : (c : After-close-collector) → Gathers
+abbrev after : (c : After-close-collector) → CollectorView
 after c = c.take_in_all-made.new.collector
 
-in_hand : (c : After-close-collector) → InHand (heap c) (after c).crew c.args.mutators.items c.take_in_all-made.new.machines.items c.close-collector.result
+in_hand : (c : After-close-collector) → InHand (heap c) (after c).collecting c.args.mutators.items c.take_in_all-made.new.machines.items c.close-collector.result
 in_hand c =
     let e = c.take_in_all-made.ensures in
     let own = c.requires.collector in
-    let same : gathers_now (after c) ≡ gathers_now c.args.collector = ap gathers_now e.collector in
+    let same : collector_now (after c) ≡ collector_now c.args.collector = ap collector_now e.collector in
     let opened : c.args.collector.opened ≡ (heap c).world.collector = own.0.1 in
     record {
       world = c.requires.world;
       mutators = c.requires.mutators;
-      known = ap (λ (g : Gathers). g.crew.known) e.collector;
+      known = ap (λ (g : CollectorView). g.collecting.known) e.collector;
       machines = e.machines;
       idle = e.idle;
-      collector = c.close-collector.ensures.machine ∙ same ∙ ap (λ (p : collectors.Private). gathered_all p c.args.collector.crew.log) opened ∙ ap (λ (g : Gathers). gathered_all (heap c).world.collector g.crew.log) (sym e.collector);
+      collector = c.close-collector.ensures.machine ∙ same ∙ ap (λ (p : collectors.Private). gathered_all p c.args.collector.collecting.log) opened ∙ ap (λ (g : CollectorView). gathered_all (heap c).world.collector g.collecting.log) (sym e.collector);
       none = ap boxes_out (c.close-collector.ensures.machine ∙ same) ∙ c.requires.none;
     }
 
-abbrev run : (c : After-close-collector) → IsRunOf (heap c).world (after c).crew c.close-collector.new.words.items c.close-collector.new.boxes.items
+abbrev run : (c : After-close-collector) → IsRunOf (heap c).world (after c).collecting c.close-collector.new.words.items c.close-collector.new.boxes.items
 run c = c.close-collector.ensures.run
 
 abbrev end : (c : After-close-collector) → Core
@@ -54,13 +54,13 @@ parts c =
 right : (c : After-close-collector) → AreParts (end c) (parts c)
 right c =
     let s = heap c in
-    let crew = (after c).crew in
-    let hs : List Held = c.args.mutators.items in
+    let collecting = (after c).collecting in
+    let hs : List MutatorView = c.args.mutators.items in
     let ms : List Private = c.take_in_all-made.new.machines.items in
     let ws : List ℕ = c.close-collector.new.words.items in
     let xs = c.close-collector.new.boxes.items in
-    let made = made_right s crew hs ms c.close-collector.result ws xs (run c) (in_hand c) c.take_in_all-made.result (c.take_in_all-made.ensures.made ∙ ap (λ (n : ℕ). (n + sum_by (λ (m : Held). births_told m.opened m.log) hs) % 2 ^ 64) c.requires.room.made) in
-    parts_right s crew hs ms c.close-collector.result ws xs (run c) (in_hand c) (parts c) c.requires.room.config refl refl refl refl made
+    let made = made_right s collecting hs ms c.close-collector.result ws xs (run c) (in_hand c) c.take_in_all-made.result (c.take_in_all-made.ensures.made ∙ ap (λ (n : ℕ). (n + sum_by (λ (m : MutatorView). births_told m.opened m.log) hs) % 2 ^ 64) c.requires.room.made) in
+    parts_right s collecting hs ms c.close-collector.result ws xs (run c) (in_hand c) (parts c) c.requires.room.config refl refl refl refl made
 
 pub of_parts-requires : goal.of_parts-requires
 of_parts-requires c = (end c, ((run c).world, right c))
@@ -75,7 +75,7 @@ returns-clause-run c =
       fit = r.fit;
       offerless = r.offerless;
       ends = sym is;
-      collector = ap (λ (g : Gathers). g.crew.log) (sym c.take_in_all-made.ensures.collector) ∙ r.mine;
+      collector = ap (λ (g : CollectorView). g.collecting.log) (sym c.take_in_all-made.ensures.collector) ∙ r.mine;
       mutators = λ k lt. ap (λ (l : List (List Beat)). slice_index_or l k []) (sym (in_hand a).known) ∙ r.theirs k;
     }
 
@@ -83,17 +83,17 @@ pub returns-clause-collector : goal.returns-clause-collector
 returns-clause-collector c =
     let a : After-close-collector = (goal.at.returns-clause-collector c).After-close-collector in
     let is : c.of_parts.result ≡ end a = c.of_parts.ensures.made (end a) (run a).world (right a) in
-    ap (λ (w : Core). w.collector) is ∙ (run a).collector ∙ ap (λ (g : Gathers). gathered_all (heap a).world.collector g.crew.log) c.take_in_all-made.ensures.collector
-    ∙ ap (λ (p : collectors.Private). gathered_all p c.args.collector.crew.log) (sym c.requires.collector.0.1)
+    ap (λ (w : Core). w.collector) is ∙ (run a).collector ∙ ap (λ (g : CollectorView). gathered_all (heap a).world.collector g.collecting.log) c.take_in_all-made.ensures.collector
+    ∙ ap (λ (p : collectors.Private). gathered_all p c.args.collector.collecting.log) (sym c.requires.collector.0.1)
 
 pub returns-clause-idle : goal.returns-clause-idle
 returns-clause-idle c =
     let a : After-close-collector = (goal.at.returns-clause-idle c).After-close-collector in
     let is : c.of_parts.result ≡ end a = c.of_parts.ensures.made (end a) (run a).world (right a) in
-    subst AreIdle (sym is) (all_idle (heap a) (after a).crew c.args.mutators.items c.take_in_all-made.new.machines.items c.close-collector.result c.close-collector.new.words.items c.close-collector.new.boxes.items (run a) (in_hand a))
+    subst AreIdle (sym is) (all_idle (heap a) (after a).collecting c.args.mutators.items c.take_in_all-made.new.machines.items c.close-collector.result c.close-collector.new.words.items c.close-collector.new.boxes.items (run a) (in_hand a))
 
 pub returns-clause-home : goal.returns-clause-home
 returns-clause-home c =
     let a : After-close-collector = (goal.at.returns-clause-home c).After-close-collector in
     let is : c.of_parts.result ≡ end a = c.of_parts.ensures.made (end a) (run a).world (right a) in
-    subst (λ (w : Core). All (λ word. word % 2 ≡ 0) w.crossing) (sym is) (boxes_even (heap a) (after a).crew c.args.mutators.items c.take_in_all-made.new.machines.items c.close-collector.result c.close-collector.new.words.items c.close-collector.new.boxes.items (run a) (in_hand a))
+    subst (λ (w : Core). All (λ word. word % 2 ≡ 0) w.crossing) (sym is) (boxes_even (heap a) (after a).collecting c.args.mutators.items c.take_in_all-made.new.machines.items c.close-collector.result c.close-collector.new.words.items c.close-collector.new.boxes.items (run a) (in_hand a))

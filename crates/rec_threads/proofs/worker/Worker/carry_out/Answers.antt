@@ -4,7 +4,7 @@ use Rattle.std.proofs.lemmas.List.{length-take-le, take_all, take_more}
 use Rattle.std.proofs.lemmas.Grind.{flat_map-append}
 use Rattle.rec_model.specs.declared.command.Cmd.{Cmd}
 use Rattle.rec_mutator.specs.declared.work.Work.{Work}
-use Rattle.rec_table.specs.Held.{has}
+use Rattle.rec_table.specs.Views.{mutator_now}
 use Rattle.rec_threads.specs.Done.{HasMade, polled_before, turn}
 use Rattle.rec_threads.proofs.Works.{made_none, made_on, operands_kept, still_own}
 use Rattle.rec_threads.proofs.worker.Worker.carry_out.Goals as goal
@@ -23,7 +23,7 @@ go_on-requires-clause-room g c =
     omega (arith, many, room, enough)
 
 pub go_on-requires-clause-valid : goal.go_on-requires-clause-valid
-go_on-requires-clause-valid g c = operands_kept (has c.args.self.now.mutator) (has c.loop-index.self.mutator) c.loop-index.invariant.sizes _ (c.requires.valid c.loop-index.index _ (omega arith))
+go_on-requires-clause-valid g c = operands_kept (mutator_now c.args.self.now.mutator) (mutator_now c.loop-index.self.mutator) c.loop-index.invariant.sizes _ (c.requires.valid c.loop-index.index _ (omega arith))
 
 -- one command more
 more : (cmds : List Cmd) (i : ℕ) (d : Cmd) → i < length cmds → take i cmds ++ slice_index_or cmds i d ∷ [] ≡ take (i + 1) cmds

@@ -1,3 +1,4 @@
+-- The contract of `Trial::scan_on`: the next marked slot becomes Black where it has a rest; after the last one collecting begins.
 use Rattle.std.proofs.Common.{arith, ap, length}
 use Rattle.rec_trial.proofs.Conditions.{marked_in_range}
 use Rattle.rec_trial.proofs.trial.Trial.scan_on.Goals as goal

@@ -1,5 +1,6 @@
+-- The contract of `Trial::settle`: goes on without a load up to the next one, or to the end.
 use Rattle.std.proofs.Common.{◌≡◌, ◌<◌, true, false, refl, rules, sym, subst}
-use Rattle.rec_trial.specs.Trial.{Work, is_due, moves_left}
+use Rattle.rec_trial.proofs.Common.{Work, is_due, moves_left}
 use Rattle.rec_trial.proofs.Midway.{going_midway, rules_midway, moved_on, arrived}
 use Rattle.rec_trial.proofs.Moving.{moved_less}
 use Rattle.rec_trial.proofs.trial.Trial.settle.Goals as goal

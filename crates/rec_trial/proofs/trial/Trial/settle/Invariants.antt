@@ -1,4 +1,5 @@
-use Rattle.rec_trial.specs.Trial.{moves_left}
+-- The loops of `Trial::settle`: goes on without a load up to the next one, or to the end.
+use Rattle.rec_trial.proofs.Common.{moves_left}
 use Rattle.rec_trial.proofs.Midway.{OnTheWay}
 use Rattle.rec_trial.proofs.trial.Trial.settle.Given as goal
 

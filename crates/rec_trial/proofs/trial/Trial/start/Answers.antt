@@ -1,6 +1,6 @@
+-- The contract of `Trial::start`: begins a trial: roots are dropped, and what the first one that is Purple leads to is to be loaded.
 use Rattle.std.proofs.Common.{◌≡◌, ◌<◌, ap, ◌∙◌}
-use Rattle.rec_trial.specs.Loaded.{begins}
-use Rattle.rec_trial.specs.Trial.{Work, opened_of, pointed, settled, started_of}
+use Rattle.rec_trial.proofs.Common.{begins, Work, opened_of, pointed, settled, started_of}
 use Rattle.rec_trial.proofs.Promised.{begun_promised}
 use Rattle.rec_trial.proofs.AtWork.{at_work_place, started_at_work, started_slots}
 use Rattle.rec_trial.proofs.trial.Trial.start.Goals as goal

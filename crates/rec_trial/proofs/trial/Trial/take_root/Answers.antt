@@ -1,3 +1,4 @@
+-- The contract of `Trial::take_root`: the first root leaves the root buffer; where there is none, scanning begins.
 use Rattle.std.proofs.Common.{◌∙◌, sym, refl}
 use Rattle.rec_trial.proofs.Conditions.{root_range, root_unlisted}
 use Rattle.rec_trial.proofs.trial.Trial.take_root.Goals as goal

@@ -1,8 +1,6 @@
+-- The contract of `Trial::took`: learns the word that the field holds.
 use Rattle.std.proofs.Common.{◌≡◌, ap, ◌∙◌, sym}
-use Rattle.rec_word.specs.Word.{target_of}
-use Rattle.rec_trial.specs.Loaded.{learns}
-use Rattle.rec_trial.specs.Rules.{visible}
-use Rattle.rec_trial.specs.Trial.{Work, advanced, learnt_at, pointed, settled}
+use Rattle.rec_trial.proofs.Common.{target_of, learns, visible, Work, advanced, learnt_at, pointed, settled}
 use Rattle.rec_trial.proofs.AtWork.{at_work_place, small_done, took_at_work, took_slots}
 use Rattle.rec_trial.proofs.Midway.{at_work_due, at_work_midway, rules_midway}
 use Rattle.rec_trial.proofs.Promised.{took_promised, took_recorded}

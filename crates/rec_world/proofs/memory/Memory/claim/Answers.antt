@@ -1,8 +1,8 @@
 -- A claimed slot leaves the index of free slots.
 use Rattle.std.proofs.Common.{◌≡◌, ◌<◌, length, subst, sym, arith}
+use Rattle.rec_world.proofs.Common.{Cells, IsWithin}
 use Rattle.rec_word.specs.Op.{written}
 use Rattle.rec_word.specs.declared.op.Op.TheVariants as ops
-use Rattle.rec_core.specs.Cells.{Cells, IsWithin}
 use Rattle.rec_world.specs.Indexed.{cells}
 use Rattle.rec_world.proofs.Frees.{finds_replaced, some_chosen}
 use Rattle.rec_world.proofs.Indexed.{laid_again, left_is}

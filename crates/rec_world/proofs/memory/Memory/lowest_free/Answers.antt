@@ -1,6 +1,6 @@
 -- What isn't in the index is taken.
 use Rattle.std.proofs.Common.{ℕ, ◌<◌, List, length, get_or, subst, refl, arith}
-use Rattle.rec_core.specs.Cells.{Cells}
+use Rattle.rec_world.proofs.Common.{Cells}
 use Rattle.rec_world.specs.Indexed.{cells}
 use Rattle.rec_world.proofs.Frees.{absent_taken, member_there}
 use Rattle.rec_world.proofs.Indexed.{headers_many}

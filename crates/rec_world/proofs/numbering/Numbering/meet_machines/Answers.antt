@@ -1,8 +1,8 @@
 -- Each mutator's registers name what all of them name, and their names join those before them.
 use Rattle.std.proofs.Common.{◌≡◌, ◌<◌, [], map, get_or, sym, subst, ◌∙◌}
 use Rattle.std.proofs.lemmas.List.{length-map}
+use Rattle.rec_world.proofs.Common.{Private}
 use Rattle.rec_model.proofs.Names.{roots_at}
-use Rattle.rec_mutator.specs.Private.{Private}
 use Rattle.rec_world.proofs.Filled.{joined_registers, own_at}
 use Rattle.rec_world.proofs.numbering.Numbering.meet_machines.Goals as goal
 

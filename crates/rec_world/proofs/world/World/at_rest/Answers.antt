@@ -1,11 +1,8 @@
 -- Each mutator has one of the machines.
 use Rattle.std.proofs.Common.{◌≡◌, ◌↔◌, ℕ, ◌+◌, ◌-◌, ◌<◌, All, IsTrue, List, false, slice_index_or, length, subst, arith}
 use Rattle.std.proofs.lemmas.List.Elements.{All-get_or, All-from_get_or}
-use Rattle.rec_mutator.specs.Private.{Private, is_busy}
-use Rattle.rec_core.specs.Config.{IsMutator}
-use Rattle.rec_core.specs.Core.{Core, nobody}
+use Rattle.rec_world.proofs.Common.{Private, is_busy, IsMutator, Core, nobody, core}
 use Rattle.rec_core.specs.Worked.{AreIdle}
-use Rattle.rec_world.specs.Inside.{core}
 use Rattle.rec_world.proofs.world.World.at_rest.Goals as goal
 
 -- that none of the machines works is said machine by machine, or mutator by mutator

@@ -1,14 +1,9 @@
 -- The machine of the mutator begins, and the core is that of the definitions.
 use Rattle.std.proofs.Common.{◌≡◌, ◌-◌, ◌<◌, false, slice_set, sym, ap, subst, ◌∙◌}
-use Rattle.rec_mutator.specs.Private.{Private, is_busy, IsValid}
-use Rattle.rec_core.specs.Config.{IsMutator, IsWork}
-use Rattle.rec_core.specs.Core.{Core, sight, mutator}
+use Rattle.rec_world.proofs.Common.{Private, is_busy, IsValid, IsMutator, IsWork, Core, sight, mutator, Move, Fits, EndsRun, begun, core, IsWorld}
 use Rattle.rec_core.specs.Kept.{IsKept}
-use Rattle.rec_core.specs.Moves.{Move, Fits, EndsRun, begun}
 use Rattle.rec_core.proofs.Asked.{begun_sight}
 use Rattle.rec_core.proofs.Steps.{actor_of}
-use Rattle.rec_world.specs.Inside.{core}
-use Rattle.rec_world.specs.World.{IsWorld}
 use Rattle.rec_world.proofs.Calls.{Ready, ready, mutator_read, begun_is, moved_world, own_work, world_kept}
 use Rattle.rec_world.proofs.world.World.begin.Goals as goal
 use Rattle.rec_world.proofs.world.World.begin.Goals.{After-begin}

@@ -1,15 +1,8 @@
 -- The machine begins, names an operation, the memory carries it out, the machine learns: the core is that of the definitions.
 use Rattle.std.proofs.Common.{refl, ◌≡◌, ◌-◌, ◌+◌, ◌<◌, ◌≤◌, ◌^◌, map, length, slice_set, arith, sym, ap, subst, ◌∙◌}
 use Rattle.std.specs.Option.{is_some}
-use Rattle.rec_mutator.specs.Next.{next_of}
-use Rattle.rec_mutator.specs.Private.{Private, answer_of, IsValid}
-use Rattle.rec_core.specs.Cells.{cell, births_of}
-use Rattle.rec_core.specs.Core.{Core, cells_of, mutator}
-use Rattle.rec_core.specs.Moves.{Move, begun, stepped}
+use Rattle.rec_world.proofs.Common.{next_of, Private, answer_of, IsValid, cell, births_of, Core, cells_of, mutator, Move, begun, stepped, core, held, IsWorld}
 use Rattle.rec_core.proofs.Steps.{actor_of}
-use Rattle.rec_world.specs.Inside.{core}
-use Rattle.rec_world.specs.Mailbox.{held}
-use Rattle.rec_world.specs.World.{IsWorld}
 use Rattle.rec_world.proofs.Calls.{mutator_read, home_again, machine_left, moved_world, made_small, births_few}
 use Rattle.rec_word.specs.declared.op.Op.{Op}
 use Rattle.rec_world.proofs.Beginnings.{MayBegin, may_begin, began_read, first_step_is}

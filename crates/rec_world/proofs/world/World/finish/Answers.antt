@@ -1,8 +1,7 @@
 -- Skips and steps that answer nothing leave all as it was but the work, and the next one follows.
 use Rattle.std.proofs.Common.{◌≤◌, arith, refl, sym, ap, ◌∙◌}
 use Rattle.std.specs.Option.{is_none}
-use Rattle.rec_core.specs.Config.{IsMutator}
-use Rattle.rec_core.specs.Core.{Core, mutator}
+use Rattle.rec_world.proofs.Common.{IsMutator, Core, mutator}
 use Rattle.rec_core.specs.Unfinished.{Waits}
 use Rattle.rec_core.specs.Worked.{StepsTo}
 use Rattle.rec_core.proofs.Unfinished.{waits_none, waited, nearer, mutator_there}

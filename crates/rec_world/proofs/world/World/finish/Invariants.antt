@@ -1,10 +1,8 @@
 -- The steps so far finished nothing, and a work ends in time.
 use Rattle.std.proofs.Common.{◌≡◌, ◌+◌, ◌-◌, true}
-use Rattle.rec_mutator.specs.Private.{is_busy, work_of}
-use Rattle.rec_core.specs.Core.{mutator}
+use Rattle.rec_world.proofs.Common.{is_busy, work_of, mutator, IsWorld}
 use Rattle.rec_core.specs.Unfinished.{Waits}
 use Rattle.rec_core.specs.Worked.{StepsTo}
-use Rattle.rec_world.specs.World.{IsWorld}
 use Rattle.rec_world.proofs.world.World.finish.Given as goal
 
 abbrev pub invariant-loop-made : goal.invariant-loop-made

@@ -1,7 +1,6 @@
 -- The fields of the world are its parts.
 use Rattle.std.proofs.Common.{refl, subst}
-use Rattle.rec_core.specs.Core.{Core}
-use Rattle.rec_world.specs.Inside.{core}
+use Rattle.rec_world.proofs.Common.{Core, core}
 use Rattle.rec_world.specs.Parts.{AreParts}
 use Rattle.rec_world.specs.declared.parts.Parts.{Parts}
 use Rattle.rec_world.proofs.Apart.{all_home}

@@ -1,8 +1,7 @@
 -- Registers and fields name slots, so they can be numbered.
 use Rattle.std.proofs.Common.{◌≡◌, ◌*◌, length, sym, ap, subst, ◌∙◌}
+use Rattle.rec_world.proofs.Common.{Core, sight, core}
 use Rattle.rec_model.specs.Sight.{NumbersSlots}
-use Rattle.rec_core.specs.Core.{Core, sight}
-use Rattle.rec_world.specs.Inside.{core}
 use Rattle.rec_world.specs.Numbering.{NamesBelow, sight_of}
 use Rattle.rec_world.proofs.Names.{names_below}
 use Rattle.rec_world.proofs.world.World.number.Goals as goal

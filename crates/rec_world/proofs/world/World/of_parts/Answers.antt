@@ -1,7 +1,7 @@
 -- The parts make up the world whose parts they are.
 use Rattle.std.proofs.Common.{◌≡◌, ◌*◌, ◌∙◌, sym, subst}
+use Rattle.rec_world.proofs.Common.{IsWorld}
 use Rattle.rec_core.specs.Row.{cells_of_row}
-use Rattle.rec_world.specs.World.{IsWorld}
 use Rattle.rec_world.proofs.Apart.{made_up, parts_home}
 use Rattle.rec_world.proofs.world.World.of_parts.Goals.{After-of_row}
 use Rattle.rec_world.proofs.world.World.of_parts.Goals as goal

@@ -1,10 +1,7 @@
 -- The collector is to offer every slot, and the core is that of the definitions.
 use Rattle.std.proofs.Common.{◌≡◌, sym, ap, subst}
+use Rattle.rec_world.proofs.Common.{Core, Move, EndsRun, offering, core, IsWorld}
 use Rattle.rec_collector.specs.Private.{Private}
-use Rattle.rec_core.specs.Core.{Core}
-use Rattle.rec_core.specs.Moves.{Move, EndsRun, offering}
-use Rattle.rec_world.specs.Inside.{core}
-use Rattle.rec_world.specs.World.{IsWorld}
 use Rattle.rec_world.proofs.Calls.{moved_world}
 use Rattle.rec_world.proofs.world.World.offer_all.Goals as goal
 use Rattle.rec_world.proofs.world.World.offer_all.Goals.{After-offer_all}

@@ -1,7 +1,7 @@
 -- The last step of the poll says all.
 use Rattle.std.proofs.Common.{refl}
+use Rattle.rec_world.proofs.Common.{begun}
 use Rattle.rec_mutator.specs.declared.work.Work.TheVariants as works
-use Rattle.rec_core.specs.Moves.{begun}
 use Rattle.rec_world.proofs.Beginnings.{began_work}
 use Rattle.rec_world.proofs.Calls.{world_kept, finished_kept, worked}
 use Rattle.rec_world.proofs.Commands.{IsPolled, poll_said, poll_answers}

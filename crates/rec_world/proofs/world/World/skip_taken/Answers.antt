@@ -1,13 +1,9 @@
 -- The skip is so many steps.
 use Rattle.std.proofs.Common.{◌≡◌, ◌-◌, ◌≤◌, slice_set, sym, ap, subst, ◌∙◌}
-use Rattle.rec_mutator.specs.Private.{Private, is_busy}
-use Rattle.rec_mutator.specs.Took.{IsAhead, skipped_to}
-use Rattle.rec_core.specs.Core.{Core, mutator}
+use Rattle.rec_world.proofs.Common.{Private, is_busy, IsAhead, skipped_to, Core, mutator, core, IsWorld}
 use Rattle.rec_core.specs.Unfinished.{HasFound}
 use Rattle.rec_core.specs.Worked.{StepsTo}
 use Rattle.rec_core.proofs.Showing.{mutator_left}
-use Rattle.rec_world.specs.Inside.{core}
-use Rattle.rec_world.specs.World.{IsWorld}
 use Rattle.rec_world.proofs.Calls.{Ready, ready, mutator_read}
 use Rattle.rec_world.proofs.Skipping.{MaySkip, may_skip, skipping, skipping_is, path_world}
 use Rattle.rec_world.proofs.world.World.skip_taken.Goals as goal

@@ -1,19 +1,12 @@
 -- The machine names an operation, the memory carries it out, the machine learns: the core is that of the definitions.
 use Rattle.std.proofs.Common.{◌≡◌, ◌-◌, ◌+◌, ◌<◌, ◌≤◌, ◌^◌, Option, true, map, length, slice_set, arith, refl, sym, ap, subst, ◌∙◌}
 use Rattle.std.specs.Option.{is_some}
-use Rattle.rec_mutator.specs.Next.{next_of}
-use Rattle.rec_mutator.specs.Private.{is_busy, answer_of}
+use Rattle.rec_world.proofs.Common.{next_of, is_busy, answer_of, cell, births_of, Core, cells_of, mutator, Move, stepped, core, held, IsWorld}
 use Rattle.rec_mutator.specs.declared.made.Made.{Made}
-use Rattle.rec_core.specs.Cells.{cell, births_of}
-use Rattle.rec_core.specs.Core.{Core, cells_of, mutator}
-use Rattle.rec_core.specs.Met.{MayStep}
-use Rattle.rec_core.specs.Moves.{Move, stepped}
+use Rattle.rec_core.specs.Preconditions.{MayStep}
 use Rattle.rec_core.specs.Step.{IsStep}
 use Rattle.rec_core.proofs.Step.{step_is_one}
 use Rattle.rec_core.proofs.Words.{may_step}
-use Rattle.rec_world.specs.Inside.{core}
-use Rattle.rec_world.specs.Mailbox.{held}
-use Rattle.rec_world.specs.World.{IsWorld}
 use Rattle.rec_world.proofs.Calls.{Ready, ready, mutator_read, home_again, machine_left, moved_world, made_small, births_few}
 use Rattle.rec_world.proofs.OneStep.{makes_step, made_step_is}
 use Rattle.rec_world.proofs.world.World.step.Goals as goal

@@ -2,23 +2,18 @@
 use Rattle.std.proofs.Common.{◌≡◌, ℕ, ◌-◌, ◌<◌, ◌≤◌, List, Option, None, Some, map, length, slice_index_or, refl, sym, ap, subst, ◌∙◌}
 use Rattle.std.specs.Option.{IfSome, IsSome}
 use Rattle.std.proofs.lemmas.List.{get_or_default}
+use Rattle.rec_world.proofs.Common.{Contents, Core, box, Move, looked_at, turned, turned_at, core, held, held_by, IsWorld}
 use Rattle.rec_word.specs.declared.op.Op.{Op}
-use Rattle.rec_log.specs.declared.contents.Contents.{Contents}
 use Rattle.rec_collector.specs.Given.{IsGiven, IsSized, swapping_for}
 use Rattle.rec_collector.specs.Next.{next_of}
 use Rattle.rec_collector.specs.Private.{Private}
 use Rattle.rec_collector.specs.Took.{took_of, turn_of}
 use Rattle.rec_collector.specs.declared.turn.Turn.{Turn}
 use Rattle.rec_collector.specs.declared.turn.Turn.TheVariants as turns
-use Rattle.rec_core.specs.Core.{Core, box}
-use Rattle.rec_core.specs.Met.{MayTurn}
-use Rattle.rec_core.specs.Moves.{Move, looked_at, turned, turned_at}
+use Rattle.rec_core.specs.Preconditions.{MayTurn}
 use Rattle.rec_core.specs.Turn.{IsTurn, told_at, turn_told}
 use Rattle.rec_core.proofs.Turn.{turn_is_one}
 use Rattle.rec_core.proofs.Words.{may_turn}
-use Rattle.rec_world.specs.Inside.{core}
-use Rattle.rec_world.specs.Mailbox.{held, held_by}
-use Rattle.rec_world.specs.World.{IsWorld}
 use Rattle.rec_world.proofs.Calls.{ReadyToTurn, ready_to_turn, box_read, moved_world, world_kept}
 use Rattle.rec_world.proofs.Turnings.{holds_looked, home_still, turned_is}
 use Rattle.rec_world.proofs.world.World.turn_seen.Goals as goal

@@ -10,28 +10,28 @@ use Rattle.rec_mutator.specs.declared.phase.Phase.TheVariants as at
 use Rattle.rec_mutator.specs.declared.work.Work.{Work}
 use Rattle.rec_mutator.specs.declared.work.Work.TheVariants as works
 use Rattle.rec_collector.specs.Private as collectors
-use Rattle.rec_table.specs.declared.views.Crew.{Crew}
+use Rattle.rec_table.specs.declared.views.CollectorSeat.{CollectorSeat}
 use Rattle.rec_table.specs.Beats.{told, gathered_all}
 use Rattle.rec_table.specs.Rule.{beats, boxes_out}
 use Rattle.rec_table.specs.declared.views.Beat.{Beat}
 use Rattle.rec_table.specs.declared.views.Seated.{Seated}
 
 -- which table it stands on, its number, what it was when the heap started, and its list since
-pub record Held : Type 0 where
+pub record MutatorView : Type 0 where
   pub table : TableId
   pub number : ℕ
   pub opened : Private
   pub log : List Beat
 
-abbrev pub held : TableId → Private → Seated → Held
-held z opened t = record { table = z; number = t.number; opened = opened; log = t.log }
+abbrev pub mutator_view : TableId → Private → Seated → MutatorView
+mutator_view z opened t = record { table = z; number = t.number; opened = opened; log = t.log }
 
 -- its private record now
-abbrev pub has : Held → Private
-has h = told h.opened h.log
+abbrev pub mutator_now : MutatorView → Private
+mutator_now h = told h.opened h.log
 
 -- it is this heap's own
-abbrev pub IsOf : TableId → Core → Held → Type 0
+abbrev pub IsOf : TableId → Core → MutatorView → Type 0
 IsOf z key h = (h.table ≡ z) × IsMutator key.config h.number × (h.opened ≡ mutator key h.number)
 
 -- which table a heap stands on, and the world that was started
@@ -43,17 +43,17 @@ abbrev pub started : TableId → Core → Started
 started z w = record { table = z; world = w }
 
 -- it is a mutator of this heap
-abbrev pub IsMutatorOf : Started → Held → Type 0
+abbrev pub IsMutatorOf : Started → MutatorView → Type 0
 IsMutatorOf s h = IsOf s.table s.world h
 
 -- a mutator with this number as the heap is started
-abbrev pub fresh : Started → ℕ → Held
+abbrev pub fresh : Started → ℕ → MutatorView
 fresh s n = record { table = s.table; number = n; opened = mutator s.world n; log = [] }
 
 -- they are all mutators of this heap, in order of number
-pub record AreMutatorsOf (s : Started) (ms : List Held) : Type 0 where
+pub record AreMutatorsOf (s : Started) (ms : List MutatorView) : Type 0 where
   pub all : length ms ≡ s.world.config.mutators
-  pub each : (k : ℕ) (d : Held) → k < length ms → IsMutatorOf s (slice_index_or ms k d) × ((slice_index_or ms k d).number ≡ k + 1)
+  pub each : (k : ℕ) (d : MutatorView) → k < length ms → IsMutatorOf s (slice_index_or ms k d) × ((slice_index_or ms k d).number ≡ k + 1)
 
 -- a work that is finished was answered as such works are
 abbrev pub IsTold : Phase → Type 0
@@ -69,32 +69,32 @@ pub data Works (work : Work) (log : List Beat) : List Beat → Type 0 where
   then : (log' : List Beat) (word : ℕ) → Works work log log' → Works work log (log' ++ beats None word)
 
 -- what clauses see of the collector on the table
-pub record Gathers : Type 0 where
+pub record CollectorView : Type 0 where
   pub table : TableId
   pub opened : collectors.Private
-  pub crew : Crew
+  pub collecting : CollectorSeat
 
-abbrev pub gathers : TableId → collectors.Private → Crew → Gathers
-gathers z opened c = record { table = z; opened = opened; crew = c }
+abbrev pub collector_view : TableId → collectors.Private → CollectorSeat → CollectorView
+collector_view z opened c = record { table = z; opened = opened; collecting = c }
 
-abbrev pub gathers_now : Gathers → collectors.Private
-gathers_now g = gathered_all g.opened g.crew.log
+abbrev pub collector_now : CollectorView → collectors.Private
+collector_now g = gathered_all g.opened g.collecting.log
 
-abbrev pub IsOwn : TableId → Core → Gathers → Type 0
+abbrev pub IsOwn : TableId → Core → CollectorView → Type 0
 IsOwn z key g = (g.table ≡ z) × (g.opened ≡ key.collector)
 
 -- it is the collector of this heap, which made a seat for each mutator and took in none
-abbrev pub IsCollectorOf : Started → Gathers → Type 0
-IsCollectorOf s g = IsOwn s.table s.world g × (g.crew.made ≡ s.world.config.mutators) × (g.crew.known ≡ [])
+abbrev pub IsCollectorOf : Started → CollectorView → Type 0
+IsCollectorOf s g = IsOwn s.table s.world g × (g.collecting.made ≡ s.world.config.mutators) × (g.collecting.known ≡ [])
 
 -- the collector as the heap is started
-abbrev pub fresh_collector : Started → Gathers
-fresh_collector s = gathers s.table s.world.collector (record { log = []; made = s.world.config.mutators; known = [] })
+abbrev pub fresh_collector : Started → CollectorView
+fresh_collector s = collector_view s.table s.world.collector (record { log = []; made = s.world.config.mutators; known = [] })
 
 -- its list grew by the turn that gives back a mailbox, where it held one; no epoch is requested by that
-pub record PutsBack (g h : Gathers) : Type 0 where
+pub record PutsBack (g h : CollectorView) : Type 0 where
   pub returned : List Beat
-  pub grows : h ≡ record g { crew = record g.crew { log = g.crew.log ++ returned } }
+  pub grows : h ≡ record g { collecting = record g.collecting { log = g.collecting.log ++ returned } }
   pub once : length returned ≤ 1
-  pub home : boxes_out (gathers_now g) ≡ [] → returned ≡ []
-  pub requests_none : (gathers_now h).epoch ≡ (gathers_now g).epoch
+  pub home : boxes_out (collector_now g) ≡ [] → returned ≡ []
+  pub requests_none : (collector_now h).epoch ≡ (collector_now g).epoch
