@@ -79,14 +79,16 @@ typedef struct recycler_handle {
     struct { void *at; } owned;
 } recycler_handle;
 
+/* How many mutators a heap has at most. */
+#define RECYCLER_MOST_MUTATORS 63
+
 typedef struct recycler {
     recycler_handle collector;
-    recycler_handle mutators[8];
+    recycler_handle mutators[RECYCLER_MOST_MUTATORS];
 } recycler;
 
-#define RECYCLER_CLOSED \
-    { { false, { 0 } }, { { false, { 0 } }, { false, { 0 } }, { false, { 0 } }, { false, { 0 } }, \
-                          { false, { 0 } }, { false, { 0 } }, { false, { 0 } }, { false, { 0 } } } }
+/* All handles are closed: what an initializer does not name is zero. */
+#define RECYCLER_CLOSED { { false, { 0 } }, { { false, { 0 } } } }
 
 /* What a command was answered. */
 typedef enum recycler_answer {
@@ -148,7 +150,7 @@ typedef struct recycler_totals_told {
 
 /* Opens a heap at rest, in a closed `recycler`. One object with label 0 stands in slot 0 and in register 0 of each mutator. The memory of
  * the heap at rest and of its handles is taken here.
- * slots: objects that fit, 1 to 65,535. fields: of each object, 1 to 16. registers: of each mutator, 1 to 64. mutators: 1 to 8.
+ * slots: objects that fit, 1 to 65,535. fields: of each object, 1 to 16. registers: of each mutator, 1 to 64. mutators: 1 to 63.
  * log_entries: that the log of each mutator holds, 1 to 262,143. An object that the mutator makes takes one, and so does a field that it
  * puts, a null one too; a refused command takes none. A poll that crosses empties the log, and there is an epoch to cross into once the
  * collector's turns have begun a collection. The larger the logs, the more slots mutators take before the collector comes by: in the

@@ -100,7 +100,7 @@ static void want_numbers(recycler *r) {
     WANT(recycler_open(r, 65536, 1, 4, 2, 64, 1), RECYCLER_SLOTS);
     WANT(recycler_open(r, 8, 17, 4, 2, 64, 1), RECYCLER_FIELDS);
     WANT(recycler_open(r, 8, 1, 65, 2, 64, 1), RECYCLER_REGISTERS);
-    WANT(recycler_open(r, 8, 1, 4, 9, 64, 1), RECYCLER_MUTATORS);
+    WANT(recycler_open(r, 8, 1, 4, 64, 64, 1), RECYCLER_MUTATORS);
     WANT(recycler_open(r, 8, 1, 4, 2, 262144, 1), RECYCLER_LOG_ENTRIES);
     WANT(recycler_open(r, 8, 1, 4, 2, 64, LAST_EPOCH + 1), RECYCLER_FIRST_EPOCH);
     WANT(recycler_open(r, 0, 0, 0, 0, 0, 0), RECYCLER_SLOTS);

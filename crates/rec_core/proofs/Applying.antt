@@ -71,10 +71,10 @@ rows_sum size w =
     )
 
 -- the limits of a heap, multiplied
-products : (n cap : ℕ) → n ≤ 8 → cap ≤ 262143 → n * cap ≤ 8 * 262143
+products : (n cap : ℕ) → n ≤ 63 → cap ≤ 262143 → n * cap ≤ 63 * 262143
 products n cap few most = mul-le-mul few most
 
-registers_products : (n cap : ℕ) → n ≤ 8 → cap ≤ 64 → n * cap ≤ 8 * 64
+registers_products : (n cap : ℕ) → n ≤ 63 → cap ≤ 64 → n * cap ≤ 63 * 64
 registers_products n cap few most = mul-le-mul few most
 
 words_products : (slots fields : ℕ) → slots ≤ 65535 → fields ≤ 16 → slots * fields ≤ 65535 * 16
@@ -252,12 +252,12 @@ module _ (w : Core) (t : ℕ) (kept : IsKept w) (phase : w.collector.phase ≡ R
       ap (λ (n : ℕ). (slice_index_or c.counts.slots n fresh).count) at ∙ ap (λ (v : Slot). v.count) (get_or_default c.counts.slots x fresh absent (omega (arith, slots_are)))
 
   -- how much there is at most to count
-  few_writes : length (writes_of w) ≤ 32 * 262143
+  few_writes : length (writes_of w) ≤ 252 * 262143
   few_writes =
       let mutators : length w.mutators ≡ w.config.mutators = kept.mutators.many in
       let boxes : length w.boxes ≡ w.config.mutators = kept.mutators.mailboxes in
       let both : length c.older ≡ length c.newer = kept.collector.machine.both in
-      let eight : w.config.mutators ≤ 8 = kept.config.few_mutators in
+      let most : w.config.mutators ≤ 63 = kept.config.few_mutators in
       let size : Filed → ℕ = λ b. length (writes_in b.buffer.entries) in
       let cap : ℕ = w.config.log_entries in
       omega (
@@ -268,7 +268,7 @@ module _ (w : Core) (t : ℕ) (kept : IsKept w) (phase : w.collector.phase ≡ R
         all_within (λ (b : Contents). size (filed (w.epoch - 1) b)) cap w.boxes (collectors.blank 0 0) (λ i below. let is : size (filed (w.epoch - 1) (slice_index_or w.boxes i (collectors.blank 0 0))) ≡ 0 = ap (λ (b : Contents). length (writes_in b.entries)) (box_of i below) in omega (arith, is)),
         all_within (λ (b : Contents). size (filed (w.epoch - 1) b)) cap c.newer (collectors.blank 0 0) (λ i below. log_within (newer_of i below)),
         all_within (λ (b : Contents). size (filed (older_at w.epoch c.phase) b)) cap c.older (collectors.blank 0 0) (λ i below. log_within (older_of i below)),
-        products w.config.mutators cap eight kept.config.few_log_entries,
+        products w.config.mutators cap most kept.config.few_log_entries,
         ap (λ n. n * cap) (sym mutators),
         ap (λ n. n * cap) (sym boxes),
         ap (λ n. n * cap) (sym many),
@@ -278,12 +278,12 @@ module _ (w : Core) (t : ℕ) (kept : IsKept w) (phase : w.collector.phase ≡ R
       log_within : {e : ℕ} {b : Contents} → IsBufferOf w.config e b → length (writes_in b.entries) ≤ w.config.log_entries
       log_within {e} {b} is = let capacity : b.capacity ≡ w.config.log_entries = is.capacity in omega (arith, fewer_writes b.entries, is.few)
 
-  few_names : length (snapshots_of w) ≤ 32 * 64
+  few_names : length (snapshots_of w) ≤ 252 * 64
   few_names =
       let mutators : length w.mutators ≡ w.config.mutators = kept.mutators.many in
       let boxes : length w.boxes ≡ w.config.mutators = kept.mutators.mailboxes in
       let both : length c.older ≡ length c.newer = kept.collector.machine.both in
-      let eight : w.config.mutators ≤ 8 = kept.config.few_mutators in
+      let most : w.config.mutators ≤ 63 = kept.config.few_mutators in
       let size : Filed → ℕ = λ b. length (dated_names b.epoch b.buffer.snapshot) in
       let cap : ℕ = w.config.registers in
       omega (
@@ -295,7 +295,7 @@ module _ (w : Core) (t : ℕ) (kept : IsKept w) (phase : w.collector.phase ≡ R
             (λ i below. let is : size (filed (w.epoch - 1) (slice_index_or w.boxes i (collectors.blank 0 0))) ≡ 0 = ap (λ (b : Contents). length (dated_names (w.epoch - 1) b.snapshot)) (box_of i below) ∙ ap length (spare_names w.config (w.epoch - 1)) in omega (arith, is)),
         all_within (λ (b : Contents). size (filed (w.epoch - 1) b)) cap c.newer (collectors.blank 0 0) (λ i below. names_within (w.epoch - 1) (newer_of i below)),
         all_within (λ (b : Contents). size (filed (older_at w.epoch c.phase) b)) cap c.older (collectors.blank 0 0) (λ i below. names_within (older_at w.epoch c.phase) (older_of i below)),
-        registers_products w.config.mutators cap eight kept.config.few_registers,
+        registers_products w.config.mutators cap most kept.config.few_registers,
         ap (λ n. n * cap) (sym mutators),
         ap (λ n. n * cap) (sym boxes),
         ap (λ n. n * cap) (sym many),

@@ -83,7 +83,7 @@ registers_many config t is =
 -- its machine
 pub machine_opened : (config : Config) (t : ℕ) → IsConfig config → IsMutator config t → IsMachine (opened_mutator config t)
 machine_opened config t is there =
-    let few : config.mutators ≤ 8 = is.few_mutators in
+    let few : config.mutators ≤ 63 = is.few_mutators in
     let last : t ≤ config.mutators = there.1 in
     let slots : 1 ≤ config.slots = is.some_slots in
     let few_slots : config.slots ≤ 65535 = is.few_slots in

@@ -78,7 +78,7 @@ machine_opened config is =
     let fields : config.fields ≤ 16 = is.few_fields in
     let registers : 1 ≤ config.registers = is.some_registers in
     let mutators : 1 ≤ config.mutators = is.some_mutators in
-    let few : config.mutators ≤ 8 = is.few_mutators in
+    let few : config.mutators ≤ 63 = is.few_mutators in
     let epoch : config.first_epoch ≤ 16777215 = is.few_epochs in
     opened_keeps config.slots config.fields config.registers config.mutators config.log_entries config.first_epoch (omega arith) (omega arith) (omega arith) (omega arith) (omega arith) (omega arith) (keep_open config.slots config.mutators (omega arith))
 

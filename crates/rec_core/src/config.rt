@@ -15,7 +15,7 @@ pub struct Config {
     pub fields: u32,
     /// How many registers each mutator has: 1 to 64.
     pub registers: u32,
-    /// How many mutators there are: 1 to 8.
+    /// How many mutators there are: 1 to 63.
     pub mutators: u32,
     /// How many entries a mutator's log can hold: 1 to 262,143.
     pub log_entries: u32,

@@ -9,8 +9,11 @@ pub const MOST_FIELDS: u32 = 16;
 /// How many registers a mutator has at most.
 pub const MOST_REGISTERS: u32 = 64;
 
-/// How many mutators a heap has at most.
-pub const MOST_MUTATORS: u8 = 8;
+/// How many mutators a heap has at most. A field's word has six bits for the number of its writer, and 0 is nobody.
+pub const MOST_MUTATORS: u8 = 63;
+
+/// How many mutators a script has at most.
+pub const MOST_SCRIPT_MUTATORS: u8 = 8;
 
 /// How many entries a log holds at most.
 pub const MOST_LOG_ENTRIES: u32 = 262_143;

@@ -9,7 +9,7 @@ use rand_pcg::Pcg32;
 use std::marker::Model;
 
 /// How many mutators there are at most.
-pub const MOST_MUTATORS: usize = rec_model::limits::MOST_MUTATORS as usize;
+pub const MOST_MUTATORS: usize = rec_model::limits::MOST_SCRIPT_MUTATORS as usize;
 
 // The stream of the generator whose words name the actors.
 const STREAM: u64 = 1;

@@ -2,7 +2,7 @@
 use Rattle.std.specs.Prelude.{◌≡◌, ⊤, ℕ, ◌≤◌, Bool, true, false, List, [], ◌∷◌, Option, None, Some, codes}
 use Rattle.std.specs.Str.{bytes_eq}
 use Rattle.std.specs.Str.Parse.{IsNumeral, without_leading_plus, digits_value}
-use Rattle.rec_model.specs.declared.limits.TheConstants.{MOST_MUTATORS, MOST_COMMANDS, MOST_TURNS}
+use Rattle.rec_model.specs.declared.limits.TheConstants.{MOST_SCRIPT_MUTATORS, MOST_COMMANDS, MOST_TURNS}
 use Rattle.clap.specs.Words.{App, Row, Rule, Shape, Text, fault_of, first_of, new_rule, subcommand_of}
 use Rattle.clap.specs.Simple.{new_shape}
 use Rattle.clap.specs.declared.builder.action.ArgAction.TheVariants.{SetTrue}
@@ -72,7 +72,7 @@ pub record AsksPlay (options : List Row) (asked : Play) : Type 0 where
 pub record AsksMake (options : List Row) (asked : Make) : Type 0 where
   pub seeded : Says (first_of (codes "seed") options) 0 18446744073709551615 asked.seed
   pub some : 1 ≤ asked.mutators
-  pub few : Says (first_of (codes "mutators") options) 2 MOST_MUTATORS asked.mutators
+  pub few : Says (first_of (codes "mutators") options) 2 MOST_SCRIPT_MUTATORS asked.mutators
   pub limited : Says (first_of (codes "commands") options) 1000 MOST_COMMANDS asked.commands
 
 -- what a subcommand with its options asks for, if there is one
@@ -95,7 +95,7 @@ HasFewTurns hows.Threads = ⊤
 -- each number of a request is in its range
 abbrev pub IsInRange : Request → Type 0
 IsInRange (requests.Answer how) = HasFewTurns how
-IsInRange (requests.Make asked) = (1 ≤ asked.mutators) × (asked.mutators ≤ MOST_MUTATORS) × (asked.commands ≤ MOST_COMMANDS)
+IsInRange (requests.Make asked) = (1 ≤ asked.mutators) × (asked.mutators ≤ MOST_SCRIPT_MUTATORS) × (asked.commands ≤ MOST_COMMANDS)
 
 -- a request that a script is read for
 abbrev pub ReadsScript : Request → Type 0

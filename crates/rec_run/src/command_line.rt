@@ -21,7 +21,7 @@ const MOST_TURNS: u64 = rec_model::limits::MOST_TURNS as u64;
 /// How many mutators a made script has where no number is given, and at most.
 const MUTATORS: u64 = 2;
 
-const MOST_MUTATORS: u64 = rec_model::limits::MOST_MUTATORS as u64;
+const MOST_MUTATORS: u64 = rec_model::limits::MOST_SCRIPT_MUTATORS as u64;
 
 /// How many commands each mutator of a made script has where no number is given, and at most.
 const COMMANDS: u64 = 1_000;

@@ -1,7 +1,7 @@
 //! The top call: from words, and the bytes of a script, to the bytes of an answer.
 ghost use Rattle.std.specs.Prelude.{◌≡◌, ◌≢◌, ◌⊎◌, ℕ, ◌≤◌, false, List, Option, Some, map, IfOk};
 ghost use Rattle.std.specs.List.{flat_map};
-ghost use Rattle.rec_model.specs.declared.limits.TheConstants.{MOST_COMMANDS, MOST_MUTATORS};
+ghost use Rattle.rec_model.specs.declared.limits.TheConstants.{MOST_COMMANDS, MOST_SCRIPT_MUTATORS};
 ghost use Rattle.rec_io.specs.Faults.{Rose};
 ghost use Rattle.rec_io.specs.Source.{Passes};
 ghost use Rattle.rec_io.specs.Told.{KeepsTold};
@@ -162,7 +162,7 @@ fn answer<R: Threads + Wait + Sync, G: Gate>(
 
 // Writes a made script. Whatever source there is, nothing is read from it.
 fn write_made<K: Sink>(alloc: Global, make: Make, sink: &mut K) -> Status
-    requires mutators { (1 ≤ make.mutators) × (make.mutators ≤ MOST_MUTATORS) }
+    requires mutators { (1 ≤ make.mutators) × (make.mutators ≤ MOST_SCRIPT_MUTATORS) }
     requires commands { make.commands ≤ MOST_COMMANDS }
     ensures ends { (rest : Option (List ℕ)) (faults : ℕ) → Ends (Request.Make make) result (untouched rest faults) (passage K.written K.faults sink.old sink.new) }
     ensures unwritten { may_write result ≡ false → sink.new ≡ sink.old }

@@ -5,7 +5,7 @@ use Rattle.std.specs.Fmt.{decimal}
 use Rattle.std.specs.List.{flat_map}
 use Rattle.std.specs.Str.{IsUtf8}
 use Rattle.rec_model.specs.declared.command.Cmd.{Cmd}
-use Rattle.rec_model.specs.declared.limits.TheConstants.{MOST_SLOTS, MOST_FIELDS, MOST_REGISTERS, MOST_MUTATORS, MOST_COMMANDS, MOST_BYTES}
+use Rattle.rec_model.specs.declared.limits.TheConstants.{MOST_SLOTS, MOST_FIELDS, MOST_REGISTERS, MOST_SCRIPT_MUTATORS, MOST_COMMANDS, MOST_BYTES}
 use Rattle.rec_model.specs.declared.command.Cmd.TheVariants.{New, Leaf, Null, Copy, Get, Put, Value, Same}
 use Rattle.rec_model.specs.Operands.{HasOperands, HasLabel}
 use Rattle.rec_script.specs.declared.error.Kind.{Kind}
@@ -64,7 +64,7 @@ pub record IsScript (contents : ScriptContents) : Type 0 where
   pub version : IsVersion contents.version
   pub heap : IsHeap contents.slots contents.fields contents.registers
   pub some_mutators : 1 ≤ length contents.commands
-  pub most_mutators : length contents.commands ≤ MOST_MUTATORS
+  pub most_mutators : length contents.commands ≤ MOST_SCRIPT_MUTATORS
   pub commands : All (AreCommands contents.version contents.registers contents.fields) contents.commands
 
 -- the first line that counts
@@ -177,7 +177,7 @@ pub data Fits (before : List (List (List ℕ))) (line : List (List ℕ)) : Kind 
   no_header : before ≡ [] → ((version : ℕ) → IsVersion version → line ≢ header version) → Fits before line NoHeader
   bad_heap : (version : ℕ) → IsVersion version → before ≡ header version ∷ [] → ((slots fields registers : ℕ) → IsHeap slots fields registers → line ≢ heap_line slots fields registers) → Fits before line BadHeap
   no_mutator : (version slots fields registers : ℕ) → IsVersion version → IsHeap slots fields registers → before ≡ header version ∷ heap_line slots fields registers ∷ [] → line ≢ mutator_line → Fits before line NoMutator
-  too_many_mutators : (contents : ScriptContents) → IsScript contents → before ≡ spelled contents → line ≡ mutator_line → length contents.commands ≡ MOST_MUTATORS → Fits before line TooManyMutators
+  too_many_mutators : (contents : ScriptContents) → IsScript contents → before ≡ spelled contents → line ≡ mutator_line → length contents.commands ≡ MOST_SCRIPT_MUTATORS → Fits before line TooManyMutators
   bad_command : (contents : ScriptContents) (kind : Kind) → IsScript contents → before ≡ spelled contents → line ≢ mutator_line → IsBadCommand contents.version contents.registers contents.fields (last_length contents.commands) line kind → Fits before line kind
 
 -- what is wrong with a line behind lines of which these count: it isn't UTF-8; else it counts, and its words are wrong

@@ -16,7 +16,7 @@ use crate::operand::{is_name, no_word};
 use crate::script::Script;
 use crate::spaced::spaced_command;
 use crate::version::read_version;
-use rec_model::limits::{MOST_COMMANDS, MOST_MUTATORS};
+use rec_model::limits::{MOST_COMMANDS, MOST_SCRIPT_MUTATORS};
 use std::alloc::{AllocError, Global};
 use std::str::from_utf8;
 
@@ -91,7 +91,7 @@ fn add_to_script(
         → (line ≡ number) × Fits (spelled script.old) (word.now ∷ words rest.now) kind }
 {
     if is_mutator(word, rest) {
-        if script.mutators() == MOST_MUTATORS {
+        if script.mutators() == MOST_SCRIPT_MUTATORS {
             return Err(bad(number, Kind::TooManyMutators));
         }
         return script.add_mutator(alloc).map_err(|_| ScriptError::NoMemory);

@@ -1,7 +1,7 @@
 //! Scripts that are made from a seed.
 
 ghost use Rattle.std.specs.Prelude.{◌≡◌, ◌≤◌, ◌<◌, ◌+◌, ◌%◌, [], ◌++◌, length, map, string_bytes, IfOk, OnOk};
-ghost use Rattle.rec_model.specs.declared.limits.TheConstants.{MOST_BYTES, MOST_COMMANDS, MOST_MUTATORS};
+ghost use Rattle.rec_model.specs.declared.limits.TheConstants.{MOST_BYTES, MOST_COMMANDS, MOST_SCRIPT_MUTATORS};
 ghost use Rattle.rand_pcg.specs.Lcg.{Lcg};
 ghost use Rattle.rec_script.specs.Lines.{lines, spaced};
 ghost use Rattle.rec_script.specs.Script.{Spells, command_line};
@@ -132,7 +132,7 @@ fn push_commands(text: &mut String, generator: &mut Pcg32, commands: u32) -> Res
 /// A script of version 1, of so many mutators with so many commands each, drawn from a seed as the profile says (`docs/PROFILE.md`,
 /// "Made scripts").
 pub fn make(alloc: Global, seed: u64, mutators: u8, commands: u32) -> Result<Vec<u8>, NoMemory>
-    requires mutators { (1 ≤ mutators) × (mutators ≤ MOST_MUTATORS) }
+    requires mutators { (1 ≤ mutators) × (mutators ≤ MOST_SCRIPT_MUTATORS) }
     requires commands { commands ≤ MOST_COMMANDS }
 
     // The bytes are the text of the commands that the seed draws, and that only.

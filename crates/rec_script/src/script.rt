@@ -1,7 +1,7 @@
 //! A script that was read, or its first mutators and commands while it grows.
 
 ghost use Rattle.std.specs.Prelude.{◌≡◌, ◌≢◌, ◌<◌, ◌≤◌, ◌+◌, ◌-◌, ℕ, List, [], ◌∷◌, ◌++◌, Err, Ok, Some, length, All, Any, IfOk, slice_get};
-ghost use Rattle.rec_model.specs.declared.limits.TheConstants.{MOST_COMMANDS, MOST_MUTATORS};
+ghost use Rattle.rec_model.specs.declared.limits.TheConstants.{MOST_COMMANDS, MOST_SCRIPT_MUTATORS};
 ghost use Rattle.rec_script.specs.Script.{Allows, AreCommands, IsCommand, IsHeap, IsScript, IsVersion, command_line, last_length, mutator_line, spelled};
 
 use crate::heap::Heap;
@@ -151,7 +151,7 @@ impl Script {
 
     /// A mutator more, without commands.
     pub(crate) fn add_mutator(&mut self, alloc: Global) -> Result<(), AllocError>
-        requires { length self.old.commands < MOST_MUTATORS }
+        requires { length self.old.commands < MOST_SCRIPT_MUTATORS }
         ensures more { IfOk result (λ x. spelled self.new ≡ spelled self.old ++ mutator_line ∷ []) }
         ensures valid { IsScript self.new }
     {

@@ -124,9 +124,9 @@ made_small w kept =
     = All-from_get_or (λ (p : Private). entries_made w.config p ≤ 2 ^ 58) w.mutators nobody (λ i there. subst (λ n. entries_made w.config (slice_index_or w.mutators n nobody) ≤ 2 ^ 58) (let same : i + 1 - 1 ≡ i = omega arith in same) (few_entries w (i + 1) kept (numbered w i kept (subst (λ n. i < n) kept.mutators.many there)))) in
     let all : sum_by (entries_made w.config) w.mutators ≤ length w.mutators * 2 ^ 58 = sum_by-le (entries_made w.config) (2 ^ 58) w.mutators each in
     let many : length w.mutators ≡ w.config.mutators = kept.mutators.many in
-    let few : w.config.mutators ≤ 8 = kept.config.few_mutators in
+    let few : w.config.mutators ≤ 63 = kept.config.few_mutators in
     let made : w.made ≤ 1 + sum_by (entries_made w.config) w.mutators = kept.made in
-    let product : length w.mutators * 2 ^ 58 ≤ 8 * 2 ^ 58 = mul-le-mul {n₂ = 8} {m₂ = 2 ^ 58} (omega arith) (omega arith) in
+    let product : length w.mutators * 2 ^ 58 ≤ 63 * 2 ^ 58 = mul-le-mul {n₂ = 63} {m₂ = 2 ^ 58} (omega arith) (omega arith) in
     omega arith
 
 -- an operation makes one birth at most

@@ -1,4 +1,4 @@
-//! The heap on which the commands of one to eight mutators run, and the turns of its collector, step by step: its shared
+//! The heap on which the commands of one to 63 mutators run, and the turns of its collector, step by step: its shared
 //! words, a mailbox for each mutator, the machines of the mutators and of the collector, and the counter of births.
 //!
 //! A work of a mutator, which is a command or a poll, is begun and then goes on step by step: its machine names one

@@ -37,7 +37,7 @@ use rec_word::{Header, Op};
 use std::alloc::{AllocError as NoMemory, Global};
 use std::marker::Model;
 
-/// A heap on which the commands of one to eight mutators run, and the turns of its collector, step by step, in any order.
+/// A heap on which the commands of one to 63 mutators run, and the turns of its collector, step by step, in any order.
 #[derive(Drop)]
 pub struct World {
     config: Config,

@@ -1,6 +1,7 @@
 -- A heap that is set running, and its ends as they come back.
 use Rattle.std.proofs.Common.{◌≡◌, ℕ, ◌+◌, ◌%◌, ◌<◌, All, IsSome, Some, is_some, List, [], ◌∷◌, length, map, slice_index_or, refl, sym, ap, ◌∙◌, subst, arith}
 use Rattle.std.specs.Arc.{arc_value}
+use Rattle.rec_model.specs.declared.limits.TheConstants.{MOST_MUTATORS}
 use Rattle.rec_core.specs.Core.{Core}
 use Rattle.rec_table.specs.Ends.{IsStopped}
 use Rattle.rec_table.specs.Views.{AreMutatorsOf, CollectorView, MutatorView, IsMutatorOf, Started, fresh, fresh_collector}
@@ -45,36 +46,36 @@ gathered_home c hs some = record { all = c.whole some; home = λ s. refl; out = 
 pub record AreTaken (c : Collecting) (hs : List Handle) (ms : List MutatorView) : Type 0 where
   pub none : length c.home.items ≡ 0
   pub tied : AreTied (Some (ends.Collecting c)) hs
-  pub eight : length hs ≡ 8
+  pub many : length hs ≡ MOST_MUTATORS
   pub all : length ms ≡ c.count
   pub each : (k : ℕ) (d : Handle) (e : MutatorView) (m : Mutating) → k < c.count → mutates_in (held_at hs k d) ≡ Some m → slice_index_or ms k e ≡ m.mutator
 
-out_at : (c : Collecting) (hs : List Handle) → length c.home.items ≡ 0 → AreTied (Some (ends.Collecting c)) hs → length hs ≡ 8 → (k : ℕ) (d : Handle) → k < c.count →
+out_at : (c : Collecting) (hs : List Handle) → length c.home.items ≡ 0 → AreTied (Some (ends.Collecting c)) hs → length hs ≡ MOST_MUTATORS → (k : ℕ) (d : Handle) → k < c.count →
     HasOut (held_at hs k d) (record { heap = arc_value c.heap; number = k + 1 })
-out_at c hs none tied eight k d lt =
-    seat_out (held_at hs k d) (record { heap = arc_value c.heap; number = k + 1 }) (runs_out (Some (ends.Collecting c)) c hs tied refl none k d (omega (arith, lt, eight, c.few.1)) lt)
+out_at c hs none tied many k d lt =
+    seat_out (held_at hs k d) (record { heap = arc_value c.heap; number = k + 1 }) (runs_out (Some (ends.Collecting c)) c hs tied refl none k d (omega (arith, lt, many, c.few.1)) lt)
 
-pub out_some : (c : Collecting) (hs : List Handle) → length c.home.items ≡ 0 → AreTied (Some (ends.Collecting c)) hs → length hs ≡ 8 → (k : ℕ) (d : Handle) → k < c.count →
+pub out_some : (c : Collecting) (hs : List Handle) → length c.home.items ≡ 0 → AreTied (Some (ends.Collecting c)) hs → length hs ≡ MOST_MUTATORS → (k : ℕ) (d : Handle) → k < c.count →
     IsSome (mutates_in (held_at hs k d))
-out_some c hs none tied eight k d lt = let o = out_at c hs none tied eight k d lt in ap is_some o.is
+out_some c hs none tied many k d lt = let o = out_at c hs none tied many k d lt in ap is_some o.is
 
 pub gathered_out : (c : Collecting) (hs : List Handle) (ms : List MutatorView) → AreTaken c hs ms → AreGathered c hs ms
 gathered_out c hs ms t = record {
   all = t.all;
   home = λ some. absurd (omega (arith, some, t.none));
-  out = λ none k d e lt. let o = out_at c hs none t.tied t.eight k d lt in record { mutating = o.mutating; is = o.is; heap = o.heap; mutator = sym (t.each k d e o.mutating lt o.is) };
+  out = λ none k d e lt. let o = out_at c hs none t.tied t.many k d lt in record { mutating = o.mutating; is = o.is; heap = o.heap; mutator = sym (t.each k d e o.mutating lt o.is) };
 }
 
-some_handle : (hs : List Handle) → length hs ≡ 8 → Handle
+some_handle : (hs : List Handle) → length hs ≡ MOST_MUTATORS → Handle
 some_handle [] e = absurd (omega (arith, e))
 some_handle (h ∷ hs) e = h
 
 -- they are the first mutators of the heap
 pub first_out : (c : Collecting) (hs : List Handle) (ms : List MutatorView) → AreTaken c hs ms → AreFirst (arc_value c.heap) ms
 first_out c hs ms t k d lt =
-    let h : Handle = some_handle hs t.eight in
+    let h : Handle = some_handle hs t.many in
     let under : k < c.count = omega (arith, lt, t.all) in
-    let o = out_at c hs t.none t.tied t.eight k h under in
+    let o = out_at c hs t.none t.tied t.many k h under in
     let is : slice_index_or ms k d ≡ o.mutating.mutator = t.each k h d o.mutating under o.is in
     let own : IsMutatorOf (arc_value c.heap) o.mutating.mutator = subst (λ (s : Started). IsMutatorOf s o.mutating.mutator) o.heap o.mutating.own in
     (subst (λ (x : MutatorView). IsMutatorOf (arc_value c.heap) x) (sym is) own, ap (λ (x : MutatorView). x.number) is ∙ o.number)

@@ -1,6 +1,7 @@
 //! What a handle owns.
 ghost use Rattle.std.specs.Prelude.{◌≡◌, ◌%◌, ◌<◌, ◌≤◌, All, length, vec_capacity};
 ghost use Rattle.std.specs.Arc.{arc_value};
+ghost use Rattle.rec_model.specs.declared.limits.TheConstants.{MOST_MUTATORS};
 ghost use Rattle.rec_table.specs.Views.{IsCollectorOf, IsMutatorOf};
 ghost use Rattle.recycler_c.specs.First.{AreFirst};
 ghost use Rattle.rec_core.specs.Worked.{AreIdle};
@@ -72,7 +73,7 @@ pub struct Collecting {
     pub count: usize,
     pub ghost own: { IsCollectorOf (arc_value heap) collector },
     pub ghost counted: { count ≡ (arc_value heap).world.config.mutators },
-    pub ghost few: { (1 ≤ count) × (count ≤ 8) },
+    pub ghost few: { (1 ≤ count) × (count ≤ MOST_MUTATORS) },
     pub ghost first: { AreFirst (arc_value heap) home.items },
     pub ghost whole: { 0 < length home.items → length home.items ≡ count },
     pub ghost room: { count ≤ vec_capacity home },

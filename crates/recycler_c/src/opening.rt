@@ -1,5 +1,6 @@
 //! A heap is opened and closed.
 ghost use Rattle.std.specs.Prelude.{◌≡◌, ℕ, ◌<◌, ◌≤◌, All, IfOk, IfErr, IsSome, IsTrue, ◌↔◌, None, Some, length, nat_lt, true, if◌then◌else◌};
+ghost use Rattle.rec_model.specs.declared.limits.TheConstants.{MOST_MUTATORS};
 ghost use Rattle.rec_core.specs.Core.{opened};
 ghost use Rattle.rec_core.specs.Config.{IsConfig};
 ghost use Rattle.rec_world.specs.OpenError.{IsRefused};
@@ -17,7 +18,7 @@ use std::alloc::{AllocError as NoMemory, Global};
 /// Opens a heap at rest, with one object in slot 0 and in register 0 of each mutator. Its memory is taken here, and a box for each
 /// handle that it needs.
 pub fn open(alloc: Global, collector: &mut Handle, mutators: &mut [Handle], config: Config) -> Code
-    requires eight { length mutators.old ≡ 8 }
+    requires many { length mutators.old ≡ MOST_MUTATORS }
     requires collects { can_collect collector.old.owned.held ≡ true }
     requires tied { AreTied collector.old.owned.held mutators.old }
 

@@ -1,6 +1,7 @@
 //! A heap at rest is set running, and a running heap is stopped.
 ghost use Rattle.std.specs.Prelude.{◌≡◌, ℕ, ◌+◌, ◌%◌, ◌<◌, ◌≤◌, All, IfOk, IfErr, IsSome, None, Some, [], length, map, slice_index_or, true};
 ghost use Rattle.std.specs.Arc.{arc_value};
+ghost use Rattle.rec_model.specs.declared.limits.TheConstants.{MOST_MUTATORS};
 ghost use Rattle.rec_core.specs.Worked.{AreIdle};
 ghost use Rattle.rec_table.specs.Ends.{IsStopped};
 ghost use Rattle.rec_table.specs.Views.{AreMutatorsOf, MutatorView, IsCollectorOf, fresh, fresh_collector, collector_now};
@@ -20,7 +21,7 @@ use std::sync::Arc;
 
 /// Sets a heap at rest running, and gives each of its mutators into the handle with its number.
 pub fn start(alloc: Global, collector: &mut Handle, mutators: &mut [Handle]) -> Code
-    requires eight { length mutators.old ≡ 8 }
+    requires many { length mutators.old ≡ MOST_MUTATORS }
     requires collects { can_collect collector.old.owned.held ≡ true }
     requires tied { AreTied collector.old.owned.held mutators.old }
 
@@ -39,7 +40,7 @@ pub fn start(alloc: Global, collector: &mut Handle, mutators: &mut [Handle]) -> 
 }
 
 fn start_in(alloc: Global, end: End, mutators: &mut [Handle]) -> (End, Code)
-    requires eight { length mutators.old ≡ 8 }
+    requires many { length mutators.old ≡ MOST_MUTATORS }
     requires collects { can_collect (Some end) ≡ true }
     requires tied { AreTied (Some end) mutators.old }
 
@@ -66,7 +67,7 @@ fn send_out(
     heaps: Vec<Arc<Heap>>,
     mutators: &mut [Handle],
 ) -> Collecting
-    requires eight { length mutators.old ≡ 8 }
+    requires many { length mutators.old ≡ MOST_MUTATORS }
     requires all { length running.home.items ≡ running.count }
     requires heaps { (length heaps.items ≡ running.count) × All (λ heap. arc_value heap ≡ arc_value running.heap) heaps.items }
     requires open { (k : ℕ) (d : Handles) → k < running.count → IsSome (held_at mutators.old k d) }
@@ -165,7 +166,7 @@ fn stay(alloc: Global, running: Collecting) -> (End, Code)
 
 /// Stops a running heap: its mutators come home, and it rests.
 pub fn stop(alloc: Global, collector: &mut Handle, mutators: &mut [Handle]) -> Code
-    requires eight { length mutators.old ≡ 8 }
+    requires many { length mutators.old ≡ MOST_MUTATORS }
     requires collects { can_collect collector.old.owned.held ≡ true }
     requires tied { AreTied collector.old.owned.held mutators.old }
 
@@ -184,7 +185,7 @@ pub fn stop(alloc: Global, collector: &mut Handle, mutators: &mut [Handle]) -> C
 }
 
 fn stop_in(alloc: Global, end: End, mutators: &mut [Handle]) -> (End, Code)
-    requires eight { length mutators.old ≡ 8 }
+    requires many { length mutators.old ≡ MOST_MUTATORS }
     requires collects { can_collect (Some end) ≡ true }
     requires tied { AreTied (Some end) mutators.old }
 
@@ -203,7 +204,7 @@ fn stop_in(alloc: Global, end: End, mutators: &mut [Handle]) -> (End, Code)
 
 // The mutators that are out come home.
 fn call_home(alloc: Global, mut running: Collecting, mutators: &mut [Handle]) -> Collecting
-    requires eight { length mutators.old ≡ 8 }
+    requires many { length mutators.old ≡ MOST_MUTATORS }
     requires tied { AreTied (Some (End.Collecting running)) mutators.old }
 
     ensures heap { arc_value result.heap ≡ arc_value running.heap }
@@ -211,7 +212,7 @@ fn call_home(alloc: Global, mut running: Collecting, mutators: &mut [Handle]) ->
     ensures count { result.count ≡ running.count }
     ensures gathered { AreGathered running mutators.old result.home.items }
     ensures low { (k : ℕ) (d : Handles) → k < running.count → seat_in (held_at mutators.new k d) ≡ Some None }
-    ensures high { (k : ℕ) (d : Handles) → running.count ≤ k → k < 8 → seat_in (held_at mutators.new k d) ≡ None }
+    ensures high { (k : ℕ) (d : Handles) → running.count ≤ k → k < MOST_MUTATORS → seat_in (held_at mutators.new k d) ≡ None }
 {
     if !running.home.is_empty() {
         return running;

@@ -6,10 +6,10 @@ use Rattle.rec_script.proofs.Commands.{is_not}
 use Rattle.rec_script.proofs.Faults.{told, fits_command}
 use Rattle.rec_script.proofs.draft.add_to_script.Goals as goal
 
-pub returns-then-mutators-eq-MOST_MUTATORS-clause-refused : goal.returns-then-mutators-eq-MOST_MUTATORS-clause-refused
-returns-then-mutators-eq-MOST_MUTATORS-clause-refused c = λ line kind e.
+pub returns-then-mutators-eq-MOST_SCRIPT_MUTATORS-clause-refused : goal.returns-then-mutators-eq-MOST_SCRIPT_MUTATORS-clause-refused
+returns-then-mutators-eq-MOST_SCRIPT_MUTATORS-clause-refused c = λ line kind e.
     told (Fits (spelled c.args.script.now) (c.args.word.now ∷ words c.args.rest.now)) c.bad.result c.args.number line _ kind c.bad.ensures e
-    (Fits.too_many_mutators c.args.script.now c.mutators.ensures.valid refl (c.is_mutator.ensures.0 c.if-is_mutator.true) (sym c.mutators.ensures.value ∙ c.if-mutators-eq-MOST_MUTATORS.true))
+    (Fits.too_many_mutators c.args.script.now c.mutators.ensures.valid refl (c.is_mutator.ensures.0 c.if-is_mutator.true) (sym c.mutators.ensures.value ∙ c.if-mutators-eq-MOST_SCRIPT_MUTATORS.true))
 
 pub returns-in-Err-clause-refused : goal.returns-in-Err-clause-refused
 returns-in-Err-clause-refused c = λ line kind e.

@@ -20,7 +20,7 @@ pub returns-then-collector-clause-tied : goal.returns-then-collector-clause-tied
 returns-then-collector-clause-tied c = c.requires.tied
 
 pub seat_all-requires-clause-room : goal.seat_all-requires-clause-room
-seat_all-requires-clause-room c = omega (arith, c.in-Ok.ensures.seats, c.in-Ok.ensures.config.few_mutators, c.requires.eight)
+seat_all-requires-clause-room c = omega (arith, c.in-Ok.ensures.seats, c.in-Ok.ensures.config.few_mutators, c.requires.many)
 
 pub seat_all-requires-clause-closed : goal.seat_all-requires-clause-closed
 seat_all-requires-clause-closed c = λ k d lt.

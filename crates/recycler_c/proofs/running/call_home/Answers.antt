@@ -30,11 +30,11 @@ returns-then-not-is_empty-clause-gathered c =
 pub returns-then-not-is_empty-clause-low : goal.returns-then-not-is_empty-clause-low
 returns-then-not-is_empty-clause-low c = λ k d lt.
     let some : 0 < length c.args.running.home.items = let ne = eqb-false _ _ (sym c.is_empty.ensures ∙ c.if-not-is_empty.true) in omega (arith, ne, c.args.running.home.ok.0) in
-    runs_home (Some (ends.Collecting c.args.running)) c.args.running c.args.mutators.now c.requires.tied refl some k d (omega (arith, lt, c.requires.eight, c.args.running.few.1)) lt
+    runs_home (Some (ends.Collecting c.args.running)) c.args.running c.args.mutators.now c.requires.tied refl some k d (omega (arith, lt, c.requires.many, c.args.running.few.1)) lt
 
 pub returns-then-not-is_empty-clause-high : goal.returns-then-not-is_empty-clause-high
 returns-then-not-is_empty-clause-high c = λ k d over lt.
-    runs_high (Some (ends.Collecting c.args.running)) c.args.running c.args.mutators.now c.requires.tied refl k d (omega (arith, lt, c.requires.eight)) over
+    runs_high (Some (ends.Collecting c.args.running)) c.args.running c.args.mutators.now c.requires.tied refl k d (omega (arith, lt, c.requires.many)) over
 
 pub gather-requires-clause-none : goal.gather-requires-clause-none
 gather-requires-clause-none c =
@@ -42,17 +42,17 @@ gather-requires-clause-none c =
     none_in c.args.running.home.items (omega (arith, zero, c.args.running.home.ok.0))
 
 pub gather-requires-clause-room : goal.gather-requires-clause-room
-gather-requires-clause-room c = (omega (arith, c.requires.eight, c.args.running.few.1), c.args.running.room)
+gather-requires-clause-room c = (omega (arith, c.requires.many, c.args.running.few.1), c.args.running.room)
 
 pub gather-requires-clause-out : goal.gather-requires-clause-out
 gather-requires-clause-out c =
     let zero : vec_len c.args.running.home ≡ 0 = eqb-true _ _ (sym c.is_empty.ensures ∙ c.if-not-is_empty.false) in
-    out_some c.args.running c.args.mutators.now (omega (arith, zero, c.args.running.home.ok.0)) c.requires.tied c.requires.eight
+    out_some c.args.running c.args.mutators.now (omega (arith, zero, c.args.running.home.ok.0)) c.requires.tied c.requires.many
 
 taken : (c : After-gather) → AreTaken c.args.running c.args.mutators.now c.gather.new.home.items
 taken c =
     let zero : vec_len c.args.running.home ≡ 0 = eqb-true _ _ (sym c.is_empty.ensures ∙ c.if-not-is_empty.false) in
-    record { none = omega (arith, zero, c.args.running.home.ok.0); tied = c.requires.tied; eight = c.requires.eight; all = c.gather.ensures.count; each = c.gather.ensures.home }
+    record { none = omega (arith, zero, c.args.running.home.ok.0); tied = c.requires.tied; many = c.requires.many; all = c.gather.ensures.count; each = c.gather.ensures.home }
 
 pub invariant_of-running : goal.invariant_of-running
 invariant_of-running c = record {
@@ -81,4 +81,4 @@ returns-clause-low c = λ k d lt. ap seat_in (c.gather.ensures.vacant k d lt)
 
 pub returns-clause-high : goal.returns-clause-high
 returns-clause-high c = λ k d over lt.
-    ap seat_in (c.gather.ensures.others k d over) ∙ runs_high (Some (ends.Collecting c.args.running)) c.args.running c.args.mutators.now c.requires.tied refl k d (omega (arith, lt, c.requires.eight)) over
+    ap seat_in (c.gather.ensures.others k d over) ∙ runs_high (Some (ends.Collecting c.args.running)) c.args.running c.args.mutators.now c.requires.tied refl k d (omega (arith, lt, c.requires.many)) over

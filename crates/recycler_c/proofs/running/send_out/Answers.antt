@@ -6,7 +6,7 @@ use Rattle.recycler_c.specs.First.{AreFirst}
 use Rattle.recycler_c.proofs.running.send_out.Goals as goal
 
 pub hand_out-requires-clause-room : goal.hand_out-requires-clause-room
-hand_out-requires-clause-room c = omega (arith, c.requires.all, c.requires.eight, c.args.running.few.1)
+hand_out-requires-clause-room c = omega (arith, c.requires.all, c.requires.many, c.args.running.few.1)
 
 pub hand_out-requires-clause-open : goal.hand_out-requires-clause-open
 hand_out-requires-clause-open c = λ k d lt. c.requires.open k d (omega (arith, lt, c.requires.all))

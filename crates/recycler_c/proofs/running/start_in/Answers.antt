@@ -40,8 +40,8 @@ set_running-requires-clause-home c = c.into_world.ensures.home
 pub set_running-requires-clause-kept : goal.set_running-requires-clause-kept
 set_running-requires-clause-kept c = c.into_world.ensures.kept
 
-pub send_out-running-requires-clause-eight : goal.send_out-running-requires-clause-eight
-send_out-running-requires-clause-eight c = c.requires.eight
+pub send_out-running-requires-clause-many : goal.send_out-running-requires-clause-many
+send_out-running-requires-clause-many c = c.requires.many
 
 pub send_out-running-requires-clause-all : goal.send_out-running-requires-clause-all
 send_out-running-requires-clause-all c = c.in-Ok.ensures.fresh.all ∙ ap (λ (w : Core). w.config.mutators) (sym c.in-Ok.ensures.fresh.started) ∙ sym c.in-Ok.running.counted
@@ -53,7 +53,7 @@ pub send_out-running-requires-clause-open : goal.send_out-running-requires-claus
 send_out-running-requires-clause-open c = λ k d lt.
     let at = goal.at.send_out-running-requires-clause-open c in
     let here = tied at.In-Resting in let all = many at.In-Ok in
-    seat_open _ _ (rests_low (Some (ends.Resting c.in-Resting.resting)) c.in-Resting.resting c.args.mutators.now here refl k d (omega (arith, lt, c.requires.eight, c.in-Ok.running.few.1)) (omega (arith, lt, all)))
+    seat_open _ _ (rests_low (Some (ends.Resting c.in-Resting.resting)) c.in-Resting.resting c.args.mutators.now here refl k d (omega (arith, lt, c.requires.many, c.in-Ok.running.few.1)) (omega (arith, lt, all)))
 
 pub returns-in-Ok-clause-starts : goal.returns-in-Ok-clause-starts
 returns-in-Ok-clause-starts c =

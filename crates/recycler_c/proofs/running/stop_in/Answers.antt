@@ -11,8 +11,8 @@ use Rattle.recycler_c.proofs.Standings.{rests_where_not_runs}
 use Rattle.recycler_c.proofs.Ties.{stopped_config, tied_home, tied_rests}
 use Rattle.recycler_c.proofs.running.stop_in.Goals as goal
 
-pub call_home-requires-clause-eight : goal.call_home-requires-clause-eight
-call_home-requires-clause-eight c = c.requires.eight
+pub call_home-requires-clause-many : goal.call_home-requires-clause-many
+call_home-requires-clause-many c = c.requires.many
 
 pub call_home-requires-clause-tied : goal.call_home-requires-clause-tied
 call_home-requires-clause-tied c = subst (λ (e : End). AreTied (Some e) c.args.mutators.now) c.in-Collecting.is c.requires.tied
