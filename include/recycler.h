@@ -104,7 +104,8 @@ typedef enum recycler_answer {
     RECYCLER_BUSY = 8,      /* recycler_new: no free slot was found, but a sweep ran. `before` and `after` have the freed word, which is odd
                               * within a sweep and greater after it */
     RECYCLER_LOG_FULL = 9,  /* the mutator's log has no room: let the collector turn, poll until the poll crosses, and ask again */
-    RECYCLER_NO_FIELD = 10  /* recycler_put: the object is a leaf, whose fields are null for good. No call below makes leaves yet */
+    RECYCLER_NO_FIELD = 10, /* recycler_put: the object is a leaf, whose fields are null for good. No call below makes leaves yet */
+    RECYCLER_NOT_YET = 11   /* a mutator that leaves: its log of the epoch before is not collected yet. No call below leaves yet */
 } recycler_answer;
 
 /* `label`, `before` and `after` are 0 where the answer says nothing of them. */

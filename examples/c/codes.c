@@ -100,7 +100,7 @@ static void want_numbers(recycler *r) {
     WANT(recycler_open(r, 65536, 1, 4, 2, 64, 1), RECYCLER_SLOTS);
     WANT(recycler_open(r, 8, 17, 4, 2, 64, 1), RECYCLER_FIELDS);
     WANT(recycler_open(r, 8, 1, 65, 2, 64, 1), RECYCLER_REGISTERS);
-    WANT(recycler_open(r, 8, 1, 4, 64, 64, 1), RECYCLER_MUTATORS);
+    WANT(recycler_open(r, 8, 1, 4, RECYCLER_MOST_MUTATORS + 1, 64, 1), RECYCLER_MUTATORS);
     WANT(recycler_open(r, 8, 1, 4, 2, 262144, 1), RECYCLER_LOG_ENTRIES);
     WANT(recycler_open(r, 8, 1, 4, 2, 64, LAST_EPOCH + 1), RECYCLER_FIRST_EPOCH);
     WANT(recycler_open(r, 0, 0, 0, 0, 0, 0), RECYCLER_SLOTS);
@@ -109,7 +109,7 @@ static void want_numbers(recycler *r) {
 
 /* Heaps with the least and the greatest numbers. */
 static void open_bounds(recycler *r) {
-    static const uint32_t most[6] = { 65535, 16, 64, 8, 262143, LAST_EPOCH };
+    static const uint32_t most[6] = { 65535, 16, 64, RECYCLER_MOST_MUTATORS, 262143, LAST_EPOCH };
     for (int part = -1; part < 6; part++) {
         uint32_t n[6] = { 1, 1, 1, 1, 1, 1 };
         if (part >= 0) {

@@ -28,7 +28,7 @@ pub record Private : Type 0 where
 
 -- a buffer without entries that has these registers as its snapshot
 abbrev pub retired : (registers : List (Option ℕ)) (capacity : ℕ) → Contents
-retired registers capacity = record { entries = []; snapshot = registers; capacity = capacity }
+retired registers capacity = record { entries = []; snapshot = registers; capacity = capacity; last = false }
 
 -- a buffer without entries, with a null snapshot of so many registers
 abbrev pub blank : (registers capacity : ℕ) → Contents

@@ -8,7 +8,7 @@ use Rattle.rec_model.specs.Reach.{named}
 use Rattle.rec_mutator.specs.Causes.{is_giving}
 use Rattle.rec_mutator.specs.declared.phase.Phase as phases
 use Rattle.rec_mutator.specs.declared.phase.Phase.TheVariants as at
-use Rattle.rec_mutator.proofs.Sizes.{step_keeps}
+use Rattle.rec_mutator.proofs.Sizes.{step_keeps, step_left}
 use Rattle.rec_mutator.proofs.Machines.{IsBox, step_machine}
 
 -- the machine of a mutator after its step
@@ -24,6 +24,7 @@ own_stepped own sized found step label =
       machine = step_machine own.machine sized found step;
       between = step_between step;
       label = label;
+      stays = step_left (λ e. subst HasLabelAt e own.label) step ∙ own.stays;
     }
 
 -- a settled mutator gives no mailbox back

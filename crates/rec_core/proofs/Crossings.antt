@@ -10,7 +10,7 @@ use Rattle.rec_word.specs.declared.op.Op.TheVariants as ops
 use Rattle.rec_model.specs.Reach.{named}
 use Rattle.rec_model.proofs.Opened.{named-nones}
 use Rattle.rec_mutator.specs.Causes.{is_giving}
-use Rattle.rec_mutator.specs.Step.{Crosses}
+use Rattle.rec_mutator.specs.Step.{Crosses, TakesBox}
 use Rattle.rec_mutator.specs.Took.{step_of, IsBetween}
 use Rattle.rec_mutator.specs.declared.made.Made.TheVariants as makes
 use Rattle.rec_mutator.specs.declared.phase.Phase as phases
@@ -22,7 +22,7 @@ use Rattle.rec_collector.specs.Kept.{under_way}
 use Rattle.rec_core.proofs.Actors.{own_stepped, epoch_here, handshake_stays, unsettled_due, spare_buffer, others_stay}
 use Rattle.rec_core.proofs.Cycling.{cycles_moved, machine_alive}
 use Rattle.rec_core.proofs.Moves.{same_pending, crossing_amid, crossing_drops}
-use Rattle.rec_core.proofs.Rules.{performed_kept}
+use Rattle.rec_core.proofs.Rules.{performed_kept, label_at}
 use Rattle.rec_core.proofs.Shapes.{after_take, after_give}
 use Rattle.rec_core.proofs.Steps.{Makes, actor_of, in_list, its_box, register_taken, taken_slot, learnt_stays, entries_stay, registers_stay, quiet_kept}
 
@@ -49,6 +49,7 @@ left_same q b is = same_at q b q.phase is
   where
     same_at : (r : Private) (c : Contents) (phase : phases.Phase) → IsBetween phase → left_at r c phase ≡ c
     same_at r c at.Swapping is = absurd is
+    same_at r c at.Retiring is = absurd is
     same_at r c _ is = refl
 
 -- a mutator whose turn in a gathering is to come: the batch of the epoch before the last is the last one
@@ -223,6 +224,7 @@ begun_kept w t work from kept is idle valid label there =
       machine = record {
         number = machine.number;
         epoch = machine.epoch;
+        stamped = machine.stamped;
         first_slot = machine.first_slot;
         last_slot = machine.last_slot;
         capacity = machine.capacity;
@@ -230,10 +232,11 @@ begun_kept w t work from kept is idle valid label there =
         registers = machine.registers;
         snapshot = machine.snapshot;
         from = subst (λ n. from < n) (sym actor.own.slots) there;
-        now = (valid, refl);
+        now = (valid, refl, machine.stamped actor.own.stays);
       };
       between = tt;
       label = label;
+      stays = actor.own.stays;
     } in
     let same : epoch_at q ≡ epoch_at p = sym (epoch_here p here) in
     quiet_kept w t q kept is own here refl refl
@@ -250,6 +253,12 @@ begun_kept w t work from kept is idle valid label there =
     idle_here at.Giving is = absurd (false≢true (sym is))
     idle_here _ is = refl
 
+-- a mutator whose mailbox is taken next crosses, since none leaves
+crosses_only : (phase : phases.Phase) → HasLabelAt phase → TakesBox phase → phase ≡ at.Crossing
+crosses_only at.Crossing label takes = refl
+crosses_only at.Leaving label takes = absurd label
+crosses_only _ label takes = absurd takes
+
 -- the words of a heap fit its mutators
 fitting : (w : Core) (t : ℕ) → IsKept w → IsMutator w.config t → IsFitting (mutator w t) (cell (cells_of w))
 fitting w t kept is =
@@ -261,7 +270,8 @@ fitting w t kept is =
           let below : slot < w.config.slots = taken_slot w kept slot taken in
           All-get_or IsHeader w.headers slot 0 (omega arith) kept.labels taken;
       epoch = requested (stand_at w.collector.phase t) actor.handshake;
-      home = λ phase.
+      home = λ takes.
+          let phase : (mutator w t).phase ≡ at.Crossing = crosses_only (mutator w t).phase actor.own.label takes in
           let unsettled : IsSettledIn (mutator w t).phase → ⊥ = λ s. subst IsSettledIn phase s in
           let (due, where_) = unsettled_due w.config w.epoch (mutator w t) (crossing_of w t) (box w t) (stand_at w.collector.phase t) unsettled actor.handshake in
           let number : (mutator w t).number ≡ t = actor.own.number in
@@ -307,6 +317,9 @@ step_at w t phase kept is busy at_phase none =
     giving at.Crossing gives = absurd (false≢true gives)
     giving at.Swapping gives = absurd (false≢true gives)
     giving at.Giving gives = refl
+    giving at.Leaving gives = absurd (false≢true gives)
+    giving at.Retiring gives = absurd (false≢true gives)
+    giving at.Parting gives = absurd (false≢true gives)
     giving (at.Finished work made) gives = absurd (false≢true gives)
 
 -- a step of a mutator keeps what every heap with its collector keeps
@@ -322,4 +335,7 @@ step_kept w t kept is busy = go (mutator w t).phase refl (actor_of w t kept is).
     go at.Crossing at_phase between = taken_kept w t kept is busy (next_found w t kept is) at_phase
     go at.Swapping at_phase between = absurd between
     go at.Giving at_phase between = step_at w t at.Giving kept is busy at_phase tt
+    go at.Leaving at_phase between = absurd (label_at w t at.Leaving kept is at_phase)
+    go at.Retiring at_phase between = absurd between
+    go at.Parting at_phase between = step_at w t at.Parting kept is busy at_phase tt
     go (at.Finished work made) at_phase between = step_at w t (at.Finished work made) kept is busy at_phase tt

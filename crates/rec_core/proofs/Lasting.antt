@@ -6,6 +6,7 @@ use Rattle.std.proofs.lemmas.Bool.Decides.{nat_tests}
 use Rattle.std.proofs.lemmas.List.{set-get_or, get_or-set_other}
 use Rattle.std.proofs.lemmas.List.Elements.{Contains-append_left, Contains-append_right, Contains-get_or}
 use Rattle.std.proofs.lemmas.List.Sums.{sum_by-cons, sum_by-set}
+use Rattle.rec_mutator.specs.Step.{TakesBox}
 use Rattle.rec_core.proofs.Common.{crossing_word, Retired, place_of, Op, only_if, epoch_of, Write, Cleared, Contents, Private, is_busy, IsMachine, next_stamp, word_for, IsStore, probe_of, next_of, Step, Decides, GoesOn, LeavesBox, HasRoom, begun_of, left_of, took_of, whole_made, Parts, with_parts, Begun, cleared, Phase, Idle, Looking, Swapping, Returning, Turn, Cells, cell, with_cell, IsMutator, Core, cells_of, mutator, box, nobody, crossing_of, IsBufferOf, IsHandshake, IsKept, Handshake, stand_at, Fits, Move, after_move, begun_from, found_by, left_by, looked_at, offering, stepped, turned, turned_by, older_at, writes_in, writes_of, Config, header_word}
 use Rattle.rec_word.specs.Op.{written}
 use Rattle.rec_word.specs.declared.op.Op.TheVariants as ops
@@ -118,12 +119,13 @@ record IsPut (op : Op) (word : ℕ) (p q : Private) (box left : Contents) : Type
   pub new : ℕ
   pub operation : op ≡ ops.SwapField place new
   pub stamp : epoch_of new ≡ p.epoch
-  pub here : p.phase ≢ at.Crossing
+  pub here : TakesBox p.phase → ⊥
   pub settled : p.phase ≢ at.Giving
   pub more : (g : Write → ℕ) → wrote g q.log + wrote g left ≡ wrote g p.log + wrote g box + g (record { place = place; new = new; old = word })
 
-box_stays : {p : Private} {box left : Contents} → LeavesBox p box left → p.phase ≢ at.Crossing → left ≡ box
-box_stays (LeavesBox.retires phase is) other = absurd (other phase)
+box_stays : {p : Private} {box left : Contents} → LeavesBox p box left → (TakesBox p.phase → ⊥) → left ≡ box
+box_stays (LeavesBox.retires phase is) other = absurd (other (subst TakesBox (sym phase) tt))
+box_stays (LeavesBox.lets_go phase is) other = absurd (other (subst TakesBox (sym phase) tt))
 box_stays (LeavesBox.keeps phase is) other = is
 
 -- an operation that leaves the words
@@ -131,59 +133,71 @@ abbrev LeavesWords : (word : ℕ) → Op → Type 0
 LeavesWords word op = (cells : Cells) → cell cells op ≡ word → (with_cell cells op (written op word)).words ≡ cells.words
 
 module _ {p q : Private} {word : ℕ} {box left : Contents} {op : Op} (leaves : LeavesBox p box left) where
-  plain_as : (its_op : Op) → op ≡ its_op → LeavesWords word its_op → p.phase ≢ at.Crossing → ((g : Write → ℕ) → wrote g q.log ≡ wrote g p.log) → IsPlain op word p q box left
+  plain_as : (its_op : Op) → op ≡ its_op → LeavesWords word its_op → (TakesBox p.phase → ⊥) → ((g : Write → ℕ) → wrote g q.log ≡ wrote g p.log) → IsPlain op word p q box left
   plain_as its_op is words other same = record {
     words = subst (LeavesWords word) (sym is) words;
     same = λ g. omega (arith, same g, ap (wrote g) (box_stays leaves other));
   }
 
-  plain_decides : {cmd : Cmd} {phase : phases.Phase} {its_op : Op} {registers : List (Option ℕ)} {told : Told} → Decides p op q cmd phase its_op registers p.log.entries told → LeavesWords word its_op → phase ≢ at.Crossing → IsPlain op word p q box left
-  plain_decides {its_op = its_op} d words other = plain_as its_op d.operation words (λ e. other (sym d.phase ∙ e)) (λ g. ap (λ (x : Private). wrote g x.log) d.after)
+  plain_decides : {cmd : Cmd} {phase : phases.Phase} {its_op : Op} {registers : List (Option ℕ)} {told : Told} → Decides p op q cmd phase its_op registers p.log.entries told → LeavesWords word its_op → (TakesBox phase → ⊥) → IsPlain op word p q box left
+  plain_decides {its_op = its_op} d words other = plain_as its_op d.operation words (λ e. other (subst TakesBox d.phase e)) (λ g. ap (λ (x : Private). wrote g x.log) d.after)
 
-  plain_goes : {phase next : phases.Phase} {its_op : Op} → GoesOn p op q phase its_op next → LeavesWords word its_op → phase ≢ at.Crossing → IsPlain op word p q box left
-  plain_goes {its_op = its_op} d words other = plain_as its_op d.operation words (λ e. other (sym d.phase ∙ e)) (λ g. ap (λ (x : Private). wrote g x.log) d.after)
+  plain_goes : {phase next : phases.Phase} {its_op : Op} → GoesOn p op q phase its_op next → LeavesWords word its_op → (TakesBox phase → ⊥) → IsPlain op word p q box left
+  plain_goes {its_op = its_op} d words other = plain_as its_op d.operation words (λ e. other (subst TakesBox d.phase e)) (λ g. ap (λ (x : Private). wrote g x.log) d.after)
 
 -- a load leaves the words
 load_leaves : (place word : ℕ) → LeavesWords word (ops.LoadField place)
 load_leaves place word cells e = ap (slice_set cells.words place) (sym e) ∙ set-get_or cells.words place 0
 
 step_logs : {p q : Private} {word : ℕ} {box left : Contents} {op : Op} → IsMachine p → Step p word box op q → LeavesBox p box left → IsPlain op word p q box left ⊎ IsPut op word p q box left
-step_logs m (Step.null reg d) b = inl (plain_decides b d (λ cells e. refl) (λ e. cc))
-step_logs m (Step.copy dst src d) b = inl (plain_decides b d (λ cells e. refl) (λ e. cc))
-step_logs m (Step.compare x y d) b = inl (plain_decides b d (λ cells e. refl) (λ e. cc))
-step_logs m (Step.get_of_null dst src f none d) b = inl (plain_decides b d (λ cells e. refl) (λ e. cc))
-step_logs {word = word} m (Step.get dst src f slot is d) b = inl (plain_decides b d (load_leaves _ word) (λ e. cc))
-step_logs m (Step.put_of_null src f val none d) b = inl (plain_decides b d (λ cells e. refl) (λ e. cc))
-step_logs m (Step.put_refused src f val slot is full d) b = inl (plain_decides b d (λ cells e. refl) (λ e. cc))
-step_logs m (Step.put_into_leaf src f val slot is room leaf d) b = inl (plain_decides b d (λ cells e. refl) (λ e. cc))
-step_logs m (Step.put_begins src f val slot is room unmarked d) b = inl (plain_goes b d (λ cells e. refl) (λ e. cc))
+step_logs m (Step.null reg d) b = inl (plain_decides b d (λ cells e. refl) (λ e. e))
+step_logs m (Step.copy dst src d) b = inl (plain_decides b d (λ cells e. refl) (λ e. e))
+step_logs m (Step.compare x y d) b = inl (plain_decides b d (λ cells e. refl) (λ e. e))
+step_logs m (Step.get_of_null dst src f none d) b = inl (plain_decides b d (λ cells e. refl) (λ e. e))
+step_logs {word = word} m (Step.get dst src f slot is d) b = inl (plain_decides b d (load_leaves _ word) (λ e. e))
+step_logs m (Step.put_of_null src f val none d) b = inl (plain_decides b d (λ cells e. refl) (λ e. e))
+step_logs m (Step.put_refused src f val slot is full d) b = inl (plain_decides b d (λ cells e. refl) (λ e. e))
+step_logs m (Step.put_into_leaf src f val slot is room leaf d) b = inl (plain_decides b d (λ cells e. refl) (λ e. e))
+step_logs m (Step.put_begins src f val slot is room unmarked d) b = inl (plain_goes b d (λ cells e. refl) (λ e. e))
 step_logs {p} {q} {word} {box} {left} m (Step.put src f val slot d) b =
     let store : IsStore p src f val slot = (at_phase p (at.Storing src f val slot) m d.phase).0 in
     let room : HasRoom p = λ full. omega (arith, store.room, full) in
-    let other : p.phase ≢ at.Crossing = λ e. let x : at.Storing src f val slot ≡ at.Crossing = sym d.phase ∙ e in cc in
+    let other : TakesBox p.phase → ⊥ = subst TakesBox d.phase in
     let settled : p.phase ≢ at.Giving = λ e. let x : at.Storing src f val slot ≡ at.Giving = sym d.phase ∙ e in cc in
     inr (record {
       place = place_of slot f p.fields;
       new = word_for p val;
       operation = d.operation;
-      stamp = epoch_of_stamp (word_for p val) (next_stamp p) (word_stamp p val m room);
+      stamp = epoch_of_stamp (word_for p val) (next_stamp p) (word_stamp p val m store.stamp room);
       here = other;
       settled = settled;
       more = λ g. omega (arith, ap (λ (x : Private). wrote g x.log) d.after, writes_more g p.log.entries (place_of slot f p.fields) (word_for p val) word, ap (wrote g) (box_stays b other));
     })
-step_logs m (Step.value_of_null reg none d) b = inl (plain_decides b d (λ cells e. refl) (λ e. cc))
-step_logs m (Step.value reg slot is d) b = inl (plain_decides b d (λ cells e. refl) (λ e. cc))
-step_logs m (Step.new_refused reg label leaf full d) b = inl (plain_decides b d (λ cells e. refl) (λ e. cc))
-step_logs m (Step.new_begins reg label leaf room d) b = inl (plain_goes b d (λ cells e. refl) (λ e. cc))
+step_logs m (Step.value_of_null reg none d) b = inl (plain_decides b d (λ cells e. refl) (λ e. e))
+step_logs m (Step.value reg slot is d) b = inl (plain_decides b d (λ cells e. refl) (λ e. e))
+step_logs m (Step.new_refused reg label leaf full d) b = inl (plain_decides b d (λ cells e. refl) (λ e. e))
+step_logs m (Step.new_begins reg label leaf room d) b = inl (plain_goes b d (λ cells e. refl) (λ e. e))
 step_logs {p} {q} m (Step.new_wins reg label leaf before probed free d) b =
-    let other : p.phase ≢ at.Crossing = λ e. let x : at.Scanning reg label leaf before probed ≡ at.Crossing = sym d.phase ∙ e in cc in
+    let other : TakesBox p.phase → ⊥ = subst TakesBox d.phase in
     inl (plain_as b (ops.ClaimHeader (probe_of p probed) (header_word leaf label)) d.operation (λ cells e. refl) other (λ g. ap (λ (x : Private). wrote g x.log) d.after ∙ writes_same g p.log.entries (probe_of p probed) leaf))
-step_logs m (Step.new_goes_on reg label leaf before probed taken next d) b = inl (plain_goes b d (λ cells e. refl) (λ e. cc))
-step_logs m (Step.new_finds_none reg label leaf before probed taken last d) b = inl (plain_goes b d (λ cells e. refl) (λ e. cc))
-step_logs m (Step.new_is_full reg label leaf before still d) b = inl (plain_decides b d (λ cells e. refl) (λ e. cc))
-step_logs m (Step.new_is_busy reg label leaf before swept d) b = inl (plain_decides b d (λ cells e. refl) (λ e. cc))
-step_logs m (Step.poll_stays own d) b = inl (plain_goes b d (λ cells e. refl) (λ e. cc))
-step_logs m (Step.poll_crosses other d) b = inl (plain_goes b d (λ cells e. refl) (λ e. cc))
+step_logs m (Step.new_goes_on reg label leaf before probed taken next d) b = inl (plain_goes b d (λ cells e. refl) (λ e. e))
+step_logs m (Step.new_finds_none reg label leaf before probed taken last d) b = inl (plain_goes b d (λ cells e. refl) (λ e. e))
+step_logs m (Step.new_is_full reg label leaf before still d) b = inl (plain_decides b d (λ cells e. refl) (λ e. e))
+step_logs m (Step.new_is_busy reg label leaf before swept d) b = inl (plain_decides b d (λ cells e. refl) (λ e. e))
+step_logs m (Step.leave_refused uncollected d) b = inl (plain_decides b d (λ cells e. refl) (λ e. e))
+step_logs m (Step.leave_begins collected d) b = inl (plain_goes b d (λ cells e. refl) (λ e. e))
+step_logs {p} {q} {word} {box} {left} m (Step.leave l) b = inl (record {
+  words = subst (LeavesWords word) (sym l.operation) (λ cells e. refl);
+  same = λ g. omega (arith, ap (λ (x : Private). wrote g x.log) l.after, gives g b);
+})
+  where
+    gives : (g : Write → ℕ) → LeavesBox p box left → wrote g left ≡ wrote g p.log
+    gives g (LeavesBox.retires phase is) = ap (wrote g) is
+    gives g (LeavesBox.lets_go phase is) = ap (wrote g) is
+    gives g (LeavesBox.keeps other is) = absurd (other (subst TakesBox (sym l.phase) tt))
+step_logs {p} {q} m (Step.leave_ends l) b = inl (plain_as b _ l.operation (λ cells e. refl) (subst TakesBox l.phase) (λ g. ap (λ (x : Private). wrote g x.log) l.after))
+step_logs m (Step.poll_stays own d) b = inl (plain_goes b d (λ cells e. refl) (λ e. e))
+step_logs m (Step.poll_crosses other d) b = inl (plain_goes b d (λ cells e. refl) (λ e. e))
 step_logs {p} {q} {word} {box} {left} m (Step.take_box d) b = inl (record {
   words = subst (LeavesWords word) (sym d.operation) (λ cells e. refl);
   same = λ g. omega (arith, ap (λ (x : Private). wrote g x.log) d.after, gives g b);
@@ -191,9 +205,10 @@ step_logs {p} {q} {word} {box} {left} m (Step.take_box d) b = inl (record {
   where
     gives : (g : Write → ℕ) → LeavesBox p box left → wrote g left ≡ wrote g p.log
     gives g (LeavesBox.retires phase is) = ap (wrote g) is
-    gives g (LeavesBox.keeps phase is) = absurd (phase d.phase)
+    gives g (LeavesBox.lets_go phase is) = ap (wrote g) is
+    gives g (LeavesBox.keeps other is) = absurd (other (subst TakesBox (sym d.phase) tt))
 step_logs {p} {q} m (Step.give_box d) b =
-    let other : p.phase ≢ at.Crossing = λ e. let x : at.Giving ≡ at.Crossing = sym d.phase ∙ e in cc in
+    let other : TakesBox p.phase → ⊥ = subst TakesBox d.phase in
     inl (plain_as b _ d.operation (λ cells e. refl) other (λ g. ap (λ (x : Private). wrote g x.log) d.after))
 
 -- a mutator is behind the requested epoch by one at most, and not at all unless its turn in a gathering is still to come

@@ -94,6 +94,7 @@ machine_opened config t is there =
     record {
       number = omega arith;
       epoch = omega arith;
+      stamped = λ _. omega arith;
       first_slot = omega arith;
       last_slot = omega arith;
       capacity = omega arith;

@@ -35,6 +35,7 @@ own_kept config t is there =
       machine = mutator_opened config t is there;
       between = tt;
       label = tt;
+      stays = refl;
     }
 
 -- its crossing word and its mailbox

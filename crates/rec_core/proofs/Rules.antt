@@ -51,10 +51,11 @@ names_held w t r slot kept is within names = subst (Holds (pending w) (epoch_at 
 pub leads_to : (w : Core) (t val : ℕ) → IsKept w → IsMutator w.config t → HasRoom (mutator w t) → target_of (word_for (mutator w t) val) ≡ register (mutator w t) val
 leads_to w t val kept is room =
     let p : Private = mutator w t in
-    let machine = (actor_of w t kept is).own.machine in
+    let own = (actor_of w t kept is).own in
+    let machine = own.machine in
     let free : length p.log.entries < p.log.capacity = has_room p machine room in
     let most : p.log.capacity ≤ 2 ^ 18 = machine.capacity in
-    target_of-packed (register p val) (next_stamp p) (register_target p val machine) (record { writer = machine.number; epoch = machine.epoch; index = omega arith })
+    target_of-packed (register p val) (next_stamp p) (register_target p val machine) (record { writer = machine.number; epoch = machine.stamped own.stays; index = omega arith })
 
 module _ {w : Core} {t word : ℕ} {op : Op} {q : Private} (m : Makes w t word op q) where
   abbrev p : Private
@@ -92,7 +93,7 @@ module _ {w : Core} {t word : ℕ} {op : Op} {q : Private} (m : Makes w t word o
       let a = answers refl m (decided_at fields is_word d) in
       let free : length p.log.entries < p.log.capacity = store.room in
       let room : HasRoom p = λ full. omega (arith, free, full) in
-      let stamp : stamp_of left ≡ next_stamp p = word_stamp p val actor.own.machine room in
+      let stamp : stamp_of left ≡ next_stamp p = word_stamp p val actor.own.machine store.stamp room in
       let here : epoch_at p ≡ p.epoch = epoch_here p a.here in
       let in_epoch : epoch_of left ≡ epoch_at p = epoch_of_stamp left (next_stamp p) stamp ∙ sym here in
       let leads : target_of left ≡ register p val = leads_to w t val m.kept m.is room in
@@ -244,6 +245,10 @@ performed_kept {w = w} {t = t} {word = word} {op = op} {q = q} here m (Step.new_
     (goes_on refl m tt tt (subst (HasPassed w.config.slots w.headers w.freed (mutator w t).from before) all (passed_on w t reg label leaf before probed m.kept m.is g.phase (omega arith))) g)
 performed_kept {w = w} {t = t} {word = word} {op = op} {q = q} here m (Step.new_is_full reg label leaf before still d) = after_freed IsKept w t word q op d.operation m.found (unchanged refl m d)
 performed_kept {w = w} {t = t} {word = word} {op = op} {q = q} here m (Step.new_is_busy reg label leaf before moves d) = after_freed IsKept w t word q op d.operation m.found (unchanged refl m d)
+performed_kept {w = w} {t = t} here m (Step.leave_refused uncollected d) = absurd (label_at w t (at.Begun (works.Command commands.Leave)) m.kept m.is d.phase)
+performed_kept {w = w} {t = t} here m (Step.leave_begins collected g) = absurd (label_at w t (at.Begun (works.Command commands.Leave)) m.kept m.is g.phase)
+performed_kept {w = w} {t = t} here m (Step.leave l) = absurd (label_at w t at.Leaving m.kept m.is l.phase)
+performed_kept {w = w} {t = t} here m (Step.leave_ends l) = absurd (label_at w t at.Parting m.kept m.is l.phase)
 performed_kept {w = w} {t = t} {word = word} {op = op} {q = q} here m (Step.poll_stays own g) = after_epoch IsKept w t word q op g.operation m.found (goes_on refl m tt tt tt g)
 performed_kept {w = w} {t = t} {word = word} {op = op} {q = q} here m (Step.poll_crosses other g) = after_epoch IsKept w t word q op g.operation m.found (about_to_cross m other g)
 performed_kept here m (Step.take_box c) = absurd (subst TakesNone c.phase m.none)

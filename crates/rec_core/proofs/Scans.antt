@@ -1,14 +1,16 @@
 -- An allocation that is answered Full or Busy has claimed each header, and found each taken.
-use Rattle.std.proofs.Common.{◌≡◌, inl, inr, ℕ, true, Option, Some, List, [], ◌∷◌, ◌++◌, fold, refl, arith, sym, ◌∙◌, ap, subst, Bool}
+use Rattle.std.proofs.Common.{◌≡◌, inl, inr, ℕ, true, false, Option, Some, List, [], ◌∷◌, ◌++◌, fold, refl, arith, sym, ◌∙◌, ap, subst, Bool}
 use Rattle.std.proofs.lemmas.Bool.{cases_eq}
 use Rattle.rec_core.proofs.Common.{Op, next_of, answer_of, is_busy, work_at, work_of, IsStill, took_of, here_same, TakesNone, IsMutator, box, mutator, Core, IsKept, after_move, after_moves, found_by, stepped, AllFit, Fits, Move, header_word}
 use Rattle.rec_model.specs.Asking.{allocation}
+use Rattle.rec_model.specs.declared.command.Cmd.TheVariants as commands
 use Rattle.rec_model.specs.declared.told.Told.{Told}
 use Rattle.rec_mutator.specs.Causes.{FoundNone, HasCause}
 use Rattle.rec_mutator.specs.Scans.{ops_along, FailsScan}
 use Rattle.rec_mutator.specs.declared.made.Made.TheVariants as makes
 use Rattle.rec_mutator.specs.declared.phase.Phase.{Phase}
-use Rattle.rec_mutator.specs.declared.phase.Phase.TheVariants.{Begun, Crossing, Swapping}
+use Rattle.rec_mutator.specs.declared.phase.Phase.TheVariants.{Begun, Crossing, Swapping, Leaving, Retiring}
+use Rattle.rec_mutator.specs.declared.work.Work.{Work}
 use Rattle.rec_mutator.specs.declared.work.Work.TheVariants as works
 use Rattle.rec_core.specs.Run.{maker}
 use Rattle.rec_core.specs.Scans.{op_of, ops_over, word_of, words_over, BeginsNone, BeginsNot, FailsByProbes}
@@ -17,10 +19,17 @@ use Rattle.rec_core.proofs.Showing.{step_caused, stepped_mutator}
 use Rattle.rec_core.proofs.Steps.{actor_of}
 use Rattle.rec_core.proofs.Unfinished.{work_stays}
 
+-- an allocation is no leaving
+no_leave : (reg label : ℕ) (leaf : Bool) → ◌≡◌ {A = Option Work} (Some (works.Command commands.Leave)) (Some (works.Command (allocation leaf reg label))) → ⊥
+no_leave reg label true e = cc
+no_leave reg label false e = cc
+
 -- a command in work takes no mailbox
 command_none : (reg label : ℕ) (leaf : Bool) (phase : Phase) → work_at phase ≡ Some (works.Command (allocation leaf reg label)) → TakesNone phase
 command_none reg label leaf Crossing e = cc
 command_none reg label leaf Swapping e = cc
+command_none reg label leaf Leaving e = absurd (no_leave reg label leaf e)
+command_none reg label leaf Retiring e = absurd (no_leave reg label leaf e)
 command_none reg label leaf _ e = tt
 
 -- what a mutator that works on an allocation has become over some moves: its steps alone have changed it

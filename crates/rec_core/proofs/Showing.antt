@@ -270,7 +270,7 @@ says {w = w} {t = t} {word = word} {op = op} {q = q} m (Step.put src f val slot 
     let told : ℕ → Told = λ n. record { answer = answers.Done; saw = n; left = left } in
     let v : Core = record (with_mutator w t q) { words = slice_set w.words (place_of slot f w.config.fields) left } in
     let saw : sight v ≡ after = ap (λ (rss : List (List (Option ℕ))). let s : Sight = record after { registers = rss } in s) (registers_stay w t q (registers_left d)) in
-    let stamped : stamp_of left ≡ record { writer = t; epoch = p.epoch; index = log_length w t } = word_stamp p val own.machine room ∙ ap (λ n. let s : Stamp = record { writer = n; epoch = p.epoch; index = length p.log.entries } in s) own.number in
+    let stamped : stamp_of left ≡ record { writer = t; epoch = p.epoch; index = log_length w t } = word_stamp p val own.machine (own.machine.stamped own.stays) room ∙ ap (λ n. let s : Stamp = record { writer = n; epoch = p.epoch; index = length p.log.entries } in s) own.number in
     let telling : IsTelling w t (commands.Put src f val) (told word) (p.log.entries ++ entries_.Put (place_of slot f p.fields) left word ∷ []) w.made 0 after
     = record {
       explained = subst (λ n. IsExplained (sight w) t (commands.Put src f val) (told n) after) (sym is_word) (put_explained (sight w) t src f val slot left m.kept.sound in_range there unmarked leads);
@@ -332,6 +332,10 @@ says {w = w} {t = t} {word = word} {op = op} {q = q} m (Step.new_is_full reg lab
     (refuses refl m d (refused_telling leaf reg label refl refl (λ is. filled (still.1 ∙ freed) still.0)))
 says {w = w} {t = t} {word = word} {op = op} {q = q} m (Step.new_is_busy reg label leaf before moves d) =
     after_freed (Says w t q) w t word q op d.operation m.found (refuses refl m d (refused_telling leaf reg label refl refl (λ is. cc)))
+says {w = w} {t = t} m (Step.leave_refused uncollected d) = absurd (label_at w t (at.Begun (works.Command commands.Leave)) m.kept m.is d.phase)
+says {w = w} {t = t} m (Step.leave_begins collected g) = absurd (label_at w t (at.Begun (works.Command commands.Leave)) m.kept m.is g.phase)
+says {w = w} {t = t} m (Step.leave l) = absurd (label_at w t at.Leaving m.kept m.is l.phase)
+says {w = w} {t = t} m (Step.leave_ends l) = absurd (label_at w t at.Parting m.kept m.is l.phase)
 says {w = w} {t = t} {word = word} {op = op} {q = q} m (Step.poll_stays own g) =
     after_epoch (Says w t q) w t word q op g.operation m.found (Says.stayed (ap answer_of g.after) (ap work_at g.phase) (ap is_giving g.phase) (only_works w t q _ m.kept m.is g.after))
 says {w = w} {t = t} {word = word} {op = op} {q = q} m (Step.poll_crosses other g) =
@@ -382,6 +386,9 @@ step_says w t kept is busy =
     go at.Crossing its between = takes_says w t kept is its
     go at.Swapping its between = absurd between
     go at.Giving its between = here at.Giving its tt
+    go at.Leaving its between = absurd (label_at w t at.Leaving kept is its)
+    go at.Retiring its between = absurd between
+    go at.Parting its between = here at.Parting its tt
     go (at.Finished work made) its between = here (at.Finished work made) its tt
 
 -- why a step that answers a command refuses it, if it does

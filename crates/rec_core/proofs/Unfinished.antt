@@ -9,7 +9,7 @@ use Rattle.rec_mutator.specs.Took.{step_of}
 use Rattle.rec_mutator.specs.declared.made.Made.{Made}
 use Rattle.rec_mutator.specs.declared.made.Made.TheVariants as makes
 use Rattle.rec_mutator.specs.declared.phase.Phase.{Phase}
-use Rattle.rec_mutator.specs.declared.phase.Phase.TheVariants.{Idle, Begun, Scanning, Scanned, Storing, Crossing, Swapping, Giving, Finished}
+use Rattle.rec_mutator.specs.declared.phase.Phase.TheVariants.{Idle, Begun, Scanning, Scanned, Storing, Crossing, Swapping, Giving, Leaving, Retiring, Parting, Finished}
 use Rattle.rec_mutator.specs.declared.work.Work.{Work}
 use Rattle.rec_mutator.specs.declared.work.Work.TheVariants as works
 use Rattle.rec_mutator.proofs.Machines.{allocation_limit}
@@ -113,6 +113,9 @@ busy_work (Scanning reg label leaf before probed) busy = (works.Command (allocat
 busy_work (Scanned reg label leaf before) busy = (works.Command (allocation leaf reg label), refl)
 busy_work (Storing src f val slot) busy = (works.Command (commands.Put src f val), refl)
 busy_work (Finished work made) busy = absurd (false≢true busy)
+busy_work Leaving busy = (works.Command commands.Leave, refl)
+busy_work Retiring busy = (works.Command commands.Leave, refl)
+busy_work Parting busy = (works.Command commands.Leave, refl)
 busy_work _ busy = (works.Poll, refl)
 
 -- a finished work is no longer busy
@@ -149,6 +152,9 @@ limit_at p (Storing src f val slot) is = let one : p.steps ≡ 1 = is.1 in omega
 limit_at p Crossing is = let one : p.steps ≡ 1 = is.0 in omega arith
 limit_at p Swapping is = let two : p.steps ≡ 2 = is.0 in omega arith
 limit_at p Giving is = let two : p.steps ≡ 2 = is.0 in omega arith
+limit_at p Leaving is = let one : p.steps ≡ 1 = is.0 in omega arith
+limit_at p Retiring is = let two : p.steps ≡ 2 = is.0 in omega arith
+limit_at p Parting is = let two : p.steps ≡ 2 = is.0 in omega arith
 limit_at p (Finished work made) is = is
 
 -- those of a mutator
@@ -163,6 +169,7 @@ most_at slots steps None work some is few = let not_so : ◌≡◌ {A = Option W
 most_at slots steps (Some (works.Command (commands.New reg label))) work some is few = few
 most_at slots steps (Some (works.Command (commands.Leaf reg label))) work some is few = few
 most_at slots steps (Some (works.Command (commands.Put src f val))) work some is few = let two : steps ≤ 2 = few in omega arith
+most_at slots steps (Some (works.Command commands.Leave)) work some is few = let three : steps ≤ 3 = few in omega arith
 most_at slots steps (Some works.Poll) work some is few = let three : steps ≤ 3 = few in omega arith
 most_at slots steps _ work some is few = let one : steps ≤ 1 = few in omega arith
 

@@ -1,6 +1,6 @@
 -- Each operation that a heap with its collector carries out names one of its words, and finds what its machine may find.
 use Rattle.std.proofs.Common.{◌≡◌, ℕ, ◌<◌, ◌≤◌, true, false, Bool, if◌then◌else◌, Option, None, Some, IfSome, [], length, replicate, refl, sym, ap, subst, ◌∙◌, arith}
-use Rattle.rec_core.proofs.Common.{Op, Contents, own_word, read_op, write_op, label_op, first_op, begun_op, next_of, next_at, Private, register, is_busy, is_full, NamesSlots, NamesWord, took_of, took_at, retiring, IsSwapping, TakesNone, learnt_made, step_between, IsWithin, IsMutator, Core, cells_of, mutator, box, spare_of, IsKept, found_by}
+use Rattle.rec_core.proofs.Common.{HasLabelAt, Op, Contents, own_word, read_op, write_op, label_op, first_op, begun_op, next_of, next_at, Private, register, is_busy, is_full, NamesSlots, NamesWord, took_of, took_at, retiring, IsSwapping, TakesNone, learnt_made, step_between, IsWithin, IsMutator, Core, cells_of, mutator, box, spare_of, IsKept, found_by}
 use Rattle.rec_word.specs.declared.op.Op.TheVariants as ops
 use Rattle.rec_model.specs.declared.command.Cmd.{Cmd}
 use Rattle.rec_model.specs.declared.command.Cmd.TheVariants as commands
@@ -98,13 +98,14 @@ names_slots w t kept is = λ r slot names. subst (λ n. slot < n) (sym (actor_of
 -- a mailbox that waits to be swapped isn't one that doesn't
 not_both : (phase : phases.Phase) → IsBetween phase → IsSwapping phase → ⊥
 not_both at.Swapping between swaps = between
+not_both at.Retiring between swaps = between
 not_both _ between swaps = swaps
 
 -- a spare of this heap is one of each of its mutators
 spare_own : (w : Core) (t : ℕ) → IsKept w → IsMutator w.config t → spare_of w.config ≡ spare (retiring (mutator w t))
 spare_own w t kept is =
     let own = (actor_of w t kept is).own in
-    let make : ℕ → ℕ → Contents = λ n capacity. record { entries = []; snapshot = replicate n None; capacity = capacity } in
+    let make : ℕ → ℕ → Contents = λ n capacity. record { entries = []; snapshot = replicate n None; capacity = capacity; last = false } in
     ap (λ n. make n w.config.log_entries) (sym own.registers) ∙ ap (make (length (mutator w t).registers)) (sym own.capacity)
 
 -- what a mutator learns as it takes its mailbox
@@ -130,6 +131,8 @@ may_step w t kept is busy =
     spared : (phase : phases.Phase) → (mutator w t).phase ≡ phase → IsBetween phase → IsSwapping (took_of (mutator w t) (found_by w t)).phase → box w t ≡ spare (took_of (mutator w t) (found_by w t))
     spared at.Crossing here between = λ swaps. (behind_of w t kept is here).1.spare ∙ spare_own w t kept is ∙ ap spare (sym (learns_taken (mutator w t) (found_by w t) here))
     spared at.Swapping here between = absurd between
+    spared at.Leaving here between = absurd (subst HasLabelAt here (actor_of w t kept is).own.label)
+    spared at.Retiring here between = absurd between
     spared _ here between = none (subst TakesNone (sym here) tt)
 
 -- what the collector names is there

@@ -2,6 +2,7 @@
 use Rattle.std.specs.Prelude.{ℕ, ◌<◌, ◌≤◌}
 use Rattle.rec_word.specs.declared.word.TheConstants.{LAST_EPOCH}
 use Rattle.rec_model.specs.declared.command.Cmd.{Cmd}
+use Rattle.rec_model.specs.declared.command.Cmd.TheVariants as commands
 use Rattle.rec_model.specs.declared.limits.TheConstants.{MOST_SLOTS, MOST_FIELDS, MOST_REGISTERS, MOST_MUTATORS, MOST_LOG_ENTRIES}
 use Rattle.rec_model.specs.Operands as operands
 use Rattle.rec_mutator.specs.declared.work.Work.{Work}
@@ -56,16 +57,22 @@ HasOperands config cmd = operands.HasOperands config.registers config.fields cmd
 abbrev pub IsMutator : Config → ℕ → Type 0
 IsMutator config t = (1 ≤ t) × (t ≤ config.mutators)
 
+-- a work of a mutator that stays: none leaves yet
+abbrev pub IsNoLeave : Work → Type 0
+IsNoLeave (works.Command commands.Leave) = ⊥
+IsNoLeave _ = Unit {0}
+
 -- a command that this mutator may ask
 abbrev pub IsValid : Config → ℕ → Cmd → Type 0
-IsValid config t cmd = IsMutator config t × HasOperands config cmd
+IsValid config t cmd = IsMutator config t × HasOperands config cmd × IsNoLeave (works.Command cmd)
 
 -- the registers and fields that a work names are there
 abbrev pub IsWork : Config → Work → Type 0
-IsWork config (works.Command cmd) = HasOperands config cmd
+IsWork config (works.Command cmd) = HasOperands config cmd × IsNoLeave (works.Command cmd)
 IsWork config works.Poll = Unit {0}
 
--- the label of an allocation fits a header
+-- the label of an allocation fits a header; and no mutator leaves yet
 abbrev pub HasLabel : Work → Type 0
+HasLabel (works.Command commands.Leave) = ⊥
 HasLabel (works.Command cmd) = operands.HasLabel cmd
 HasLabel works.Poll = Unit {0}

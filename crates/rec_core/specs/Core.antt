@@ -1,5 +1,5 @@
 -- The core of a heap with its collector: the shared words, the mailboxes, and the private record of each actor.
-use Rattle.std.specs.Prelude.{ℕ, ◌-◌, zero, suc, List, [], ◌∷◌, ◌++◌, length, map, replicate, slice_index_or, slice_set}
+use Rattle.std.specs.Prelude.{ℕ, false, ◌-◌, zero, suc, List, [], ◌∷◌, ◌++◌, length, map, replicate, slice_index_or, slice_set}
 use Rattle.rec_word.specs.Mailbox.{crossing_word}
 use Rattle.rec_word.specs.declared.mailbox.Mailbox.TheVariants.{Spare}
 use Rattle.rec_model.specs.Sight.{Sight, opening_sight}
@@ -38,7 +38,7 @@ sight w = record { fields = w.config.fields; headers = w.headers; words = w.word
 
 -- a mutator that isn't there
 abbrev pub nobody : Private
-nobody = record { number = 0; epoch = 0; slots = 0; fields = 0; registers = []; log = record { entries = []; snapshot = []; capacity = 0 }; from = 0; phase = Idle; steps = 0 }
+nobody = record { number = 0; epoch = 0; slots = 0; fields = 0; registers = []; log = record { entries = []; snapshot = []; capacity = 0; last = false }; from = 0; phase = Idle; steps = 0; left = false }
 
 -- the private record of a mutator, numbered from 1
 abbrev pub mutator : Core → ℕ → Private

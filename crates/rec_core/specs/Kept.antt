@@ -34,17 +34,23 @@ use Rattle.rec_core.specs.CyclesAt.{HasCyclesAt}
 use Rattle.rec_core.specs.Pending.{pending, older_at, epoch_at}
 use Rattle.rec_core.specs.declared.config.Config.{Config}
 
--- a mutator that is neither crossing nor about to
+-- a mutator that is neither crossing nor about to, and doesn't leave
 abbrev pub IsSettledIn : phases.Phase → Type 0
 IsSettledIn at.Crossing = ⊥
 IsSettledIn at.Swapping = ⊥
 IsSettledIn at.Giving = ⊥
+IsSettledIn at.Leaving = ⊥
+IsSettledIn at.Retiring = ⊥
+IsSettledIn at.Parting = ⊥
 IsSettledIn _ = Unit {0}
 
--- the label of an allocation that goes on fits a header
+-- the label of an allocation that goes on fits a header, and no mutator leaves
 abbrev pub HasLabelAt : phases.Phase → Type 0
 HasLabelAt (at.Begun work) = HasLabel work
 HasLabelAt (at.Scanning reg label leaf before probed) = label < 2 ^ 32
+HasLabelAt at.Leaving = ⊥
+HasLabelAt at.Retiring = ⊥
+HasLabelAt at.Parting = ⊥
 HasLabelAt _ = Unit {0}
 
 -- what is known of a mutator of a heap with these numbers
@@ -57,6 +63,7 @@ pub record IsOwn (config : Config) (t : ℕ) (p : Private) : Type 0 where
   pub machine : IsMachine p
   pub between : IsBetween p.phase
   pub label : HasLabelAt p.phase
+  pub stays : p.left ≡ false
 
 -- A write was made in this epoch. A birth bears no stamp.
 abbrev pub IsMadeIn : (epoch : ℕ) → Entry → Type 0

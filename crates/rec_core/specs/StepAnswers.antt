@@ -1,11 +1,11 @@
 -- What a step of a mutator shows, in a heap with its collector.
-use Rattle.std.specs.Prelude.{◌≡◌, ℕ, ◌+◌, ◌<◌, if◌then◌else◌, Bool, true, false, Option, None, Some, slice_index_or}
+use Rattle.std.specs.Prelude.{◌≡◌, ℕ, ◌+◌, ◌-◌, ◌<◌, if◌then◌else◌, Bool, true, false, Option, None, Some, length, replicate, slice_index_or, slice_set}
 use Rattle.std.specs.Option.{IfSome}
 use Rattle.rec_word.specs.Header.{header_word}
 use Rattle.rec_word.specs.Word.{target_of, stamp_of}
 use Rattle.rec_model.specs.Asking.{is_done, refuses_new}
 use Rattle.rec_model.specs.Explained.{IsExplained}
-use Rattle.rec_model.specs.Heap.{register}
+use Rattle.rec_model.specs.Heap.{register, registers_of}
 use Rattle.rec_model.specs.LegalOrder.{is_birth, word_left}
 use Rattle.rec_model.specs.Sight.{Sight, IsTaken, sight_with_register, sight_with_word, sight_with_header}
 use Rattle.rec_model.specs.declared.answer.Answer.{Answer}
@@ -54,6 +54,10 @@ abbrev pub sight_after_put : Sight → ℕ → Option ℕ → Bool → ℕ → S
 sight_after_put w f (Some slot) true word = sight_with_word w slot f word
 sight_after_put w f _ _ word = w
 
+-- what is seen after a mutator left: every register of its own is null
+abbrev pub sight_without_registers : Sight → ℕ → Sight
+sight_without_registers w t = record w { registers = slice_set w.registers (t - 1) (replicate (length (registers_of w.registers t)) None) }
+
 -- What is seen after a command that was told this, where an object that is born has this slot: a birth takes the slot and a
 -- register, a write one field's word, a read, a copy or a null one register, and all else stays.
 abbrev pub sight_told : Sight → (slot t : ℕ) → Cmd → Told → Sight
@@ -65,6 +69,7 @@ sight_told w slot t (commands.Get dst src f) told = sight_after_get w t dst (reg
 sight_told w slot t (commands.Put src f val) told = sight_after_put w f (register w.registers t src) (is_done told.answer) told.left
 sight_told w slot t (commands.Value reg) told = w
 sight_told w slot t (commands.Same a b) told = w
+sight_told w slot t commands.Leave told = if is_done told.answer then sight_without_registers w t else w
 
 -- the slot that a scan has come to, by phase
 abbrev pub probed_at : Private → Phase → Option ℕ

@@ -1,4 +1,4 @@
-ghost use Rattle.std.specs.Prelude.{◌≡◌, ◌≤◌, ◌↔◌, ◌∷◌, ◌++◌, [], length, replicate, IsTrue, IfOk, OnOk, OnErr, IsErr};
+ghost use Rattle.std.specs.Prelude.{◌≡◌, ◌≤◌, ◌↔◌, ◌∷◌, ◌++◌, [], false, true, length, replicate, IsTrue, IfOk, OnOk, OnErr, IsErr};
 
 use crate::{Entry, Frame, Full};
 use std::alloc::{AllocError as NoMemory, Global};
@@ -10,6 +10,7 @@ pub struct Buffer {
     entries: Vec<Entry>,
     snapshot: Vec<Option<u16>>,
     capacity: u32,
+    last: bool,
 }
 
 impl Model for Buffer {
@@ -27,12 +28,13 @@ impl Model for Buffer {
 impl Buffer {
     /// An empty buffer for `cap` entries, with a null snapshot of `regs` registers.
     pub fn open(alloc: Global, cap: u32, regs: u8) -> Result<Buffer, NoMemory>
-        ensures { IfOk result (λ buffer. buffer ≡ record { entries = []; snapshot = replicate regs None; capacity = cap }) }
+        ensures { IfOk result (λ buffer. buffer ≡ record { entries = []; snapshot = replicate regs None; capacity = cap; last = false }) }
     {
         Ok(Buffer {
             entries: Vec::with_capacity(alloc, cap as usize)?,
             snapshot: vec![in alloc; None; usize::from(regs)]?,
             capacity: cap,
+            last: false,
         })
     }
 
@@ -73,12 +75,29 @@ impl Buffer {
         self.snapshot.copy_from_slice(frame.registers());
     }
 
-    /// Empties the entries, and makes the snapshot all null. The capacity stays.
+    /// Writes the registers as the snapshot, and marks the buffer as its mutator's last. The entries stay.
+    pub fn retire_last(&mut self, frame: &Frame)
+        requires { length frame.now ≡ length self.old.snapshot }
+        ensures { self.new ≡ record self.old { snapshot = frame.now; last = true } }
+    {
+        self.retire(frame);
+        self.last = true;
+    }
+
+    /// Whether its mutator retired it as its last one.
+    pub fn is_last(&self) -> bool
+        ensures { result ≡ self.now.last }
+    {
+        self.last
+    }
+
+    /// Empties the entries, makes the snapshot all null, and takes the mark away. The capacity stays.
     pub fn clear(&mut self)
-        ensures { self.new ≡ record self.old { entries = []; snapshot = replicate (length self.old.snapshot) None } }
+        ensures { self.new ≡ record self.old { entries = []; snapshot = replicate (length self.old.snapshot) None; last = false } }
     {
         self.entries.clear();
         self.snapshot.fill(None);
+        self.last = false;
     }
 
     /// What the registers named when the buffer was retired; all null before, and once it was cleared.

@@ -11,4 +11,6 @@ pub struct Contents {
     pub snapshot: LinkedList<Option<u16>>,
     /// How many entries the buffer can hold.
     pub capacity: u32,
+    /// Whether its mutator retired it as its last one, as it left.
+    pub last: bool,
 }

@@ -59,6 +59,13 @@ impl Frame {
         self.registers[usize::from(r)] = None;
     }
 
+    /// Lets every register be null.
+    pub fn clear_all(&mut self)
+        ensures { self.new ≡ replicate (length self.old) None }
+    {
+        self.registers.fill(None);
+    }
+
     /// Lets register `dst` be what register `src` is, null too.
     pub fn copy(&mut self, dst: u8, src: u8)
         requires dst { dst < length self.old }

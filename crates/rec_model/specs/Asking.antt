@@ -6,7 +6,7 @@ use Rattle.rec_model.specs.declared.command.Cmd.TheVariants as commands
 use Rattle.rec_model.specs.declared.answer.Answer.{Answer}
 use Rattle.rec_model.specs.declared.answer.Answer.TheVariants as answers
 use Rattle.rec_model.specs.declared.told.Told.{Told}
-use Rattle.rec_model.specs.Heap.{Heap, object, field, register, born, with_register, with_field, with_object}
+use Rattle.rec_model.specs.Heap.{Heap, object, field, register, born, with_register, with_field, with_object, without_registers}
 
 -- the next heap, the answer (none where the command is refused: which refusal is left open), and the word seen
 pub record Asked : Type 0 where
@@ -63,7 +63,12 @@ abbrev pub bear : (fields : ℕ) → Heap → (t reg label : ℕ) → (leaf made
 bear fields heap t reg label leaf true = answered (with_register (with_object heap (born leaf fields label)) t reg (Some (length heap.objects))) answers.Done 0
 bear fields heap t reg label leaf false = refused heap
 
--- What asking gives. Every object has this many fields; `made` bears on New and Leaf, and on Put where its object is there;
+-- a mutator leaves: every register of its own is null
+abbrev pub leave : Heap → (t : ℕ) → (made : Bool) → Asked
+leave heap t true = answered (without_registers heap t) answers.Done 0
+leave heap t false = refused heap
+
+-- What asking gives. Every object has this many fields; `made` bears on New, Leaf and Leave, and on Put where its object is there;
 -- `left` is the word that a Put leaves.
 abbrev pub asks : (fields : ℕ) → Heap → (t : ℕ) → Cmd → (made : Bool) → (left : ℕ) → Asked
 asks fields heap t (commands.New reg label) made left = bear fields heap t reg label false made
@@ -74,6 +79,7 @@ asks fields heap t (commands.Get dst src f) made left = got heap t dst f (regist
 asks fields heap t (commands.Put src f val) made left = put heap f (register heap.registers t val) made left (register heap.registers t src)
 asks fields heap t (commands.Value reg) made left = answered heap (value heap (register heap.registers t reg)) 0
 asks fields heap t (commands.Same a b) made left = answered heap (yes_or_no (same (register heap.registers t a) (register heap.registers t b))) 0
+asks fields heap t commands.Leave made left = leave heap t made
 
 -- the command that allocates: a leaf, or an object with fields
 abbrev pub allocation : (leaf : Bool) (reg label : ℕ) → Cmd
@@ -93,11 +99,17 @@ refuses_put answers.LogFull = true
 refuses_put answers.NoField = true
 refuses_put _ = false
 
+-- the refusal of leaving
+abbrev pub refuses_leave : Answer → Bool
+refuses_leave answers.NotYet = true
+refuses_leave _ = false
+
 -- the refusals that a command may have
 abbrev pub IsRefusalOf : Cmd → Answer → Type 0
 IsRefusalOf (commands.New reg label) answer = refuses_new answer ≡ true
 IsRefusalOf (commands.Leaf reg label) answer = refuses_new answer ≡ true
 IsRefusalOf (commands.Put src f val) answer = refuses_put answer ≡ true
+IsRefusalOf commands.Leave answer = refuses_leave answer ≡ true
 IsRefusalOf _ answer = ⊥
 
 -- the answer is the one given, or a refusal where none is
@@ -110,7 +122,7 @@ abbrev pub is_done : Answer → Bool
 is_done answers.Done = true
 is_done _ = false
 
--- what asking gives to a command that was told this: New, Leaf and Put are made exactly where they are answered Done
+-- what asking gives to a command that was told this: New, Leaf, Put and Leave are made exactly where they are answered Done
 abbrev pub asked : (fields : ℕ) → Heap → (t : ℕ) → Cmd → Told → Asked
 asked fields heap t cmd told = asks fields heap t cmd (is_done told.answer) told.left
 

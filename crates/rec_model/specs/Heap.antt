@@ -1,5 +1,5 @@
 -- The heap that never frees: objects by number, and each mutator's registers.
-use Rattle.std.specs.Prelude.{ℕ, Bool, false, ◌-◌, List, [], ◌∷◌, ◌++◌, Option, None, Some, map, replicate, slice_index_or, slice_set}
+use Rattle.std.specs.Prelude.{ℕ, Bool, false, ◌-◌, List, [], ◌∷◌, ◌++◌, Option, None, Some, length, map, replicate, slice_index_or, slice_set}
 use Rattle.std.specs.List.{flat_map}
 use Rattle.rec_model.specs.Reach.{named, IsReached}
 use Rattle.rec_model.specs.Numbering.{IsNumbering, holders}
@@ -63,6 +63,10 @@ field heap n f = slice_index_or (object heap n).fields f null_field
 -- the heap with a register of a mutator changed
 abbrev pub with_register : Heap → ℕ → ℕ → Option ℕ → Heap
 with_register heap t r target = record heap { registers = set_register heap.registers t r target }
+
+-- the heap in which every register of a mutator is null
+abbrev pub without_registers : Heap → ℕ → Heap
+without_registers heap t = record heap { registers = slice_set heap.registers (t - 1) (replicate (length (registers_of heap.registers t)) None) }
 
 -- the heap with a field of an object changed
 abbrev pub with_field : Heap → ℕ → ℕ → Field → Heap

@@ -1,7 +1,7 @@
 -- The registers, the field and the label that a command names.
 use Rattle.std.specs.Prelude.{ℕ, ◌<◌, ◌^◌}
 use Rattle.rec_model.specs.declared.command.Cmd.{Cmd}
-use Rattle.rec_model.specs.declared.command.Cmd.TheVariants.{New, Leaf, Null, Copy, Get, Put, Value, Same}
+use Rattle.rec_model.specs.declared.command.Cmd.TheVariants.{New, Leaf, Null, Copy, Get, Put, Value, Same, Leave}
 
 -- the registers and the field that a command names are there, where there are so many
 abbrev pub HasOperands : (registers fields : ℕ) → Cmd → Type 0
@@ -13,6 +13,7 @@ HasOperands registers fields (Get dst src f) = (dst < registers) × (src < regis
 HasOperands registers fields (Put src f val) = (src < registers) × (f < fields) × (val < registers)
 HasOperands registers fields (Value reg) = reg < registers
 HasOperands registers fields (Same a b) = (a < registers) × (b < registers)
+HasOperands registers fields Leave = Unit {0}
 
 -- the label of an allocation fits a header
 abbrev pub HasLabel : Cmd → Type 0

@@ -24,4 +24,6 @@ pub enum Answer {
     NoField,
     /// The mutator's log has no room for another entry. Nothing changed.
     LogFull,
+    /// The mutator can't leave yet: the collector hasn't given back the mailbox with its log of the epoch before. Nothing changed.
+    NotYet,
 }

@@ -20,6 +20,8 @@ pub enum Cmd {
     Value { reg: u8 },
     /// Tell whether both registers name one object, or both are null.
     Same { a: u8, b: u8 },
+    /// Let every register be null, and ask for nothing more.
+    Leave,
 }
 
 impl Cmd {
@@ -40,6 +42,7 @@ impl Cmd {
                 && usize::from(field) < fields
                 && is_register(val),
             Cmd::Same { a, b } => is_register(a) && is_register(b),
+            Cmd::Leave => true,
         }
     }
 }

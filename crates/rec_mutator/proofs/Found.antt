@@ -1,14 +1,14 @@
 -- What a step finds is what it may find, if the words are those of a heap whose registers name taken slots.
-use Rattle.std.proofs.Common.{◌≡◌, ℕ, Bool, true, false, Option, None, Some, refl}
+use Rattle.std.proofs.Common.{◌≡◌, ℕ, Bool, true, false, Option, None, Some, refl, sym, subst}
 use Rattle.rec_word.specs.declared.op.Op.{Op}
 use Rattle.rec_model.specs.declared.command.Cmd.{Cmd}
 use Rattle.rec_model.specs.declared.command.Cmd.TheVariants as commands
 use Rattle.rec_mutator.specs.Private.{Private, register, is_full}
 use Rattle.rec_mutator.specs.Next.{next_of, next_at, begun_op, first_op, read_op, write_op, label_op, new_op}
-use Rattle.rec_mutator.specs.Step.{IsFitting}
+use Rattle.rec_mutator.specs.Step.{IsFitting, TakesBox}
 use Rattle.rec_mutator.specs.Took.{IsFound}
 use Rattle.rec_mutator.specs.declared.phase.Phase.{Phase}
-use Rattle.rec_mutator.specs.declared.phase.Phase.TheVariants.{Begun, Crossing}
+use Rattle.rec_mutator.specs.declared.phase.Phase.TheVariants.{Begun, Crossing, Leaving}
 use Rattle.rec_mutator.specs.declared.work.Work.{Work}
 use Rattle.rec_mutator.specs.declared.work.Work.TheVariants as works
 
@@ -47,7 +47,8 @@ begun_finds p cell works.Poll fits = fits.epoch
 finds_at : (p : Private) (cell : Op → ℕ) (phase : Phase) → p.phase ≡ phase → IsFitting p cell → IsFound p (next_at p phase) (cell (next_at p phase))
 unfolding next_at
 finds_at p cell (Begun work) is fits = begun_finds p cell work fits
-finds_at p cell Crossing is fits = fits.home is
+finds_at p cell Crossing is fits = fits.home (subst TakesBox (sym is) tt)
+finds_at p cell Leaving is fits = fits.home (subst TakesBox (sym is) tt)
 finds_at p cell _ is fits = tt
 
 -- what a step finds is what it may find

@@ -1,9 +1,9 @@
 -- A step of a machine leaves a machine.
 use Rattle.std.proofs.Common.{◌≡◌, ◌≢◌, inl, inr, Bool, true, false, ℕ, ◌+◌, ◌^◌, ◌<◌, ◌≤◌, List, [], ◌∷◌, ◌++◌, Option, None, Some, length, refl, sym, subst, ◌∙◌, arith, length-append}
 use Rattle.std.specs.List.{All}
-use Rattle.std.proofs.lemmas.List.Elements.{All-set, All-get_or}
-use Rattle.std.proofs.lemmas.Bool.{cases_lt}
-use Rattle.std.proofs.lemmas.List.{get_or_past, length-set}
+use Rattle.std.proofs.lemmas.List.Elements.{All-set, All-get_or, All-replicate}
+use Rattle.std.proofs.lemmas.Bool.{cases_lt, false≢true}
+use Rattle.std.proofs.lemmas.List.{get_or_past, length-replicate, length-set}
 use Rattle.rec_word.specs.Word.{target_of, IsTarget}
 use Rattle.rec_word.specs.declared.op.Op.{Op}
 use Rattle.rec_word.specs.declared.op.Op.TheVariants as ops
@@ -14,8 +14,8 @@ use Rattle.rec_model.specs.Asking.{allocation}
 use Rattle.rec_log.specs.declared.contents.Contents.{Contents}
 use Rattle.rec_log.specs.declared.entry.Entry.{Entry}
 use Rattle.rec_mutator.specs.Private.{Private, register, HasOperands, limit_of, probe_of, HasNext, IsAt, IsMachine}
-use Rattle.rec_mutator.specs.Step.{Step, Decides, GoesOn, Crosses, HasRoom}
-use Rattle.rec_mutator.specs.Took.{IsFound}
+use Rattle.rec_mutator.specs.Step.{Step, Decides, GoesOn, LetsGo, HasLeft, Crosses, HasRoom}
+use Rattle.rec_mutator.specs.Took.{nulls_of, IsFound}
 use Rattle.rec_mutator.specs.declared.phase.Phase.{Phase}
 use Rattle.rec_mutator.specs.declared.work.Work.TheVariants as works
 use Rattle.rec_mutator.proofs.Around.{behind_below}
@@ -39,6 +39,7 @@ decided_machine {p = p} m targets few many steps d =
     subst IsMachine (sym d.after) (record {
       number = m.number;
       epoch = m.epoch;
+      stamped = m.stamped;
       first_slot = m.first_slot;
       last_slot = m.last_slot;
       capacity = m.capacity;
@@ -56,6 +57,7 @@ going_on_machine m now g =
     subst IsMachine (sym g.after) (record {
       number = m.number;
       epoch = m.epoch;
+      stamped = m.stamped;
       first_slot = m.first_slot;
       last_slot = m.last_slot;
       capacity = m.capacity;
@@ -76,6 +78,7 @@ first_step p (commands.Get dst src f) none = omega arith
 first_step p (commands.Put src f val) none = omega arith
 first_step p (commands.Value reg) none = omega arith
 first_step p (commands.Same a b) none = omega arith
+first_step p commands.Leave none = omega arith
 
 -- an allocation has as many steps as slots, and two
 pub allocation_limit : (slots reg label : ℕ) (leaf : Bool) → limit_of slots (works.Command (allocation leaf reg label)) ≡ slots + 2
@@ -115,13 +118,14 @@ own_box p m = record { snapshot = m.snapshot; capacity = refl; entries = m.entri
 
 -- so does a step of a crossing
 crossing_machine : {p : Private} {op : Op} {q : Private} {at : Phase} {its_op : Op} {epoch : ℕ} {log : Contents} {next_phase : Phase}
-    → IsMachine p → IsBox p log → epoch < 2 ^ 24 → IsAt (record p { epoch = epoch; log = log; phase = next_phase; steps = p.steps + 1 }) next_phase → Crosses p op q at its_op epoch log next_phase → IsMachine q
+    → IsMachine p → IsBox p log → (epoch ≤ 2 ^ 24) × (p.left ≡ false → epoch < 2 ^ 24) → IsAt (record p { epoch = epoch; log = log; phase = next_phase; steps = p.steps + 1 }) next_phase → Crosses p op q at its_op epoch log next_phase → IsMachine q
 crossing_machine {p = p} {log = log} m box small now c =
     let most : p.log.capacity ≤ 2 ^ 18 = m.capacity in
     let same : log.capacity ≡ p.log.capacity = box.capacity in
     subst IsMachine (sym c.after) (record {
       number = m.number;
-      epoch = small;
+      epoch = small.0;
+      stamped = small.1;
       first_slot = m.first_slot;
       last_slot = m.last_slot;
       capacity = omega arith;
@@ -130,6 +134,47 @@ crossing_machine {p = p} {log = log} m box small now c =
       snapshot = box.snapshot;
       from = m.from;
       now = now;
+    })
+
+-- so does a step by which the mutator lets its registers go,
+letting_go_machine : {p : Private} {op : Op} {q : Private} {log : Contents} → IsMachine p → IsBox p log → LetsGo p op q log → IsMachine q
+letting_go_machine {p = p} {log = log} m box l =
+    let now = at_phase p _ m l.phase in
+    let one : p.steps ≡ 1 = now.0 in
+    let most : p.log.capacity ≤ 2 ^ 18 = m.capacity in
+    let same : log.capacity ≡ p.log.capacity = box.capacity in
+    let many : length (nulls_of p) ≡ length p.registers = length-replicate (length p.registers) None in
+    subst IsMachine (sym l.after) (record {
+      number = m.number;
+      epoch = m.epoch;
+      stamped = m.stamped;
+      first_slot = m.first_slot;
+      last_slot = m.last_slot;
+      capacity = omega arith;
+      entries = box.entries;
+      registers = All-replicate IsTarget (length p.registers) None tt;
+      snapshot = box.snapshot ∙ sym many;
+      from = m.from;
+      now = (omega arith, now.1);
+    })
+
+-- and the one by which it has left
+having_left_machine : {p : Private} {op : Op} {q : Private} → IsMachine p → HasLeft p op q → IsMachine q
+having_left_machine {p = p} m l =
+    let now = at_phase p _ m l.phase in
+    let two : p.steps ≡ 2 = now.0 in
+    subst IsMachine (sym l.after) (record {
+      number = m.number;
+      epoch = omega (arith, now.1);
+      stamped = λ stays. absurd (false≢true (sym stays));
+      first_slot = m.first_slot;
+      last_slot = m.last_slot;
+      capacity = m.capacity;
+      entries = m.entries;
+      registers = m.registers;
+      snapshot = m.snapshot;
+      from = m.from;
+      now = omega arith;
     })
 
 -- where the epoch word isn't the own epoch, it is the next one
@@ -152,7 +197,7 @@ step_machine {p = p} m sized found (Step.put_into_leaf src f val slot names room
 step_machine {p = p} m sized found (Step.put_begins src f val slot names room leaf g) =
     let begun = at_phase p _ m g.phase in
     let none : p.steps ≡ 0 = begun.1 in
-    going_on_machine m (record { operands = begun.0; source = names; room = has_room p m room }, omega arith) g
+    going_on_machine m (record { operands = begun.0; source = names; room = has_room p m room; stamp = begun.2 }, omega arith) g
 step_machine {p = p} m sized found (Step.put src f val slot d) =
     let store = at_phase p _ m d.phase in
     let one : p.steps ≡ 1 = store.1 in
@@ -186,6 +231,13 @@ step_machine {p = p} m sized found (Step.new_is_busy reg label leaf before moves
     let scan = at_phase p _ m d.phase in
     let steps : p.steps ≡ p.slots + 1 = scan.1 in
     decided_machine m m.registers m.entries refl (within_scan p reg label leaf (omega arith)) d
+step_machine {p = p} m sized found (Step.leave_refused uncollected d) = decided_machine m m.registers m.entries refl (first_step p commands.Leave (at_phase p _ m d.phase).1) d
+step_machine {p = p} m sized found (Step.leave_begins collected g) =
+    let begun = at_phase p _ m g.phase in
+    let none : p.steps ≡ 0 = begun.1 in
+    going_on_machine m (omega arith, begun.2) g
+step_machine {p = p} m sized found (Step.leave l) = letting_go_machine m sized l
+step_machine {p = p} m sized found (Step.leave_ends l) = having_left_machine m l
 step_machine {p = p} m sized found (Step.poll_stays own g) =
     let begun = at_phase p _ m g.phase in
     let none : p.steps ≡ 0 = begun.1 in
@@ -197,8 +249,8 @@ step_machine {p = p} {word = word} {op = op} m sized found (Step.poll_crosses ot
 step_machine {p = p} m sized found (Step.take_box c) =
     let crosses = at_phase p _ m c.phase in
     let one : p.steps ≡ 1 = crosses.0 in
-    crossing_machine m sized m.epoch (omega arith, crosses.1) c
+    crossing_machine m sized (m.epoch, m.stamped) (omega arith, crosses.1) c
 step_machine {p = p} m sized found (Step.give_box c) =
     let crosses = at_phase p _ m c.phase in
     let two : p.steps ≡ 2 = crosses.0 in
-    crossing_machine m (own_box p m) crosses.1 (omega arith) c
+    crossing_machine m (own_box p m) (omega (arith, crosses.1), λ _. crosses.1) (omega arith) c

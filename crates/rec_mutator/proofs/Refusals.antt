@@ -8,10 +8,10 @@ use Rattle.rec_model.specs.declared.answer.Answer.TheVariants as answers
 use Rattle.rec_model.specs.declared.command.Cmd.{Cmd}
 use Rattle.rec_model.specs.declared.command.Cmd.TheVariants as commands
 use Rattle.rec_model.specs.declared.told.Told.{Told}
-use Rattle.rec_model.specs.Asking.{null_or_object, same, yes_or_no, allocation}
+use Rattle.rec_model.specs.Asking.{null_or_object, same, yes_or_no, plain, allocation}
 use Rattle.rec_log.specs.declared.contents.Contents.{Contents}
 use Rattle.rec_log.specs.declared.entry.Entry.{Entry}
-use Rattle.rec_mutator.specs.Causes.{AnswersBy, is_refusal, LacksObject, MakesEntry, FindsLeaf, FoundNoneAt, FoundNone, HasCause}
+use Rattle.rec_mutator.specs.Causes.{AnswersBy, is_refusal, LacksObject, MakesEntry, FindsLeaf, IsAwaited, FoundNoneAt, FoundNone, HasCause}
 use Rattle.rec_mutator.specs.Private.{Private, register, is_busy, work_of, work_at, answer_of, answer_at, IsAt, IsScan, IsStore, IsMachine}
 use Rattle.rec_mutator.specs.Took.{took_of, swapped_at, swapped_of, step_of, IsBetween}
 use Rattle.rec_mutator.specs.Step.{Step, Decides, GoesOn, IsLogFull, HasRoom, IsStill}
@@ -19,7 +19,7 @@ use Rattle.rec_mutator.proofs.Scans.{scanned_none}
 use Rattle.rec_mutator.specs.declared.made.Made.{Made}
 use Rattle.rec_mutator.specs.declared.made.Made.TheVariants as makes
 use Rattle.rec_mutator.specs.declared.phase.Phase.{Phase}
-use Rattle.rec_mutator.specs.declared.phase.Phase.TheVariants.{Begun, Scanned, Storing, Swapping}
+use Rattle.rec_mutator.specs.declared.phase.Phase.TheVariants.{Begun, Scanned, Storing, Swapping, Retiring, Parting}
 use Rattle.rec_mutator.specs.declared.work.Work.{Work}
 use Rattle.rec_mutator.specs.declared.work.Work.TheVariants as works
 use Rattle.rec_mutator.proofs.Steps.{step_made}
@@ -69,42 +69,62 @@ not_scanned p at is none before found = none before (subst (λ x. FoundNoneAt x 
 
 -- an answer that is no refusal
 plain_cause : (p q : Private) (cmd : Cmd) (word : ℕ) (answer : Answer) → is_refusal answer ≡ false
-    → (LacksObject p cmd → ⊥) → (IsLogFull p × MakesEntry p cmd → ⊥) → ((before : ℕ) → FoundNone p before → ⊥) → (FindsLeaf p word cmd → ⊥) → HasCause p q cmd word answer
-plain_cause p q cmd word answer not_so some room none plain =
+    → (LacksObject p cmd → ⊥) → (IsLogFull p × MakesEntry p cmd → ⊥) → ((before : ℕ) → FoundNone p before → ⊥) → (FindsLeaf p word cmd → ⊥) → (IsAwaited p word cmd → ⊥) → HasCause p q cmd word answer
+plain_cause p q cmd word answer not_so some room none plain home =
     record {
       no_object = (λ is. absurd (false≢true (sym not_so ∙ ap is_refusal is)), λ is. absurd (some is));
       log_full = (λ is. absurd (false≢true (sym not_so ∙ ap is_refusal is)), λ is. absurd (room is));
       no_field = (λ is. absurd (false≢true (sym not_so ∙ ap is_refusal is)), λ is. absurd (plain is));
+      not_yet = (λ is. absurd (false≢true (sym not_so ∙ ap is_refusal is)), λ is. absurd (home is));
       full = (λ is. absurd (false≢true (sym not_so ∙ ap is_refusal is)), λ is. absurd (none is.0 is.1));
       busy = λ before after. (λ is. absurd (false≢true (sym not_so ∙ ap is_refusal is)), λ is. absurd (none before is.0));
       refused = λ is. absurd (false≢true (sym not_so ∙ is));
     }
 
 -- the refusal of a command whose register is null
-lacking_cause : (p q : Private) (cmd : Cmd) (word : ℕ) → (q.registers ≡ p.registers) × (q.log ≡ p.log) → LacksObject p cmd → (MakesEntry p cmd → ⊥) → ((before : ℕ) → FoundNone p before → ⊥) → (FindsLeaf p word cmd → ⊥)
+lacking_cause : (p q : Private) (cmd : Cmd) (word : ℕ) → (q.registers ≡ p.registers) × (q.log ≡ p.log) → LacksObject p cmd → (MakesEntry p cmd → ⊥) → ((before : ℕ) → FoundNone p before → ⊥) → (FindsLeaf p word cmd → ⊥) → (IsAwaited p word cmd → ⊥)
     → HasCause p q cmd word answers.NoObject
-lacking_cause p q cmd word kept lacks no_entry none plain =
+lacking_cause p q cmd word kept lacks no_entry none plain home =
     record {
       no_object = (λ _. lacks, λ _. refl);
       log_full = (λ is. cc, λ is. absurd (no_entry is.1));
       no_field = (λ is. cc, λ is. absurd (plain is));
+      not_yet = (λ is. cc, λ is. absurd (home is));
       full = (λ is. cc, λ is. absurd (none is.0 is.1));
       busy = λ before after. (λ is. cc, λ is. absurd (none before is.0));
       refused = λ _. kept;
     }
 
 -- the refusal of a command whose entry finds no room
-full_log_cause : (p q : Private) (cmd : Cmd) (word : ℕ) → (q.registers ≡ p.registers) × (q.log ≡ p.log) → IsLogFull p → MakesEntry p cmd → (LacksObject p cmd → ⊥) → ((before : ℕ) → FoundNone p before → ⊥) → (FindsLeaf p word cmd → ⊥)
+full_log_cause : (p q : Private) (cmd : Cmd) (word : ℕ) → (q.registers ≡ p.registers) × (q.log ≡ p.log) → IsLogFull p → MakesEntry p cmd → (LacksObject p cmd → ⊥) → ((before : ℕ) → FoundNone p before → ⊥) → (FindsLeaf p word cmd → ⊥) → (IsAwaited p word cmd → ⊥)
     → HasCause p q cmd word answers.LogFull
-full_log_cause p q cmd word kept full entry some none plain =
+full_log_cause p q cmd word kept full entry some none plain home =
     record {
       no_object = (λ is. cc, λ is. absurd (some is));
       log_full = (λ _. (full, entry), λ _. refl);
       no_field = (λ is. cc, λ is. absurd (plain is));
+      not_yet = (λ is. cc, λ is. absurd (home is));
       full = (λ is. cc, λ is. absurd (none is.0 is.1));
       busy = λ before after. (λ is. cc, λ is. absurd (none before is.0));
       refused = λ _. kept;
     }
+
+-- the refusal of leaving
+awaited_cause : (p q : Private) (word : ℕ) → (q.registers ≡ p.registers) × (q.log ≡ p.log) → ((before : ℕ) → FoundNone p before → ⊥) → IsAwaited p word commands.Leave → HasCause p q commands.Leave word answers.NotYet
+awaited_cause p q word kept none awaited =
+    record {
+      no_object = (λ is. cc, λ is. absurd is);
+      log_full = (λ is. cc, λ is. absurd is.1);
+      no_field = (λ is. cc, λ is. absurd is);
+      not_yet = (λ _. awaited, λ _. refl);
+      full = (λ is. cc, λ is. absurd (none is.0 is.1));
+      busy = λ before after. (λ is. cc, λ is. absurd (none before is.0));
+      refused = λ _. kept;
+    }
+
+-- a mutator that gives its last mailbox back has begun to leave before
+not_begun : (p : Private) → p.phase ≡ Parting → p.phase ≡ Begun (works.Command commands.Leave) → ⊥
+not_begun p is begun = let no : Parting ≡ Begun (works.Command commands.Leave) = sym is ∙ begun in cc
 
 -- a register isn't null and an object at once
 not_both : (x : Option ℕ) (slot : ℕ) → x ≡ Some slot → x ≡ None → ⊥
@@ -118,6 +138,7 @@ leaf_cause p q src f val slot word kept names room leaf none =
       no_object = (λ is. cc, λ is. absurd (not_both (register p src) slot names is));
       log_full = (λ is. cc, λ is. absurd (room is.0));
       no_field = (λ _. leaf, λ _. refl);
+      not_yet = (λ is. cc, λ is. absurd is);
       full = (λ is. cc, λ is. absurd (none is.0 is.1));
       busy = λ before after. (λ is. cc, λ is. absurd (none before is.0));
       refused = λ _. kept;
@@ -135,6 +156,10 @@ allocation_entry p reg label false = tt
 allocation_finds : (p : Private) (word reg label : ℕ) (leaf : Bool) → FindsLeaf p word (allocation leaf reg label) → ⊥
 allocation_finds p word reg label true e = e
 allocation_finds p word reg label false e = e
+
+allocation_stays : (p : Private) (word reg label : ℕ) (leaf : Bool) → IsAwaited p word (allocation leaf reg label) → ⊥
+allocation_stays p word reg label true e = e
+allocation_stays p word reg label false e = e
 
 -- a log that has room isn't full
 has_space : (p : Private) → length p.log.entries < p.log.capacity → IsLogFull p → ⊥
@@ -159,6 +184,7 @@ full_cause p q reg label leaf before word kept room is still =
       no_object = (λ e. cc, λ e. absurd (allocation_lacks p reg label leaf e));
       log_full = (λ e. cc, λ e. absurd (room e.0));
       no_field = (λ e. cc, λ e. absurd (allocation_finds p word reg label leaf e));
+      not_yet = (λ e. cc, λ e. absurd (allocation_stays p word reg label leaf e));
       full = (λ _. (before, scanned_none p reg label leaf before is, still), λ _. refl);
       busy = λ first after. (λ e. cc, λ e. absurd (e.2 (still_along before first word (subst (λ x. FoundNoneAt x first) is e.0.scanned) still)));
       refused = λ _. kept;
@@ -176,6 +202,7 @@ busy_cause p q reg label leaf before word kept room is moves =
       no_object = (λ e. cc, λ e. absurd (allocation_lacks p reg label leaf e));
       log_full = (λ e. cc, λ e. absurd (room e.0));
       no_field = (λ e. cc, λ e. absurd (allocation_finds p word reg label leaf e));
+      not_yet = (λ e. cc, λ e. absurd (allocation_stays p word reg label leaf e));
       full = (λ e. cc, λ e. absurd (moves (still_along e.0 before word (sym (subst (λ x. FoundNoneAt x e.0) is e.1.scanned)) e.2)));
       busy = λ first after. (
         λ e.
@@ -203,22 +230,22 @@ compare_made false = refl
 step_cause : {p : Private} {word : ℕ} {box : Contents} {op : Op} {q : Private} (cmd : Cmd) (told : Told) → IsMachine p → work_of p ≡ Some (works.Command cmd) → answer_of q ≡ Some (makes.Answered told)
     → Step p word box op q → HasCause p q cmd word told.answer
 step_cause {p = p} {word = word} {q = q} cmd told kept work answer (Step.null reg d) =
-    decided word cmd told refl work answer d (plain_cause p q (commands.Null reg) word answers.Done refl (λ e. e) (λ e. e.1) (not_scanned p _ d.phase (λ _ e. e)) (λ e. e))
+    decided word cmd told refl work answer d (plain_cause p q (commands.Null reg) word answers.Done refl (λ e. e) (λ e. e.1) (not_scanned p _ d.phase (λ _ e. e)) (λ e. e) (λ e. e))
 step_cause {p = p} {word = word} {q = q} cmd told kept work answer (Step.copy dst src d) =
-    decided word cmd told refl work answer d (plain_cause p q (commands.Copy dst src) word answers.Done refl (λ e. e) (λ e. e.1) (not_scanned p _ d.phase (λ _ e. e)) (λ e. e))
+    decided word cmd told refl work answer d (plain_cause p q (commands.Copy dst src) word answers.Done refl (λ e. e) (λ e. e.1) (not_scanned p _ d.phase (λ _ e. e)) (λ e. e) (λ e. e))
 step_cause {p = p} {word = word} {q = q} cmd told kept work answer (Step.compare a b d) =
     decided word cmd told refl work answer d
-    (plain_cause p q (commands.Same a b) word (yes_or_no (same (register p a) (register p b))) (compare_made (same (register p a) (register p b))) (λ e. e) (λ e. e.1) (not_scanned p _ d.phase (λ _ e. e)) (λ e. e))
+    (plain_cause p q (commands.Same a b) word (yes_or_no (same (register p a) (register p b))) (compare_made (same (register p a) (register p b))) (λ e. e) (λ e. e.1) (not_scanned p _ d.phase (λ _ e. e)) (λ e. e) (λ e. e))
 step_cause {p = p} {word = word} {q = q} cmd told kept work answer (Step.get_of_null dst src f names d) =
-    decided word cmd told refl work answer d (lacking_cause p q (commands.Get dst src f) word (stays d) names (λ e. e) (not_scanned p _ d.phase (λ _ e. e)) (λ e. e))
+    decided word cmd told refl work answer d (lacking_cause p q (commands.Get dst src f) word (stays d) names (λ e. e) (not_scanned p _ d.phase (λ _ e. e)) (λ e. e) (λ e. e))
 step_cause {p = p} {word = word} {q = q} cmd told kept work answer (Step.get dst src f slot names d) =
     decided word cmd told refl work answer d
-    (plain_cause p q (commands.Get dst src f) word (null_or_object (target_of word)) (read_made (target_of word)) (not_both (register p src) slot names) (λ e. e.1) (not_scanned p _ d.phase (λ _ e. e)) (λ e. e))
+    (plain_cause p q (commands.Get dst src f) word (null_or_object (target_of word)) (read_made (target_of word)) (not_both (register p src) slot names) (λ e. e.1) (not_scanned p _ d.phase (λ _ e. e)) (λ e. e) (λ e. e))
 step_cause {p = p} {word = word} {q = q} cmd told kept work answer (Step.put_of_null src f val names d) =
-    decided word cmd told refl work answer d (lacking_cause p q (commands.Put src f val) word (stays d) names (λ e. not_both (register p src) e.0 e.1 names) (not_scanned p _ d.phase (λ _ e. e)) (λ e. not_both (register p src) e.1.0 e.1.1 names))
+    decided word cmd told refl work answer d (lacking_cause p q (commands.Put src f val) word (stays d) names (λ e. not_both (register p src) e.0 e.1 names) (not_scanned p _ d.phase (λ _ e. e)) (λ e. not_both (register p src) e.1.0 e.1.1 names) (λ e. e))
 step_cause {p = p} {word = word} {q = q} cmd told kept work answer (Step.put_refused src f val slot names full d) =
     decided word cmd told refl work answer d
-    (full_log_cause p q (commands.Put src f val) word (stays d) full (slot, names) (not_both (register p src) slot names) (not_scanned p _ d.phase (λ _ e. e)) (λ e. e.2 full))
+    (full_log_cause p q (commands.Put src f val) word (stays d) full (slot, names) (not_both (register p src) slot names) (not_scanned p _ d.phase (λ _ e. e)) (λ e. e.2 full) (λ e. e))
 step_cause {p = p} {word = word} {q = q} cmd told kept work answer (Step.put_into_leaf src f val slot names room leaf d) =
     decided word cmd told refl work answer d (leaf_cause p q src f val slot word (stays d) names room (d.phase, (slot, names), room, leaf) (not_scanned p _ d.phase (λ _ e. e)))
 step_cause cmd told kept work answer (Step.put_begins src f val slot names room leaf g) = absurd (goes_on told refl answer g)
@@ -226,24 +253,34 @@ step_cause {p = p} {word = word} {q = q} cmd told kept work answer (Step.put src
     let store : IsStore p src f val slot = (at_phase p _ kept d.phase).0 in
     let begun : p.phase ≡ Begun (works.Command (commands.Put src f val)) → ⊥ = λ e. let no : Storing src f val slot ≡ Begun (works.Command (commands.Put src f val)) = sym d.phase ∙ e in cc in
     decided word cmd told refl work answer d
-    (plain_cause p q (commands.Put src f val) word answers.Done refl (not_both (register p src) slot store.source) (λ e. has_space p store.room e.0) (not_scanned p _ d.phase (λ _ e. e)) (λ e. begun e.0))
+    (plain_cause p q (commands.Put src f val) word answers.Done refl (not_both (register p src) slot store.source) (λ e. has_space p store.room e.0) (not_scanned p _ d.phase (λ _ e. e)) (λ e. begun e.0) (λ e. e))
 step_cause {p = p} {word = word} {q = q} cmd told kept work answer (Step.value_of_null reg names d) =
-    decided word cmd told refl work answer d (lacking_cause p q (commands.Value reg) word (stays d) names (λ e. e) (not_scanned p _ d.phase (λ _ e. e)) (λ e. e))
+    decided word cmd told refl work answer d (lacking_cause p q (commands.Value reg) word (stays d) names (λ e. e) (not_scanned p _ d.phase (λ _ e. e)) (λ e. e) (λ e. e))
 step_cause {p = p} {word = word} {q = q} cmd told kept work answer (Step.value reg slot names d) =
     decided word cmd told refl work answer d
-    (plain_cause p q (commands.Value reg) word _ refl (not_both (register p reg) slot names) (λ e. e.1) (not_scanned p _ d.phase (λ _ e. e)) (λ e. e))
+    (plain_cause p q (commands.Value reg) word _ refl (not_both (register p reg) slot names) (λ e. e.1) (not_scanned p _ d.phase (λ _ e. e)) (λ e. e) (λ e. e))
 step_cause {p = p} {word = word} {q = q} cmd told kept work answer (Step.new_refused reg label leaf full d) =
-    decided word cmd told refl work answer d (full_log_cause p q (allocation leaf reg label) word (stays d) full (allocation_entry p reg label leaf) (allocation_lacks p reg label leaf) (not_scanned p _ d.phase (λ _ e. e)) (allocation_finds p word reg label leaf))
+    decided word cmd told refl work answer d (full_log_cause p q (allocation leaf reg label) word (stays d) full (allocation_entry p reg label leaf) (allocation_lacks p reg label leaf) (not_scanned p _ d.phase (λ _ e. e)) (allocation_finds p word reg label leaf) (allocation_stays p word reg label leaf))
 step_cause cmd told kept work answer (Step.new_begins reg label leaf room g) = absurd (goes_on told refl answer g)
 step_cause {p = p} {word = word} {q = q} cmd told kept work answer (Step.new_wins reg label leaf before probed free d) =
     decided word cmd told refl work answer d
-    (plain_cause p q (allocation leaf reg label) word answers.Done refl (allocation_lacks p reg label leaf) (λ e. has_room p reg (at_phase p _ kept d.phase).0 e.0) (not_scanned p _ d.phase (λ _ e. e)) (allocation_finds p word reg label leaf))
+    (plain_cause p q (allocation leaf reg label) word answers.Done refl (allocation_lacks p reg label leaf) (λ e. has_room p reg (at_phase p _ kept d.phase).0 e.0) (not_scanned p _ d.phase (λ _ e. e)) (allocation_finds p word reg label leaf) (allocation_stays p word reg label leaf))
 step_cause cmd told kept work answer (Step.new_goes_on reg label leaf before probed taken more g) = absurd (goes_on told refl answer g)
 step_cause cmd told kept work answer (Step.new_finds_none reg label leaf before probed taken last g) = absurd (goes_on told refl answer g)
 step_cause {p = p} {word = word} {q = q} cmd told kept work answer (Step.new_is_full reg label leaf before still d) =
     decided word cmd told refl work answer d (full_cause p q reg label leaf before word (stays d) (has_room p reg (at_phase p _ kept d.phase).0) d.phase still)
 step_cause {p = p} {word = word} {q = q} cmd told kept work answer (Step.new_is_busy reg label leaf before moves d) =
     decided word cmd told refl work answer d (busy_cause p q reg label leaf before word (stays d) (has_room p reg (at_phase p _ kept d.phase).0) d.phase moves)
+step_cause {p = p} {word = word} {q = q} cmd told kept work answer (Step.leave_refused uncollected d) =
+    decided word cmd told refl work answer d (awaited_cause p q word (stays d) (not_scanned p _ d.phase (λ _ e. e)) (d.phase, uncollected))
+step_cause cmd told kept work answer (Step.leave_begins collected g) = absurd (goes_on told refl answer g)
+step_cause {q = q} cmd told kept work answer (Step.leave l) = absurd (unanswered q told (ap answer_of l.after) answer)
+step_cause {p = p} {word = word} {q = q} cmd told kept work answer (Step.leave_ends l) =
+    let cmds : commands.Leave ≡ cmd = same_command commands.Leave cmd (sym (ap work_at l.phase) ∙ work) in
+    let tolds : plain answers.Done ≡ told = same_told (plain answers.Done) told (sym (ap answer_of l.after) ∙ answer) in
+    subst (λ (c : Cmd). HasCause p q c word told.answer) cmds
+    (subst (λ (t : Told). HasCause p q commands.Leave word t.answer) tolds
+    (plain_cause p q commands.Leave word answers.Done refl (λ e. e) (λ e. e.1) (not_scanned p _ l.phase (λ _ e. e)) (λ e. e) (λ e. not_begun p l.phase e.0)))
 step_cause {q = q} cmd told kept work answer (Step.poll_stays own g) = absurd (crosses q None told (ap answer_of g.after) answer)
 step_cause cmd told kept work answer (Step.poll_crosses other g) = absurd (goes_on told refl answer g)
 step_cause {q = q} cmd told kept work answer (Step.take_box c) = absurd (unanswered q told (ap answer_of c.after) answer)
@@ -257,6 +294,7 @@ answer_cause p word box cmd told kept by = step_cause cmd told kept by.work by.a
 unswapped : (q : Private) (box : Contents) (told : Told) (at : Phase) → answer_at at ≡ Some (makes.Answered told) → swapped_at q box at ≡ q
 unfolding swapped_at
 unswapped q box told Swapping answer = let not_so : ◌≡◌ {A = Option Made} None (Some (makes.Answered told)) = answer in absurd (cc)
+unswapped q box told Retiring answer = let not_so : ◌≡◌ {A = Option Made} None (Some (makes.Answered told)) = answer in absurd (cc)
 unswapped q box told _ answer = refl
 
 -- so what is learnt has the cause of its answer

@@ -1,7 +1,7 @@
 -- No step changes the numbers of a machine, how many registers it has, what its log can hold, or which work was begun; and
 -- each step counts.
-use Rattle.std.proofs.Common.{◌≡◌, ℕ, ◌+◌, Option, Some, List, true, length, refl, sym, ap, subst, ◌∙◌}
-use Rattle.std.proofs.lemmas.List.{length-set}
+use Rattle.std.proofs.Common.{◌≡◌, ◌≢◌, ℕ, ◌+◌, Option, None, Some, List, true, length, refl, sym, ap, subst, ◌∙◌}
+use Rattle.std.proofs.lemmas.List.{length-replicate, length-set}
 use Rattle.rec_word.specs.declared.op.Op.{Op}
 use Rattle.rec_model.specs.declared.command.Cmd.{Cmd}
 use Rattle.rec_model.specs.declared.told.Told.{Told}
@@ -9,9 +9,9 @@ use Rattle.rec_log.specs.declared.contents.Contents.{Contents}
 use Rattle.rec_log.specs.declared.entry.Entry.{Entry}
 use Rattle.rec_mutator.specs.Private.{Private, KeepsSizes, is_busy, is_busy_at, work_of, work_at}
 use Rattle.rec_mutator.specs.Took.{took_of, took_at, begun_by}
-use Rattle.rec_mutator.specs.Step.{Step, Decides, GoesOn, Crosses}
+use Rattle.rec_mutator.specs.Step.{Step, Decides, GoesOn, LetsGo, HasLeft, Crosses}
 use Rattle.rec_mutator.specs.declared.phase.Phase.{Phase}
-use Rattle.rec_mutator.specs.declared.phase.Phase.TheVariants.{Begun}
+use Rattle.rec_mutator.specs.declared.phase.Phase.TheVariants.{Begun, Parting}
 use Rattle.rec_mutator.specs.declared.work.Work.{Work}
 use Rattle.rec_mutator.specs.declared.work.Work.TheVariants as works
 use Rattle.rec_mutator.proofs.Steps.{TakesNone, learnt_made}
@@ -34,10 +34,23 @@ going_on_keeps {p = p} work g = (
 
 -- so does a step of a crossing, with a buffer that can hold as much
 crossing_keeps : {p : Private} {op : Op} {q : Private} {at : Phase} {its_op : Op} {epoch : ℕ} {log : Contents} {next_phase : Phase}
-    → work_at at ≡ Some works.Poll → work_at next_phase ≡ Some works.Poll → log.capacity ≡ p.log.capacity → Crosses p op q at its_op epoch log next_phase → KeepsSizes p q × (work_of q ≡ work_of p)
-crossing_keeps {p = p} at next sized c = (
+    → work_at at ≡ work_at next_phase → log.capacity ≡ p.log.capacity → Crosses p op q at its_op epoch log next_phase → KeepsSizes p q × (work_of q ≡ work_of p)
+crossing_keeps {p = p} work sized c = (
   subst (KeepsSizes p) (sym c.after) (record { number = refl; slots = refl; fields = refl; registers = refl; capacity = sized }),
-  ap work_of c.after ∙ next ∙ sym (ap work_at c.phase ∙ at),
+  ap work_of c.after ∙ sym (ap work_at c.phase ∙ work),
+)
+
+-- so does the step by which a mutator lets its registers go
+letting_go_keeps : {p : Private} {op : Op} {q : Private} {log : Contents} → log.capacity ≡ p.log.capacity → LetsGo p op q log → KeepsSizes p q × (work_of q ≡ work_of p)
+letting_go_keeps {p = p} sized l = (
+  subst (KeepsSizes p) (sym l.after) (record { number = refl; slots = refl; fields = refl; registers = length-replicate (length p.registers) None; capacity = sized }),
+  ap work_of l.after ∙ sym (ap work_at l.phase),
+)
+
+having_left_keeps : {p : Private} {op : Op} {q : Private} → HasLeft p op q → KeepsSizes p q × (work_of q ≡ work_of p)
+having_left_keeps {p = p} l = (
+  subst (KeepsSizes p) (sym l.after) (record { number = refl; slots = refl; fields = refl; registers = refl; capacity = refl }),
+  ap work_of l.after ∙ sym (ap work_at l.phase),
 )
 
 -- every step keeps sizes and work
@@ -61,10 +74,14 @@ step_keeps sized (Step.new_goes_on reg label leaf before probed taken more g) = 
 step_keeps sized (Step.new_finds_none reg label leaf before probed taken last g) = going_on_keeps refl g
 step_keeps sized (Step.new_is_full reg label leaf before still d) = decided_keeps refl refl d
 step_keeps sized (Step.new_is_busy reg label leaf before moves d) = decided_keeps refl refl d
+step_keeps sized (Step.leave_refused uncollected d) = decided_keeps refl refl d
+step_keeps sized (Step.leave_begins collected g) = going_on_keeps refl g
+step_keeps sized (Step.leave l) = letting_go_keeps sized l
+step_keeps sized (Step.leave_ends l) = having_left_keeps l
 step_keeps sized (Step.poll_stays own g) = going_on_keeps refl g
 step_keeps sized (Step.poll_crosses other g) = going_on_keeps refl g
-step_keeps sized (Step.take_box c) = crossing_keeps refl refl sized c
-step_keeps sized (Step.give_box c) = crossing_keeps refl refl refl c
+step_keeps sized (Step.take_box c) = crossing_keeps refl sized c
+step_keeps sized (Step.give_box c) = crossing_keeps refl refl c
 
 -- so does what is learnt, where no mailbox is taken
 pub took_keeps : (p : Private) (word : ℕ) → is_busy p ≡ true → TakesNone p.phase → KeepsSizes p (took_of p word) × (work_of (took_of p word) ≡ work_of p)
@@ -99,6 +116,10 @@ step_counts (Step.new_goes_on reg label leaf before probed taken more g) = ap (�
 step_counts (Step.new_finds_none reg label leaf before probed taken last g) = ap (λ (x : Private). x.steps) g.after
 step_counts (Step.new_is_full reg label leaf before still d) = ap (λ (x : Private). x.steps) d.after
 step_counts (Step.new_is_busy reg label leaf before moves d) = ap (λ (x : Private). x.steps) d.after
+step_counts (Step.leave_refused uncollected d) = ap (λ (x : Private). x.steps) d.after
+step_counts (Step.leave_begins collected g) = ap (λ (x : Private). x.steps) g.after
+step_counts (Step.leave l) = ap (λ (x : Private). x.steps) l.after
+step_counts (Step.leave_ends l) = ap (λ (x : Private). x.steps) l.after
 step_counts (Step.poll_stays own g) = ap (λ (x : Private). x.steps) g.after
 step_counts (Step.poll_crosses other g) = ap (λ (x : Private). x.steps) g.after
 step_counts (Step.take_box c) = ap (λ (x : Private). x.steps) c.after
@@ -110,3 +131,33 @@ first_counts p q word work begun is =
     let took : took_of p word ≡ begun_by p word work = ap (took_at p word) begun in
     let busy : is_busy p ≡ true = ap is_busy_at begun in
     subst (λ (x : Private). x.steps ≡ p.steps + 1) (sym (is ∙ sym took)) (step_counts (learnt_made p word p.log busy (subst TakesNone (sym begun) tt)))
+
+-- no step but the one by which a mutator has left marks that it has
+pub step_left : {p : Private} {word : ℕ} {box : Contents} {op : Op} {q : Private} → p.phase ≢ Parting → Step p word box op q → q.left ≡ p.left
+step_left stays (Step.null reg d) = ap (λ (x : Private). x.left) d.after
+step_left stays (Step.copy dst src d) = ap (λ (x : Private). x.left) d.after
+step_left stays (Step.compare a b d) = ap (λ (x : Private). x.left) d.after
+step_left stays (Step.get_of_null dst src f names d) = ap (λ (x : Private). x.left) d.after
+step_left stays (Step.get dst src f slot names d) = ap (λ (x : Private). x.left) d.after
+step_left stays (Step.put_of_null src f val names d) = ap (λ (x : Private). x.left) d.after
+step_left stays (Step.put_refused src f val slot names full d) = ap (λ (x : Private). x.left) d.after
+step_left stays (Step.put_into_leaf src f val slot names room leaf d) = ap (λ (x : Private). x.left) d.after
+step_left stays (Step.put_begins src f val slot names room leaf g) = ap (λ (x : Private). x.left) g.after
+step_left stays (Step.put src f val slot d) = ap (λ (x : Private). x.left) d.after
+step_left stays (Step.value_of_null reg names d) = ap (λ (x : Private). x.left) d.after
+step_left stays (Step.value reg slot names d) = ap (λ (x : Private). x.left) d.after
+step_left stays (Step.new_refused reg label leaf full d) = ap (λ (x : Private). x.left) d.after
+step_left stays (Step.new_begins reg label leaf room g) = ap (λ (x : Private). x.left) g.after
+step_left stays (Step.new_wins reg label leaf before probed free d) = ap (λ (x : Private). x.left) d.after
+step_left stays (Step.new_goes_on reg label leaf before probed taken more g) = ap (λ (x : Private). x.left) g.after
+step_left stays (Step.new_finds_none reg label leaf before probed taken last g) = ap (λ (x : Private). x.left) g.after
+step_left stays (Step.new_is_full reg label leaf before still d) = ap (λ (x : Private). x.left) d.after
+step_left stays (Step.new_is_busy reg label leaf before moves d) = ap (λ (x : Private). x.left) d.after
+step_left stays (Step.leave_refused uncollected d) = ap (λ (x : Private). x.left) d.after
+step_left stays (Step.leave_begins collected g) = ap (λ (x : Private). x.left) g.after
+step_left stays (Step.leave l) = ap (λ (x : Private). x.left) l.after
+step_left stays (Step.leave_ends l) = absurd (stays l.phase)
+step_left stays (Step.poll_stays own g) = ap (λ (x : Private). x.left) g.after
+step_left stays (Step.poll_crosses other g) = ap (λ (x : Private). x.left) g.after
+step_left stays (Step.take_box c) = ap (λ (x : Private). x.left) c.after
+step_left stays (Step.give_box c) = ap (λ (x : Private). x.left) c.after

@@ -2,6 +2,9 @@
 use Rattle.std.proofs.Common.{◌≡◌, inl, inr, ℕ, ◌+◌, ◌%◌, ◌==◌, ◌&&◌, Bool, true, false, Option, None, Some, List, length, refl, sym, ap, subst, ◌∙◌}
 use Rattle.std.proofs.lemmas.Bool.{false≢true, eqb-true, cond-true, cond-false, eq-eqb, ne_eqb, cases_eq}
 use Rattle.rec_word.specs.Header.{is_leaf}
+use Rattle.rec_word.specs.Mailbox.{mailbox_of}
+use Rattle.rec_word.specs.declared.mailbox.Mailbox.{Mailbox}
+use Rattle.rec_word.specs.declared.mailbox.Mailbox.TheVariants.{Retired, Spare, WithCollector, WithMutator}
 use Rattle.rec_word.specs.declared.op.Op.{Op}
 use Rattle.rec_word.specs.declared.op.Op.TheVariants as ops
 use Rattle.rec_model.specs.declared.answer.Answer.{Answer}
@@ -14,10 +17,10 @@ use Rattle.rec_log.specs.declared.entry.Entry.{Entry}
 use Rattle.rec_model.specs.Asking.{plain, allocation}
 use Rattle.rec_mutator.specs.Private.{Private, register, is_full, is_busy_at, is_busy}
 use Rattle.rec_mutator.specs.Next.{next_of, next_at, read_op, write_op, label_op, new_op}
-use Rattle.rec_mutator.specs.Took.{took_of, took_at, moved, answered, read_by, allowed_by, written_by, label_by, new_by, polled, swapped_at, swapped_of, step_of, left_at, left_of, IsBetween}
-use Rattle.rec_mutator.specs.Step.{Step, Decides, GoesOn, Crosses, HasRoom, IsStill, LeavesBox, WholeStep}
+use Rattle.rec_mutator.specs.Took.{took_of, took_at, moved, answered, read_by, allowed_by, written_by, label_by, new_by, leaving_by, is_uncollected_in, polled, swapped_at, swapped_of, step_of, left_at, left_of, IsBetween}
+use Rattle.rec_mutator.specs.Step.{Step, Decides, GoesOn, Crosses, HasRoom, IsStill, IsUncollected, LeavesBox, TakesBox, WholeStep}
 use Rattle.rec_mutator.specs.declared.phase.Phase.{Phase}
-use Rattle.rec_mutator.specs.declared.phase.Phase.TheVariants.{Idle, Begun, Scanning, Scanned, Storing, Crossing, Swapping, Giving, Finished}
+use Rattle.rec_mutator.specs.declared.phase.Phase.TheVariants.{Idle, Begun, Scanning, Scanned, Storing, Crossing, Swapping, Giving, Leaving, Retiring, Parting, Finished}
 use Rattle.rec_mutator.specs.declared.work.Work.{Work}
 use Rattle.rec_mutator.specs.declared.work.Work.TheVariants as works
 
@@ -104,6 +107,18 @@ last_step p word reg label leaf before box is =
       | inr odd ↦ busy (λ s. odd s.0) (rw (ne_eqb (before % 2) 0 odd) refl)
     ]
 
+-- a mailbox that is collected is nowhere else
+no_other : (word : ℕ) (m : Mailbox) → mailbox_of word ≡ m → is_uncollected_in m ≡ false → IsUncollected word → ⊥
+no_other word m so none (inl other) = false≢true (sym none ∙ ap is_uncollected_in (sym so ∙ other))
+no_other word m so none (inr other) = false≢true (sym none ∙ ap is_uncollected_in (sym so ∙ other))
+
+-- where the own mailbox is tells whether a mutator leaves
+leave_step : (p : Private) (word : ℕ) (box : Contents) (m : Mailbox) → mailbox_of word ≡ m → p.phase ≡ Begun (works.Command commands.Leave) → Step p word box (ops.LoadCross p.number) (leaving_by p (is_uncollected_in m))
+leave_step p word box Retired so is = Step.leave_refused (inl so) (record { phase = is; operation = refl; after = refl })
+leave_step p word box WithCollector so is = Step.leave_refused (inr so) (record { phase = is; operation = refl; after = refl })
+leave_step p word box Spare so is = Step.leave_begins (no_other word Spare so refl) (record { phase = is; operation = refl; after = refl })
+leave_step p word box WithMutator so is = Step.leave_begins (no_other word WithMutator so refl) (record { phase = is; operation = refl; after = refl })
+
 -- the first step of a command
 command_step : (p : Private) (word : ℕ) (box : Contents) (cmd : Cmd) → p.phase ≡ Begun (works.Command cmd) → Step p word box (next_at p (Begun (works.Command cmd))) (took_at p word (Begun (works.Command cmd)))
 unfolding next_at took_at
@@ -115,6 +130,7 @@ command_step p word box (commands.Get dst src f) is = get_step p word dst src f 
 command_step p word box (commands.Put src f val) is = put_step p word src f val box (register p src) (is_full p) refl refl is
 command_step p word box (commands.Value reg) is = value_step p word reg box (register p reg) refl is
 command_step p word box (commands.Same a b) is = Step.compare a b (record { phase = is; operation = refl; after = refl })
+command_step p word box commands.Leave is = leave_step p word box (mailbox_of word) refl is
 
 -- a poll that looked at the epoch word
 poll_step : (p : Private) (word : ℕ) (box : Contents) → p.phase ≡ Begun works.Poll → Step p word box (next_at p (Begun works.Poll)) (polled p word)
@@ -134,6 +150,8 @@ begun_step p word box works.Poll is = poll_step p word box is
 abbrev pub TakesNone : Phase → Type 0
 TakesNone Crossing = ⊥
 TakesNone Swapping = ⊥
+TakesNone Leaving = ⊥
+TakesNone Retiring = ⊥
 TakesNone _ = Unit {0}
 
 -- a step that takes no mailbox, by phase
@@ -147,6 +165,9 @@ learnt_at p word box (Storing src f val slot) is busy none = Step.put src f val 
 learnt_at p word box Crossing is busy none = absurd none
 learnt_at p word box Swapping is busy none = absurd none
 learnt_at p word box Giving is busy none = Step.give_box (record { phase = is; operation = refl; after = refl })
+learnt_at p word box Leaving is busy none = absurd none
+learnt_at p word box Retiring is busy none = absurd none
+learnt_at p word box Parting is busy none = Step.leave_ends (record { phase = is; operation = refl; after = refl })
 learnt_at p word box (Finished work made) is busy none = absurd (false≢true busy)
 
 -- a step that takes no mailbox: what comes next, and what is learnt
@@ -189,6 +210,10 @@ step_between (Step.new_goes_on reg label leaf before probed taken more g) = goin
 step_between (Step.new_finds_none reg label leaf before probed taken last g) = going_between tt g
 step_between (Step.new_is_full reg label leaf before still d) = decided_between d
 step_between (Step.new_is_busy reg label leaf before moves d) = decided_between d
+step_between (Step.leave_refused uncollected d) = decided_between d
+step_between (Step.leave_begins collected g) = going_between tt g
+step_between (Step.leave l) = subst (λ (x : Private). IsBetween x.phase) (sym l.after) tt
+step_between (Step.leave_ends l) = subst (λ (x : Private). IsBetween x.phase) (sym l.after) tt
 step_between (Step.poll_stays own g) = going_between tt g
 step_between (Step.poll_crosses other g) = going_between tt g
 step_between (Step.take_box c) = crossing_between tt c
@@ -198,6 +223,7 @@ step_between (Step.give_box c) = crossing_between tt c
 unswapped_at : (q : Private) (box : Contents) (phase : Phase) → IsBetween phase → swapped_at q box phase ≡ q
 unfolding swapped_at
 unswapped_at q box Swapping is = absurd is
+unswapped_at q box Retiring is = absurd is
 unswapped_at q box _ is = refl
 
 pub unswapped : (q : Private) (box : Contents) → IsBetween q.phase → swapped_of q box ≡ q
@@ -216,6 +242,7 @@ here_made p word box busy none = subst (Step p word box (next_of p)) (sym (here_
 -- no mailbox waits to be swapped where none is taken
 pub none_between : (phase : Phase) → TakesNone phase → IsBetween phase
 none_between Swapping none = none
+none_between Retiring none = none
 none_between _ none = tt
 
 -- a step that takes the own mailbox
@@ -224,10 +251,17 @@ unfolding next_of next_at took_of took_at swapped_of swapped_at step_of
 crossing_made p word box is =
     Step.take_box (record { phase = is; operation = ap (next_at p) is; after = ap (λ x. swapped_of (took_at p word x) box) is })
 
+leaving_made : (p : Private) (word : ℕ) (box : Contents) → p.phase ≡ Leaving → Step p word box (next_of p) (step_of p word box)
+unfolding next_of next_at took_of took_at swapped_of swapped_at step_of
+leaving_made p word box is =
+    Step.leave (record { phase = is; operation = ap (next_at p) is; after = ap (λ x. swapped_of (took_at p word x) box) is })
+
 -- a step, by phase
 step_at : (p : Private) (word : ℕ) (box : Contents) (phase : Phase) → p.phase ≡ phase → is_busy p ≡ true → IsBetween phase → Step p word box (next_of p) (step_of p word box)
 step_at p word box Crossing is busy whole = crossing_made p word box is
 step_at p word box Swapping is busy whole = absurd whole
+step_at p word box Leaving is busy whole = leaving_made p word box is
+step_at p word box Retiring is busy whole = absurd whole
 step_at p word box _ is busy whole = here_made p word box busy (subst TakesNone (sym is) tt)
 
 -- what comes next, and what is learnt of the word found and of the mailbox that is taken, is a step
@@ -248,6 +282,9 @@ left_same q box phase is between = ap (left_at q box) is ∙ go phase between
     go Crossing b = refl
     go Swapping b = absurd b
     go Giving b = refl
+    go Leaving b = refl
+    go Retiring b = absurd b
+    go Parting b = refl
     go (Finished work made) b = refl
 
 -- what a step leaves in the own mailbox, by phase
@@ -259,15 +296,18 @@ leaves_box p word box phase is busy between = go phase is between
     kept none = left_same (took_of p word) box (took_of p word).phase refl (step_between (learnt_made p word box busy none))
 
     go : (f : Phase) → p.phase ≡ f → IsBetween f → LeavesBox p box (left_of (took_of p word) box)
-    go Idle e b = LeavesBox.keeps (λ n. let no : Idle ≡ Crossing = sym e ∙ n in cc) (kept (subst TakesNone (sym e) tt))
-    go (Begun work) e b = LeavesBox.keeps (λ n. let no : Begun work ≡ Crossing = sym e ∙ n in cc) (kept (subst TakesNone (sym e) tt))
-    go (Scanning reg label leaf before probed) e b = LeavesBox.keeps (λ n. let no : Scanning reg label leaf before probed ≡ Crossing = sym e ∙ n in cc) (kept (subst TakesNone (sym e) tt))
-    go (Scanned reg label leaf before) e b = LeavesBox.keeps (λ n. let no : Scanned reg label leaf before ≡ Crossing = sym e ∙ n in cc) (kept (subst TakesNone (sym e) tt))
-    go (Storing src f val slot) e b = LeavesBox.keeps (λ n. let no : Storing src f val slot ≡ Crossing = sym e ∙ n in cc) (kept (subst TakesNone (sym e) tt))
+    go Idle e b = LeavesBox.keeps (λ n. subst TakesBox e n) (kept (subst TakesNone (sym e) tt))
+    go (Begun work) e b = LeavesBox.keeps (λ n. subst TakesBox e n) (kept (subst TakesNone (sym e) tt))
+    go (Scanning reg label leaf before probed) e b = LeavesBox.keeps (λ n. subst TakesBox e n) (kept (subst TakesNone (sym e) tt))
+    go (Scanned reg label leaf before) e b = LeavesBox.keeps (λ n. subst TakesBox e n) (kept (subst TakesNone (sym e) tt))
+    go (Storing src f val slot) e b = LeavesBox.keeps (λ n. subst TakesBox e n) (kept (subst TakesNone (sym e) tt))
     go Crossing e b = LeavesBox.retires e (ap (λ f. left_of (took_at p word f) box) e)
     go Swapping e b = absurd b
-    go Giving e b = LeavesBox.keeps (λ n. let no : Giving ≡ Crossing = sym e ∙ n in cc) (kept (subst TakesNone (sym e) tt))
-    go (Finished work made) e b = LeavesBox.keeps (λ n. let no : Finished work made ≡ Crossing = sym e ∙ n in cc) (kept (subst TakesNone (sym e) tt))
+    go Giving e b = LeavesBox.keeps (λ n. subst TakesBox e n) (kept (subst TakesNone (sym e) tt))
+    go Leaving e b = LeavesBox.lets_go e (ap (λ f. left_of (took_at p word f) box) e)
+    go Retiring e b = absurd b
+    go Parting e b = LeavesBox.keeps (λ n. subst TakesBox e n) (kept (subst TakesNone (sym e) tt))
+    go (Finished work made) e b = LeavesBox.keeps (λ n. subst TakesBox e n) (kept (subst TakesNone (sym e) tt))
 
 -- a whole step
 pub whole_made : (p : Private) (word : ℕ) (box : Contents) → is_busy p ≡ true → IsBetween p.phase → WholeStep p word box (next_of p) (step_of p word box) (left_of (took_of p word) box)

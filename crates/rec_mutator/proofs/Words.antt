@@ -7,7 +7,7 @@ use Rattle.rec_mutator.specs.Private.{Private, register, is_full, HasOperands, I
 use Rattle.rec_mutator.specs.Next.{next_of, next_at, begun_op, first_op, read_op, write_op, label_op, new_op}
 use Rattle.rec_mutator.specs.Step.{NamesWord, NamesSlots}
 use Rattle.rec_mutator.specs.declared.phase.Phase.{Phase}
-use Rattle.rec_mutator.specs.declared.phase.Phase.TheVariants.{Idle, Begun, Scanning, Scanned, Storing, Finished}
+use Rattle.rec_mutator.specs.declared.phase.Phase.TheVariants.{Idle, Begun, Scanning, Scanned, Storing, Leaving, Retiring, Parting, Finished}
 use Rattle.rec_mutator.specs.declared.work.Work.{Work}
 use Rattle.rec_mutator.specs.declared.work.Work.TheVariants as works
 use Rattle.rec_mutator.proofs.Around.{behind_below}
@@ -56,7 +56,10 @@ names_at p (Scanning reg label leaf before probed) kept at there = (behind_below
 names_at p (Scanned reg label leaf before) kept at there = tt
 names_at p (Finished work made) kept at there = tt
 names_at p (Storing src f val slot) kept at there = place_within p.slots p.fields slot f (there src slot at.0.source) at.0.operands.1
-names_at p _ kept at there = at.1
+names_at p Leaving kept at there = omega (arith, at.1)
+names_at p Retiring kept at there = omega (arith, at.1)
+names_at p Parting kept at there = omega (arith, at.1)
+names_at p _ kept at there = omega (arith, at.1)
 
 -- what comes next names a word of the heap
 pub names_word : (p : Private) → IsMachine p → NamesSlots p → NamesWord p.slots p.fields (next_of p)

@@ -9,11 +9,11 @@ use Rattle.rec_model.specs.declared.told.Told.{Told}
 use Rattle.rec_log.specs.declared.contents.Contents.{Contents}
 use Rattle.rec_mutator.specs.Private.{Private, register, is_busy, work_of, answer_of}
 use Rattle.rec_mutator.specs.Scans.{ops_along, FailsScan, HasScanned}
-use Rattle.rec_mutator.specs.Step.{IsLogFull, HasRoom, IsStill}
+use Rattle.rec_mutator.specs.Step.{IsLogFull, HasRoom, IsStill, IsUncollected}
 use Rattle.rec_mutator.specs.Took.{step_of, IsBetween}
 use Rattle.rec_mutator.specs.declared.made.Made.TheVariants as makes
 use Rattle.rec_mutator.specs.declared.phase.Phase.{Phase}
-use Rattle.rec_mutator.specs.declared.phase.Phase.TheVariants.{Begun, Scanned, Giving}
+use Rattle.rec_mutator.specs.declared.phase.Phase.TheVariants.{Begun, Scanned, Giving, Parting}
 use Rattle.rec_mutator.specs.declared.work.Work.TheVariants as works
 
 -- the step that finds this word, and this buffer in the own mailbox, answers this command with what is told
@@ -30,6 +30,7 @@ is_refusal answers.Full = true
 is_refusal answers.LogFull = true
 is_refusal answers.NoField = true
 is_refusal (answers.Busy before after) = true
+is_refusal answers.NotYet = true
 is_refusal _ = false
 
 -- the command needs an object in a register that is null
@@ -51,10 +52,21 @@ abbrev pub FindsLeaf : Private → (word : ℕ) → Cmd → Type 0
 FindsLeaf p word (commands.Put src f val) = (p.phase ≡ Begun (works.Command (commands.Put src f val))) × MakesEntry p (commands.Put src f val) × HasRoom p × (is_leaf word ≡ true)
 FindsLeaf p word _ = ⊥
 
--- a mailbox is given back next
+-- the first step of leaving found that the own mailbox isn't home with a spare
+abbrev pub IsAwaited : Private → (word : ℕ) → Cmd → Type 0
+IsAwaited p word commands.Leave = (p.phase ≡ Begun (works.Command commands.Leave)) × IsUncollected word
+IsAwaited p word _ = ⊥
+
+-- a mailbox is given back next, at the end of a poll
 abbrev pub is_giving : Phase → Bool
 is_giving Giving = true
 is_giving _ = false
+
+-- a mailbox is given back next: the mutator is in the next epoch then, or has left
+abbrev pub gives_back : Phase → Bool
+gives_back Giving = true
+gives_back Parting = true
+gives_back _ = false
 
 -- the scan is over, before which this freed word was found, by phase
 abbrev pub FoundNoneAt : Phase → (before : ℕ) → Type 0
@@ -73,6 +85,7 @@ pub record HasCause (p q : Private) (cmd : Cmd) (word : ℕ) (answer : Answer) :
   pub log_full : (answer ≡ answers.LogFull) ↔ (IsLogFull p × MakesEntry p cmd)
   pub no_field : (answer ≡ answers.NoField) ↔ FindsLeaf p word cmd
   pub full : (answer ≡ answers.Full) ↔ ((before : ℕ) × FoundNone p before × IsStill before word)
+  pub not_yet : (answer ≡ answers.NotYet) ↔ IsAwaited p word cmd
   pub busy : (before after : ℕ) → (answer ≡ answers.Busy before after) ↔ (FoundNone p before × (after ≡ word) × (IsStill before word → ⊥))
   pub refused : is_refusal answer ≡ true → (q.registers ≡ p.registers) × (q.log ≡ p.log)
 
@@ -80,4 +93,4 @@ pub record HasCause (p q : Private) (cmd : Cmd) (word : ℕ) (answer : Answer) :
 pub record PollHasCause (p q : Private) (word : ℕ) : Type 0 where
   pub none : (answer_of q ≡ Some (makes.Crossed None)) ↔ ((p.phase ≡ Begun works.Poll) × (word ≡ p.epoch))
   pub some : (epoch : ℕ) → (answer_of q ≡ Some (makes.Crossed (Some epoch))) ↔ ((p.phase ≡ Giving) × (epoch ≡ p.epoch + 1))
-  pub epoch : q.epoch ≡ (if is_giving p.phase then p.epoch + 1 else p.epoch)
+  pub epoch : q.epoch ≡ (if gives_back p.phase then p.epoch + 1 else p.epoch)

@@ -15,6 +15,7 @@ private inside =
       from = inside.from;
       phase = inside.phase;
       steps = inside.steps;
+      left = inside.left;
     }
 
 -- what the fields of every machine keep

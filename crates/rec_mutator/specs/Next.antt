@@ -8,7 +8,7 @@ use Rattle.rec_model.specs.declared.command.Cmd.{Cmd}
 use Rattle.rec_model.specs.declared.command.Cmd.TheVariants as commands
 use Rattle.rec_mutator.specs.Private.{Private, register, is_full, word_for, probe_of}
 use Rattle.rec_mutator.specs.declared.phase.Phase.{Phase}
-use Rattle.rec_mutator.specs.declared.phase.Phase.TheVariants.{Idle, Begun, Scanning, Scanned, Storing, Crossing, Swapping, Giving, Finished}
+use Rattle.rec_mutator.specs.declared.phase.Phase.TheVariants.{Idle, Begun, Scanning, Scanned, Storing, Crossing, Swapping, Giving, Leaving, Retiring, Parting, Finished}
 use Rattle.rec_mutator.specs.declared.work.Work.{Work}
 use Rattle.rec_mutator.specs.declared.work.Work.TheVariants as works
 
@@ -46,6 +46,7 @@ first_op p (commands.Get dst src f) = read_op p f (register p src)
 first_op p (commands.Put src f val) = write_op p (register p src) (is_full p)
 first_op p (commands.Value reg) = label_op p (register p reg)
 first_op p (commands.Same a b) = own_word p
+first_op p commands.Leave = own_word p
 
 -- the first step of a work
 abbrev pub begun_op : Private → Work → Op
@@ -62,6 +63,9 @@ next_at p (Storing src f val slot) = ops.SwapField (place_of slot f p.fields) (w
 next_at p Crossing = ops.TakeBox p.number (p.epoch + 1)
 next_at p Swapping = ops.GiveBox p.number (p.epoch + 1)
 next_at p Giving = ops.GiveBox p.number (p.epoch + 1)
+next_at p Leaving = ops.TakeBox p.number (p.epoch + 1)
+next_at p Retiring = ops.GiveBox p.number (p.epoch + 1)
+next_at p Parting = ops.GiveBox p.number (p.epoch + 1)
 next_at p (Finished work made) = own_word p
 
 -- what comes next

@@ -9,12 +9,12 @@ use Rattle.rec_model.specs.Operands as operands
 use Rattle.rec_log.specs.declared.contents.Contents.{Contents}
 use Rattle.rec_mutator.specs.declared.made.Made.{Made}
 use Rattle.rec_mutator.specs.declared.phase.Phase.{Phase}
-use Rattle.rec_mutator.specs.declared.phase.Phase.TheVariants.{Idle, Begun, Scanning, Scanned, Storing, Crossing, Swapping, Giving, Finished}
+use Rattle.rec_mutator.specs.declared.phase.Phase.TheVariants.{Idle, Begun, Scanning, Scanned, Storing, Crossing, Swapping, Giving, Leaving, Retiring, Parting, Finished}
 use Rattle.rec_mutator.specs.declared.work.Work.{Work}
 use Rattle.rec_mutator.specs.declared.work.Work.TheVariants as works
 
 -- the mutator's number and epoch, slots of the heap and fields of an object, its registers, its log, the slot with which a scan begins,
--- how far its work has come, and how many steps that took
+-- how far its work has come, how many steps that took, and whether it has left
 pub record Private : Type 0 where
   pub number : ℕ
   pub epoch : ℕ
@@ -25,6 +25,7 @@ pub record Private : Type 0 where
   pub from : ℕ
   pub phase : Phase
   pub steps : ℕ
+  pub left : Bool
 
 -- a machine as it is opened: register 0 names slot 0, all else is null or empty
 abbrev pub opened : (number epoch slots fields regs cap : ℕ) → Private
@@ -35,10 +36,11 @@ opened number epoch slots fields regs cap =
       slots = slots;
       fields = fields;
       registers = Some 0 ∷ replicate (regs - 1) None;
-      log = record { entries = []; snapshot = replicate regs None; capacity = cap };
+      log = record { entries = []; snapshot = replicate regs None; capacity = cap; last = false };
       from = 0;
       phase = Idle;
       steps = 0;
+      left = false;
     }
 
 -- what a register names
@@ -75,6 +77,9 @@ is_busy_at (Storing src f val slot) = true
 is_busy_at Crossing = true
 is_busy_at Swapping = true
 is_busy_at Giving = true
+is_busy_at Leaving = true
+is_busy_at Retiring = true
+is_busy_at Parting = true
 is_busy_at (Finished work made) = false
 
 -- whether a work was begun that isn't finished
@@ -91,6 +96,9 @@ work_at (Storing src f val slot) = Some (works.Command (commands.Put src f val))
 work_at Crossing = Some works.Poll
 work_at Swapping = Some works.Poll
 work_at Giving = Some works.Poll
+work_at Leaving = Some (works.Command commands.Leave)
+work_at Retiring = Some (works.Command commands.Leave)
+work_at Parting = Some (works.Command commands.Leave)
 work_at (Finished work made) = Some work
 
 -- the work that was begun last
@@ -116,11 +124,13 @@ IsValid p (works.Command cmd) = HasOperands p cmd
 IsValid p works.Poll = Unit {0}
 
 -- the most steps that a work takes: an allocation loads the freed word, probes each slot, and loads it again; a write looks at the
--- header of its object, and exchanges the field; a poll loads the epoch word, takes the own mailbox and gives it back
+-- header of its object, and exchanges the field; a poll loads the epoch word, takes the own mailbox and gives it back, and so does
+-- leaving, which loads the own crossing word
 abbrev pub limit_of : (slots : ℕ) → Work → ℕ
 limit_of slots (works.Command (commands.New reg label)) = slots + 2
 limit_of slots (works.Command (commands.Leaf reg label)) = slots + 2
 limit_of slots (works.Command (commands.Put src f val)) = 2
+limit_of slots (works.Command commands.Leave) = 3
 limit_of slots works.Poll = 3
 limit_of slots _ = 1
 
@@ -129,11 +139,16 @@ pub record IsScan (p : Private) (reg : ℕ) : Type 0 where
   pub register : reg < length p.registers
   pub room : length p.log.entries < p.log.capacity
 
--- a write that goes on has its operands, this object, and room in the log
+-- a stamp bears the own epoch
+abbrev pub HasStamp : Private → Type 0
+HasStamp p = p.epoch < 2 ^ 24
+
+-- a write that goes on has its operands, this object, room in the log, and a stamp
 pub record IsStore (p : Private) (src f val slot : ℕ) : Type 0 where
   pub operands : HasOperands p (commands.Put src f val)
   pub source : register p src ≡ Some slot
   pub room : length p.log.entries < p.log.capacity
+  pub stamp : HasStamp p
 
 -- there is an epoch after the own one
 abbrev pub HasNext : Private → Type 0
@@ -142,19 +157,24 @@ HasNext p = p.epoch + 1 < 2 ^ 24
 -- what holds in each phase
 abbrev pub IsAt : Private → Phase → Type 0
 IsAt p Idle = p.steps ≡ 0
-IsAt p (Begun work) = IsValid p work × (p.steps ≡ 0)
+IsAt p (Begun work) = IsValid p work × (p.steps ≡ 0) × HasStamp p
 IsAt p (Scanning reg label leaf before probed) = IsScan p reg × (probed < p.slots) × (p.steps ≡ probed + 1)
 IsAt p (Scanned reg label leaf before) = IsScan p reg × (p.steps ≡ p.slots + 1)
 IsAt p (Storing src f val slot) = IsStore p src f val slot × (p.steps ≡ 1)
 IsAt p Crossing = (p.steps ≡ 1) × HasNext p
 IsAt p Swapping = (p.steps ≡ 2) × HasNext p
 IsAt p Giving = (p.steps ≡ 2) × HasNext p
+IsAt p Leaving = (p.steps ≡ 1) × HasStamp p
+IsAt p Retiring = (p.steps ≡ 2) × HasStamp p
+IsAt p Parting = (p.steps ≡ 2) × HasStamp p
 IsAt p (Finished work made) = p.steps ≤ limit_of p.slots work
 
 -- what every machine keeps
 pub record IsMachine (p : Private) : Type 0 where
   pub number : p.number < 2 ^ 6
-  pub epoch : p.epoch < 2 ^ 24
+  -- a mutator that has left makes no stamp, and may be an epoch further
+  pub epoch : p.epoch ≤ 2 ^ 24
+  pub stamped : p.left ≡ false → HasStamp p
   pub first_slot : 0 < p.slots
   pub last_slot : p.slots < 2 ^ 16
   pub capacity : p.log.capacity ≤ 2 ^ 18

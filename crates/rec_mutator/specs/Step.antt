@@ -1,8 +1,8 @@
 -- The steps of a mutator, one rule for each that it may make: what must hold before, the operation, and what it leaves.
-use Rattle.std.specs.Prelude.{◌≡◌, ◌≢◌, ℕ, ◌+◌, ◌*◌, ◌%◌, ◌<◌, ◌^◌, Bool, true, false, Option, None, Some, List, [], ◌∷◌, ◌++◌, length, slice_set}
+use Rattle.std.specs.Prelude.{◌≡◌, ◌≢◌, ◌⊎◌, ℕ, ◌+◌, ◌*◌, ◌%◌, ◌<◌, ◌≤◌, ◌^◌, Bool, true, false, Option, None, Some, List, [], ◌∷◌, ◌++◌, length, slice_set}
 use Rattle.rec_word.specs.Header.{header_word, is_leaf, label_of, IsTakenHeader}
-use Rattle.rec_word.specs.Mailbox.{crossing_word}
-use Rattle.rec_word.specs.declared.mailbox.Mailbox.TheVariants.{Spare}
+use Rattle.rec_word.specs.Mailbox.{crossing_word, mailbox_of}
+use Rattle.rec_word.specs.declared.mailbox.Mailbox.TheVariants.{Retired, Spare, WithCollector}
 use Rattle.rec_word.specs.Place.{place_of}
 use Rattle.rec_word.specs.Word.{target_of}
 use Rattle.rec_word.specs.declared.op.Op.{Op}
@@ -16,10 +16,10 @@ use Rattle.rec_log.specs.declared.contents.Contents.{Contents}
 use Rattle.rec_log.specs.declared.entry.Entry.{Entry}
 use Rattle.rec_log.specs.declared.entry.Entry.TheVariants as entries
 use Rattle.rec_mutator.specs.Private.{Private, register, word_for, probe_of}
-use Rattle.rec_mutator.specs.Took.{moved, answered, IsRequested}
+use Rattle.rec_mutator.specs.Took.{moved, answered, nulls_of, IsRequested}
 use Rattle.rec_mutator.specs.declared.made.Made.TheVariants as makes
 use Rattle.rec_mutator.specs.declared.phase.Phase.{Phase}
-use Rattle.rec_mutator.specs.declared.phase.Phase.TheVariants.{Begun, Scanning, Scanned, Storing, Crossing, Giving, Finished}
+use Rattle.rec_mutator.specs.declared.phase.Phase.TheVariants.{Begun, Scanning, Scanned, Storing, Crossing, Giving, Leaving, Parting, Finished}
 use Rattle.rec_mutator.specs.declared.work.Work.TheVariants as works
 
 -- The command is decided. In this phase the operation is this one, and the step leaves these registers and log entries and
@@ -39,6 +39,18 @@ pub record GoesOn (p : Private) (op : Op) (q : Private) (at : Phase) (its_op : O
   pub operation : op ≡ its_op
   pub after : q ≡ moved p next_phase
 
+-- A mutator that leaves holds its mailbox: every register is null, and this buffer is its log; all else stays.
+pub record LetsGo (p : Private) (op : Op) (q : Private) (log : Contents) : Type 0 where
+  pub phase : p.phase ≡ Leaving
+  pub operation : op ≡ ops.TakeBox p.number (p.epoch + 1)
+  pub after : q ≡ moved (record p { registers = nulls_of p; log = log }) Parting
+
+-- A mutator that leaves gave its mailbox back, and has left: it is in the next epoch; all else stays.
+pub record HasLeft (p : Private) (op : Op) (q : Private) : Type 0 where
+  pub phase : p.phase ≡ Parting
+  pub operation : op ≡ ops.GiveBox p.number (p.epoch + 1)
+  pub after : q ≡ answered (record p { epoch = p.epoch + 1; left = true }) commands.Leave (plain answers.Done)
+
 -- A crossing goes on: the mutator is in this epoch, with this buffer as its log; all else stays.
 pub record Crosses (p : Private) (op : Op) (q : Private) (at : Phase) (its_op : Op) (epoch : ℕ) (log : Contents) (next_phase : Phase) : Type 0 where
   pub phase : p.phase ≡ at
@@ -56,6 +68,10 @@ HasRoom p = length p.log.entries ≢ p.log.capacity
 -- the freed word was even and the same before and after a scan
 abbrev pub IsStill : (before after : ℕ) → Type 0
 IsStill before after = (before % 2 ≡ 0) × (before ≡ after)
+
+-- the own crossing word says that the log of the epoch before is still to be collected: it is in the mailbox, or the collector has that
+abbrev pub IsUncollected : (crossing : ℕ) → Type 0
+IsUncollected crossing = (mailbox_of crossing ≡ Retired) ⊎ (mailbox_of crossing ≡ WithCollector)
 
 -- What a step may be. `word` is the word that the operation `op` finds, `box` what is in the own mailbox, `q` what the step
 -- leaves of `p`.
@@ -96,30 +112,42 @@ pub data Step (p : Private) (word : ℕ) (box : Contents) (op : Op) (q : Private
       → Decides p op q (allocation leaf reg label) (Scanned reg label leaf before) ops.LoadFreed p.registers p.log.entries (plain answers.Full) → Step p word box op q
   new_is_busy : (reg label : ℕ) (leaf : Bool) (before : ℕ) → (IsStill before word → ⊥)
       → Decides p op q (allocation leaf reg label) (Scanned reg label leaf before) ops.LoadFreed p.registers p.log.entries (plain (answers.Busy before word)) → Step p word box op q
+  leave_refused : IsUncollected word → DecidesAtOnce p op q commands.Leave (ops.LoadCross p.number) p.registers p.log.entries (plain answers.NotYet) → Step p word box op q
+  leave_begins : (IsUncollected word → ⊥) → GoesOn p op q (Begun (works.Command commands.Leave)) (ops.LoadCross p.number) Leaving → Step p word box op q
+  leave : LetsGo p op q box → Step p word box op q
+  leave_ends : HasLeft p op q → Step p word box op q
   poll_stays : word ≡ p.epoch → GoesOn p op q (Begun works.Poll) ops.LoadEpoch (Finished works.Poll (makes.Crossed None)) → Step p word box op q
   poll_crosses : word ≢ p.epoch → GoesOn p op q (Begun works.Poll) ops.LoadEpoch Crossing → Step p word box op q
   take_box : Crosses p op q Crossing (ops.TakeBox p.number (p.epoch + 1)) p.epoch box Giving → Step p word box op q
   give_box : Crosses p op q Giving (ops.GiveBox p.number (p.epoch + 1)) (p.epoch + 1) p.log (Finished works.Poll (makes.Crossed (Some (p.epoch + 1)))) → Step p word box op q
 
+-- the own mailbox is taken next
+abbrev pub TakesBox : Phase → Type 0
+TakesBox Crossing = Unit {0}
+TakesBox Leaving = Unit {0}
+TakesBox _ = ⊥
+
 -- What a step leaves in the own mailbox that held `box`: where it takes the mailbox, the log, with the registers written as its
--- snapshot; else what was there.
+-- snapshot, and of a mutator that leaves null ones and the mark; else what was there.
 pub data LeavesBox (p : Private) (box left : Contents) : Type 0 where
   retires : p.phase ≡ Crossing → left ≡ record p.log { snapshot = p.registers } → LeavesBox p box left
-  keeps : p.phase ≢ Crossing → left ≡ box → LeavesBox p box left
+  lets_go : p.phase ≡ Leaving → left ≡ record p.log { snapshot = nulls_of p; last = true } → LeavesBox p box left
+  keeps : (TakesBox p.phase → ⊥) → left ≡ box → LeavesBox p box left
 
 -- A whole step: what it leaves of the private record, and what in the own mailbox.
 pub record WholeStep (p : Private) (word : ℕ) (box : Contents) (op : Op) (q : Private) (left : Contents) : Type 0 where
   pub own : Step p word box op q
   pub mailbox : LeavesBox p box left
 
--- the operation names a word of a heap with so many slots and fields, and no epoch but one that a word can hold
+-- the operation names a word of a heap with so many slots and fields, and no epoch but one that a stamp can bear, or the one behind
+-- the last, into which a mutator may leave
 abbrev pub NamesWord : (slots fields : ℕ) → Op → Type 0
 NamesWord slots fields (ops.LoadField place) = place < slots * fields
 NamesWord slots fields (ops.SwapField place word) = place < slots * fields
 NamesWord slots fields (ops.LoadHeader slot) = slot < slots
 NamesWord slots fields (ops.ClaimHeader slot header) = (slot < slots) × (0 < header)
-NamesWord slots fields (ops.TakeBox t e) = e < 2 ^ 24
-NamesWord slots fields (ops.GiveBox t e) = e < 2 ^ 24
+NamesWord slots fields (ops.TakeBox t e) = e ≤ 2 ^ 24
+NamesWord slots fields (ops.GiveBox t e) = e ≤ 2 ^ 24
 NamesWord slots fields _ = Unit {0}
 
 -- every register is null or names a slot of the heap
@@ -131,4 +159,4 @@ NamesSlots p = (r slot : ℕ) → register p r ≡ Some slot → slot < p.slots
 pub record IsFitting (p : Private) (cell : Op → ℕ) : Type 0 where
   pub headers : (r slot : ℕ) → register p r ≡ Some slot → IsTakenHeader (cell (ops.LoadHeader slot))
   pub epoch : IsRequested p (cell ops.LoadEpoch)
-  pub home : p.phase ≡ Crossing → cell (ops.TakeBox p.number (p.epoch + 1)) ≡ crossing_word p.epoch Spare
+  pub home : TakesBox p.phase → cell (ops.TakeBox p.number (p.epoch + 1)) ≡ crossing_word p.epoch Spare

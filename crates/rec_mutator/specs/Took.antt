@@ -1,9 +1,10 @@
 -- What begins, and what is learnt: functions of the private record, of the word found, and of the buffer in the own mailbox.
-use Rattle.std.specs.Prelude.{◌≡◌, ◌⊎◌, ℕ, ◌+◌, ◌-◌, ◌%◌, ◌^◌, ◌<◌, ◌≤◌, ◌==◌, ◌&&◌, Bool, true, false, Option, None, Some, [], ◌∷◌, ◌++◌, if◌then◌else◌, length, replicate, slice_set}
+use Rattle.std.specs.Prelude.{◌≡◌, ◌⊎◌, ℕ, ◌+◌, ◌-◌, ◌%◌, ◌^◌, ◌<◌, ◌≤◌, ◌==◌, ◌&&◌, Bool, true, false, Option, None, Some, List, [], ◌∷◌, ◌++◌, if◌then◌else◌, length, replicate, slice_set}
 use Rattle.rec_word.specs.Header.{is_leaf, label_of, IsTakenHeader}
 use Rattle.rec_word.specs.Place.{place_of}
-use Rattle.rec_word.specs.Mailbox.{crossing_word}
-use Rattle.rec_word.specs.declared.mailbox.Mailbox.TheVariants.{Spare}
+use Rattle.rec_word.specs.Mailbox.{crossing_word, mailbox_of}
+use Rattle.rec_word.specs.declared.mailbox.Mailbox.{Mailbox}
+use Rattle.rec_word.specs.declared.mailbox.Mailbox.TheVariants.{Retired, Spare, WithCollector}
 use Rattle.rec_word.specs.Word.{target_of}
 use Rattle.rec_word.specs.declared.op.Op.{Op}
 use Rattle.rec_word.specs.declared.op.Op.TheVariants as ops
@@ -19,7 +20,7 @@ use Rattle.rec_log.specs.declared.entry.Entry.TheVariants as entries
 use Rattle.rec_mutator.specs.Private.{Private, register, is_full, word_for, probe_of}
 use Rattle.rec_mutator.specs.declared.made.Made.TheVariants as makes
 use Rattle.rec_mutator.specs.declared.phase.Phase.{Phase}
-use Rattle.rec_mutator.specs.declared.phase.Phase.TheVariants.{Idle, Begun, Scanning, Scanned, Storing, Crossing, Swapping, Giving, Finished}
+use Rattle.rec_mutator.specs.declared.phase.Phase.TheVariants.{Idle, Begun, Scanning, Scanned, Storing, Crossing, Swapping, Giving, Leaving, Retiring, Parting, Finished}
 use Rattle.rec_mutator.specs.declared.work.Work.{Work}
 use Rattle.rec_mutator.specs.declared.work.Work.TheVariants as works
 
@@ -73,6 +74,21 @@ label_by word (Some slot) = answers.Value (label_of word)
 abbrev pub new_by : Private → (word reg label : ℕ) → (leaf full : Bool) → Private
 new_by p word reg label leaf full = if full then answered p (allocation leaf reg label) (plain answers.LogFull) else moved p (Scanning reg label leaf word 0)
 
+-- the log of the epoch before is still to be collected: it is in the mailbox, or the collector has that
+abbrev pub is_uncollected_in : Mailbox → Bool
+is_uncollected_in Retired = true
+is_uncollected_in WithCollector = true
+is_uncollected_in _ = false
+
+-- the own crossing word says so
+abbrev pub is_uncollected : (crossing : ℕ) → Bool
+is_uncollected crossing = is_uncollected_in (mailbox_of crossing)
+
+-- a mutator leaves where its mailbox is home with a spare
+abbrev pub leaving_by : Private → (uncollected : Bool) → Private
+leaving_by p true = answered p commands.Leave (plain answers.NotYet)
+leaving_by p false = moved p Leaving
+
 -- the first step of a command
 abbrev pub first_by : Private → (word : ℕ) → Cmd → Private
 first_by p word (commands.New reg label) = new_by p word reg label false (is_full p)
@@ -83,6 +99,7 @@ first_by p word (commands.Get dst src f) = read_by p (commands.Get dst src f) ds
 first_by p word (commands.Put src f val) = written_by p src f val word (register p src) (is_full p)
 first_by p word (commands.Value reg) = answered p (commands.Value reg) (plain (label_by word (register p reg)))
 first_by p word (commands.Same a b) = answered p (commands.Same a b) (plain (yes_or_no (same (register p a) (register p b))))
+first_by p word commands.Leave = leaving_by p (is_uncollected word)
 
 -- a poll that finds its own epoch is done; else the mutator crosses
 abbrev pub polled : Private → (word : ℕ) → Private
@@ -110,17 +127,33 @@ none_free before after = if (before % 2 == 0) && (before == after) then answers.
 abbrev pub retired : Private → Contents
 retired p = record p.log { snapshot = p.registers }
 
+-- as many registers, all null
+abbrev pub nulls_of : Private → List (Option ℕ)
+nulls_of p = replicate (length p.registers) None
+
+-- the log as it is retired by a mutator that leaves: no register names anything, and no log follows
+abbrev pub last_of : Private → Contents
+last_of p = record p.log { snapshot = nulls_of p; last = true }
+
 -- a buffer for this mutator without entries, with a null snapshot
 abbrev pub spare : Private → Contents
-spare p = record { entries = []; snapshot = replicate (length p.registers) None; capacity = p.log.capacity }
+spare p = record { entries = []; snapshot = nulls_of p; capacity = p.log.capacity; last = false }
 
 -- the own mailbox was taken, and the log is retired
 abbrev pub retiring : Private → Private
 retiring p = moved (record p { log = retired p }) Swapping
 
+-- the own mailbox was taken by a mutator that leaves: every register is null, and the log is retired as its last one
+abbrev pub letting_go : Private → Private
+letting_go p = moved (record p { registers = nulls_of p; log = last_of p }) Retiring
+
 -- the own mailbox was given back, and the mutator is in the next epoch
 abbrev pub crossed : Private → Private
 crossed p = moved (record p { epoch = p.epoch + 1 }) (Finished works.Poll (makes.Crossed (Some (p.epoch + 1))))
+
+-- the own mailbox was given back, and the mutator has left
+abbrev pub parted : Private → Private
+parted p = answered (record p { epoch = p.epoch + 1; left = true }) commands.Leave (plain answers.Done)
 
 -- what is learnt, by phase
 unfoldable pub took_at : Private → (word : ℕ) → Phase → Private
@@ -132,6 +165,9 @@ took_at p word (Storing src f val slot) = stored p src f val slot word
 took_at p word Crossing = retiring p
 took_at p word Swapping = moved p Swapping
 took_at p word Giving = crossed p
+took_at p word Leaving = letting_go p
+took_at p word Retiring = moved p Retiring
+took_at p word Parting = parted p
 took_at p word (Finished work made) = moved p (Finished work made)
 
 -- what is learnt
@@ -141,6 +177,7 @@ took_of p word = took_at p word p.phase
 -- the buffer of the own mailbox becomes the log, and the log is left there
 unfoldable pub swapped_at : Private → Contents → Phase → Private
 swapped_at p buffer Swapping = record p { phase = Giving; log = buffer }
+swapped_at p buffer Retiring = record p { phase = Parting; log = buffer }
 swapped_at p buffer _ = p
 
 -- the buffer of the own mailbox is swapped
@@ -150,6 +187,7 @@ swapped_of p buffer = swapped_at p buffer p.phase
 -- what the own mailbox holds then, by phase: what was the log, where the buffer is swapped
 unfoldable pub left_at : Private → Contents → Phase → Contents
 left_at p buffer Swapping = p.log
+left_at p buffer Retiring = p.log
 left_at p buffer _ = buffer
 
 -- what the own mailbox holds then
@@ -178,11 +216,13 @@ skipped_to p count = skipped_at p count p.phase
 -- a mailbox is held, and its buffer is still to be swapped
 abbrev pub IsSwapping : Phase → Type 0
 IsSwapping Swapping = Unit {0}
+IsSwapping Retiring = Unit {0}
 IsSwapping _ = ⊥
 
 -- a phase between two steps: no mailbox waits to be swapped
 abbrev pub IsBetween : Phase → Type 0
 IsBetween Swapping = ⊥
+IsBetween Retiring = ⊥
 IsBetween _ = Unit {0}
 
 -- the epoch word of a heap in which this mutator stands: its own epoch, or the next one

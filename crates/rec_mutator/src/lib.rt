@@ -4,7 +4,8 @@
 //! words carries it out, and `took` learns what was found, until `answer` has the answer. The machine never sees the words.
 //! The rule that it keeps: what comes next and what is learnt are functions of the machine's private record and of the
 //! word found alone, and of the buffer in the own mailbox where a step takes it; and each work ends: an allocation after at
-//! most two steps more than there are slots, every other command after one, a poll after at most three.
+//! most two steps more than there are slots, a write after at most two, a poll and leaving after at most three, and every other
+//! command after one.
 //! The layer above may use that `next`, `took`, `swap_box` and `begin` are exactly `next_of`, `took_of`, `swapped_of` and
 //! `begun_of` of `specs/`, that `took` says why each refusal comes and where a poll ends, and the laws, which are the
 //! contracts of the functions in `laws`.

@@ -1,6 +1,6 @@
 ghost use Rattle.std.specs.Prelude.{◌≡◌, ◌⊎◌, ◌+◌, ◌^◌, ◌<◌, ◌≤◌, ◌↔◌, ◌∷◌, ◌++◌, [], true, false, length, slice_set, IfOk, IfSome, IsNone, IsTrue};
 ghost use Rattle.rec_word.specs.Place.{place_of};
-ghost use Rattle.rec_mutator.specs.Private.{Private, opened, register, is_full, word_for, probe_of, is_busy, work_of, answer_of, HasOperands, IsValid, limit_of, IsScan, IsStore, IsMachine, KeepsSizes};
+ghost use Rattle.rec_mutator.specs.Private.{Private, opened, register, is_full, word_for, probe_of, is_busy, work_of, answer_of, HasOperands, IsValid, limit_of, IsScan, IsStore, HasStamp, IsMachine, KeepsSizes};
 ghost use Rattle.rec_mutator.specs.Next.{next_of, begun_op, first_op, own_word, write_op};
 ghost use Rattle.rec_model.specs.Asking.{allocation, null_or_object, same, yes_or_no, plain};
 ghost use Rattle.rec_mutator.specs.Causes.{HasCause, PollHasCause};
@@ -8,13 +8,13 @@ ghost use Rattle.rec_mutator.specs.declared.made.Made.TheVariants as makes;
 ghost use Rattle.rec_mutator.specs.declared.work.Work.TheVariants as works;
 ghost use Rattle.rec_model.specs.declared.command.Cmd.{Cmd as Command};
 ghost use Rattle.rec_model.specs.declared.told.Told.{Told as Answered};
-ghost use Rattle.rec_mutator.specs.Took.{begun_of, begun_by, took_of, took_at, moved, answered, with_register, first_by, new_by, stored, polled, probed, none_free, skipped_to, spare, swapped_of, IsAhead, IsFound, IsRequested, IsSwapping, IsBetween};
+ghost use Rattle.rec_mutator.specs.Took.{begun_of, begun_by, took_of, took_at, moved, answered, with_register, first_by, new_by, stored, polled, probed, none_free, is_uncollected, leaving_by, skipped_to, spare, swapped_of, IsAhead, IsFound, IsRequested, IsSwapping, IsBetween};
 
 use crate::phase::Phase;
 use crate::{Made, Work};
 use rec_log::{Buffer, Entry, Frame};
 use rec_model::{Answer, Cmd, Told};
-use rec_word::{Header, Op, Stamp, pack, place, target};
+use rec_word::{Header, Mailbox, Op, Stamp, pack, place, target};
 use std::alloc::{AllocError as NoMemory, Global};
 use std::marker::Model;
 use std::mem;
@@ -32,6 +32,7 @@ pub struct Machine {
     from: u16,
     phase: Phase,
     steps: u32,
+    left: bool,
 }
 
 impl Model for Machine {
@@ -82,6 +83,7 @@ impl Machine {
             from: 0,
             phase: Phase::Idle,
             steps: 0,
+            left: false,
         })
     }
 
@@ -90,6 +92,7 @@ impl Machine {
     #[tactic(auto, unfolding(crate::specs::Took::begun_of))]
     pub fn begin(&mut self, work: Work, from: u16)
         requires idle { is_busy self.old ≡ false }
+        requires stays { self.old.left ≡ false }
         requires valid { IsValid self.old work }
         requires from { from < self.old.slots }
 
@@ -129,8 +132,11 @@ impl Machine {
                 slot,
                 ..
             } => Op::SwapField(self.place_of(slot, field), self.word_for(val)),
-            Phase::Crossing => Op::TakeBox(self.number, self.epoch + 1),
-            Phase::Swapping | Phase::Giving => Op::GiveBox(self.number, self.epoch + 1),
+            Phase::Crossing | Phase::Leaving => Op::TakeBox(self.number, self.epoch + 1),
+            Phase::Swapping | Phase::Giving | Phase::Retiring | Phase::Parting => Op::GiveBox(
+                self.number,
+                self.epoch + 1,
+            ),
             Phase::Idle | Phase::Finished { .. } => self.own_word(),
         }
     }
@@ -214,7 +220,10 @@ impl Machine {
         ensures work { work_of self.new ≡ work_of self.old }
         ensures kept { IsMachine self.new }
     {
-        self.phase = Phase::Giving;
+        self.phase = match self.phase {
+            Phase::Retiring => Phase::Parting,
+            _ => Phase::Giving,
+        };
         mem::replace(&mut self.log, buffer)
     }
 
@@ -239,11 +248,18 @@ impl Machine {
         }
     }
 
+    /// Whether the mutator has left: nothing more may be asked of it.
+    pub fn has_left(&self) -> bool
+        ensures { result ≡ self.now.left }
+    {
+        self.left
+    }
+
     /// Whether the own mailbox is held and its buffer waits to be swapped: then `swap_box` comes next.
     pub fn is_swapping(&self) -> bool
         ensures { IsTrue result ↔ IsSwapping self.now.phase }
     {
-        matches!(self.phase, Phase::Swapping)
+        matches!(self.phase, Phase::Swapping | Phase::Retiring)
     }
 
     /// What register `r` names.
@@ -324,7 +340,7 @@ impl Machine {
                     Op::LoadFreed
                 }
             }
-            Cmd::Null { .. } | Cmd::Copy { .. } | Cmd::Same { .. } => self.own_word(),
+            Cmd::Null { .. } | Cmd::Copy { .. } | Cmd::Same { .. } | Cmd::Leave => self.own_word(),
             Cmd::Get { src, field, .. } => match self.frame.read(src) {
                 Some(slot) => Op::LoadField(self.place_of(slot, field)),
                 None => self.own_word(),
@@ -391,7 +407,9 @@ impl Machine {
             } => self.took_store(src, field, val, slot, word),
             Phase::Crossing => self.took_box(),
             Phase::Giving => self.gave_box(),
-            Phase::Idle | Phase::Swapping | Phase::Finished { .. } => {}
+            Phase::Leaving => self.let_go(),
+            Phase::Parting => self.parted(),
+            Phase::Idle | Phase::Swapping | Phase::Retiring | Phase::Finished { .. } => {}
         }
     }
 
@@ -400,6 +418,7 @@ impl Machine {
     fn took_begun(&mut self, work: Work, word: u64)
         requires valid { IsValid self.old work }
         requires first { self.old.steps ≡ 0 }
+        requires stamp { HasStamp self.old }
         requires found { IsFound self.old (begun_op self.old work) word }
 
         ensures took { self.new ≡ begun_by self.old word work }
@@ -416,6 +435,7 @@ impl Machine {
     fn took_first(&mut self, cmd: Cmd, word: u64)
         requires valid { HasOperands self.old cmd }
         requires first { self.old.steps ≡ 0 }
+        requires stamp { HasStamp self.old }
         requires found { IsFound self.old (first_op self.old cmd) word }
 
         ensures took { self.new ≡ first_by self.old word cmd }
@@ -430,6 +450,7 @@ impl Machine {
             Cmd::Put { src, field, val } => self.took_put(src, field, val, word),
             Cmd::Value { reg } => self.took_value(reg, word),
             Cmd::Same { a, b } => self.took_same(a, b),
+            Cmd::Leave => self.took_leave(word),
         }
     }
 
@@ -511,6 +532,7 @@ impl Machine {
     fn took_put(&mut self, src: u8, field: u8, val: u8, word: u64)
         requires valid { HasOperands self.old (Cmd.Put src field val) }
         requires first { self.old.steps ≡ 0 }
+        requires stamp { HasStamp self.old }
         requires found { IsFound self.old (first_op self.old (Cmd.Put src field val)) word }
 
         ensures took { self.new ≡ first_by self.old word (Cmd.Put src field val) }
@@ -593,6 +615,22 @@ impl Machine {
     {
         let answer = yes_or_no(self.frame.read(a), self.frame.read(b));
         self.phase = answered(Cmd::Same { a, b }, only(answer));
+        self.steps += 1;
+    }
+
+    // The own crossing word tells whether the mutator may leave.
+    fn took_leave(&mut self, word: u64)
+        requires first { self.old.steps ≡ 0 }
+        requires stamp { HasStamp self.old }
+
+        ensures took { self.new ≡ leaving_by self.old (is_uncollected word) }
+        ensures kept { IsMachine self.new }
+    {
+        self.phase = if is_uncollected(word) {
+            answered(Cmd::Leave, only(Answer::NotYet))
+        } else {
+            Phase::Leaving
+        };
         self.steps += 1;
     }
 
@@ -699,6 +737,34 @@ impl Machine {
         self.steps += 1;
     }
 
+    // The own mailbox of a mutator that leaves is held: its registers are let go, and its log is retired as the last one.
+    #[tactic(auto, unfolding(crate::specs::Took::took_at))]
+    fn let_go(&mut self)
+        requires phase { self.old.phase ≡ Phase.Leaving }
+
+        ensures took { self.new ≡ took_at self.old 0 Phase.Leaving }
+        ensures kept { IsMachine self.new }
+    {
+        self.frame.clear_all();
+        self.log.retire_last(&self.frame);
+        self.phase = Phase::Retiring;
+        self.steps += 1;
+    }
+
+    // The own mailbox of a mutator that leaves is home: it has left.
+    #[tactic(auto, unfolding(crate::specs::Took::took_at))]
+    fn parted(&mut self)
+        requires phase { self.old.phase ≡ Phase.Parting }
+
+        ensures took { self.new ≡ took_at self.old 0 Phase.Parting }
+        ensures kept { IsMachine self.new }
+    {
+        self.epoch += 1;
+        self.left = true;
+        self.phase = answered(Cmd::Leave, only(Answer::Done));
+        self.steps += 1;
+    }
+
     fn is_full(&self) -> bool
         ensures { result ≡ is_full self.now }
     {
@@ -723,6 +789,7 @@ impl Machine {
     fn word_for(&self, r: u8) -> u64
         requires register { r < length self.now.registers }
         requires room { length self.now.log.entries < self.now.log.capacity }
+        requires stamp { HasStamp self.now }
 
         ensures { result ≡ word_for self.now r }
     {
@@ -733,6 +800,16 @@ impl Machine {
         };
         pack(self.frame.read(r), stamp)
     }
+}
+
+// Whether the crossing word says that the log of the epoch before is still to be collected.
+fn is_uncollected(crossing: u64) -> bool
+    ensures { result ≡ is_uncollected crossing }
+{
+    matches!(
+        Mailbox::of(crossing),
+        Mailbox::Retired | Mailbox::WithCollector
+    )
 }
 
 // The command that allocates: a leaf, or an object with fields.

@@ -37,6 +37,12 @@ pub enum Phase {
     Swapping,
     /// The own mailbox is held, with the retired log in it, and is given back next.
     Giving,
+    /// A mutator that leaves found its mailbox home with a spare. The mailbox is taken next.
+    Leaving,
+    /// The own mailbox of a mutator that leaves is held, and its buffer is still to be swapped for the log. It is a phase within a step.
+    Retiring,
+    /// The own mailbox of a mutator that leaves is held, with its last log in it, and is given back next.
+    Parting,
     /// The work is done, and this came of it.
     Finished {
         work: Work,

@@ -95,6 +95,10 @@ module _ (limits : Limits) (start : Moment) (events : List Event) (w : Core) (n 
         (subst (HasMet limits start events home n.next t p.from before) (last ∙ many ∙ sym same_slots) (probe_meets p.from before probed (probe_of p probed) (header_word leaf label) word op (ap (λ n. slot_behind n p.from probed) (many ∙ sym same_slots)) g.operation found taken (subst (MeetsAt p.from) g.phase has)))
     meets_step (Step.new_is_full reg label leaf before still d) = decided d
     meets_step (Step.new_is_busy reg label leaf before moves d) = decided d
+    meets_step (Step.leave_refused uncollected d) = subst (λ (x : Private). Meets limits start events home n.next t x.from x.phase) (sym d.after) tt
+    meets_step (Step.leave_begins collected g) = subst (λ (x : Private). Meets limits start events home n.next t x.from x.phase) (sym g.after) tt
+    meets_step (Step.leave l) = subst (λ (x : Private). Meets limits start events home n.next t x.from x.phase) (sym l.after) tt
+    meets_step (Step.leave_ends l) = subst (λ (x : Private). Meets limits start events home n.next t x.from x.phase) (sym l.after) tt
     meets_step (Step.poll_stays own g) = subst (λ (x : Private). Meets limits start events home n.next t x.from x.phase) (sym g.after) tt
     meets_step (Step.poll_crosses other g) = subst (λ (x : Private). Meets limits start events home n.next t x.from x.phase) (sym g.after) tt
     meets_step (Step.take_box c) = subst (λ (x : Private). Meets limits start events home n.next t x.from x.phase) (sym c.after) tt

@@ -1,5 +1,5 @@
 -- How many commands of each mutator are made, and how many turns of its are to come.
-use Rattle.std.proofs.Common.{◌≡◌, ◌≢◌, inl, inr, ℕ, ◌+◌, ◌-◌, ◌<◌, ◌≤◌, ◌==◌, zero, suc, Some, List, [], ◌∷◌, ◌++◌, if◌then◌else◌, slice_index_or, slice_set, length, replicate, false, refl, sym, ap, subst, ◌∙◌, arith}
+use Rattle.std.proofs.Common.{◌≡◌, inl, inr, ℕ, ◌+◌, ◌-◌, ◌<◌, ◌≤◌, ◌==◌, zero, suc, Some, List, [], ◌∷◌, ◌++◌, if◌then◌else◌, slice_index_or, slice_set, length, replicate, false, refl, sym, ap, subst, ◌∙◌, arith}
 use Rattle.std.specs.List.{slice_get}
 use Rattle.std.proofs.lemmas.Bool.{cases_eq, cases_lt, eq-eqb, ne_eqb}
 use Rattle.std.proofs.lemmas.List.{length-map, length-set, get_or-map, get_or-replicate, get_or-set_same, get_or-set_other, get_or_past}
@@ -8,11 +8,9 @@ use Rattle.std.proofs.lemmas.Option.{slice_get_within}
 use Rattle.rec_model.specs.declared.command.Cmd.{Cmd}
 use Rattle.rec_model.specs.Numbering.{times}
 use Rattle.rec_model.proofs.Counted.{times-cons}
-use Rattle.rec_mutator.specs.Private.{is_busy}
 use Rattle.rec_core.specs.Config.{IsMutator}
-use Rattle.rec_core.specs.Core.{Core, mutator}
+use Rattle.rec_core.specs.Core.{Core}
 use Rattle.rec_core.specs.declared.config.Config.{Config}
-use Rattle.rec_order.specs.Legal.{AreIdle}
 use Rattle.rec_script.specs.Script.{ScriptContents, IsScript}
 use Rattle.rec_play.specs.declared.actor.Actor.{Actor}
 use Rattle.rec_play.specs.declared.actor.Actor.TheVariants.{Mutator, Collector}
@@ -30,16 +28,6 @@ few_mutators script is = is.most_mutators
 -- a mutator of the heap is one of the script
 pub is_of_script : (script : ScriptContents) (w : Core) (t : ℕ) → w.config ≡ config_of script → IsMutator w.config t → (1 ≤ t) × (t ≤ length script.commands)
 is_of_script script w t config is = subst (λ (c : Config). IsMutator c t) config is
-
--- all are idle where the others' records stay
-pub others_idle : (before after : Core) (t : ℕ) → after.config ≡ before.config → ((s : ℕ) → s ≢ t → 1 ≤ s → mutator after s ≡ mutator before s)
-    → is_busy (mutator after t) ≡ false → AreIdle before → AreIdle after
-others_idle before after t config stay idle all s there =
-    let was : IsMutator before.config s = subst (λ c. IsMutator c s) config there in
-    elim (cases_eq s t) [
-      | inl is ↦ subst (λ n. is_busy (mutator after n) ≡ false) (sym is) idle
-      | inr other ↦ ap is_busy (stay s other was.0) ∙ all s was
-    ]
 
 -- a mutator's commands, by its index
 pub commands_are : (script : ScriptContents) (t : ℕ) → 0 < t → commands_of script t ≡ slice_index_or script.commands (t - 1) []

@@ -9,6 +9,7 @@ use Rattle.std.proofs.lemmas.Option.{get_or_from_slice_get, slice_get_within}
 use Rattle.rec_word.specs.declared.op.Op.{Op}
 use Rattle.rec_word.specs.declared.op.Op.TheVariants as ops
 use Rattle.rec_model.specs.declared.command.Cmd.{Cmd}
+use Rattle.rec_model.specs.declared.command.Cmd.TheVariants.{Leave}
 use Rattle.rec_model.specs.declared.told.Told.{Told}
 use Rattle.rec_model.specs.LegalOrder.{actor, actors, Line, Event, line_by}
 use Rattle.rec_model.specs.LegalOrder.Event.{Answers, Frees, Marks}
@@ -90,6 +91,7 @@ runs_kept script w events n is run = run_kept (opened (config_of script)) run.mo
 
 -- operands in range are those of a mutator
 operands : (script : ScriptContents) (p : Private) (cmd : Cmd) → length p.registers ≡ script.registers → p.fields ≡ script.fields → IsCommand script.registers script.fields cmd → HasOperands p cmd × HasLabel (works.Command cmd)
+operands script p Leave registers fields is = absurd is
 operands script p cmd registers fields is = (operands_same cmd (sym registers) (sym fields) is.0, is.1)
 
 -- a mutator's next command has operands in range

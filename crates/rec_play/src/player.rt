@@ -153,6 +153,7 @@ fn turn_collector(
     made: &[usize; MOST_MUTATORS],
     world: &mut World,
 ) -> (Turn, Option<(Op, u64)>)
+    requires few { length script.now.commands ≤ 8 }
     requires config { world.old.config ≡ config_of script.now }
     requires idle { AreIdle world.old }
 

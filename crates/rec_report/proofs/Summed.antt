@@ -8,8 +8,8 @@ use Rattle.rec_world.specs.Numbering.{Numbered}
 use Rattle.rec_world.specs.World.{Core, sight}
 use Rattle.rec_report.specs.Summary.{answers_line, summary_lines}
 
--- the second line is made from ten numbers
-pub answers_line-same : (version : ℕ) (f g : ℕ → ℕ) → ((at : ℕ) → at < 10 → f at ≡ g at) → answers_line version f ≡ answers_line version g
+-- the second line is made from eleven numbers
+pub answers_line-same : (version : ℕ) (f g : ℕ → ℕ) → ((at : ℕ) → at < 11 → f at ≡ g at) → answers_line version f ≡ answers_line version g
 answers_line-same version f g same =
     rw (
       same 0 (omega arith),
@@ -22,6 +22,7 @@ answers_line-same version f g same =
       same 7 (omega arith),
       same 8 (omega arith),
       same 9 (omega arith),
+      same 10 (omega arith),
     ) refl
 
 -- four lines one after the other

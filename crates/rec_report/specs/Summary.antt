@@ -29,7 +29,8 @@ place_of answers.NoObject = 6
 place_of answers.Full = 7
 place_of (answers.Busy before after) = 8
 place_of answers.NoField = 9
-place_of answers.LogFull = 10
+place_of answers.NotYet = 10
+place_of answers.LogFull = 11
 
 -- how many of a mutator's answers have this place
 abbrev pub own_answers : (place : ℕ) → List Line → ℕ
@@ -43,12 +44,17 @@ answers_at journals place = sum_by (own_answers place) journals
 abbrev pub no_field_words : (version count : ℕ) → List ℕ
 no_field_words version count = if nat_le 2 version then codes " nofield " ++ decimal count else []
 
+-- how many mutators couldn't leave yet, who in versions 1 and 2 never leave
+abbrev pub not_yet_words : (version count : ℕ) → List ℕ
+not_yet_words version count = if nat_le 3 version then codes " notyet " ++ decimal count else []
+
 -- how many answers there are of each kind, by their places, to a script of this version
 abbrev pub answers_line : (version : ℕ) → (ℕ → ℕ) → List ℕ
 answers_line version at =
     codes "done " ++ decimal (at 0) ++ codes " null " ++ decimal (at 1) ++ codes " object " ++ decimal (at 2)
     ++ codes " value " ++ decimal (at 3) ++ codes " yes " ++ decimal (at 4) ++ codes " no " ++ decimal (at 5)
-    ++ codes " none " ++ decimal (at 6) ++ codes " full " ++ decimal (at 7) ++ codes " busy " ++ decimal (at 8) ++ no_field_words version (at 9) ++ line_feed
+    ++ codes " none " ++ decimal (at 6) ++ codes " full " ++ decimal (at 7) ++ codes " busy " ++ decimal (at 8)
+    ++ no_field_words version (at 9) ++ not_yet_words version (at 10) ++ line_feed
 
 -- live objects, births with the opening one, refusals, and how many objects are live no more
 abbrev pub objects_line : (live made refused : ℕ) → List ℕ

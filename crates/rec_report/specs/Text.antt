@@ -21,6 +21,7 @@ answer_word answers.NoObject = codes "none"
 answer_word answers.Full = codes "full"
 answer_word (answers.Busy before after) = codes "busy " ++ decimal before ++ codes " " ++ decimal after
 answer_word answers.NoField = codes "nofield"
+answer_word answers.NotYet = codes "notyet"
 answer_word answers.LogFull = codes "logfull"
 
 -- the end of a line

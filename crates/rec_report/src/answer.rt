@@ -40,6 +40,7 @@ fn write_word(answer: Answer, buffer: &mut [u8; LONGEST]) -> usize
         Answer::Full => write_last(b" full\n", buffer),
         Answer::Busy { before, after } => write_busy(before, after, buffer),
         Answer::NoField => write_last(b" nofield\n", buffer),
+        Answer::NotYet => write_last(b" notyet\n", buffer),
         Answer::LogFull => write_last(b" logfull\n", buffer),
     }
 }

@@ -2,7 +2,7 @@
 
 ghost use Rattle.std.specs.Prelude.{◌≡◌, ◌-◌, ◌++◌, false, map, slice_index_or, IfOk, OnOk, string_bytes};
 ghost use Rattle.rec_word.specs.Word.{target_of};
-ghost use Rattle.rec_report.specs.Summary.{answers_line, collections_line, no_field_words, objects_line, sizes_line};
+ghost use Rattle.rec_report.specs.Summary.{answers_line, collections_line, no_field_words, not_yet_words, objects_line, sizes_line};
 ghost use Rattle.rec_report.specs.Text.{field_number, field_word, field_words, line_feed, live_line, row_head as head_of, row_line, totals_line};
 
 use crate::tally::PLACES;
@@ -61,19 +61,35 @@ pub(super) fn answers(
 ) -> Result<String, NoMemory>
     ensures { IfOk result (λ line. string_bytes line ≡ answers_line version (λ at. slice_index_or counts.now at 0)) }
 {
-    let [done, null, object, value, yes, no, none, full, busy, leaf] = *counts;
+    let [
+        done,
+        null,
+        object,
+        value,
+        yes,
+        no,
+        none,
+        full,
+        busy,
+        leaf,
+        early,
+    ] = *counts;
     let mut text = format!(in alloc; "done {done} null {null} object {object}")?;
     write!(text, " value {value} yes {yes} no {no}")?;
     write!(text, " none {none} full {full} busy {busy}")?;
-    end_answers(&mut text, version, leaf)?;
+    end_answers(&mut text, version, leaf, early)?;
     Ok(text)
 }
 
-/// Adds the end of that line: in version 2 it tells how many puts found a leaf.
-fn end_answers(text: &mut String, version: u32, no_field: u64) -> Result<(), NoMemory>
-    ensures { OnOk result (string_bytes text.new ≡ string_bytes text.old ++ (no_field_words version no_field ++ line_feed)) }
+/// Adds the end of that line: from version 2 on it tells how many puts found a leaf, and from version 3 on how many mutators
+/// couldn't leave yet.
+fn end_answers(text: &mut String, version: u32, no_field: u64, not_yet: u64) -> Result<(), NoMemory>
+    ensures { OnOk result (string_bytes text.new
+        ≡ string_bytes text.old ++ (no_field_words version no_field ++ not_yet_words version not_yet ++ line_feed)) }
 {
-    if version >= 2 {
+    if version >= 3 {
+        writeln!(text, " nofield {no_field} notyet {not_yet}")
+    } else if version >= 2 {
         writeln!(text, " nofield {no_field}")
     } else {
         text.push('\n')

@@ -10,13 +10,13 @@ use rec_model::{Answer, Cmd, Told};
 use rec_world::Journal;
 
 /// How many places answers have in a summary.
-pub(super) const PLACES: usize = 10;
+pub(super) const PLACES: usize = 11;
 
 /// The place of an answer in a summary.
 fn place(answer: Answer) -> usize
     requires { answer ≢ LogFull }
     ensures place { result ≡ place_of answer }
-    ensures within { result < 10 }
+    ensures within { result < 11 }
 {
     match answer {
         Answer::Done => 0,
@@ -29,6 +29,7 @@ fn place(answer: Answer) -> usize
         Answer::Full => 7,
         Answer::Busy { .. } => 8,
         Answer::NoField => 9,
+        Answer::NotYet => 10,
         // The summary is asked for where no log was full.
         Answer::LogFull => unreachable!(),
     }
@@ -36,10 +37,10 @@ fn place(answer: Answer) -> usize
 
 // Counts the answers of one journal on.
 fn count_answers(counts: &mut [u64; PLACES], journal: &[(Cmd, Told)])
-    requires few { (at : ℕ) → at < 10 → slice_index_or counts.old at 0 ≤ 62 * 2 ^ 58 }
+    requires few { (at : ℕ) → at < 11 → slice_index_or counts.old at 0 ≤ 62 * 2 ^ 58 }
     requires room { All (λ line. line.1.answer ≢ LogFull) journal.now }
-    ensures counted { (at : ℕ) → at < 10 → slice_index_or counts.new at 0 ≡ slice_index_or counts.old at 0 + own_answers at journal.now }
-    ensures few { (at : ℕ) → at < 10 → slice_index_or counts.new at 0 ≤ slice_index_or counts.old at 0 + 2 ^ 58 }
+    ensures counted { (at : ℕ) → at < 11 → slice_index_or counts.new at 0 ≡ slice_index_or counts.old at 0 + own_answers at journal.now }
+    ensures few { (at : ℕ) → at < 11 → slice_index_or counts.new at 0 ≤ slice_index_or counts.old at 0 + 2 ^ 58 }
 {
     for line in journal {
         counts[place(line.1.answer)] += 1;
@@ -50,7 +51,7 @@ fn count_answers(counts: &mut [u64; PLACES], journal: &[(Cmd, Told)])
 pub(super) fn tally(journals: &[Journal]) -> [u64; PLACES]
     requires few { length journals.now ≤ 63 }
     requires room { NoLogFull (map (λ journal. journal.lines) journals.now) }
-    ensures { (at : ℕ) → at < 10 → slice_index_or result at 0 ≡ answers_at (map (λ journal. journal.lines) journals.now) at }
+    ensures { (at : ℕ) → at < 11 → slice_index_or result at 0 ≡ answers_at (map (λ journal. journal.lines) journals.now) at }
 {
     let mut counts = [0; PLACES];
     for journal in journals {

@@ -29,6 +29,7 @@ fn word_of(answer: Answer) -> &'static str {
         Answer::Full => "full",
         Answer::Busy { .. } => "busy",
         Answer::NoField => "nofield",
+        Answer::NotYet => "notyet",
         Answer::LogFull => "logfull",
     }
 }

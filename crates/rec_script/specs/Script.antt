@@ -6,7 +6,7 @@ use Rattle.std.specs.List.{flat_map}
 use Rattle.std.specs.Str.{IsUtf8}
 use Rattle.rec_model.specs.declared.command.Cmd.{Cmd}
 use Rattle.rec_model.specs.declared.limits.TheConstants.{MOST_SLOTS, MOST_FIELDS, MOST_REGISTERS, MOST_SCRIPT_MUTATORS, MOST_COMMANDS, MOST_BYTES}
-use Rattle.rec_model.specs.declared.command.Cmd.TheVariants.{New, Leaf, Null, Copy, Get, Put, Value, Same}
+use Rattle.rec_model.specs.declared.command.Cmd.TheVariants.{New, Leaf, Null, Copy, Get, Put, Value, Same, Leave}
 use Rattle.rec_model.specs.Operands.{HasOperands, HasLabel}
 use Rattle.rec_script.specs.declared.error.Kind.{Kind}
 use Rattle.rec_script.specs.declared.error.Kind.TheVariants.{TooLong, NotUtf8, NoHeader, BadHeap, NoMutator, BadCommand, TooManyMutators, TooManyCommands, BadNumber, Register, Field}
@@ -20,8 +20,9 @@ pub record ScriptContents : Type 0 where
   pub registers : ℕ
   pub commands : List (List Cmd)
 
--- the operands of a command are in range
+-- the operands of a command are in range; and none leaves yet
 abbrev pub IsCommand : (registers fields : ℕ) → Cmd → Type 0
+IsCommand registers fields Leave = ⊥
 IsCommand registers fields cmd = HasOperands registers fields cmd × HasLabel cmd
 
 -- the version that a command came with
@@ -34,6 +35,7 @@ since (Get dst src field) = 1
 since (Put src field val) = 1
 since (Value reg) = 1
 since (Same a b) = 1
+since Leave = 3
 
 -- a version has this command
 abbrev pub Allows : (version : ℕ) → Cmd → Type 0
@@ -89,6 +91,7 @@ word_of (Get dst src field) = codes "get"
 word_of (Put src field val) = codes "put"
 word_of (Value reg) = codes "value"
 word_of (Same a b) = codes "same"
+word_of Leave = codes "leave"
 
 -- the numbers behind it, from left to right
 abbrev pub operands_of : Cmd → List ℕ
@@ -100,6 +103,7 @@ operands_of (Get dst src field) = dst ∷ src ∷ field ∷ []
 operands_of (Put src field val) = src ∷ field ∷ val ∷ []
 operands_of (Value reg) = reg ∷ []
 operands_of (Same a b) = a ∷ b ∷ []
+operands_of Leave = []
 
 -- the line of a command
 abbrev pub command_line : Cmd → List (List ℕ)
@@ -141,6 +145,7 @@ limits_of registers fields (Get dst src field) = (registers, Register) ∷ (regi
 limits_of registers fields (Put src field val) = (registers, Register) ∷ (fields, Field) ∷ (registers, Register) ∷ []
 limits_of registers fields (Value reg) = (registers, Register) ∷ []
 limits_of registers fields (Same a b) = (registers, Register) ∷ (registers, Register) ∷ []
+limits_of registers fields Leave = []
 
 -- a word is a numeral of this number: one in its one spelling, and at most 4,294,967,295
 abbrev pub IsNumeralOf : List ℕ → ℕ → Type 0

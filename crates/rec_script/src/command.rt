@@ -6,7 +6,7 @@ ghost use Rattle.rec_model.specs.declared.command.Cmd.{Cmd};
 ghost use Rattle.rec_model.specs.declared.limits.TheConstants.{MOST_COMMANDS};
 ghost use Rattle.rec_script.specs.Lines.{words};
 ghost use Rattle.rec_script.specs.Operands.{AreMisread};
-ghost use Rattle.rec_script.specs.Script.{Allows, IsCommand, IsBadCommand, IsVersion, command_line, limits_of, operands_of, word_of};
+ghost use Rattle.rec_script.specs.Script.{Allows, IsCommand, IsBadCommand, IsVersion, command_line, limits_of, operands_of, since, word_of};
 
 use crate::error::Kind;
 use crate::operand::{Limit, is_name, one_operand, three_operands, two_operands};
@@ -54,7 +54,8 @@ fn named(version: u32, word: &[u8]) -> Option<Cmd>
     }
 }
 
-/// The command like this one with the operands that a line has behind its first word, in a mutator that has so many commands.
+/// The command like this one, of some version, with the operands that a line has behind its first word, in a mutator that has so many
+/// commands.
 fn with_operands(
     named: Cmd,
     registers: u32,
@@ -62,6 +63,7 @@ fn with_operands(
     count: usize,
     rest: &[u8],
 ) -> Result<Cmd, Kind>
+    requires known { since named ≤ 2 }
     requires few { count ≤ MOST_COMMANDS }
     requires registers { registers ≤ 64 }
     requires fields { fields ≤ 16 }
@@ -133,6 +135,7 @@ fn with_operands(
                 b: b as u8,
             }
         }
+        Cmd::Leave => unreachable!(),
     })
 }
 

@@ -114,6 +114,7 @@ fn push_command(text: &mut String, cmd: &Cmd) -> Result<(), NoMemory>
         Cmd::Put { src, field, val } => writeln!(text, "put {src} {field} {val}"),
         Cmd::Value { reg } => writeln!(text, "value {reg}"),
         Cmd::Same { a, b } => writeln!(text, "same {a} {b}"),
+        Cmd::Leave => writeln!(text, "leave"),
     }
 }
 

@@ -21,6 +21,7 @@ world_after w (m ∷ ms) world f = world_after (after_move w m) ms (moved_world 
 
 swaps_or_not : (phase : phases.Phase) → IsSwapping phase ⊎ (IsSwapping phase → ⊥)
 swaps_or_not at.Swapping = inl tt
+swaps_or_not at.Retiring = inl tt
 swaps_or_not _ = inr (λ x. x)
 
 -- a step learns of its mailbox only what is known before: it holds a spare

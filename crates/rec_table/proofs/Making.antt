@@ -8,9 +8,17 @@ use Rattle.rec_mutator.specs.Next.{next_of, next_at}
 use Rattle.rec_mutator.specs.Step.{NamesSlots}
 use Rattle.rec_mutator.specs.declared.phase.Phase as phases
 use Rattle.rec_mutator.specs.declared.phase.Phase.TheVariants as at
+use Rattle.rec_mutator.specs.Took.{parted, took_at}
+use Rattle.rec_mutator.specs.Private.{work_at}
 use Rattle.rec_mutator.specs.declared.work.Work.{Work}
-use Rattle.rec_mutator.proofs.Steps.{TakesNone, here_same, learnt_made, step_between, step_made}
-use Rattle.rec_mutator.proofs.Sizes.{took_keeps, step_keeps, step_counts}
+use Rattle.rec_mutator.specs.declared.work.Work.TheVariants as works
+use Rattle.rec_model.specs.Asking.{allocation}
+use Rattle.rec_model.specs.declared.command.Cmd.TheVariants as commands
+use Rattle.rec_core.specs.Config.{HasLabel}
+use Rattle.rec_core.specs.Kept.{HasLabelAt}
+use Rattle.rec_table.specs.Rule.{Remains, RemainsAt}
+use Rattle.rec_mutator.proofs.Steps.{TakesNone, here_same, step_between, step_made}
+use Rattle.rec_mutator.proofs.Sizes.{took_keeps, step_keeps, step_counts, step_left}
 use Rattle.rec_mutator.specs.Step.{Decides, GoesOn, Crosses, Step as MutatorStep}
 use Rattle.rec_model.specs.declared.command.Cmd.{Cmd}
 use Rattle.rec_model.specs.declared.told.Told.{Told}
@@ -38,40 +46,49 @@ not_give (ops.GiveBox t e) is give = is
 not_give _ is give = give
 
 -- the phase is told by the operation
-pub plain_phase : (p : Private) (op : Op) → op ≡ next_of p → IsBetween p.phase → IsPlainOp op → IsSettledIn p.phase
+pub plain_phase : (p : Private) (op : Op) → op ≡ next_of p → Remains p → IsPlainOp op → IsSettledIn p.phase
 unfolding next_of next_at
-plain_phase p op is between plain_op = by p.phase between (subst IsPlainOp is plain_op)
+plain_phase p op is remains plain_op = by p.phase remains.0 (subst IsPlainOp is plain_op)
   where
-    by : (phase : phases.Phase) → IsBetween phase → IsPlainOp (next_at p phase) → IsSettledIn phase
+    by : (phase : phases.Phase) → RemainsAt phase → IsPlainOp (next_at p phase) → IsSettledIn phase
     by at.Crossing b o = o
     by at.Swapping b o = b
     by at.Giving b o = o
+    by at.Leaving b o = b
+    by at.Retiring b o = b
+    by at.Parting b o = b
     by _ b o = tt
 
-pub crossing_phase : (p : Private) (op : Op) → op ≡ next_of p → IsBetween p.phase → IsTakeOp op → p.phase ≡ at.Crossing
+pub crossing_phase : (p : Private) (op : Op) → op ≡ next_of p → Remains p → IsTakeOp op → p.phase ≡ at.Crossing
 unfolding next_of next_at
-crossing_phase p op is between take = by p.phase refl between
+crossing_phase p op is remains take = by p.phase refl remains.0
   where
     no : IsSettledIn p.phase → ⊥
     no calm = not_take (next_of p) (plain_next p calm) (subst IsTakeOp is take)
 
-    by : (phase : phases.Phase) → p.phase ≡ phase → IsBetween phase → p.phase ≡ at.Crossing
+    by : (phase : phases.Phase) → p.phase ≡ phase → RemainsAt phase → p.phase ≡ at.Crossing
     by at.Crossing e b = e
     by at.Swapping e b = absurd b
     by at.Giving e b = absurd (subst IsTakeOp (is ∙ ap (next_at p) e) take)
+    by at.Leaving e b = absurd b
+    by at.Retiring e b = absurd b
+    by at.Parting e b = absurd b
     by _ e b = absurd (no (subst IsSettledIn (sym e) tt))
 
-pub giving_phase : (p : Private) (op : Op) → op ≡ next_of p → IsBetween p.phase → IsGiveOp op → p.phase ≡ at.Giving
+pub giving_phase : (p : Private) (op : Op) → op ≡ next_of p → Remains p → IsGiveOp op → p.phase ≡ at.Giving
 unfolding next_of next_at
-giving_phase p op is between give = by p.phase refl between
+giving_phase p op is remains give = by p.phase refl remains.0
   where
     no : IsSettledIn p.phase → ⊥
     no calm = not_give (next_of p) (plain_next p calm) (subst IsGiveOp is give)
 
-    by : (phase : phases.Phase) → p.phase ≡ phase → IsBetween phase → p.phase ≡ at.Giving
+    by : (phase : phases.Phase) → p.phase ≡ phase → RemainsAt phase → p.phase ≡ at.Giving
     by at.Crossing e b = absurd (subst IsGiveOp (is ∙ ap (next_at p) e) give)
     by at.Swapping e b = absurd b
     by at.Giving e b = e
+    by at.Leaving e b = absurd b
+    by at.Retiring e b = absurd b
+    by at.Parting e b = absurd b
     by _ e b = absurd (no (subst IsSettledIn (sym e) tt))
 
 plain_hands : (hand : Contents) (number : ℕ) (phase : phases.Phase) → IsSettledIn phase → hands_at hand number phase ≡ []
@@ -176,9 +193,11 @@ is_plain_load op (inr (inr (inr (inl (x, e))))) = subst IsPlainOp (sym e) tt
 is_plain_load op (inr (inr (inr (inr e)))) = subst IsPlainOp (sym e) tt
 
 -- What is learnt by a step that takes no mailbox.
-pub takes_none : (phase : phases.Phase) → IsBetween phase → (phase ≡ at.Crossing → ⊥) → TakesNone phase
+pub takes_none : (phase : phases.Phase) → RemainsAt phase → (phase ≡ at.Crossing → ⊥) → TakesNone phase
 takes_none at.Crossing b ne = absurd (ne refl)
 takes_none at.Swapping b ne = b
+takes_none at.Leaving b ne = b
+takes_none at.Retiring b ne = b
 takes_none _ b ne = tt
 
 none_taken : (p : Private) (word : ℕ) (phase : phases.Phase) → TakesNone phase → taken_by p word phase ≡ []
@@ -189,6 +208,10 @@ no_hands : (hand : Contents) (number : ℕ) (phase : phases.Phase) → (phase �
 no_hands hand number at.Giving ne = absurd (ne refl)
 no_hands hand number _ ne = refl
 
+parts : (p : Private) (word : ℕ) → p.phase ≡ at.Parting → took_of p word ≡ parted p
+unfolding took_of took_at
+parts p word is = ap (took_at p word) is
+
 never_gives : (p : Private) (word : ℕ) → is_busy p ≡ true → TakesNone p.phase → (took_of p word).phase ≡ at.Giving → ⊥
 never_gives p word busy none = by p.phase refl none
   where
@@ -198,15 +221,127 @@ never_gives p word busy none = by p.phase refl none
     by : (phase : phases.Phase) → p.phase ≡ phase → TakesNone phase → (took_of p word).phase ≡ at.Giving → ⊥
     by at.Crossing e n = absurd n
     by at.Swapping e n = absurd n
+    by at.Leaving e n = absurd n
+    by at.Retiring e n = absurd n
+    by at.Parting e n = λ giving. true≢false (ap is_giving (sym giving) ∙ ap (λ (q : Private). is_giving q.phase) (parts p word e))
     by at.Giving e n = λ giving. true≢false (ap is_giving (sym giving) ∙ ap (λ (q : Private). is_giving q.phase) (crosses p word e))
     by _ e n = plain_case (subst IsSettledIn (sym e) tt)
 
+-- between two steps no mailbox waits to be swapped
+pub remains_between : (phase : phases.Phase) → RemainsAt phase → IsBetween phase
+remains_between at.Swapping r = r
+remains_between at.Retiring r = r
+remains_between _ r = tt
+
+-- What each step counts and keeps.
+learnt_step : (p : Private) (word : ℕ) → is_busy p ≡ true → Remains p → MutatorStep p word (spare (took_of p word)) (next_of p) (learnt p (Saw word))
+learnt_step p word busy remains = step_made p word (spare (took_of p word)) busy (remains_between p.phase remains.0)
+
+pub learnt_counts : (p : Private) (word : ℕ) → is_busy p ≡ true → Remains p → (learnt p (Saw word)).steps ≡ p.steps + 1
+learnt_counts p word busy remains = step_counts (learnt_step p word busy remains)
+
+same_capacity : (p : Private) (word : ℕ) → is_busy p ≡ true → Remains p → (took_of p word).log.capacity ≡ p.log.capacity
+same_capacity p word busy remains = by p.phase refl remains.0
+  where
+    none : TakesNone p.phase → (took_of p word).log.capacity ≡ p.log.capacity
+    none n = (took_keeps p word busy n).0.capacity
+
+    by : (phase : phases.Phase) → p.phase ≡ phase → RemainsAt phase → (took_of p word).log.capacity ≡ p.log.capacity
+    by at.Crossing e b = ap (λ (q : Private). q.log.capacity) (learns_taken p word e)
+    by at.Swapping e b = absurd b
+    by at.Leaving e b = absurd b
+    by at.Retiring e b = absurd b
+    by _ e b = none (subst TakesNone (sym e) tt)
+
+pub learnt_keeps : (p : Private) (word : ℕ) → is_busy p ≡ true → Remains p → KeepsSizes p (learnt p (Saw word)) × (work_of (learnt p (Saw word)) ≡ work_of p)
+learnt_keeps p word busy remains = step_keeps (same_capacity p word busy remains) (learnt_step p word busy remains)
+
+-- a work that may begin isn't leaving
+begun_remains_at : (work : Work) → HasLabel work → RemainsAt (at.Begun work)
+begun_remains_at (works.Command commands.Leave) label = label
+begun_remains_at (works.Command (commands.New reg label)) _ = tt
+begun_remains_at (works.Command (commands.Leaf reg label)) _ = tt
+begun_remains_at (works.Command (commands.Null reg)) _ = tt
+begun_remains_at (works.Command (commands.Copy dst src)) _ = tt
+begun_remains_at (works.Command (commands.Get dst src f)) _ = tt
+begun_remains_at (works.Command (commands.Put src f val)) _ = tt
+begun_remains_at (works.Command (commands.Value reg)) _ = tt
+begun_remains_at (works.Command (commands.Same a b)) _ = tt
+begun_remains_at works.Poll _ = tt
+
+-- a mutator of a heap stays
+pub label_remains : (phase : phases.Phase) → HasLabelAt phase → IsBetween phase → RemainsAt phase
+label_remains at.Swapping label b = b
+label_remains at.Retiring label b = b
+label_remains at.Leaving label b = label
+label_remains at.Parting label b = label
+label_remains (at.Begun work) label b = begun_remains_at work label
+label_remains at.Idle label b = tt
+label_remains (at.Scanning reg l leaf before probed) label b = tt
+label_remains (at.Scanned reg l leaf before) label b = tt
+label_remains (at.Storing src f val slot) label b = tt
+label_remains at.Crossing label b = tt
+label_remains at.Giving label b = tt
+label_remains (at.Finished work made) label b = tt
+
+-- a mutator that stays has another work than to leave
+no_leave : (leaf : Bool) (reg label : ℕ) → ◌≡◌ {A = Option Work} (Some (works.Command (allocation leaf reg label))) (Some (works.Command commands.Leave)) → ⊥
+no_leave true reg label e = cc
+no_leave false reg label e = cc
+
+leaves_not : (phase : phases.Phase) → is_busy_at phase ≡ true → RemainsAt phase → work_at phase ≡ Some (works.Command commands.Leave) → ⊥
+leaves_not at.Idle busy r e = true≢false (sym busy)
+leaves_not (at.Begun work) busy r e = let is : work ≡ works.Command commands.Leave = cc in subst (λ w. RemainsAt (at.Begun w)) is r
+leaves_not (at.Scanning reg label leaf before probed) busy r e = no_leave leaf reg label e
+leaves_not (at.Scanned reg label leaf before) busy r e = no_leave leaf reg label e
+leaves_not (at.Storing src f val slot) busy r e = cc
+leaves_not at.Crossing busy r e = cc
+leaves_not at.Giving busy r e = cc
+leaves_not at.Swapping busy r e = r
+leaves_not at.Leaving busy r e = r
+leaves_not at.Retiring busy r e = r
+leaves_not at.Parting busy r e = r
+leaves_not (at.Finished work made) busy r e = true≢false (sym busy)
+
+-- so it stays
+pub learnt_remains : (p : Private) (word : ℕ) → is_busy p ≡ true → Remains p → Remains (learnt p (Saw word))
+learnt_remains p word busy remains = (
+  by (learnt p (Saw word)).phase refl (step_between (learnt_step p word busy remains)),
+  step_left (λ e. subst RemainsAt e remains.0) (learnt_step p word busy remains) ∙ remains.1,
+)
+  where
+    no : (phase : phases.Phase) → (learnt p (Saw word)).phase ≡ phase → work_at phase ≡ Some (works.Command commands.Leave) → ⊥
+    no phase e leaves = leaves_not p.phase busy remains.0 (sym (learnt_keeps p word busy remains).1 ∙ ap work_at e ∙ leaves)
+
+    by : (phase : phases.Phase) → (learnt p (Saw word)).phase ≡ phase → IsBetween phase → RemainsAt phase
+    by at.Swapping e b = b
+    by at.Retiring e b = b
+    by at.Leaving e b = no at.Leaving e refl
+    by at.Parting e b = no at.Parting e refl
+    by (at.Begun (works.Command commands.Leave)) e b = no (at.Begun (works.Command commands.Leave)) e refl
+    by (at.Begun (works.Command (commands.New reg label))) e b = tt
+    by (at.Begun (works.Command (commands.Leaf reg label))) e b = tt
+    by (at.Begun (works.Command (commands.Null reg))) e b = tt
+    by (at.Begun (works.Command (commands.Copy dst src))) e b = tt
+    by (at.Begun (works.Command (commands.Get dst src f))) e b = tt
+    by (at.Begun (works.Command (commands.Put src f val))) e b = tt
+    by (at.Begun (works.Command (commands.Value reg))) e b = tt
+    by (at.Begun (works.Command (commands.Same x y))) e b = tt
+    by (at.Begun works.Poll) e b = tt
+    by at.Idle e b = tt
+    by (at.Scanning reg label leaf before probed) e b = tt
+    by (at.Scanned reg label leaf before) e b = tt
+    by (at.Storing src f val slot) e b = tt
+    by at.Crossing e b = tt
+    by at.Giving e b = tt
+    by (at.Finished work made) e b = tt
+
 -- what the machine and the seat are then
-pub learns_word : (p q : Private) (t : Seated) (word : ℕ) (me : Me (Option Contents) View) → is_busy p ≡ true → TakesNone p.phase → q ≡ took_of p word → me.1 ≡ taken_by p word p.phase
-    → (q ≡ learnt p (Saw word)) × IsBetween q.phase × (me ≡ (me.0, hands t q))
-learns_word p q t word me busy none took out = (
+pub learns_word : (p q : Private) (t : Seated) (word : ℕ) (me : Me (Option Contents) View) → is_busy p ≡ true → Remains p → TakesNone p.phase → q ≡ took_of p word → me.1 ≡ taken_by p word p.phase
+    → (q ≡ learnt p (Saw word)) × Remains q × (me ≡ (me.0, hands t q))
+learns_word p q t word me busy remains none took out = (
   took ∙ sym (here_same p word (spare (took_of p word)) busy none),
-  subst (λ (x : Private). IsBetween x.phase) (sym took) (step_between (learnt_made p word (spare (took_of p word)) busy none)),
+  subst Remains (here_same p word (spare (took_of p word)) busy none ∙ sym took) (learnt_remains p word busy remains),
   λ k. (me.0, (out ∙ none_taken p word p.phase none ∙ sym (no_hands t.hand (took_of p word).number (took_of p word).phase (never_gives p word busy none)) ∙ ap (hands t) (sym took)) k),
 )
 
@@ -230,12 +365,12 @@ pub taken_home : (p : Private) (word : ℕ) → p.phase ≡ at.Crossing → take
 taken_home p word is = ap (taken_by p word) is
 
 abbrev pub Boxed : (p r : Private) (mailbox : Option Contents) (t : Seated) (word : ℕ) → Type 0
-Boxed p r mailbox t word = (r ≡ learnt p (Saw word)) × KeepsSizes p r × IsBetween r.phase × ((p.number - 1, mailbox) ∷ [] ≡ hands t r)
+Boxed p r mailbox t word = (r ≡ learnt p (Saw word)) × KeepsSizes p r × Remains r × ((p.number - 1, mailbox) ∷ [] ≡ hands t r)
 
 pub learns_box : (p q r : Private) (b : Contents) (mailbox : Option Contents) (t : Seated) (word : ℕ) → p.phase ≡ at.Crossing → q ≡ took_of p word → b ≡ spare (took_of p word) → r ≡ swapped_of q b → mailbox ≡ Some (left_of q b)
-    → t.hand ≡ hand_after t.hand (took_of p word).log p.phase → KeepsSizes p q
+    → t.hand ≡ hand_after t.hand (took_of p word).log p.phase → KeepsSizes p q → Remains p
     → Boxed p r mailbox t word
-learns_box p q r b mailbox t word crossing took is_b swapped left hand same =
+learns_box p q r b mailbox t word crossing took is_b swapped left hand same remains =
     let at_swap : q.phase ≡ at.Swapping = ap (λ (x : Private). x.phase) took ∙ swapping p word crossing in
     let r_is : r ≡ record q { phase = at.Giving; log = b } = swapped ∙ swapped_is q b at_swap in
     let hand_is : t.hand ≡ (took_of p word).log = hand ∙ ap (hand_after t.hand (took_of p word).log) crossing in
@@ -248,7 +383,7 @@ learns_box p q r b mailbox t word crossing took is_b swapped left hand same =
         registers = ap (λ (x : Private). length x.registers) r_is ∙ same.registers;
         capacity = ap (λ (x : Private). x.log.capacity) r_is ∙ ap (λ (x : Contents). x.capacity) is_b ∙ ap (λ (x : Private). x.log.capacity) (sym took) ∙ same.capacity;
       },
-      subst (λ (x : Private). IsBetween x.phase) (sym r_is) tt,
+      (subst (λ (x : Private). RemainsAt x.phase) (sym r_is) tt, ap (λ (x : Private). x.left) (r_is ∙ (λ k. record ((took ∙ learns_taken p word crossing) k) { phase = at.Giving; log = b })) ∙ remains.1),
       (λ k. (sym number k - 1, (left ∙ ap (λ x. Some x) (left_is q b at_swap ∙ ap (λ (x : Private). x.log) took ∙ sym hand_is)) k) ∷ [])
           ∙ (λ k. hands_at t.hand r.number (ap (λ (x : Private). x.phase) (sym r_is) k)),
     )
@@ -274,9 +409,9 @@ box_of : Op → ℕ
 box_of (ops.TakeBox t e) = t
 box_of _ = 0
 
-pub takes_own : (p : Private) (op : Op) (t e : ℕ) → op ≡ next_of p → IsBetween p.phase → op ≡ ops.TakeBox t e → t ≡ p.number
+pub takes_own : (p : Private) (op : Op) (t e : ℕ) → op ≡ next_of p → Remains p → op ≡ ops.TakeBox t e → t ≡ p.number
 unfolding box_of
-takes_own p op t e is between takes = ap box_of (sym takes ∙ is ∙ takes_op p (crossing_phase p op is between (subst IsTakeOp (sym takes) tt)))
+takes_own p op t e is remains takes = ap box_of (sym takes ∙ is ∙ takes_op p (crossing_phase p op is remains (subst IsTakeOp (sym takes) tt)))
 
 pub out_at : (p : Private) (word slot : ℕ) (l : List (ℕ × Option Contents)) → p.phase ≡ at.Crossing → slot ≡ p.number - 1 → l ≡ taken_by p word p.phase → l ≡ (slot, Some (spare (took_of p word))) ∷ []
 out_at p word slot l crossing is out = out ∙ taken_home p word crossing ∙ (λ k. (sym is k, Some (spare (took_of p word))) ∷ [])
@@ -298,13 +433,17 @@ ready_hands t p None may = refl
 ready_hands t p (Some start) may =
     no_hands t.hand p.number p.phase (λ e. true≢false (sym (ap is_busy_at e) ∙ may.0)) ∙ sym (no_hands t.hand (begun_of p start.work start.from).number (begun_of p start.work start.from).phase (λ e. not_giving_begun (begun_of p start.work start.from).phase e (begun_phase p start.work start.from)))
 
-begun_between : (p : Private) (work : Work) (from : ℕ) → IsBetween (begun_of p work from).phase
+begun_remains : (p : Private) (work : Work) (from : ℕ) → HasLabel work → RemainsAt (begun_of p work from).phase
 unfolding begun_of
-begun_between p work from = tt
+begun_remains p work from label = begun_remains_at work label
 
-pub ready_between : (p : Private) (wk : Option Start) → IsBetween p.phase → IsBetween (ready p wk).phase
-ready_between p None is = is
-ready_between p (Some start) is = begun_between p start.work start.from
+begun_left : (p : Private) (work : Work) (from : ℕ) → (begun_of p work from).left ≡ p.left
+unfolding begun_of
+begun_left p work from = refl
+
+pub ready_remains : (p : Private) (wk : Option Start) → MayGo p wk → Remains p → Remains (ready p wk)
+ready_remains p None may remains = remains
+ready_remains p (Some start) may remains = (begun_remains p start.work start.from may.2, begun_left p start.work start.from ∙ remains.1)
 
 hand_twice : (hand x : Contents) (phase : phases.Phase) → hand_after hand x phase ≡ hand_after (hand_after hand x phase) x phase
 hand_twice hand x at.Idle = refl
@@ -329,27 +468,6 @@ pub made_told : (o p q m : Private) (t : Seated) (wk : Option Start) (word : ℕ
     → me ≡ me_after t q wk word → me' ≡ (me.0, hands (seated_of me.0) m) → m ≡ told o (seated_of me'.0).log
 made_told o p q m t wk word me me' at is learns seat now =
     learns ∙ ap (λ x. learnt x (Saw word)) (is ∙ ap (λ x. ready x wk) at) ∙ sym (told_beats o t.log wk word) ∙ sym ((λ k. told o (seated_of (now k).0).log) ∙ (λ k. told o (seated_of (seat k).0).log))
-
--- What each step counts and keeps.
-learnt_step : (p : Private) (word : ℕ) → is_busy p ≡ true → IsBetween p.phase → MutatorStep p word (spare (took_of p word)) (next_of p) (learnt p (Saw word))
-learnt_step p word busy between = step_made p word (spare (took_of p word)) busy between
-
-pub learnt_counts : (p : Private) (word : ℕ) → is_busy p ≡ true → IsBetween p.phase → (learnt p (Saw word)).steps ≡ p.steps + 1
-learnt_counts p word busy between = step_counts (learnt_step p word busy between)
-
-same_capacity : (p : Private) (word : ℕ) → is_busy p ≡ true → IsBetween p.phase → (took_of p word).log.capacity ≡ p.log.capacity
-same_capacity p word busy between = by p.phase refl between
-  where
-    none : TakesNone p.phase → (took_of p word).log.capacity ≡ p.log.capacity
-    none n = (took_keeps p word busy n).0.capacity
-
-    by : (phase : phases.Phase) → p.phase ≡ phase → IsBetween phase → (took_of p word).log.capacity ≡ p.log.capacity
-    by at.Crossing e b = ap (λ (q : Private). q.log.capacity) (learns_taken p word e)
-    by at.Swapping e b = absurd b
-    by _ e b = none (subst TakesNone (sym e) tt)
-
-pub learnt_keeps : (p : Private) (word : ℕ) → is_busy p ≡ true → IsBetween p.phase → KeepsSizes p (learnt p (Saw word)) × (work_of (learnt p (Saw word)) ≡ work_of p)
-learnt_keeps p word busy between = step_keeps (same_capacity p word busy between) (learnt_step p word busy between)
 
 decided_told : {p : Private} {op : Op} {q : Private} {cmd : Cmd} {phase : phases.Phase} {its_op : Op} {registers : List (Option ℕ)} {entries : List Entry} {answer : Told}
     → Decides p op q cmd phase its_op registers entries answer → IsTold q.phase
@@ -382,13 +500,17 @@ step_told (MutatorStep.new_goes_on reg label leaf before slot taken more g) = go
 step_told (MutatorStep.new_finds_none reg label leaf before slot taken last g) = going_told tt g
 step_told (MutatorStep.new_is_full reg label leaf before still d) = decided_told d
 step_told (MutatorStep.new_is_busy reg label leaf before moves d) = decided_told d
+step_told (MutatorStep.leave_refused uncollected d) = decided_told d
+step_told (MutatorStep.leave_begins collected g) = going_told tt g
+step_told (MutatorStep.leave l) = subst (λ (x : Private). IsTold x.phase) (sym l.after) tt
+step_told (MutatorStep.leave_ends l) = subst (λ (x : Private). IsTold x.phase) (sym l.after) tt
 step_told (MutatorStep.poll_stays own g) = going_told tt g
 step_told (MutatorStep.poll_crosses other g) = going_told tt g
 step_told (MutatorStep.take_box c) = crossing_told tt c
 step_told (MutatorStep.give_box c) = crossing_told tt c
 
-pub learnt_told : (p : Private) (word : ℕ) → is_busy p ≡ true → IsBetween p.phase → IsTold (learnt p (Saw word)).phase
-learnt_told p word busy between = step_told (learnt_step p word busy between)
+pub learnt_told : (p : Private) (word : ℕ) → is_busy p ≡ true → Remains p → IsTold (learnt p (Saw word)).phase
+learnt_told p word busy remains = step_told (learnt_step p word busy remains)
 
 ready_busy : (p : Private) (wk : Option Start) → MayGo p wk → is_busy (ready p wk) ≡ true
 unfolding begun_of
@@ -407,11 +529,11 @@ pub record Counted (p : Private) (wk : Option Start) (word : ℕ) : Type 0 where
   pub same : KeepsSizes p (learnt (ready p wk) (Saw word))
   pub told : IsTold (learnt (ready p wk) (Saw word)).phase
 
-pub counted : (p : Private) (wk : Option Start) (word : ℕ) → MayGo p wk → IsBetween p.phase → Counted p wk word
-counted p wk word may between =
+pub counted : (p : Private) (wk : Option Start) (word : ℕ) → MayGo p wk → Remains p → Counted p wk word
+counted p wk word may remains =
     let q : Private = ready p wk in
     let busy : is_busy q ≡ true = ready_busy p wk may in
-    let b : IsBetween q.phase = ready_between p wk between in
+    let b : Remains q = ready_remains p wk may remains in
     let k = learnt_keeps q word busy b in
     let r = ready_keeps p wk in
     record {

@@ -25,6 +25,7 @@ use Rattle.rec_core.specs.Preconditions.{MayStep}
 use Rattle.rec_core.specs.declared.config.Config.{Config}
 use Rattle.rec_core.proofs.Crossings.{left_same}
 use Rattle.std.proofs.lemmas.List.{set-get_or}
+use Rattle.rec_mutator.specs.Took.{is_uncollected, leaving_by}
 use Rattle.rec_table.proofs.Common.{written, Op, Contents, Private, is_busy, is_full, register, probe_of, begun_of, took_of, took_at, read_by, allowed_by, written_by, answered, moved, born_in, spare, left_of, step_of, IsFound, IsMutator, Core, cells_of, mutator, nobody, box, IsKept, IsSettledIn, Move, AllFit, after_moves, found_by, stepped, begun_from, Cells, IsWithin, cell, with_cell, IsWorld, world_kept, moved_world, actor_of, in_list, fields_many, may_step, names_slots, beats_of, told, learnt, OffersNone, Offerless, Kind, Performed, Adds, Grows, Operates, moves_of, operation, performed, step_in, steps_in, row, index_of, Holds, ready, MayGo, beats, longer, MadeBy, Begins, Saw, Seated, View, Collects, Mutates, Spent, after_both, config_after, every_both, fit_both, over_both}
 use Rattle.rec_table.specs.Homes.{homes_of}
 use Rattle.rec_table.specs.Rule.{Fits}
@@ -131,6 +132,9 @@ plain_next p plain = by p.phase plain
     by at.Crossing is = absurd is
     by at.Swapping is = absurd is
     by at.Giving is = absurd is
+    by at.Leaving is = absurd is
+    by at.Retiring is = absurd is
+    by at.Parting is = absurd is
     by _ is = tt
 
 pub plain_crossing : (cells : Cells) (op : Op) → IsPlainOp op → (with_cell cells op (written op (cell cells op))).crossing ≡ cells.crossing
@@ -145,6 +149,8 @@ pub plain_takes_none : (phase : phases.Phase) → IsSettledIn phase → TakesNon
 plain_takes_none at.Crossing is = absurd is
 plain_takes_none at.Swapping is = absurd is
 plain_takes_none at.Giving is = absurd is
+plain_takes_none at.Leaving is = absurd is
+plain_takes_none at.Retiring is = absurd is
 plain_takes_none _ is = tt
 
 -- such a step leaves every mailbox where it is
@@ -377,6 +383,10 @@ not_giving p word phase plain = by phase plain
     wrote src f val (Some slot) true = refl
     wrote src f val (Some slot) false = allowed src f val slot (is_leaf word)
 
+    leaving : (b : Bool) → is_giving (leaving_by p b).phase ≡ false
+    leaving true = refl
+    leaving false = refl
+
     goes : (b : Bool) (x y : phases.Phase) → is_giving x ≡ false → is_giving y ≡ false → is_giving (cond b x y) ≡ false
     goes true x y a c = a
     goes false x y a c = c
@@ -393,6 +403,10 @@ not_giving p word phase plain = by phase plain
     by at.Crossing is = absurd is
     by at.Swapping is = absurd is
     by at.Giving is = absurd is
+    by at.Leaving is = absurd is
+    by at.Retiring is = absurd is
+    by at.Parting is = absurd is
+    by (at.Begun (works.Command commands.Leave)) is = leaving (is_uncollected word)
     by _ is = refl
 
 pub left_plain : (p : Private) (word : ℕ) → IsSettledIn p.phase → is_busy p ≡ true → (learnt p (Saw word)).phase ≡ at.Giving → ⊥

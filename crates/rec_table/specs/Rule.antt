@@ -6,6 +6,8 @@ use Rattle.atomic_table.specs.Table.{State, Me, Step, rest}
 use Rattle.rec_word.specs.declared.op.Op.{Op}
 use Rattle.rec_word.specs.declared.op.Op.TheVariants as ops
 use Rattle.rec_log.specs.declared.contents.Contents.{Contents}
+use Rattle.rec_model.specs.declared.command.Cmd.{Cmd}
+use Rattle.rec_model.specs.declared.command.Cmd.TheVariants as commands
 use Rattle.rec_mutator.specs.Next.{next_of}
 use Rattle.rec_mutator.specs.Private.{Private, is_busy, IsValid}
 use Rattle.rec_mutator.specs.Step.{NamesSlots}
@@ -13,7 +15,8 @@ use Rattle.rec_mutator.specs.Took.{begun_of, took_of, spare, IsFound}
 use Rattle.rec_mutator.specs.declared.phase.Phase as phases
 use Rattle.rec_mutator.specs.declared.phase.Phase.TheVariants as at
 use Rattle.rec_mutator.specs.declared.work.Work.{Work}
-use Rattle.rec_core.specs.Config.{HasLabel}
+use Rattle.rec_mutator.specs.declared.work.Work.TheVariants as works
+use Rattle.rec_core.specs.Config.{HasLabel, IsNoLeave}
 use Rattle.rec_core.specs.Core.{Core, cells_of, mutator, box}
 use Rattle.rec_collector.specs.Private as collectors
 use Rattle.rec_collector.specs.Given.{IsGiven, IsSized}
@@ -61,6 +64,22 @@ pub record Holds (key : Core) (s : State (Option Contents) View) : Type 0 where
 abbrev pub ready : Private → Option Start → Private
 ready p None = p
 ready p (Some start) = begun_of p start.work start.from
+
+-- between two steps of a mutator that stays, by phase: none leaves yet
+abbrev pub RemainsAt : phases.Phase → Type 0
+RemainsAt at.Swapping = ⊥
+RemainsAt at.Leaving = ⊥
+RemainsAt at.Retiring = ⊥
+RemainsAt at.Parting = ⊥
+RemainsAt (at.Begun (works.Command commands.Leave)) = ⊥
+RemainsAt _ = Unit {0}
+
+abbrev pub Remains : Private → Type 0
+Remains p = RemainsAt p.phase × (p.left ≡ false)
+
+-- a mutator may be asked this: the registers and the field are there; and none leaves yet
+abbrev pub MayAsk : Private → Cmd → Type 0
+MayAsk p cmd = IsValid p (works.Command cmd) × IsNoLeave (works.Command cmd)
 
 -- a work may begin where none is unfinished
 abbrev pub MayBegin : Private → Work → Type 0

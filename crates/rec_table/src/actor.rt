@@ -1,13 +1,13 @@
 //! A mutator on the table.
-ghost use Rattle.std.specs.Prelude.{◌≡◌, ◌<◌, ◌≤◌, ◌↔◌, [], ◌++◌, true, length, Option, IsTrue};
+ghost use Rattle.std.specs.Prelude.{◌≡◌, ◌<◌, ◌≤◌, ◌↔◌, [], ◌++◌, false, true, length, Option, IsTrue};
 ghost use Rattle.rec_mutator.specs.Next.{next_of};
 ghost use Rattle.rec_mutator.specs.Private.{is_busy, register, HasOperands, IsMachine, KeepsSizes};
 ghost use Rattle.rec_mutator.specs.Step.{NamesSlots};
-ghost use Rattle.rec_mutator.specs.Took.{IsFound, IsBetween, spare, took_of};
+ghost use Rattle.rec_mutator.specs.Took.{IsFound, spare, took_of};
 ghost use Rattle.rec_table.specs.Views.{mutator_view, mutator_now, IsOf};
 ghost use Rattle.rec_table.specs.Beats.{told, learnt};
 ghost use Rattle.rec_core.specs.Row.{index_of};
-ghost use Rattle.rec_table.specs.Rule.{ready, MayBegin, MayGo, beats, longer, seated_of, hands, me_after, taken_by, hand_after};
+ghost use Rattle.rec_table.specs.Rule.{ready, MayBegin, MayGo, Remains, beats, longer, seated_of, hands, me_after, taken_by, hand_after};
 ghost use Rattle.rec_table.specs.declared.views.Beat.TheVariants.{Saw};
 ghost use Rattle.rec_table.specs.declared.views.View.TheVariants.{Mutates};
 ghost use Rattle.rec_core.specs.Core.{mutator};
@@ -44,17 +44,16 @@ impl Model for Actor {
     ghost use Rattle.std.specs.Prelude.{◌≡◌, ◌%◌, ◌^◌, []};
     ghost use Rattle.rec_mutator.specs.Private.{KeepsSizes};
     ghost use Rattle.rec_mutator.specs.Step.{NamesSlots};
-    ghost use Rattle.rec_mutator.specs.Took.{IsBetween};
     ghost use Rattle.rec_table.specs.declared.views.View.TheVariants.{Mutates};
     ghost use Rattle.rec_table.specs.Beats.{told, births_told};
     ghost use Rattle.rec_table.specs.Views.{MutatorView, mutator_view};
-    ghost use Rattle.rec_table.specs.Rule.{seated_of, hands};
+    ghost use Rattle.rec_table.specs.Rule.{seated_of, hands, Remains};
 
     ghost Value = { MutatorView };
 
     ghost view = { λ m. mutator_view m.seat.table_id m.opened.value (seated_of m.seat.me.0) };
 
-    ghost invariant = { λ m. (m.seat.me ≡ (Mutates (seated_of m.seat.me.0), hands (seated_of m.seat.me.0) m.machine)) × (m.machine ≡ told m.opened.value (seated_of m.seat.me.0).log) × NamesSlots m.machine × KeepsSizes m.opened.value m.machine × IsBetween m.machine.phase × (m.births ≡ births_told m.opened.value (seated_of m.seat.me.0).log % 2 ^ 64) };
+    ghost invariant = { λ m. (m.seat.me ≡ (Mutates (seated_of m.seat.me.0), hands (seated_of m.seat.me.0) m.machine)) × (m.machine ≡ told m.opened.value (seated_of m.seat.me.0).log) × NamesSlots m.machine × KeepsSizes m.opened.value m.machine × Remains m.machine × (m.births ≡ births_told m.opened.value (seated_of m.seat.me.0).log % 2 ^ 64) };
 }
 
 // Makes the atomic operation of a step, and no more.
@@ -68,7 +67,7 @@ fn make<W: Doing>(
     requires seat { seat.old.me ≡ (Mutates (seated_of seat.old.me.0), hands (seated_of seat.old.me.0) (ready W.actor work)) }
     requires actor { W.actor ≡ told (mutator board.now.table.shared.key.value (seated_of seat.old.me.0).number) (seated_of seat.old.me.0).log }
     requires work { (W.work ≡ work) × MayGo W.actor work }
-    requires between { IsBetween (ready W.actor work).phase }
+    requires between { Remains (ready W.actor work) }
     requires op { op ≡ next_of (ready W.actor work) }
     requires there { index_of (length board.now.table.shared.key.value.words) (length board.now.table.shared.key.value.headers) op < board.now.table.shared.table_id.words }
     ensures seat { (seat.new.table_id ≡ seat.old.table_id) × (seat.new.id ≡ seat.old.id) }
@@ -110,7 +109,7 @@ fn learn(
 )
     requires table { seat.old.table_id ≡ board.now.table.shared.table_id }
     requires busy { is_busy machine.old ≡ true }
-    requires between { IsBetween machine.old.phase }
+    requires between { Remains machine.old }
     requires number { 1 ≤ machine.old.number }
     requires op { op ≡ next_of machine.old }
     requires found { IsFound machine.old op word }
@@ -119,7 +118,7 @@ fn learn(
     ensures seat { (seat.new.table_id ≡ seat.old.table_id) × (seat.new.id ≡ seat.old.id) }
     ensures machine { machine.new ≡ learnt machine.old (Saw word) }
     ensures same { KeepsSizes machine.old machine.new }
-    ensures between { IsBetween machine.new.phase }
+    ensures between { Remains machine.new }
     ensures me { seat.new.me ≡ (seat.old.me.0, hands (seated_of seat.old.me.0) machine.new) }
 {
     match op {
@@ -134,6 +133,7 @@ fn learn(
 
 fn prepare(machine: &mut Machine, work: Option<Start>)
     requires may { MayGo machine.old work }
+    requires stays { machine.old.left ≡ false }
     ensures ready { machine.new ≡ ready machine.old work }
     ensures busy { is_busy machine.new ≡ true }
     ensures same { KeepsSizes machine.old machine.new }
@@ -164,7 +164,7 @@ fn cursor_after(op: Op, cursor: u16) -> u16 {
 }
 
 impl Actor {
-    ghost use Rattle.std.specs.Prelude.{◌+◌, ◌%◌, ◌^◌, ◌≤◌, ℕ, false, Some, IfSome};
+    ghost use Rattle.std.specs.Prelude.{◌+◌, ◌%◌, ◌^◌, ◌≤◌, ℕ, Some, IfSome};
     ghost use Rattle.rec_table.specs.Beats.{births_told};
     ghost use Rattle.rec_mutator.specs.Private.{work_of, answer_of, limit_of};
     ghost use Rattle.rec_model.specs.declared.command.Cmd.{Cmd as Command};
@@ -184,7 +184,7 @@ impl Actor {
         cursor: u16,
     ) -> Actor
         requires seat { (seat.me ≡ (Mutates (seated_of seat.me.0), [])) × ((seated_of seat.me.0).log ≡ []) }
-        requires machine { (machine ≡ opened.value) × (is_busy machine ≡ false) × NamesSlots machine }
+        requires machine { (machine ≡ opened.value) × (is_busy machine ≡ false) × NamesSlots machine × Remains machine }
         ensures { result ≡ mutator_view seat.table_id opened.value (seated_of seat.me.0) }
     {
         Actor {

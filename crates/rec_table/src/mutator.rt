@@ -1,12 +1,13 @@
 //! A mutator of a running heap.
 ghost use Rattle.std.specs.Prelude.{◌≡◌, ◌<◌, ℕ, Some, false, length, IsTrue, ◌↔◌, [], ◌∷◌};
-ghost use Rattle.rec_mutator.specs.Private.{is_busy, answer_of, register, IsValid, KeepsSizes};
+ghost use Rattle.rec_mutator.specs.Private.{is_busy, answer_of, register, KeepsSizes};
 ghost use Rattle.rec_mutator.specs.declared.made.Made.TheVariants as makes;
 ghost use Rattle.rec_mutator.specs.declared.work.Work.TheVariants as works;
 ghost use Rattle.rec_table.specs.Answered.{IsAnswered, IsPolled};
+ghost use Rattle.rec_table.specs.Rule.{MayAsk};
 ghost use Rattle.rec_table.specs.Views.{mutator_now, IsMutatorOf, Works};
 ghost use Rattle.rec_table.specs.Journals.{Tells};
-ghost use Rattle.rec_core.specs.Config.{HasLabel};
+ghost use Rattle.rec_core.specs.Config.{HasLabel, IsNoLeave};
 
 use crate::actor::Actor;
 use crate::heap::Heap;
@@ -53,7 +54,7 @@ impl Mutator {
     /// Carries out a command, and tells the answer with the field words that it saw and left.
     pub fn command(&mut self, heap: &Heap, cmd: Cmd) -> Told
         requires own { IsMutatorOf heap.now self.old }
-        requires valid { IsValid (mutator_now self.old) (works.Command cmd) }
+        requires valid { MayAsk (mutator_now self.old) cmd }
 
         // Its list grows by the command and its steps, and what is told is the answer that the list makes up.
         ensures grows { Works (works.Command cmd) self.old.log self.new.log }
@@ -96,11 +97,12 @@ impl Mutator {
         }
     }
 
-    /// Whether it may ask this: the registers and the field are there.
+    /// Whether it may ask this: the registers and the field are there, and it stays.
     pub fn valid(&self, cmd: &Cmd) -> bool
-        ensures { IsTrue result ↔ IsValid (mutator_now self.now) (works.Command cmd.now) }
+        ensures { IsTrue result ↔ MayAsk (mutator_now self.now) cmd.now }
     {
-        self.actor.valid(cmd)
+        let stays = !matches!(cmd, Cmd::Leave);
+        stays && self.actor.valid(cmd)
     }
 
     /// What register `r` names.
@@ -129,6 +131,7 @@ impl Mutator {
 
 // The label of an allocation fits a header.
 fn see_label(work: Work)
+    requires { IsNoLeave work }
     ensures { HasLabel work }
 {
     if let Work::Command(Cmd::New { label, .. } | Cmd::Leaf { label, .. }) = work {

@@ -3,17 +3,20 @@ use Rattle.std.proofs.Common.{◌≡◌, ℕ, ◌-◌, ◌<◌, Some, List, [], 
 use Rattle.std.proofs.lemmas.List.{append-nil, append_cancel_left, length-append, map-append}
 use Rattle.std.proofs.lemmas.Grind.{flat_map-append}
 use Rattle.rec_model.specs.LegalOrder.{Line}
+use Rattle.rec_model.specs.Operands.{HasOperands}
 use Rattle.rec_model.specs.declared.command.Cmd.{Cmd}
+use Rattle.rec_model.specs.declared.command.Cmd.TheVariants as commands
 use Rattle.rec_model.specs.declared.told.Told.{Told}
 use Rattle.rec_model.proofs.Operands.{operands_same}
-use Rattle.rec_mutator.specs.Private.{HasOperands, KeepsSizes, Private}
+use Rattle.rec_mutator.specs.Private.{KeepsSizes, Private}
 use Rattle.rec_mutator.specs.declared.work.Work.{Work}
 use Rattle.rec_mutator.specs.declared.work.Work.TheVariants as works
+use Rattle.rec_core.specs.Config.{IsNoLeave}
 use Rattle.rec_script.specs.Script.{IsCommand}
 use Rattle.rec_table.specs.Beats.{told}
 use Rattle.rec_table.specs.Views.{MutatorView, Started, IsMutatorOf, Works, mutator_now}
 use Rattle.rec_table.specs.Journals.{Tells, journal}
-use Rattle.rec_table.specs.Rule.{beats}
+use Rattle.rec_table.specs.Rule.{MayAsk, beats}
 use Rattle.rec_table.specs.declared.views.Beat.{Beat}
 use Rattle.rec_table.specs.declared.views.Beat.TheVariants.{Saw}
 use Rattle.rec_table.proofs.Beats.{told_both}
@@ -105,9 +108,21 @@ commanded cmd told w v noted room some work is tells sizes = record {
 }
 
 -- who has its registers and fields may be asked the same
-pub operands_kept : (p q : Private) → KeepsSizes p q → (cmd : Cmd) → HasOperands p cmd → HasOperands q cmd
-operands_kept p q k cmd mutator_now = operands_same cmd (sym k.registers) (sym k.fields) mutator_now
+pub operands_kept : (p q : Private) → KeepsSizes p q → (cmd : Cmd) → MayAsk p cmd → MayAsk q cmd
+operands_kept p q k cmd may = (operands_same cmd (sym k.registers) (sym k.fields) may.0, may.1)
+
+-- a script's command has its operands, and is none that leaves
+command_operands : (registers fields : ℕ) (cmd : Cmd) → IsCommand registers fields cmd → HasOperands registers fields cmd × IsNoLeave (works.Command cmd)
+command_operands registers fields commands.Leave is = absurd is
+command_operands registers fields (commands.New reg label) is = (is.0, tt)
+command_operands registers fields (commands.Leaf reg label) is = (is.0, tt)
+command_operands registers fields (commands.Null reg) is = (is.0, tt)
+command_operands registers fields (commands.Copy dst src) is = (is.0, tt)
+command_operands registers fields (commands.Get dst src f) is = (is.0, tt)
+command_operands registers fields (commands.Put src f val) is = (is.0, tt)
+command_operands registers fields (commands.Value reg) is = (is.0, tt)
+command_operands registers fields (commands.Same a b) is = (is.0, tt)
 
 -- a script's commands may be asked of who has the script's registers and fields
-pub all_operands : (registers fields : ℕ) (p : Private) (cmds : List Cmd) → length p.registers ≡ registers → p.fields ≡ fields → All (IsCommand registers fields) cmds → All (HasOperands p) cmds
-all_operands registers fields p cmds r f all = λ k d lt. operands_same _ (sym r) (sym f) (all k d lt).0
+pub all_operands : (registers fields : ℕ) (p : Private) (cmds : List Cmd) → length p.registers ≡ registers → p.fields ≡ fields → All (IsCommand registers fields) cmds → All (MayAsk p) cmds
+all_operands registers fields p cmds r f all = λ k d lt. let is = command_operands registers fields _ (all k d lt) in (operands_same _ (sym r) (sym f) is.0, is.1)

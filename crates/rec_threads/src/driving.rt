@@ -3,7 +3,7 @@
 ghost use Rattle.std.specs.Prelude.{◌≡◌, ◌<◌, ◌≤◌, ◌∷◌, ◌++◌, [], All, length, IfErr, IfOk, MatchBool, vec_capacity, vec_len};
 ghost use Rattle.std.specs.Thread.{IsSync};
 ghost use Rattle.rec_model.specs.declared.limits.TheConstants.{MOST_COMMANDS, MOST_TURNS};
-ghost use Rattle.rec_mutator.specs.Private.{HasOperands};
+ghost use Rattle.rec_table.specs.Rule.{MayAsk};
 ghost use Rattle.rec_table.specs.Views.{mutator_now, AreMutatorsOf, IsCollectorOf, IsMutatorOf};
 ghost use Rattle.rec_threads.specs.Done.{AreReady, HasCollected, HasDone, HasEnded, HasWorked, HaveDone, IsCrewFor, IsSame};
 
@@ -120,7 +120,7 @@ fn hire<'s, 'e, R: Threads + Wait + Sync, G: Gate>(
         move || -> Report<'_>
             requires own { IsMutatorOf heap.now worker.mutator }
             requires room { length commands.now ≤ worker.journal.room }
-            requires valid { All (HasOperands (mutator_now worker.mutator)) commands.now }
+            requires valid { All (MayAsk (mutator_now worker.mutator)) commands.now }
             requires few { length commands.now ≤ MOST_COMMANDS }
             ensures orders { result.orders.of ≡ signals.entry.now.orders.id }
             ensures done { MatchBool result.orders.value (HasDone commands.entry.now worker result.worker) (result.worker ≡ worker) }

@@ -2,7 +2,7 @@
 
 ghost use Rattle.std.specs.Prelude.{◌≡◌, ◌≤◌, length, All, MatchBool};
 ghost use Rattle.rec_model.specs.declared.limits.TheConstants.{MOST_COMMANDS};
-ghost use Rattle.rec_mutator.specs.Private.{HasOperands};
+ghost use Rattle.rec_table.specs.Rule.{MayAsk};
 ghost use Rattle.rec_table.specs.Views.{mutator_now, IsMutatorOf};
 ghost use Rattle.rec_threads.specs.Done.{HasDone};
 
@@ -47,7 +47,7 @@ pub fn follow<'a, R: Wait, G: Gate>(
 ) -> Report<'a>
     requires own { IsMutatorOf heap.now worker.mutator }
     requires room { length commands.now ≤ worker.journal.room }
-    requires valid { All (HasOperands (mutator_now worker.mutator)) commands.now }
+    requires valid { All (MayAsk (mutator_now worker.mutator)) commands.now }
     requires few { length commands.now ≤ MOST_COMMANDS }
 
     ensures orders { result.orders.of ≡ signals.now.orders.id }

@@ -2,7 +2,7 @@
 
 ghost use Rattle.std.specs.Prelude.{◌<◌, ◌≤◌, ◌∷◌, [], length, replicate, All};
 ghost use Rattle.rec_model.specs.declared.limits.TheConstants.{MOST_COMMANDS, MOST_POLLS};
-ghost use Rattle.rec_mutator.specs.Private.{HasOperands};
+ghost use Rattle.rec_table.specs.Rule.{MayAsk};
 ghost use Rattle.rec_mutator.specs.declared.work.Work.TheVariants as works;
 ghost use Rattle.rec_table.specs.Views.{mutator_now, IsMutatorOf};
 ghost use Rattle.rec_threads.specs.Done.{HasMade, polled_before, turn};
@@ -28,7 +28,7 @@ impl Worker {
     pub fn carry_out<G: Gate>(&mut self, heap: &Heap, commands: &[Cmd], gate: &G)
         requires own { IsMutatorOf heap.now self.old.mutator }
         requires room { length commands.now ≤ self.old.journal.room }
-        requires valid { All (HasOperands (mutator_now self.old.mutator)) commands.now }
+        requires valid { All (MayAsk (mutator_now self.old.mutator)) commands.now }
         requires few { length commands.now ≤ MOST_COMMANDS }
 
         ensures { HasMade commands.now (polled_before commands.now) self.old self.new }
@@ -44,7 +44,7 @@ impl Worker {
     fn go_on(&mut self, heap: &Heap, cmd: Cmd)
         requires own { IsMutatorOf heap.now self.old.mutator }
         requires room { 0 < self.old.journal.room }
-        requires valid { HasOperands (mutator_now self.old.mutator) cmd }
+        requires valid { MayAsk (mutator_now self.old.mutator) cmd }
 
         ensures { HasMade (cmd ∷ []) (turn cmd) self.old self.new }
     {

@@ -15,7 +15,20 @@ pub enum Mailbox {
 }
 
 impl Mailbox {
-    ghost use Rattle.rec_word.specs.Mailbox.{mailbox_bits};
+    ghost use Rattle.rec_word.specs.Mailbox.{mailbox_bits, mailbox_of};
+
+    /// Where a crossing word says that the mailbox is.
+    #[inline(always)]
+    pub fn of(crossing: u64) -> Mailbox
+        ensures { result ≡ mailbox_of crossing }
+    {
+        match crossing % 4 {
+            0 => Mailbox::Spare,
+            1 => Mailbox::WithMutator,
+            2 => Mailbox::Retired,
+            _ => Mailbox::WithCollector,
+        }
+    }
 
     // The two bits of a crossing word that say so.
     #[inline(always)]

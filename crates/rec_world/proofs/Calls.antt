@@ -26,6 +26,7 @@ use Rattle.rec_core.specs.Kept.{IsKept, entries_made}
 use Rattle.rec_core.specs.Pending.{epoch_at}
 use Rattle.rec_core.specs.Unfinished.{HasFound}
 use Rattle.rec_core.specs.Worked.{StepsTo, IsWorked}
+use Rattle.rec_core.specs.Config.{IsNoLeave}
 use Rattle.rec_core.specs.declared.config.Config.{Config}
 use Rattle.rec_core.proofs.Opening.{opened_kept}
 use Rattle.rec_core.proofs.Runs.{looked_is, move_kept, end_kept, run_more, run_opened}
@@ -64,8 +65,13 @@ mutator_read w t i p shaped is at read =
 
 -- a work that fits the heap fits the mutator
 pub own_work : (w : Core) (t : ℕ) (work : Work) → IsKept w → IsMutator w.config t → IsWork w.config work → IsValid (mutator w t) work
-own_work w t (works.Command cmd) kept is fits = let own = (actor_of w t kept is).own in operands_same cmd (sym own.registers) (sym own.fields) fits
+own_work w t (works.Command cmd) kept is fits = let own = (actor_of w t kept is).own in operands_same cmd (sym own.registers) (sym own.fields) fits.0
 own_work w t works.Poll kept is fits = tt
+
+-- and is one of a mutator that stays
+pub work_stays : (config : Config) (work : Work) → IsWork config work → IsNoLeave work
+work_stays config (works.Command cmd) fits = fits.1
+work_stays config works.Poll fits = tt
 
 -- what the begin of a work leaves
 pub begun_is : (w : Core) (t i : ℕ) (work : Work) (p new : Private) → IsShaped w → IsMutator w.config t → i ≡ t → p ≡ slice_index_or w.mutators (i - 1) p → new ≡ begun_of p work 0
@@ -111,7 +117,7 @@ few_entries w t kept is =
     omega arith
   where
     small : (phase : phases.Phase) → (if is_giving phase then (mutator w t).epoch + 1 else (mutator w t).epoch) < 2 ^ 25
-    small phase = let own : (mutator w t).epoch < 2 ^ 24 = (actor_of w t kept is).own.machine.epoch in go (is_giving phase) own
+    small phase = let own : (mutator w t).epoch < 2 ^ 24 = (let own = (actor_of w t kept is).own in own.machine.stamped own.stays) in go (is_giving phase) own
       where
         go : (b : Bool) → (mutator w t).epoch < 2 ^ 24 → (if b then (mutator w t).epoch + 1 else (mutator w t).epoch) < 2 ^ 25
         go true own = omega arith

@@ -158,6 +158,7 @@ lacks_same p phase steps (commands.Get dst src f) = (λ x. x, λ x. x)
 lacks_same p phase steps (commands.Put src f val) = (λ x. x, λ x. x)
 lacks_same p phase steps (commands.Value reg) = (λ x. x, λ x. x)
 lacks_same p phase steps (commands.Same a b) = (λ x. x, λ x. x)
+lacks_same p phase steps commands.Leave = (λ x. x, λ x. x)
 
 enters_same : (p : Private) (phase : Phase) (steps : ℕ) (cmd : Cmd) → MakesEntry (record p { phase = phase; steps = steps }) cmd ↔ MakesEntry p cmd
 enters_same p phase steps (commands.New reg label) = (λ x. x, λ x. x)
@@ -168,6 +169,7 @@ enters_same p phase steps (commands.Get dst src f) = (λ x. x, λ x. x)
 enters_same p phase steps (commands.Put src f val) = (λ x. x, λ x. x)
 enters_same p phase steps (commands.Value reg) = (λ x. x, λ x. x)
 enters_same p phase steps (commands.Same a b) = (λ x. x, λ x. x)
+enters_same p phase steps commands.Leave = (λ x. x, λ x. x)
 
 -- What is said of a command that was told this: how it is explained, why it was refused, what it left, and that all else stays.
 pub record IsAnswered (w v : Core) (t : ℕ) (cmd : Cmd) (told : Told) : Type 0 where

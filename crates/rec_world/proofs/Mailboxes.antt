@@ -21,6 +21,7 @@ held_some None is = absurd (false≢true is)
 -- a phase in which no mailbox waits
 between_if : (phase : phases.Phase) → (IsSwapping phase → ⊥) → IsBetween phase
 between_if at.Swapping not = not tt
+between_if at.Retiring not = not tt
 between_if _ not = tt
 
 -- where the mutator holds its mailbox, its log is left there
@@ -30,6 +31,7 @@ left_log p b is = go p.phase is
   where
     go : (phase : phases.Phase) → IsSwapping phase → left_at p b phase ≡ p.log
     go at.Swapping is = refl
+    go at.Retiring is = refl
     go _ is = absurd is
 
 -- where it doesn't, both stay

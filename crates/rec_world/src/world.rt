@@ -8,7 +8,7 @@ ghost use Rattle.rec_mutator.specs.Private.{is_busy, answer_of, work_of};
 ghost use Rattle.rec_mutator.specs.declared.made.Made.TheVariants as makes;
 ghost use Rattle.rec_mutator.specs.declared.work.Work.TheVariants as works;
 ghost use Rattle.rec_collector.specs.declared.turn.Turn as turns;
-ghost use Rattle.rec_core.specs.Config.{IsConfig, IsMutator, IsValid, IsWork, HasLabel};
+ghost use Rattle.rec_core.specs.Config.{IsConfig, IsMutator, IsValid, IsWork, HasLabel, IsNoLeave};
 ghost use Rattle.rec_core.specs.Core.{Core, sight, mutator, opened, opened_mutator, opened_mutators};
 ghost use Rattle.rec_core.specs.Moves.{begun, stepped, offering, EndsRun};
 ghost use Rattle.rec_core.specs.Step.{IsStep};
@@ -121,11 +121,12 @@ impl World {
         }
     }
 
-    /// Whether mutator `t` may ask this: its number, the registers and the field are there.
+    /// Whether mutator `t` may ask this: its number, the registers and the field are there, and it stays.
     pub fn valid(&self, t: u8, cmd: &Cmd) -> bool
         ensures { IsTrue result ↔ IsValid self.now.config t cmd.now }
     {
-        (1..=self.config.mutators).contains(&u32::from(t)) && self.config.has_operands(cmd)
+        let stays = !matches!(cmd, Cmd::Leave);
+        stays && (1..=self.config.mutators).contains(&u32::from(t)) && self.config.has_operands(cmd)
     }
 
     /// Whether mutator `t` has begun a work that isn't finished.
@@ -625,6 +626,7 @@ fn open_machine(alloc: Global, config: &Config, number: u8) -> Result<Machine, N
 
 // The label of an allocation fits a header.
 fn see_label(work: Work)
+    requires { IsNoLeave work }
     ensures { HasLabel work }
 {
     if let Work::Command(Cmd::New { label, .. } | Cmd::Leaf { label, .. }) = work {

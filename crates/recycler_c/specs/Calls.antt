@@ -11,7 +11,8 @@ use Rattle.rec_model.specs.Heap.{Heap}
 use Rattle.rec_model.specs.Sight.{StandsBy}
 use Rattle.rec_model.specs.declared.command.Cmd.{Cmd}
 use Rattle.rec_model.specs.declared.told.Told.{Told}
-use Rattle.rec_mutator.specs.Private.{IsValid, answer_of}
+use Rattle.rec_mutator.specs.Private.{answer_of}
+use Rattle.rec_table.specs.Rule.{MayAsk}
 use Rattle.rec_mutator.specs.declared.made.Made.TheVariants as makes
 use Rattle.rec_mutator.specs.declared.work.Work.TheVariants as works
 use Rattle.rec_settle.specs.Collecting.{taken_slots}
@@ -235,7 +236,7 @@ pub record KeepsMutator (before after : Mutating) : Type 0 where
 pub record HasAsked (h : Option End) (cmd : Cmd) (h' : Option End) (told : Asked) : Type 0 where
   pub before : Mutating
   pub was : mutates_in h ≡ Some before
-  pub valid : IsValid (mutator_now before.mutator) (works.Command cmd)
+  pub valid : MayAsk (mutator_now before.mutator) cmd
   pub after : Mutating
   pub is : mutates_in h' ≡ Some after
   pub kept : KeepsMutator before after
@@ -250,7 +251,7 @@ pub record HasAsked (h : Option End) (cmd : Cmd) (h' : Option End) (told : Asked
 pub record LacksOperand (h : Option End) (asked : Option Cmd) : Type 0 where
   pub mutating : Mutating
   pub is : mutates_in h ≡ Some mutating
-  pub lacks : (cmd : Cmd) → asked ≡ Some cmd → IsValid (mutator_now mutating.mutator) (works.Command cmd) → ⊥
+  pub lacks : (cmd : Cmd) → asked ≡ Some cmd → MayAsk (mutator_now mutating.mutator) cmd → ⊥
 
 abbrev pub Asks : Option End → Option Cmd → Asked → Code → Option End → Asked → Type 0
 Asks h asked told codes.Ok h' told' = (cmd : Cmd) × (asked ≡ Some cmd) × HasAsked h cmd h' told'

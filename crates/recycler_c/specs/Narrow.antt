@@ -1,5 +1,5 @@
 -- Commands whose numbers fit a byte.
-use Rattle.std.specs.Prelude.{ℕ, Option, Some, None, Bool, ◌&&◌, nat_lt, if◌then◌else◌}
+use Rattle.std.specs.Prelude.{ℕ, Option, Some, None, Bool, true, ◌&&◌, nat_lt, if◌then◌else◌}
 use Rattle.rec_model.specs.declared.command.Cmd.{Cmd}
 use Rattle.rec_model.specs.declared.command.Cmd.TheVariants as commands
 
@@ -16,6 +16,7 @@ is_narrow (commands.Get dst src f) = byte dst && byte src && byte f
 is_narrow (commands.Put src f val) = byte src && byte f && byte val
 is_narrow (commands.Value reg) = byte reg
 is_narrow (commands.Same a b) = byte a && byte b
+is_narrow commands.Leave = true
 
 -- the command, where they do
 abbrev pub narrow : Cmd → Option Cmd

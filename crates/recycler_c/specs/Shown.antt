@@ -24,6 +24,7 @@ asked_of answers.Full = plain 7
 asked_of (answers.Busy before after) = record { answer = 8; label = 0; before = before; after = after }
 asked_of answers.LogFull = plain 9
 asked_of answers.NoField = plain 10
+asked_of answers.NotYet = plain 11
 
 -- what a turn came to
 abbrev pub turned_of : Turn → Turned

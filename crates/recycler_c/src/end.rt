@@ -89,13 +89,13 @@ pub struct Mutating {
 
 impl Mutating {
     ghost use Rattle.std.specs.Prelude.{◌↔◌, IsTrue};
-    ghost use Rattle.rec_mutator.specs.Private.{IsValid};
+    ghost use Rattle.rec_table.specs.Rule.{MayAsk};
     ghost use Rattle.rec_mutator.specs.declared.work.Work.TheVariants as works;
     ghost use Rattle.rec_table.specs.Views.{mutator_now};
 
     /// Whether its registers and the field are there.
     pub fn can_ask(&self, cmd: &Cmd) -> bool
-        ensures { IsTrue result ↔ IsValid (mutator_now self.now.mutator) (works.Command cmd.now) }
+        ensures { IsTrue result ↔ MayAsk (mutator_now self.now.mutator) cmd.now }
     {
         self.mutator.valid(cmd)
     }

@@ -108,6 +108,10 @@ pub fn show_answer(answer: Answer) -> Asked
             answer: 10,
             ..plain
         },
+        Answer::NotYet => Asked {
+            answer: 11,
+            ..plain
+        },
     }
 }
 

@@ -28,6 +28,7 @@ command_words (commands.Get dst src field) = codes "get " ++ decimal dst ++ code
 command_words (commands.Put src field val) = codes "put " ++ decimal src ++ codes " " ++ decimal field ++ codes " " ++ decimal val
 command_words (commands.Value reg) = codes "value " ++ decimal reg
 command_words (commands.Same a b) = codes "same " ++ decimal a ++ codes " " ++ decimal b
+command_words commands.Leave = codes "leave"
 
 -- an object, or null
 abbrev pub target_words : Option ℕ → List ℕ
@@ -69,6 +70,8 @@ abbrev pub outcome_words : (t : ℕ) → Cmd → Answer → (saw left : ℕ) →
 outcome_words t (commands.New reg label) answers.Done saw left s = birth_words (register_of s t reg)
 outcome_words t (commands.Leaf reg label) answers.Done saw left s = birth_words (register_of s t reg)
 outcome_words t (commands.Put src field val) answers.Done saw left s = put_words (register_of s t src) field (target_of saw) (target_of left)
+outcome_words t commands.Leave answers.Done saw left s = codes ", its registers are null now"
+outcome_words t commands.Leave answers.NotYet saw left s = codes ", its mailbox isn't back yet"
 outcome_words t cmd answers.Object saw left s = codes " " ++ target_words (target_of saw)
 outcome_words t cmd answer saw left s = []
 

@@ -32,6 +32,7 @@ pub fn command_text(alloc: Global, cmd: Cmd) -> Result<String, NoMemory>
         Cmd::Put { src, field, val } => format!(in alloc; "put {src} {field} {val}"),
         Cmd::Value { reg } => format!(in alloc; "value {reg}"),
         Cmd::Same { a, b } => format!(in alloc; "same {a} {b}"),
+        Cmd::Leave => format!(in alloc; "leave"),
     }
 }
 
@@ -50,6 +51,7 @@ pub fn answer_text(alloc: Global, answer: Answer) -> Result<String, NoMemory>
         Answer::Full => format!(in alloc; "full"),
         Answer::Busy { before, after } => format!(in alloc; "busy {before} {after}"),
         Answer::NoField => format!(in alloc; "nofield"),
+        Answer::NotYet => format!(in alloc; "notyet"),
         Answer::LogFull => format!(in alloc; "logfull"),
     }
 }
@@ -146,6 +148,8 @@ fn add_outcome(text: &mut String, t: u8, cmd: Cmd, told: Told, is: &State) -> Re
         (Cmd::Put { src, field, .. }, Answer::Done) => {
             add_put(text, is.register(t, src), field, told)
         }
+        (Cmd::Leave, Answer::Done) => text.push_str(", its registers are null now"),
+        (Cmd::Leave, Answer::NotYet) => text.push_str(", its mailbox isn't back yet"),
         (_, Answer::Object) => add_target(text, " ", target(told.saw)),
         _ => Ok(()),
     }

@@ -3,8 +3,9 @@ use Rattle.std.proofs.Common.{◌≡◌, ◌-◌, ◌<◌, List, [], length, ap,
 use Rattle.std.specs.List.{slice_get}
 use Rattle.std.proofs.lemmas.Option.{slice_get-get_or, get_or_from_slice_get}
 use Rattle.rec_model.specs.declared.command.Cmd.{Cmd}
+use Rattle.rec_settle.proofs.Waiting.{others_idle}
 use Rattle.rec_play.specs.Run.{commands_of}
-use Rattle.rec_play.proofs.Due.{commands_are, others_idle}
+use Rattle.rec_play.proofs.Due.{commands_are}
 use Rattle.rec_play.proofs.Named.{names_go}
 use Rattle.rec_play.proofs.player.give_turn.Goals as goal
 

@@ -12,10 +12,10 @@ use Rattle.rec_core.specs.Turn.{TurnHasCause}
 use Rattle.rec_core.specs.Worked.{AreIdle}
 use Rattle.rec_world.proofs.Calls.{world_kept}
 use Rattle.rec_settle.specs.Collecting.{Follows, IsAwaited}
-use Rattle.rec_settle.proofs.Waiting.{awaited, has_polled, polled_behind}
+use Rattle.rec_settle.proofs.Waiting.{awaited, has_polled, others_idle, polled_behind}
 use Rattle.rec_play.specs.Moves.{IsSpent}
 use Rattle.rec_play.specs.Run.{commands_of}
-use Rattle.rec_play.proofs.Due.{commands_are, others_idle}
+use Rattle.rec_play.proofs.Due.{commands_are, is_of_script}
 use Rattle.rec_play.proofs.player.turn_collector.Goals as goal
 use Rattle.rec_play.proofs.player.turn_collector.Goals.{In-Waiting}
 
@@ -29,6 +29,12 @@ awaits c = awaited c.args.world.now c.turn_seen-turn.new.self c.in-Waiting.mutat
 -- it is one of the script's mutators, with these commands
 theirs : (c : In-Waiting) → (cmds : List Cmd) → slice_get c.args.script.now.commands (c.in-Waiting.mutator - 1) ≡ Some cmds → commands_of c.args.script.now c.in-Waiting.mutator ≡ cmds
 theirs c cmds is = commands_are c.args.script.now c.in-Waiting.mutator (awaits c).there.0 ∙ get_or_from_slice_get c.args.script.now.commands (c.in-Waiting.mutator - 1) cmds [] is
+
+-- so its number is small
+pub bounds-made-from : goal.bounds-made-from
+bounds-made-from c =
+    let d : In-Waiting = (goal.at.bounds-made-from c).In-Waiting in
+    omega (arith, (is_of_script c.args.script.now c.args.world.now c.in-Waiting.mutator c.requires.config (awaits d).there).1, c.requires.few, c.from.ensures)
 
 pub returns-then-made-from-clause-stepped : goal.returns-then-made-from-clause-stepped
 returns-then-made-from-clause-stepped c =

@@ -1,7 +1,7 @@
 -- The pieces of the three formats one after another.
 use Rattle.std.proofs.Common.{◌≡◌, ◌∙◌, ◌++◌, ℕ, List, sym, ap, append_assoc, codes, decimal, get_or}
 use Rattle.std.specs.Prelude.{string_bytes}
-use Rattle.rec_report.specs.Summary.{no_field_words}
+use Rattle.rec_report.specs.Summary.{no_field_words, not_yet_words}
 use Rattle.rec_report.specs.Text.{line_feed}
 use Rattle.rec_report.proofs.Summed.{six_pieces}
 use Rattle.rec_report.proofs.line.answers.Goals as goal
@@ -15,11 +15,17 @@ returns c =
     let one : string_bytes c.in_ok-text.text ≡ first = simp append_assoc c.in_ok-text.ensures.ok in
     let two : string_bytes c.write.new.self ≡ string_bytes c.in_ok-text.text ++ second = simp append_assoc c.in_ok-write.ensures.bytes in
     let three : string_bytes c.write-2.new.self ≡ string_bytes c.write.new.self ++ third = simp append_assoc c.in_ok-write-2.ensures.bytes in
-    let end : List ℕ = no_field_words c.args.version (at 9) ++ line_feed in
+    let leaves : List ℕ = no_field_words c.args.version (at 9) in
+    let early : List ℕ = not_yet_words c.args.version (at 10) in
+    let end : List ℕ = leaves ++ early ++ line_feed in
+    let counts : List ℕ =
+    first ++ codes " value " ++ decimal (at 3) ++ codes " yes " ++ decimal (at 4) ++ codes " no " ++ decimal (at 5) ++ codes " none " ++ decimal (at 6) ++ codes " full " ++ decimal (at 7) ++ codes " busy " ++ decimal (at 8)
+    in
     let two_parts : string_bytes c.write.new.self ≡ first ++ codes " value " ++ decimal (at 3) ++ codes " yes " ++ decimal (at 4) ++ codes " no " ++ decimal (at 5) =
     two ∙ ap (λ t. t ++ second) one ∙ six_pieces first (codes " value ") (decimal (at 3)) (codes " yes ") (decimal (at 4)) (codes " no ") (decimal (at 5)) in
     c.in_ok-end_answers.ensures
     ∙ ap (λ t. t ++ end) three
     ∙ ap (λ t. t ++ end) (six_pieces (string_bytes c.write.new.self) (codes " none ") (decimal (at 6)) (codes " full ") (decimal (at 7)) (codes " busy ") (decimal (at 8)))
     ∙ ap (λ t. t ++ codes " none " ++ decimal (at 6) ++ codes " full " ++ decimal (at 7) ++ codes " busy " ++ decimal (at 8) ++ end) two_parts
-    ∙ sym (append_assoc (first ++ codes " value " ++ decimal (at 3) ++ codes " yes " ++ decimal (at 4) ++ codes " no " ++ decimal (at 5) ++ codes " none " ++ decimal (at 6) ++ codes " full " ++ decimal (at 7) ++ codes " busy " ++ decimal (at 8)) (no_field_words c.args.version (at 9)) line_feed)
+    ∙ sym (append_assoc counts (leaves ++ early) line_feed)
+    ∙ ap (λ t. t ++ line_feed) (sym (append_assoc counts leaves early))

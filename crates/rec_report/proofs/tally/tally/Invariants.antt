@@ -5,6 +5,6 @@ use Rattle.rec_report.proofs.tally.tally.Given as goal
 
 abbrev pub invariant-loop-journal : goal.invariant-loop-journal
 invariant-loop-journal l = record {
-  few : (at : ℕ) → at < 10 → get_or l.counts at 0 ≤ l.journal-index * 2 ^ 58;
-  counted : (at : ℕ) → at < 10 → get_or l.counts at 0 ≡ answers_at (map (λ journal. journal.lines) (take l.journal-index l.journals)) at;
+  few : (at : ℕ) → at < 11 → get_or l.counts at 0 ≤ l.journal-index * 2 ^ 58;
+  counted : (at : ℕ) → at < 11 → get_or l.counts at 0 ≡ answers_at (map (λ journal. journal.lines) (take l.journal-index l.journals)) at;
 }

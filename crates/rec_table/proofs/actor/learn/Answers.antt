@@ -21,7 +21,7 @@ boxed : (c : After-from) (q r : Private) (m m' : Option Contents) → q ≡ took
     → c.args.seat.now.me.1 ≡ (c.from.result - 1, m) ∷ rest c.args.seat.now.me.1 → r ≡ swapped_of q (held m) → m' ≡ Some (left_of q (held m)) → Boxed c.args.machine.now r m' (seated_of c.args.seat.now.me.0) c.args.word
 boxed c q r m m' took same value swapped left =
     let is : m ≡ Some (spare (took_of c.args.machine.now c.args.word)) = first_is (c.from.result - 1) (c.from.result - 1) m (Some (spare (took_of c.args.machine.now c.args.word))) c.args.seat.now.me.1 (rest c.args.seat.now.me.1) [] value (out c) in
-    learns_box c.args.machine.now q r (held m) m' (seated_of c.args.seat.now.me.0) c.args.word (crossing c) took (ap held is) swapped left c.requires.hand same
+    learns_box c.args.machine.now q r (held m) m' (seated_of c.args.seat.now.me.0) c.args.word (crossing c) took (ap held is) swapped left c.requires.hand same c.requires.between
 
 pub overflow_sub-from : goal.overflow_sub-from
 overflow_sub-from c = omega (arith, own c, c.requires.number)
@@ -51,8 +51,8 @@ returns-in-TakeBox-clause-me c =
 pub returns-in_default : goal.returns-in_default
 returns-in_default c =
     let p : Private = c.args.machine.now in
-    let all = learns_word p c.took-in_default.new.self (seated_of c.args.seat.now.me.0) c.args.word c.args.seat.now.me c.requires.busy
-    (takes_none p.phase c.requires.between (λ e. crossing_takes p c.args.op e c.requires.op c.in_default.not-TakeBox)) c.took-in_default.ensures.took c.requires.out in
+    let all = learns_word p c.took-in_default.new.self (seated_of c.args.seat.now.me.0) c.args.word c.args.seat.now.me c.requires.busy c.requires.between
+    (takes_none p.phase c.requires.between.0 (λ e. crossing_takes p c.args.op e c.requires.op c.in_default.not-TakeBox)) c.took-in_default.ensures.took c.requires.out in
     record {
       seat = (refl, refl);
       machine = all.0;

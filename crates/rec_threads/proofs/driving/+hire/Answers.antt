@@ -5,7 +5,7 @@ use denote.Param.Send.{IsSend, IsSync, given_sync, param_send, sendable}
 use Rattle.rec_threads.proofs.driving.+hire.Given.{Over}
 use Rattle.rec_threads.proofs.driving.+hire.Lts-hire as lts
 use Rattle.rec_model.specs.declared.command.Cmd.{Cmd}
-use Rattle.rec_mutator.specs.Private.{HasOperands}
+use Rattle.rec_table.specs.Rule.{MayAsk}
 use Rattle.rec_table.specs.Views.{MutatorView, Started, IsMutatorOf, mutator_now}
 use Rattle.rec_threads.specs.Done.{HasDone, IsReady, commands_at}
 use Rattle.rec_threads.specs.declared.crew.Crew.{Crew}
@@ -73,7 +73,7 @@ spawn_with-report-requires-clause-valid g t c κs within =
     let w : Worker = together c.in-Some.mutator c.in-Some-pop.journal in
     let ready : IsReady c.args.heap.now c.args.script.now (length c.pop.new.self.items) w = (rest_ready c.args.heap.now c.args.script.now c.args.crew rest w c.in-Some.ensures.items c.in-Some-pop.ensures.items c.requires.ready).1 in
     let err = c.in-Err.ensures.err in
-    subst (λ (x : List Cmd × MutatorView). All (HasOperands (mutator_now x.1)) x.0) (sym (λ i. ((err i).5.now, (err i).4.mutator)))
+    subst (λ (x : List Cmd × MutatorView). All (MayAsk (mutator_now x.1)) x.0) (sym (λ i. ((err i).5.now, (err i).4.mutator)))
     (all_operands c.args.script.now.registers c.args.script.now.fields (mutator_now w.mutator) c.commands-commands.result.now ready.registers ready.fields c.commands-commands.ensures.valid.in_range)
 
 pub returns-in-Ok-clause-ended : goal.returns-in-Ok-clause-ended

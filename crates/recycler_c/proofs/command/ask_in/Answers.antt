@@ -1,7 +1,7 @@
 -- The contract of `ask_in`: a command, where the handle has a mutator.
 use Rattle.std.proofs.Common.{◌≡◌, Some, ap, refl, sym, subst, rules}
 use Rattle.rec_model.specs.declared.command.Cmd.{Cmd}
-use Rattle.rec_mutator.specs.Private.{IsValid}
+use Rattle.rec_table.specs.Rule.{MayAsk}
 use Rattle.rec_mutator.specs.declared.work.Work.TheVariants as works
 use Rattle.rec_table.specs.Views.{mutator_now}
 use Rattle.recycler_c.specs.Standing.{mutates_in}
@@ -26,7 +26,7 @@ returns-then-not-can_ask c = (
     is = ap (λ (e : End). mutates_in (Some e)) c.in-Mutating.is;
     lacks = λ cmd e v.
         let same : cmd ≡ c.in-Some.cmd = cc in
-        let yes = c.can_ask.ensures.1 (subst (λ (x : Cmd). IsValid (mutator_now c.in-Mutating.out.mutator) (works.Command x)) same v) in
+        let yes = c.can_ask.ensures.1 (subst (λ (x : Cmd). MayAsk (mutator_now c.in-Mutating.out.mutator) x) same v) in
         cc;
   },
   ap Some (sym c.in-Mutating.is),

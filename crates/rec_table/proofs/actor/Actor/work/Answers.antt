@@ -30,7 +30,8 @@ loop-made-init c =
         path_first start p (mutator_now c.step.new.self) c.args.self.now.log c.step.new.self.log c.step.result (ap (λ (h : MutatorView). h.log) c.step.ensures.grows ∙ ap (λ (s : Start). c.args.self.now.log ++ beats (Some s) c.step.result) is)
             (subst (λ (s : Start). IsMachine (ready p (Some s))) is c.step.ensures.machine) (begun_busy p c.args.work from) (begun_work p c.args.work from) (begun_slots p c.args.work from)
             (c.step.ensures.learns ∙ ap (λ (s : Start). learnt (ready p (Some s)) (Saw c.step.result)) is)
-            (c.step.ensures.steps ∙ ap (λ (s : Start). (ready p (Some s)).steps + 1) is),
+            (c.step.ensures.steps ∙ ap (λ (s : Start). (ready p (Some s)).steps + 1) is)
+            c.requires.may.2,
       );
       same = c.step.ensures.same;
     }

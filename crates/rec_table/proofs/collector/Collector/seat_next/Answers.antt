@@ -1,7 +1,9 @@
 -- The contract of `Collector::seat_next`: makes the seat of the next mutator.
 use Rattle.std.proofs.Common.{◌≡◌, ◌<◌, ◌+◌, ℕ, refl, sym, ap, ◌∙◌, subst, arith}
-use Rattle.rec_table.proofs.Common.{is_busy, mutator, world_kept, names_slots, CollectorView, collecting_of, CollectorSeat}
+use Rattle.rec_table.proofs.Common.{is_busy, IsMutator, actor_of, mutator, world_kept, names_slots, CollectorView, collecting_of, CollectorSeat}
 use Rattle.rec_mutator.specs.Step.{NamesSlots}
+use Rattle.rec_table.specs.Rule.{Remains}
+use Rattle.rec_table.proofs.Making.{label_remains}
 use Rattle.rec_table.proofs.Seats.{splits_as}
 use Rattle.rec_table.proofs.collector.Collector.seat_next.Goals as goal
 
@@ -22,4 +24,8 @@ pub sat-requires-clause-machine : goal.sat-requires-clause-machine
 sat-requires-clause-machine c =
     let key = c.args.board.now.table.shared.key.value in
     let x : ℕ = c.args.self.now.collecting.made + 1 in
-    (c.requires.machine.0, c.requires.idle, subst NamesSlots (sym (c.requires.machine.0 ∙ c.requires.machine.1)) (names_slots key x (world_kept key c.requires.world) (omega arith, omega (arith, c.requires.room))))
+    let is : IsMutator key.config x = (omega arith, omega (arith, c.requires.room)) in
+    let kept = world_kept key c.requires.world in
+    let own = (actor_of key x kept is).own in
+    let machine = sym (c.requires.machine.0 ∙ c.requires.machine.1) in
+    (c.requires.machine.0, c.requires.idle, subst NamesSlots machine (names_slots key x kept is), subst Remains machine (label_remains (mutator key x).phase own.label own.between, own.stays))

@@ -4,7 +4,7 @@ use Rattle.rec_world.proofs.Common.{Private, is_busy, IsValid, IsMutator, IsWork
 use Rattle.rec_core.specs.Kept.{IsKept}
 use Rattle.rec_core.proofs.Asked.{begun_sight}
 use Rattle.rec_core.proofs.Steps.{actor_of}
-use Rattle.rec_world.proofs.Calls.{Ready, ready, mutator_read, begun_is, moved_world, own_work, world_kept}
+use Rattle.rec_world.proofs.Calls.{Ready, ready, mutator_read, begun_is, moved_world, own_work, work_stays, world_kept}
 use Rattle.rec_world.proofs.world.World.begin.Goals as goal
 use Rattle.rec_world.proofs.world.World.begin.Goals.{After-begin}
 
@@ -41,6 +41,15 @@ begin-requires-clause-from c =
     let now : Ready c.self.inside c.args.t = ready c.self.inside c.args.self.now c.args.t c.self.invariant c.self.view_is c.requires.mutator in
     subst (λ (p : Private). 0 < p.slots) (sym (mutator_read (core c.self.inside) c.args.t c.from.result c.index_mut.result.now c.self.invariant.world.shaped now.is c.from.ensures c.index_mut.ensures.value))
     (actor_of (core c.self.inside) c.args.t now.kept now.is).own.machine.first_slot
+
+pub begin-requires-clause-stays : goal.begin-requires-clause-stays
+begin-requires-clause-stays c =
+    let now : Ready c.self.inside c.args.t = ready c.self.inside c.args.self.now c.args.t c.self.invariant c.self.view_is c.requires.mutator in
+    subst (λ (p : Private). p.left ≡ false) (sym (mutator_read (core c.self.inside) c.args.t c.from.result c.index_mut.result.now c.self.invariant.world.shaped now.is c.from.ensures c.index_mut.ensures.value))
+    (actor_of (core c.self.inside) c.args.t now.kept now.is).own.stays
+
+pub see_label-requires : goal.see_label-requires
+see_label-requires c = work_stays c.args.self.now.config c.args.work c.requires.work
 
 -- the core that is left
 left : (c : After-begin) → ◌≡◌ {A = Core} (record (before c) { mutators = slice_set (before c).mutators (c.from.result - 1) c.begin.new.self }) (begun (before c) c.args.t c.args.work)

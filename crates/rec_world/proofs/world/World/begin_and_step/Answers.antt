@@ -1,9 +1,9 @@
 -- The machine begins, names an operation, the memory carries it out, the machine learns: the core is that of the definitions.
-use Rattle.std.proofs.Common.{refl, ◌≡◌, ◌-◌, ◌+◌, ◌<◌, ◌≤◌, ◌^◌, map, length, slice_set, arith, sym, ap, subst, ◌∙◌}
+use Rattle.std.proofs.Common.{refl, false, ◌≡◌, ◌-◌, ◌+◌, ◌<◌, ◌≤◌, ◌^◌, map, length, slice_set, arith, sym, ap, subst, ◌∙◌}
 use Rattle.std.specs.Option.{is_some}
 use Rattle.rec_world.proofs.Common.{next_of, Private, answer_of, IsValid, cell, births_of, Core, cells_of, mutator, Move, begun, stepped, core, held, IsWorld}
 use Rattle.rec_core.proofs.Steps.{actor_of}
-use Rattle.rec_world.proofs.Calls.{mutator_read, home_again, machine_left, moved_world, made_small, births_few}
+use Rattle.rec_world.proofs.Calls.{mutator_read, home_again, machine_left, moved_world, made_small, births_few, work_stays}
 use Rattle.rec_word.specs.declared.op.Op.{Op}
 use Rattle.rec_world.proofs.Beginnings.{MayBegin, may_begin, began_read, first_step_is}
 use Rattle.rec_world.proofs.OneStep.{makes_step}
@@ -27,6 +27,15 @@ begin-requires-clause-from c =
     let may : MayBegin c.self.inside c.args.t c.args.work = may_begin c.self.inside c.args.self.now c.args.t c.args.work c.self.invariant c.self.view_is c.requires.mutator c.requires.work c.requires.idle c.see_label.ensures in
     subst (λ (p : Private). 0 < p.slots) (sym (mutator_read (core c.self.inside) c.args.t c.from-own.result c.index_mut-machine.result.now c.self.invariant.world.shaped may.was.is c.from-own.ensures c.index_mut-machine.ensures.value))
     (actor_of (core c.self.inside) c.args.t may.was.kept may.was.is).own.machine.first_slot
+
+pub begin-requires-clause-stays : goal.begin-requires-clause-stays
+begin-requires-clause-stays c =
+    let may : MayBegin c.self.inside c.args.t c.args.work = may_begin c.self.inside c.args.self.now c.args.t c.args.work c.self.invariant c.self.view_is c.requires.mutator c.requires.work c.requires.idle c.see_label.ensures in
+    subst (λ (p : Private). p.left ≡ false) (sym (mutator_read (core c.self.inside) c.args.t c.from-own.result c.index_mut-machine.result.now c.self.invariant.world.shaped may.was.is c.from-own.ensures c.index_mut-machine.ensures.value))
+    (actor_of (core c.self.inside) c.args.t may.was.kept may.was.is).own.stays
+
+pub see_label-requires : goal.see_label-requires
+see_label-requires c = work_stays c.args.self.now.config c.args.work c.requires.work
 
 pub index_mut-requires : goal.index_mut-requires
 index_mut-requires c =
