@@ -1,5 +1,5 @@
 -- A collection ends: each turn that goes on counts, and a mutator that was waited for lets the collector turn once it has polled.
-use Rattle.std.proofs.Common.{◌≡◌, ◌↔◌, inl, inr, ℕ, ◌+◌, ◌*◌, ◌<◌, ◌≤◌, List, ◌==◌, nat_lt, if◌then◌else◌, Bool, true, false, Option, None, Some, length, refl, sym, ap, subst, ◌∙◌, arith}
+use Rattle.std.proofs.Common.{◌≡◌, ◌≢◌, ◌↔◌, inl, inr, ℕ, ◌+◌, ◌*◌, ◌<◌, ◌≤◌, ◌==◌, nat_lt, if◌then◌else◌, Bool, true, false, Option, None, Some, length, refl, sym, ap, subst, ◌∙◌, arith}
 use Rattle.std.proofs.lemmas.Bool.Decides.{nat_tests}
 use Rattle.std.proofs.lemmas.Bool.{cases_eq, cond-true, cond-false, eq-eqb, false≢true, ne_eqb}
 use Rattle.rec_word.specs.Mailbox.{crossing_word}
@@ -19,7 +19,7 @@ use Rattle.rec_core.specs.Config.{IsMutator}
 use Rattle.rec_core.specs.Core.{Core, mutator, opened, box, crossing_of}
 use Rattle.rec_core.specs.Kept.{Handshake, stand_at, IsHandshake, IsKept}
 use Rattle.rec_core.specs.Moves.{turned}
-use Rattle.rec_core.specs.Worked.{AreIdle, IsWorked}
+use Rattle.rec_core.specs.Worked.{IsWorked}
 use Rattle.rec_core.specs.declared.config.Config.{Config}
 use Rattle.rec_core.proofs.Opening.{opened_kept}
 use Rattle.rec_core.proofs.Runs.{looked_is}
@@ -27,7 +27,7 @@ use Rattle.rec_core.proofs.Steps.{actor_of}
 use Rattle.rec_core.specs.Turn.{TurnHasCause}
 use Rattle.rec_world.specs.World.{IsCrossed, IsQuiet, IsWorld}
 use Rattle.rec_world.proofs.Calls.{world_kept}
-use Rattle.rec_settle.specs.Collecting.{Follows, HasPolled, HasStepped, IsAwaited, turns_of, waits_at}
+use Rattle.rec_settle.specs.Collecting.{AreIdle, Follows, HasPolled, HasStepped, IsAwaited, turns_of, waits_at}
 use Rattle.rec_settle.specs.Left.{left_of}
 
 -- the turns of a collection are limited
@@ -58,6 +58,16 @@ pub moved_nearer : (w v : Core) → IsKept w → IsKept v → v.config ≡ w.con
 moved_nearer w v before after config cause =
     let same : turns_of v.config ≡ turns_of w.config = ap turns_of config in
     omega (arith, same, cause.0, few_turns w before, few_turns v after, few_waits v v.collector.phase)
+
+-- all are idle where the others' records stay
+pub others_idle : (before after : Core) (t : ℕ) → after.config ≡ before.config → ((s : ℕ) → s ≢ t → 1 ≤ s → mutator after s ≡ mutator before s)
+    → is_busy (mutator after t) ≡ false → AreIdle before → AreIdle after
+others_idle before after t config stay idle all s there =
+    let was : IsMutator before.config s = subst (λ c. IsMutator c s) config there in
+    elim (cases_eq s t) [
+      | inl is ↦ subst (λ n. is_busy (mutator after n) ≡ false) (sym is) idle
+      | inr other ↦ ap is_busy (stay s other was.0) ∙ all s was
+    ]
 
 -- whoever is waited for is a mutator
 pub awaited : (w v : Core) (t : ℕ) → IsKept w → TurnHasCause w v (answers.Waiting t) → IsAwaited w t
@@ -110,15 +120,3 @@ polled_nearer w v t kept awaits polled =
     let now : waits_at v v.collector.phase ≡ 0 = ap (waits_at v) phase ∙ cond-true (crossing_of v t == crossing_word v.epoch Retired) 0 1 (eq-eqb (crossing_of v t) (crossing_word v.epoch Retired) (polled_over w v t kept awaits polled)) in
     let earlier : waits_at w w.collector.phase ≡ 1 = ap (waits_at w) awaits.waits.looks ∙ cond-false (crossing_of w t == crossing_word w.epoch Retired) 0 1 (ne_eqb (crossing_of w t) (crossing_word w.epoch Retired) awaits.waits.behind) in
     omega (arith, now, earlier, ap turns_of polled.quiet.config, ap (λ (c : Private). c.turns) polled.quiet.collector)
-
--- a turn leaves the mutators idle,
-pub idle_turned : (w v : Core) → v.mutators ≡ w.mutators → v.config ≡ w.config → AreIdle w → AreIdle v
-idle_turned w v same config idle t is =
-    ap (λ (ps : List mutators.Private). is_busy (mutator (record w { mutators = ps }) t)) same ∙ idle t (subst (λ (c : Config). IsMutator c t) config is)
-
--- and so does a poll
-pub idle_polled : (w v : Core) (t : ℕ) → IsQuiet w v t → is_busy (mutator v t) ≡ false → AreIdle w → AreIdle v
-idle_polled w v t quiet own idle s is = elim (cases_eq s t) [
-  | inl same ↦ subst (λ n. is_busy (mutator v n) ≡ false) (sym same) own
-  | inr other ↦ ap is_busy (quiet.others s other is.0) ∙ idle s (subst (λ (c : Config). IsMutator c s) quiet.config is)
-]

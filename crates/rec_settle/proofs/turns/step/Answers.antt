@@ -1,9 +1,9 @@
 -- The collector made its step, and the mutator for which it waited polls.
-use Rattle.std.proofs.Common.{subst}
+use Rattle.std.proofs.Common.{subst, sym}
 use Rattle.rec_collector.specs.declared.turn.Turn.TheVariants.{Waiting}
 use Rattle.rec_core.specs.Turn.{TurnHasCause}
-use Rattle.rec_settle.specs.Collecting.{Anyone}
-use Rattle.rec_settle.proofs.Waiting.{has_polled, idle_polled, idle_turned, polled_behind}
+use Rattle.rec_settle.specs.Collecting.{Anyone, AreIdle}
+use Rattle.rec_settle.proofs.Waiting.{has_polled, others_idle, polled_behind}
 use Rattle.rec_settle.proofs.turns.step.Goals as goal
 use Rattle.rec_settle.proofs.turns.step.Goals.{In-Waiting}
 
@@ -16,8 +16,8 @@ returns-in-Waiting-clause-stepped c =
     polled_behind Anyone c.args.world.now c.turn_seen-turn.new.self c.poll.new.self c.in-Waiting.mutator tt c.turn_seen-turn.ensures.turn.turned c.turn_seen-turn.ensures.kept (waits d)
     (has_polled c.turn_seen-turn.new.self c.poll.new.self c.in-Waiting.mutator c.poll.result c.poll.ensures.worked c.poll.ensures.quiet c.poll.ensures.idle c.poll.ensures.crossed c.poll.ensures.none c.poll.ensures.some)
 
+-- the mutator that polled is idle again, and the others stayed so
 pub returns-in-Waiting-clause-idle : goal.returns-in-Waiting-clause-idle
 returns-in-Waiting-clause-idle c =
-    let turn = c.turn_seen-turn.ensures.turn in
-    idle_polled c.turn_seen-turn.new.self c.poll.new.self c.in-Waiting.mutator c.poll.ensures.quiet c.poll.ensures.idle
-    (idle_turned c.args.world.now c.turn_seen-turn.new.self turn.mutators turn.config c.requires.idle)
+    let d : In-Waiting = (goal.at.returns-in-Waiting-clause-idle c).In-Waiting in
+    others_idle c.turn_seen-turn.new.self c.poll.new.self c.in-Waiting.mutator c.poll.ensures.quiet.config c.poll.ensures.quiet.others c.poll.ensures.idle (subst AreIdle (sym (waits d).2) c.requires.idle)
