@@ -65,7 +65,7 @@ static long open_refused(recycler *r) {
         refuse(which);
         MUST(open_small(r) == RECYCLER_NO_MEMORY && asked == which && held == 0);
         MUST(recycler_close(r) == RECYCLER_CLOSED_HANDLE && recycler_start(r) == RECYCLER_CLOSED_HANDLE);
-        for (int k = 0; k < 8; k++) {
+        for (int k = 0; k < RECYCLER_MOST_MUTATORS; k++) {
             MUST(recycler_poll(&r->mutators[k], &crossed) == RECYCLER_CLOSED_HANDLE);
         }
     }
