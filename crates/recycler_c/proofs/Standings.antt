@@ -13,43 +13,12 @@ use Rattle.recycler_c.specs.declared.end.End.TheVariants as ends
 use Rattle.recycler_c.specs.declared.end.Mutating.{Mutating}
 use Rattle.recycler_c.specs.declared.handle.Handle.{Handle}
 
-pub rests_is : (h : Option End) (w : Core) → rests_in h ≡ Some w → h ≡ Some (ends.Resting w)
-rests_is None w e = cc
-rests_is (Some ends.Vacant) w e = cc
-rests_is (Some (ends.Resting v)) w e = cc
-rests_is (Some (ends.Collecting c)) w e = cc
-rests_is (Some (ends.Mutating m)) w e = cc
-
 -- an option has a value or none
 none_some : {A : Type 0} (x : A) → None ≡ Some x → ⊥
 none_some x e = cc
 
 some_same : {A : Type 0} (x y : A) → Some x ≡ Some y → x ≡ y
 some_same x y e = cc
-
-collecting : Option Collecting → Option End
-collecting None = None
-collecting (Some c) = Some (ends.Collecting c)
-
-pub collects_is : (h : Option End) (c : Collecting) → collects_in h ≡ Some c → h ≡ Some (ends.Collecting c)
-unfolding collecting
-collects_is None c e = absurd (none_some c e)
-collects_is (Some ends.Vacant) c e = absurd (none_some c e)
-collects_is (Some (ends.Resting v)) c e = absurd (none_some c e)
-collects_is (Some (ends.Collecting d)) c e = ap collecting e
-collects_is (Some (ends.Mutating m)) c e = absurd (none_some c e)
-
-mutating : Option Mutating → Option End
-mutating None = None
-mutating (Some m) = Some (ends.Mutating m)
-
-pub mutates_is : (h : Option End) (m : Mutating) → mutates_in h ≡ Some m → h ≡ Some (ends.Mutating m)
-unfolding mutating
-mutates_is None m e = absurd (none_some m e)
-mutates_is (Some ends.Vacant) m e = absurd (none_some m e)
-mutates_is (Some (ends.Resting v)) m e = absurd (none_some m e)
-mutates_is (Some (ends.Collecting d)) m e = absurd (none_some m e)
-mutates_is (Some (ends.Mutating n)) m e = ap mutating e
 
 -- what a collector's handle holds that isn't at rest runs
 pub runs_where_not_rests : (e : End) → can_collect (Some e) ≡ true → ((w : Core) → e ≡ ends.Resting w → ⊥) → IsSome (collects_in (Some e))
