@@ -5,7 +5,7 @@ use Rattle.std.proofs.Math.ListN.{get_or-map}
 use Rattle.std.proofs.lemmas.Bool.{eq-eqb, eqb-true, true≢false}
 use Rattle.std.proofs.lemmas.Bool.Decides.{same_from_decides}
 use Rattle.std.proofs.lemmas.Option.{same_Some}
-use Rattle.rec_model.proofs.Common.{target_of, named, Heap, Field, Object, object, field, born, register, with_register, with_field, with_object, Sight, IsTaken, words_of, targets_of, word_at, Reaches, field_of, StandsBy, IsSound, sight_with_register, sight_with_word, sight_with_header}
+use Rattle.rec_model.proofs.Common.{target_of, named, Heap, Field, Object, object, field, born, register, with_register, with_field, with_object, without_registers, Sight, IsTaken, words_of, targets_of, word_at, Reaches, field_of, StandsBy, IsSound, sight_with_register, sight_with_word, sight_with_header, sight_without_registers}
 use Rattle.rec_word.specs.Header.{is_leaf, label_of, IsHeaderOf}
 use Rattle.rec_model.specs.declared.command.Cmd.{Cmd}
 use Rattle.rec_model.specs.declared.command.Cmd.TheVariants as commands
@@ -15,6 +15,7 @@ use Rattle.rec_model.specs.declared.told.Told.{Told}
 use Rattle.rec_model.specs.Reach.IsReached.{root, child}
 use Rattle.rec_model.specs.Asking.{allocation, Asked, asked, asks, answered, refused, AnswersAs, LeavesWord, IsTold, null_or_object, got, put, value, same, yes_or_no, is_done, refuses_new, plain, put_to, WritesLeaf}
 use Rattle.rec_model.specs.Explained.{IsExplained, GoesOnBy, with_number}
+use Rattle.rec_model.proofs.Leaving.{leave_stands}
 use Rattle.rec_model.proofs.Names.{register_root, named_at}
 use Rattle.rec_model.proofs.Words.{named-nulls, null_fields}
 use Rattle.rec_model.proofs.Standing.{MayName, taken_is_other, reached_is_taken, register_stands, register_names, field_agrees, word_in, with_number-same, object_born, birth_stands, birth_numbers, write_stands}
@@ -226,3 +227,13 @@ same_explained w t a b sound heap number by =
     told_by w heap number t (commands.Same a b) (plain (yes_or_no (same x y))) (tell (option_map number x) (option_map number y)) w
     (ap (λ m. tell m (register heap.registers t b)) (register_names heap w number t a by) ∙ ap (tell (option_map number x)) (register_names heap w number t b by))
     (ap yes_or_no (same_numbered heap w number t a b x y sound by refl refl)) refl refl (λ is. absurd (compares (same x y) is)) refl by
+
+-- a mutator that leaves
+pub leave_explained : (w : Sight) (t : ℕ) → IsExplained w t commands.Leave (plain answers.Done) (sight_without_registers w t)
+leave_explained w t heap number by =
+    told_by w heap number t commands.Leave (plain answers.Done) (answered (without_registers heap t) answers.Done 0) (sight_without_registers w t) refl refl refl refl (λ is. cc) refl
+    (leave_stands heap w number t by)
+
+-- one that doesn't leave yet
+pub leave_refused : (w : Sight) (t : ℕ) → IsExplained w t commands.Leave (plain answers.NotYet) w
+leave_refused w t heap number by = told_by w heap number t commands.Leave (plain answers.NotYet) (refused heap) w refl refl refl refl (λ is. cc) refl by

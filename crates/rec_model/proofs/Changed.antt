@@ -1,7 +1,7 @@
 -- What each move changes: the heap with just that changed differs from the one after the move in nothing but how its lists are
 -- laid out.
 use Rattle.std.proofs.Common.{ℕ, ◌+◌, Bool, true, false, List, refl}
-use Rattle.rec_model.proofs.Common.{Pending, Puts, Registers, Bears, Crosses, Requests, Applies, Releases, Clears, Frees, Drops, with_answer}
+use Rattle.rec_model.proofs.Common.{Pending, Puts, Registers, Bears, Crosses, LetsGo, Requests, Applies, Releases, Clears, Frees, Drops, with_answer}
 use Rattle.rec_model.specs.Sets.{with_members, ReleasesSet}
 use Rattle.rec_model.proofs.Alike.{IsAlike}
 
@@ -50,6 +50,16 @@ crossing_alike w v epoch ns s = record {
   slots = record { count = s.slots.count; free = s.slots.free; released = s.slots.released; leaf = s.slots.leaf };
   words = s.words;
   logs = record { writes = s.writes; births = s.births; snapshots = λ f. refl };
+  registers = λ f. refl;
+}
+
+-- a mutator that leaves changes what registers name, as a register does that changes
+pub leaving_alike : (w v : Pending) → LetsGo w v → IsAlike (after_register w v) v
+leaving_alike w v s = record {
+  epochs = record { fields = s.epochs.fields; applied = s.epochs.applied; requested = s.epochs.requested };
+  slots = record { count = s.slots.count; free = s.slots.free; released = s.slots.released; leaf = s.slots.leaf };
+  words = s.words;
+  logs = record { writes = s.logs.writes; births = s.logs.births; snapshots = s.logs.snapshots };
   registers = λ f. refl;
 }
 

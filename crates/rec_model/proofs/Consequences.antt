@@ -4,7 +4,7 @@ use Rattle.std.proofs.lemmas.Bool.Decides.{nat_tests}
 use Rattle.std.proofs.lemmas.Bool.{cases_lt, cases_eq, true≢false}
 use Rattle.std.proofs.lemmas.List.Sums.{sum_by-le-sum_by, sum_by-le, get_or-le-sum_by}
 use Rattle.rec_model.proofs.Common.{is_in, times, only_if, one_if_same, sum_at, node_of, epoch_of, home, Dated, Pending, word_in, is_at, Holds, references_of, nodes_of, nodes_from, one_if_born, count_formula, IsInReach, IsWriteInReach, opened_to, puts_in, added, with_answer, AccountMove, names, puts_after, replaces_from, is_from, is_node, touches, is_dead, names_unreleased, named_anywhere, IsAccounted, HasUncountedReleased}
-use Rattle.rec_model.specs.Moves.AccountMove.{put, register, birth, crossing, request, batch, release, clearing, freeing, dropping}
+use Rattle.rec_model.specs.Moves.AccountMove.{put, register, birth, crossing, leaving, request, batch, release, clearing, freeing, dropping}
 use Rattle.rec_model.specs.Accounted.{named}
 use Rattle.rec_model.specs.Opened.{IsOpening}
 use Rattle.rec_model.proofs.Sums.{get_or-le-sum_at, sum_by_split}
@@ -194,6 +194,7 @@ move_uncounted (put s) i h x pos r = s.slots.count x pos ∙ h x pos (sym (s.slo
 move_uncounted (register s) i h x pos r = s.slots.count x pos ∙ h x pos (sym (s.slots.released x pos) ∙ r)
 move_uncounted (birth s) i h x pos r = s.count x pos ∙ h x pos (sym (s.released x pos) ∙ r)
 move_uncounted (crossing s) i h x pos r = s.slots.count x pos ∙ h x pos (sym (s.slots.released x pos) ∙ r)
+move_uncounted (leaving s) i h x pos r = s.slots.count x pos ∙ h x pos (sym (s.slots.released x pos) ∙ r)
 move_uncounted (request s) i h x pos r = s.slots.count x pos ∙ h x pos (sym (s.slots.released x pos) ∙ r)
 move_uncounted {w} (batch s) i h x pos r =
     let released : w.released x ≡ true = sym (s.released x pos) ∙ r in

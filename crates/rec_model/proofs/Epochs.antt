@@ -2,7 +2,7 @@
 use Rattle.std.proofs.Common.{◌≡◌, ℕ, ◌+◌, ◌<◌, ◌≤◌, false, ltb, List, refl, arith}
 use Rattle.std.proofs.lemmas.Bool.Decides.{nat_tests}
 use Rattle.std.proofs.lemmas.List.Sums.{sum_by-le-sum_by}
-use Rattle.rec_model.proofs.Common.{only_if, epoch_of, home, dated, Pending, word_in, Puts, Registers, Bears, Crosses, Requests, Applies, Clears, is_up_to, with_answer, is_late_word, is_wrong_write, is_wrong_register, is_late_snapshot, HasEpochs}
+use Rattle.rec_model.proofs.Common.{only_if, epoch_of, home, dated, Pending, word_in, Puts, Registers, Bears, Crosses, LetsGo, Requests, Applies, Clears, is_up_to, with_answer, is_late_word, is_wrong_write, is_wrong_register, is_late_snapshot, HasEpochs}
 use Rattle.rec_model.proofs.Sums.{get_or-le-sum_at, sum_at-le-sum_at, sum_by_none, sum_by_split}
 use Rattle.rec_model.proofs.Weights.{none_if_not_lt, not_lt_from_none}
 use Rattle.rec_model.proofs.Ledgers.{epoch_of_null, epoch_after, epoch_within}
@@ -55,6 +55,17 @@ crossing_epochs w v epoch ns s ep =
       writes = ep.writes;
       registers = omega (arith, ep.registers, s.registers (is_wrong_register w.applied w.requested), sum_by_none (λ n. is_wrong_register w.applied w.requested (dated (epoch + 1) n)) ns (λ n. grind (arith, nat_tests)));
       snapshots = omega (arith, ep.snapshots, s.snapshots (is_late_snapshot w.requested), sum_by_none (λ n. is_late_snapshot w.requested (dated epoch n)) ns (λ n. grind (arith, nat_tests)));
+    }
+
+pub leaving_epochs : (w v : Pending) → LetsGo w v → HasEpochs w → HasEpochs (record w { registers = v.registers })
+leaving_epochs w v s ep =
+    record {
+      behind = ep.behind;
+      near = ep.near;
+      words = ep.words;
+      writes = ep.writes;
+      registers = omega (arith, ep.registers, s.registers (is_wrong_register w.applied w.requested));
+      snapshots = ep.snapshots;
     }
 
 pub request_epochs : (w v : Pending) → Requests w v → HasEpochs w → HasEpochs (record w { requested = w.requested + 1 })

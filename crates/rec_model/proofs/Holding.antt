@@ -3,7 +3,7 @@ use Rattle.std.proofs.Common.{◌≡◌, ◌⊎◌, inl, inr, ℕ, ◌+◌, ◌<
 use Rattle.std.proofs.lemmas.Bool.Decides.{nat_tests}
 use Rattle.std.proofs.lemmas.Bool.{cases_lt, cases_eq}
 use Rattle.std.proofs.lemmas.List.Sums.{sum_by-le-sum_by}
-use Rattle.rec_model.proofs.Common.{only_if, one_if_same, node_of, epoch_of, home, Write, Dated, dated, Pending, word_in, is_at, Holds, IsInReach, opened_to, closed_from, Puts, Loads, Registers, Bears, Crosses, Clears, with_answer, is_wrong_write, is_wrong_register, HasEpochs, is_from, is_after, late, put_late, StandsOnce, touches, IsHeldAt, IsHeld}
+use Rattle.rec_model.proofs.Common.{only_if, one_if_same, node_of, epoch_of, home, Write, Dated, dated, Pending, word_in, is_at, Holds, IsInReach, opened_to, closed_from, Puts, Loads, Registers, Bears, Crosses, LetsGo, Clears, with_answer, is_wrong_write, is_wrong_register, HasEpochs, is_from, is_after, late, put_late, StandsOnce, touches, IsHeldAt, IsHeld}
 use Rattle.rec_model.proofs.Sums.{get_or-le-sum_at, sum_by_le_unless, sum_by_split}
 use Rattle.rec_model.proofs.Weights.{only_if_lt, only_if_le, only_if_self, none_if_not_lt, none_if_other, lt_from_only_if, one_if_self, none_if_differs, one_of_three}
 use Rattle.rec_model.proofs.Counted.{opened_from, closed_out_of, edge_sum}
@@ -135,6 +135,10 @@ crossing_held w v epoch ns s j below h x pos q =
             sum_by_split (λ n. is_after j x (dated epoch n) + is_at j x (dated epoch n)) (λ n. is_after j x (dated epoch n)) (λ n. is_at j x (dated epoch n)) ns (λ n. refl),
           ))
     ]
+
+-- a mutator that leaves
+pub leaving_held : (w v : Pending) → LetsGo w v → (j : ℕ) → IsHeldAt w j → IsHeldAt (record w { registers = v.registers }) j
+leaving_held w v s j h x pos q = h x pos (omega (arith, q, s.registers (is_after j x)))
 
 -- a request
 pub request_held : (w : Pending) → HasEpochs w → IsHeld w → IsHeld (record w { requested = w.requested + 1 })

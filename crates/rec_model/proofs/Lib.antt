@@ -13,6 +13,7 @@ pub mod Epochs
 pub mod Firsts
 pub mod Growing
 pub mod Holding
+pub mod Leaving
 pub mod Ledgers
 pub mod Listed
 pub mod Lives

@@ -3,7 +3,7 @@ use Rattle.std.proofs.Common.{◌≡◌, ◌≢◌, inl, inr, ℕ, ◌+◌, ◌<
 use Rattle.std.proofs.lemmas.Bool.Decides.{nat_tests}
 use Rattle.std.proofs.lemmas.Bool.{cases_eq}
 use Rattle.rec_model.proofs.Common.{only_if, one_if_same, sum_at, HasSameSums, HasSameSumsAt, node_of, epoch_of, home, Pending, word_in, opened_to, closed_in, closed_at, references_at, ReplacesAt, Puts, AccountMove, is_late_word, HasEpochs}
-use Rattle.rec_model.specs.Moves.AccountMove.{put, register, birth, crossing, request, batch, release, clearing, freeing, dropping}
+use Rattle.rec_model.specs.Moves.AccountMove.{put, register, birth, crossing, leaving, request, batch, release, clearing, freeing, dropping}
 use Rattle.rec_model.specs.Sets.{HasLoaded, with_load, IsAfterLoads, early, replaced_early}
 use Rattle.rec_model.proofs.Sums.{get_or-le-sum_at, sum_at_same, sum_by_same}
 use Rattle.rec_model.proofs.Weights.{only_if-le, only_if_le, not_lt_from_none, none_if_differs}
@@ -71,6 +71,7 @@ move_loaded {w} {v} load (put {epoch} {place} {new} s) _ ep h = loaded_put w v l
 move_loaded {w} {v} load (register s) _ ep h = loaded_alike w v load s.epochs.applied s.words s.logs.writes h
 move_loaded {w} {v} load (birth s) _ ep h = loaded_alike w v load s.epochs.applied s.words s.writes h
 move_loaded {w} {v} load (crossing s) _ ep h = loaded_alike w v load s.epochs.applied s.words s.writes h
+move_loaded {w} {v} load (leaving s) _ ep h = loaded_alike w v load s.epochs.applied s.words s.logs.writes h
 move_loaded {w} {v} load (request s) _ ep h = loaded_alike w v load s.applied s.words s.logs.writes h
 move_loaded load (batch s) after ep h = absurd after
 move_loaded {w} {v} load (release s) _ ep h = loaded_alike w v load s.epochs.applied s.words s.logs.writes h
@@ -111,6 +112,7 @@ move_replaced {w} {v} p z (put s) _ = replaced_stays w v p z s.epochs.applied (o
 move_replaced {w} {v} p z (register s) _ = replaced_stays w v p z s.epochs.applied (omega (arith, s.logs.writes (closed_in (w.applied + 1) p z)))
 move_replaced {w} {v} p z (birth s) _ = replaced_stays w v p z s.epochs.applied (omega (arith, s.writes (closed_in (w.applied + 1) p z)))
 move_replaced {w} {v} p z (crossing s) _ = replaced_stays w v p z s.epochs.applied (omega (arith, s.writes (closed_in (w.applied + 1) p z)))
+move_replaced {w} {v} p z (leaving s) _ = replaced_stays w v p z s.epochs.applied (omega (arith, s.logs.writes (closed_in (w.applied + 1) p z)))
 move_replaced {w} {v} p z (request s) _ = replaced_stays w v p z s.applied (omega (arith, s.logs.writes (closed_in (w.applied + 1) p z)))
 move_replaced p z (batch s) after = absurd after
 move_replaced {w} {v} p z (release s) _ = replaced_stays w v p z s.epochs.applied (omega (arith, s.logs.writes (closed_in (w.applied + 1) p z)))

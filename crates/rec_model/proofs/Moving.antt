@@ -1,8 +1,8 @@
 -- Each move keeps what every heap that counts late keeps.
 use Rattle.std.proofs.Common.{◌≡◌}
 use Rattle.rec_model.proofs.Common.{Pending, AccountMove, IsAccounted}
-use Rattle.rec_model.specs.Moves.AccountMove.{put, register, birth, crossing, request, batch, release, clearing, freeing, dropping}
-use Rattle.rec_model.proofs.MutatorMoves.{put_accounted, register_accounted, birth_accounted, crossing_accounted}
+use Rattle.rec_model.specs.Moves.AccountMove.{put, register, birth, crossing, leaving, request, batch, release, clearing, freeing, dropping}
+use Rattle.rec_model.proofs.MutatorMoves.{put_accounted, register_accounted, birth_accounted, crossing_accounted, leaving_accounted}
 use Rattle.rec_model.proofs.CollectorMoves.{request_accounted, batch_accounted, release_accounted, clearing_accounted, freeing_accounted, drop_accounted}
 
 pub move_accounted : {w v : Pending} → AccountMove w v → IsAccounted w → IsAccounted v
@@ -10,6 +10,7 @@ move_accounted {w} {v} (put {epoch} {place} {new} s) i = put_accounted w v epoch
 move_accounted {w} {v} (register {epoch} {old} {new} s) i = register_accounted w v epoch old new s i
 move_accounted {w} {v} (birth {epoch} {old} {node} s) i = birth_accounted w v epoch old node s i
 move_accounted {w} {v} (crossing {epoch} {names} s) i = crossing_accounted w v epoch names s i
+move_accounted {w} {v} (leaving s) i = leaving_accounted w v s i
 move_accounted {w} {v} (request s) i = request_accounted w v s i
 move_accounted {w} {v} (batch s) i = batch_accounted w v s i
 move_accounted {w} {v} (release {node} s) i = release_accounted w v node s i
@@ -23,6 +24,7 @@ move_fields (put s) = s.epochs.fields
 move_fields (register s) = s.epochs.fields
 move_fields (birth s) = s.epochs.fields
 move_fields (crossing s) = s.epochs.fields
+move_fields (leaving s) = s.epochs.fields
 move_fields (request s) = s.fields
 move_fields (batch s) = s.fields
 move_fields (release s) = s.epochs.fields

@@ -5,13 +5,13 @@ use Rattle.std.proofs.lemmas.Bool.{cases_eq}
 use Rattle.rec_model.specs.Accounted.{named}
 use Rattle.rec_model.proofs.Weights.{only_if-le, none_if_differs}
 use Rattle.rec_model.proofs.Ledgers.{put_ledger, put_stands, birth_ledger, crossing_ledger}
-use Rattle.rec_model.proofs.Epochs.{put_epochs, register_epochs, birth_epochs, crossing_epochs}
-use Rattle.rec_model.proofs.Holding.{put_held, register_held, birth_held, crossing_held}
-use Rattle.rec_model.proofs.Naming.{put_unnamed, register_unnamed, birth_unnamed, crossing_unnamed}
-use Rattle.rec_model.proofs.Changed.{after_birth, after_crossing, after_put, after_register, put_alike, register_alike, birth_alike, crossing_alike}
+use Rattle.rec_model.proofs.Epochs.{put_epochs, register_epochs, birth_epochs, crossing_epochs, leaving_epochs}
+use Rattle.rec_model.proofs.Holding.{put_held, register_held, birth_held, crossing_held, leaving_held}
+use Rattle.rec_model.proofs.Naming.{put_unnamed, register_unnamed, birth_unnamed, crossing_unnamed, leaving_unnamed}
+use Rattle.rec_model.proofs.Changed.{after_birth, after_crossing, after_put, after_register, put_alike, register_alike, birth_alike, crossing_alike, leaving_alike}
 use Rattle.rec_model.proofs.Alike.{alike_accounted}
 use Rattle.std.proofs.lemmas.List.Sums.{sum_by-le-sum_by}
-use Rattle.rec_model.proofs.Common.{only_if, one_if_same, Pending, Puts, Registers, Bears, Crosses, with_answer, is_from, is_leaf_from, is_dead, IsAccounted}
+use Rattle.rec_model.proofs.Common.{only_if, one_if_same, Pending, Puts, Registers, Bears, Crosses, LetsGo, with_answer, is_from, is_leaf_from, is_dead, IsAccounted}
 
 pub put_accounted : (w v : Pending) (epoch place new : ℕ) → Puts w v epoch place new → IsAccounted w → IsAccounted v
 put_accounted w v epoch place new s i =
@@ -118,3 +118,19 @@ crossing_accounted w v epoch ns s i =
       leaves = i.leaves;
     } in
     alike_accounted u v (crossing_alike w v epoch ns s) accounted
+
+pub leaving_accounted : (w v : Pending) → LetsGo w v → IsAccounted w → IsAccounted v
+leaving_accounted w v s i =
+    let u : Pending = after_register w v in
+    let accounted : IsAccounted u = record {
+      epochs = leaving_epochs w v s i.epochs;
+      ledger = i.ledger;
+      late = i.late;
+      held = λ j from below. leaving_held w v s j (i.held j from below);
+      unnamed = leaving_unnamed w v s i.unnamed;
+      apart = i.apart;
+      single = i.single;
+      born = i.born;
+      leaves = i.leaves;
+    } in
+    alike_accounted u v (leaving_alike w v s) accounted

@@ -43,7 +43,7 @@ roots_at (rs ∷ rss) zero n there = is_in-left n (named rs) (roots rss) there
 roots_at (rs ∷ rss) (suc i) n there = is_in-right n (named rs) (roots rss) (roots_at rss i n there)
 
 -- after a write of a mutator's registers the roots are those before, or are named by what was written
-roots_set : (rss : List (List (Option ℕ))) (i n : ℕ) (rs : List (Option ℕ)) → is_in n (roots (slice_set rss i rs)) ≡ true → (is_in n (roots rss) ≡ true) ⊎ (is_in n (named rs) ≡ true)
+pub roots_set : (rss : List (List (Option ℕ))) (i n : ℕ) (rs : List (Option ℕ)) → is_in n (roots (slice_set rss i rs)) ≡ true → (is_in n (roots rss) ≡ true) ⊎ (is_in n (named rs) ≡ true)
 roots_set [] i n rs there = inl there
 roots_set (ss ∷ rss) zero n rs there =
     elim (is_in-cases n (named rs) (roots rss) there) [ inl new ↦ inr new | inr rest ↦ inl (is_in-right n (named ss) (roots rss) rest) ]

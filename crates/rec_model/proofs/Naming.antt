@@ -3,7 +3,7 @@ use Rattle.std.proofs.Common.{◌≡◌, ◌≢◌, ◌⊎◌, inl, inr, ℕ, �
 use Rattle.std.proofs.lemmas.Bool.Decides.{nat_tests}
 use Rattle.std.proofs.lemmas.Bool.{cases_lt, cases_eq}
 use Rattle.std.proofs.lemmas.List.Sums.{sum_by-le-sum_by}
-use Rattle.rec_model.proofs.Common.{only_if, one_if_same, node_of, epoch_of, home, dated, Pending, word_in, is_at, Holds, IsInReach, opened_to, closed_from, Puts, Loads, Registers, Bears, Crosses, Clears, Frees, leads_out_of, with_answer, is_late_snapshot, is_wrong_register, HasEpochs, names, puts_after, replaces_from, is_from, is_after, is_node, HasLedger, late, replaced_late, StandsOnce, touches, IsHeldAt, IsHeld, is_dead, names_unreleased, named_anywhere, IsUnnamed}
+use Rattle.rec_model.proofs.Common.{only_if, one_if_same, node_of, epoch_of, home, dated, Pending, word_in, is_at, Holds, IsInReach, opened_to, closed_from, Puts, Loads, Registers, Bears, Crosses, LetsGo, Clears, Frees, leads_out_of, with_answer, is_late_snapshot, is_wrong_register, HasEpochs, names, puts_after, replaces_from, is_from, is_after, is_node, HasLedger, late, replaced_late, StandsOnce, touches, IsHeldAt, IsHeld, is_dead, names_unreleased, named_anywhere, IsUnnamed}
 use Rattle.rec_model.specs.Accounted.{named}
 use Rattle.rec_model.proofs.Sums.{get_or-le-sum_at, sum_at-le-sum_at, sum_by_none, sum_by_le_unless, sum_by_split, sum_at_split}
 use Rattle.rec_model.proofs.Weights.{only_if-le, only_if_self, none_if_other, none_if_differs}
@@ -96,6 +96,9 @@ crossing_unnamed w v epoch ns s q y pos d =
       s.snapshots (is_from w.applied y),
       sum_by-le-sum_by (λ n. is_from w.applied y (dated epoch n)) (one_if_same y) ns (λ n. only_if-le (leb w.applied epoch) (one_if_same y n)),
     )
+
+pub leaving_unnamed : (w v : Pending) → LetsGo w v → IsUnnamed w → IsUnnamed (record w { registers = v.registers })
+leaving_unnamed w v s q y pos d = omega (arith, q y pos d, s.registers (is_node y))
 
 pub batch_unnamed : (w v : Pending) → IsUnnamed w → IsUnnamed (record w { applied = w.applied + 1; count = v.count })
 batch_unnamed w v q y pos d =

@@ -3,11 +3,11 @@ use Rattle.std.proofs.Common.{◌≡◌, ◌≢◌, ◌⊎◌, inl, inr, ℕ, �
 use Rattle.std.proofs.lemmas.Bool.Decides.{nat_tests}
 use Rattle.std.proofs.lemmas.Bool.{true≢false}
 use Rattle.std.proofs.lemmas.List.Sums.{sum_by-le-sum_by, sum_by-cons}
-use Rattle.rec_model.proofs.Common.{only_if, one_if_same, node_of, epoch_of, home, Pending, word_in, IsInReach, references_at, Puts, Registers, Bears, Applies, Releases, Clears, replaces_in, with_answer}
+use Rattle.rec_model.proofs.Common.{only_if, one_if_same, node_of, epoch_of, home, Pending, word_in, IsInReach, references_at, Puts, Bears, Applies, Releases, Clears, replaces_in, with_answer}
 use Rattle.rec_model.specs.Sets.{HasLoaded, Cleared, early, replaced_early, gone_early, is_unreleased, IsSince, with_members, ReleasesSet}
 use Rattle.rec_model.proofs.Sums.{sum_by_same}
 use Rattle.rec_model.proofs.Weights.{only_if-le, only_if_le, none_if_other}
-use Rattle.rec_model.proofs.Changed.{after_batch, after_birth, after_clearing, after_put, after_register, after_release, after_set, put_alike, register_alike, birth_alike, batch_alike, release_alike, clearing_alike, set_alike}
+use Rattle.rec_model.proofs.Changed.{after_batch, after_birth, after_clearing, after_put, after_register, after_release, after_set, put_alike, birth_alike, batch_alike, release_alike, clearing_alike, set_alike}
 use Rattle.rec_model.proofs.Alike.{IsAlike, with_epochs_of}
 use Rattle.rec_model.proofs.Loading.{same_length, replaced_length, at_place, place_sum, place_sum_is}
 use Rattle.rec_model.proofs.Trials.{null_elsewhere}
@@ -71,8 +71,9 @@ module _ (w v u : Pending) (member : ℕ → Bool) (gone : List Cleared) where
       not_early : (q : ℕ → ℕ → ℕ) → early w.applied q place new ≡ 0
       not_early q = let late : w.applied < epoch_of new = omega (arith, s.stamp, after) in grind (arith, nat_tests)
 
-  pub register_since : (epoch old new : ℕ) → Registers w v epoch old new → IsSince w u member gone → IsSince v u member gone
-  register_since epoch old new s t =
+  -- where nothing changes but what registers name
+  pub registers_since : IsAlike (after_register w v) v → IsSince w u member gone → IsSince v u member gone
+  registers_since s t =
       let x : Pending = after_register w v in
       let since : IsSince x u member gone = record {
         next = t.next;
@@ -84,7 +85,7 @@ module _ (w v u : Pending) (member : ℕ → Bool) (gone : List Cleared) where
         given_up = t.given_up;
         safe = t.safe;
       } in
-      since_alike x v u member gone (register_alike w v epoch old new s) since
+      since_alike x v u member gone s since
 
   pub birth_since : (epoch old node : ℕ) → Bears w v epoch old node → IsSince w u member gone → IsSince v u member gone
   birth_since epoch old node s t =

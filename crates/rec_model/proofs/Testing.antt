@@ -4,17 +4,17 @@ use Rattle.std.proofs.lemmas.Bool.Decides.{nat_tests}
 use Rattle.std.proofs.lemmas.Bool.{cases_lt, true≢false}
 use Rattle.std.proofs.lemmas.List.Sums.{sum_by-le-sum_by}
 use Rattle.rec_model.proofs.Common.{home, Pending, word_in, is_at, IsInReach, Applies, replaces_in, AccountMove, is_late_snapshot, is_wrong_register, names, puts_after, replaces_from, is_from, is_after, is_node, late, put_late, touches, IsHeldAt, names_unreleased, IsUnnamed, IsAccounted}
-use Rattle.rec_model.specs.Moves.AccountMove.{put, register, birth, crossing, request, batch, release, clearing, freeing, dropping}
+use Rattle.rec_model.specs.Moves.AccountMove.{put, register, birth, crossing, leaving, request, batch, release, clearing, freeing, dropping}
 use Rattle.rec_model.specs.Sets.{PassesTests, IsMarked, Cleared, IsTesting, IsAmongTests, with_members, IsTested, ReleasesSet}
 use Rattle.rec_model.proofs.Sums.{sum_at-le-sum_at, sum_at_split, sum_by_le_unless, sum_by_split}
 use Rattle.rec_model.proofs.Ledgers.{epoch_after}
 use Rattle.rec_model.proofs.Weights.{no_from_none}
 use Rattle.rec_model.proofs.Holding.{held_sum}
-use Rattle.rec_model.proofs.Changed.{after_set, set_alike}
+use Rattle.rec_model.proofs.Changed.{after_set, leaving_alike, register_alike, set_alike}
 use Rattle.rec_model.proofs.Alike.{alike_accounted}
 use Rattle.rec_model.proofs.Sets.{outer_word, outer_none, passed_out_of_reach}
 use Rattle.rec_model.proofs.Trials.{uncounted_safe, set_safe, none_replaced}
-use Rattle.rec_model.proofs.Since.{batch_since, put_since, register_since, birth_since, clearing_since, release_since, set_since}
+use Rattle.rec_model.proofs.Since.{batch_since, put_since, registers_since, birth_since, clearing_since, release_since, set_since}
 
 -- the release of a set leaves that nothing names what is free or given up
 set_unnamed : (w : Pending) (chosen : ℕ → Bool) (seen : ℕ → ℕ) → IsAccounted w → w.applied + 1 ≡ w.requested → PassesTests w chosen seen → ((z : ℕ) → 0 < z → chosen z ≡ true → sum_by (replaces_in w.applied z) w.writes ≡ 0) → IsUnnamed (record w { released = with_members w.released chosen })
@@ -116,7 +116,7 @@ move_testing {w} {v} {u} {member} (register {epoch} {old} {new} s) _ i t = recor
   before = t.before;
   done = omega (arith, t.done, s.epochs.applied, s.epochs.requested);
   marked = t.marked;
-  since = (t.since.0, register_since w v u member t.since.0 epoch old new s t.since.1);
+  since = (t.since.0, registers_since w v u member t.since.0 (register_alike w v epoch old new s) t.since.1);
 }
 move_testing {w} {v} {u} {member} (birth {epoch} {old} {node} s) _ i t = record {
   before = t.before;
@@ -125,6 +125,12 @@ move_testing {w} {v} {u} {member} (birth {epoch} {old} {node} s) _ i t = record 
   since = (t.since.0, birth_since w v u member t.since.0 epoch old node s t.since.1);
 }
 move_testing {w} (crossing {epoch} s) _ i t = absurd (omega (arith, s.asked, s.unapplied, t.done))
+move_testing {w} {v} {u} {member} (leaving s) _ i t = record {
+  before = t.before;
+  done = omega (arith, t.done, s.epochs.applied, s.epochs.requested);
+  marked = t.marked;
+  since = (t.since.0, registers_since w v u member t.since.0 (leaving_alike w v s) t.since.1);
+}
 move_testing {w} {v} {u} {member} (release {node} s) _ i t =
     let held : IsHeldAt u u.applied = t.before.held u.applied (omega arith) t.before.epochs.behind in
     record {

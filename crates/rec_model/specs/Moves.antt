@@ -102,6 +102,14 @@ pub record Crosses (before after : Pending) (epoch : ℕ) (names : List ℕ) : T
   pub epochs : KeepsEpochs before after
   pub slots : KeepsSlots before after
 
+-- A mutator that leaves lets its registers go: it names nothing more, and no register names more than before.
+pub record LetsGo (before after : Pending) : Type 0 where
+  pub registers : (weight : Dated → ℕ) → sum_by weight after.registers ≤ sum_by weight before.registers
+  pub words : HasSameSumsAt before.words after.words
+  pub logs : KeepsLogs before after
+  pub epochs : KeepsEpochs before after
+  pub slots : KeepsSlots before after
+
 -- The collector requests the next epoch, once the batch of the last one is applied.
 pub record Requests (before after : Pending) : Type 0 where
   pub done : before.applied + 1 ≡ before.requested
@@ -224,6 +232,7 @@ pub data AccountMove (before after : Pending) : Type 0 where
   register : {epoch old new : ℕ} → Registers before after epoch old new → AccountMove before after
   birth : {epoch old node : ℕ} → Bears before after epoch old node → AccountMove before after
   crossing : {epoch : ℕ} {names : List ℕ} → Crosses before after epoch names → AccountMove before after
+  leaving : LetsGo before after → AccountMove before after
   request : Requests before after → AccountMove before after
   batch : Applies before after → AccountMove before after
   release : {node : ℕ} → Releases before after node → AccountMove before after

@@ -5,7 +5,7 @@ use Rattle.rec_model.specs.Sums.{only_if, one_if_same, sum_at, HasSameSums, HasS
 use Rattle.rec_model.specs.Pending.{node_of, epoch_of, home, Write, Pending}
 use Rattle.rec_model.specs.References.{IsInReach, closed_at, references_at}
 use Rattle.rec_model.specs.Moves.{KeepsEpochs, KeepsLogs, puts_in, replaces_in, AccountMove}
-use Rattle.rec_model.specs.Moves.AccountMove.{put, register, birth, crossing, batch, release, clearing}
+use Rattle.rec_model.specs.Moves.AccountMove.{put, register, birth, crossing, leaving, batch, release, clearing}
 use Rattle.rec_model.specs.Accounted.{IsAccounted}
 
 -- counted where the field is a member's, and the word that was seen in it names the node
@@ -98,6 +98,7 @@ IsAmongTests (put s) = Unit {0}
 IsAmongTests (register s) = Unit {0}
 IsAmongTests (birth s) = Unit {0}
 IsAmongTests (crossing s) = Unit {0}
+IsAmongTests (leaving s) = Unit {0}
 IsAmongTests (release s) = Unit {0}
 IsAmongTests (clearing s) = Unit {0}
 IsAmongTests _ = ⊥

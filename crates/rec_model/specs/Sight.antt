@@ -5,7 +5,7 @@ use Rattle.rec_word.specs.Place.{place_of}
 use Rattle.rec_word.specs.Word.{target_of}
 use Rattle.rec_model.specs.Reach.{named, is_in, IsReached}
 use Rattle.rec_model.specs.Numbering.{IsNumbering, holders}
-use Rattle.rec_model.specs.Heap.{Heap, Field, object, set_register, roots}
+use Rattle.rec_model.specs.Heap.{Heap, Field, object, registers_of, set_register, roots}
 
 -- the number of fields of an object; a header for each slot, 0 where it is free; each field's word by its place; each mutator's registers
 pub record Sight : Type 0 where
@@ -87,6 +87,10 @@ sight_with_word w slot f word = record w { words = slice_set w.words (place_of s
 -- with a slot's header changed
 abbrev pub sight_with_header : Sight → ℕ → ℕ → Sight
 sight_with_header w slot header = record w { headers = slice_set w.headers slot header }
+
+-- what is seen after a mutator left: every register of its own is null
+abbrev pub sight_without_registers : Sight → ℕ → Sight
+sight_without_registers w t = record w { registers = slice_set w.registers (t - 1) (replicate (length (registers_of w.registers t)) None) }
 
 -- at opening: one object with label 0 in slot 0, in register 0 of every mutator; all else is null or free
 abbrev pub opening_sight : (slots fields registers mutators : ℕ) → Sight
