@@ -19,7 +19,7 @@ use Rattle.rec_mutator.proofs.Scans.{scanned_none}
 use Rattle.rec_mutator.specs.declared.made.Made.{Made}
 use Rattle.rec_mutator.specs.declared.made.Made.TheVariants as makes
 use Rattle.rec_mutator.specs.declared.phase.Phase.{Phase}
-use Rattle.rec_mutator.specs.declared.phase.Phase.TheVariants.{Begun, Scanned, Storing, Swapping, Retiring, Parting}
+use Rattle.rec_mutator.specs.declared.phase.Phase.TheVariants.{Begun, Scanned, Storing, Swapping, Leaving, Retiring, Parting}
 use Rattle.rec_mutator.specs.declared.work.Work.{Work}
 use Rattle.rec_mutator.specs.declared.work.Work.TheVariants as works
 use Rattle.rec_mutator.proofs.Steps.{step_made}
@@ -285,6 +285,12 @@ step_cause {q = q} cmd told kept work answer (Step.poll_stays own g) = absurd (c
 step_cause cmd told kept work answer (Step.poll_crosses other g) = absurd (goes_on told refl answer g)
 step_cause {q = q} cmd told kept work answer (Step.take_box c) = absurd (unanswered q told (ap answer_of c.after) answer)
 step_cause {q = q} cmd told kept work answer (Step.give_box c) = absurd (crosses q _ told (ap answer_of c.after) answer)
+
+-- the step that takes the mailbox of a mutator that leaves decides that it is done
+pub leaving_cause : (p q : Private) (word : ℕ) → p.phase ≡ Leaving → HasCause p q commands.Leave word answers.Done
+leaving_cause p q word is =
+    plain_cause p q commands.Leave word answers.Done refl (λ e. e) (λ e. e.1) (not_scanned p Leaving is (λ _ e. e)) (λ e. e)
+    (λ e. let no : Leaving ≡ Begun (works.Command commands.Leave) = sym is ∙ e.0 in (cc))
 
 -- every answer has its cause
 pub answer_cause : (p : Private) (word : ℕ) (box : Contents) (cmd : Cmd) (told : Told) → IsMachine p → AnswersBy p word box cmd told → HasCause p (step_of p word box) cmd word told.answer
