@@ -17,12 +17,14 @@ pub use Rattle.rec_collector.specs.Followed.{Next, going_on, gone_on, next_in, p
 unfoldable pub use Rattle.rec_collector.specs.Followed.{followed, prepared, tried}
 pub use Rattle.rec_collector.specs.Given.{IsSized, IsWork}
 unfoldable pub use Rattle.rec_collector.specs.Given.{IsGiven, IsGivenAt}
-pub use Rattle.rec_collector.specs.Kept.{AreInPreparation, AreOnTrial, ArePrepared, AreResting, AreSized, AreSpare, AreTried, IsAt, IsAtRest, IsGathering, IsListed, IsMachine, IsPreparing, IsSweeping, IsTesting, IsTold, IsTrying, KeepsSizes, NoneReleased, all_fields, limit_of, swept_at, under_way}
+pub use Rattle.rec_collector.specs.Kept.{AreInPreparation, AreOnTrial, ArePrepared, AreResting, AreSized, AreSpare, AreTried, IsAt, IsAtRest, IsGathering, IsListed, IsLooking, IsMachine, IsPreparing, IsSweeping, IsTesting, IsTold, IsTrying, KeepsSizes, NoneReleased, all_fields, limit_of, swept_at, under_way}
+pub use Rattle.rec_collector.specs.Gathering.{MayGatherBehind}
 pub use Rattle.rec_collector.specs.Parts.{Parts, new_freeing, new_release}
+pub use Rattle.rec_collector.specs.Present.{HaveLeft, IsNextPresent, has_left, next_present}
 pub use Rattle.rec_collector.specs.Private.{Private, blank, buffer_at, first_registers, opened, parts_of, retired, spare, with_parts}
 pub use Rattle.rec_collector.specs.Testing.{Begun, counted_by, freeing_at, releasing_at, tested_as, told, touched, verdict_if, verdict_of, with_freeing, with_release, zeros_released}
 unfoldable pub use Rattle.rec_collector.specs.Testing.{last_tested, tested}
-pub use Rattle.rec_collector.specs.Took.{batched, came, came_turn, cleared, ended, ended_if, moved, swept_one, swept_phase}
+pub use Rattle.rec_collector.specs.Took.{batch_next, batched, behind, behind_turn, came, came_turn, cleared, ended, ended_if, gathering_on, gathering_turn, moved, noted, requested, swept_one, swept_phase}
 unfoldable pub use Rattle.rec_collector.specs.Took.{left_at, left_of, step_of, swapped_at, swapped_of, took_at, took_of, turn_at, turn_of}
 pub use Rattle.rec_collector.specs.declared.phase.Phase.{Phase}
 pub use Rattle.rec_collector.specs.declared.phase.Phase.TheVariants.{Closing, Freeing, Idle, Looking, Opening, Preparing, Releasing, Returning, Swapping, Sweeping, Trying}

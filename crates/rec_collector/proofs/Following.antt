@@ -4,7 +4,7 @@ use Rattle.std.proofs.Common.{◌≡◌, ℕ, ◌<◌, true, false, Option, None
 use Rattle.std.specs.List.{concat}
 use Rattle.std.proofs.lemmas.List.{get_or_past}
 use Rattle.std.proofs.lemmas.Bool.{cases_Bool, cases_lt, false≢true}
-use Rattle.rec_collector.proofs.Common.{Contents, Slot, IsKept, State, slot_at, times, absent, times-nil, IsReady, IsTidy, HasExchanged, IsCleared, IsClearingIn, AreResting, IsAtRest, NoneReleased, IsAt, IsMachine, IsTesting, Parts, followed, next_in, trial_started, with_freed, with_offers, with_released, going_on, Private, parts_of, tested, told, zeros_released, Begun, batched, Phase, Returning, Releasing, Freeing, listed}
+use Rattle.rec_collector.proofs.Common.{Contents, Slot, IsKept, State, slot_at, times, absent, times-nil, IsReady, IsTidy, HasExchanged, IsCleared, IsClearingIn, AreResting, IsAtRest, NoneReleased, IsMachine, IsTesting, MayGatherBehind, Parts, followed, next_in, trial_started, with_freed, with_offers, with_released, going_on, Private, parts_of, tested, told, zeros_released, Begun, batched, Phase, Releasing, Freeing}
 use Rattle.rec_counts.specs.Rest.{KeepsRest}
 use Rattle.rec_apply.specs.Batch.{batch, IsBatch, IsCovered}
 use Rattle.rec_apply.proofs.Whole.{is_batch}
@@ -187,16 +187,15 @@ batch_clears w newer older wide k covered c none counted =
     let tidy = batched_clear b none c.tidy counted c.ready c.work in
     zeros_clear false v 0 wide (b.lists k) tidy.0 tidy.1 (b.rest.work ∙ c.work) (none_exchanged v (λ x l. b.rest.released x ∙ none x (omega (arith, l, b.rest.slots))))
 
-pub begun_has : (p : Private) (t : ℕ) → IsMachine p → p.phase ≡ Returning t → t ≡ length p.newer → IsCovered p.counts p.newer p.older → HasCleared p (zeros_released false (batched p))
-begun_has p t k e last c =
-    let a : IsAt p (Returning t) = now_at p (Returning t) k e in
+pub begun_has : (p : Private) (t : ℕ) → IsMachine p → MayGatherBehind p t → IsCovered p.counts p.newer p.older → HasCleared p (zeros_released false (batched p))
+begun_has p t k a c =
     let w : Parts = batched p in
     let rests : KeepsRest p.counts w.counts = (is_batch p.counts p.newer p.older a.rest.zeros c).rest in
     let keeps : KeepsTold (parts_of p) (zeros_released false w).parts = told_on (same_told (parts_of p) w.counts rests.slots rests.sets) (zeros_told false w) in
     record {
       exchanged = 0;
       clears = batch_clears (parts_of p) p.newer p.older k.some_fields k.counts c (resting_cleared (parts_of p) a.rest) (none_released a.rest) a.rest.counted;
-      turns = omega (arith, a.turns, last);
+      turns = omega (arith, a.turns, a.there);
       fits = fits_on (fits_self p) keeps;
-      few_told = omega (arith, told_at p (Returning t) k e, keeps.told);
+      few_told = omega (arith, a.told, keeps.told);
     }

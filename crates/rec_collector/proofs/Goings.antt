@@ -2,7 +2,7 @@
 use Rattle.std.proofs.Common.{◌≡◌, ℕ, zero, suc, ◌+◌, ◌-◌, ◌<◌, ◌≤◌, min, Bool, true, false, cond, ltb, is_some, Option, None, Some, IsSome, List, [], ◌∷◌, length, get_or, slice_get, refl, arith, sym, ◌∙◌, ap, subst}
 use Rattle.std.proofs.lemmas.List.{length-map, length-set, length-take}
 use Rattle.std.proofs.lemmas.Bool.{false≢true, ltb-true, ltb-false}
-use Rattle.rec_collector.proofs.Common.{State, slot_at, out_of_set, emptied, first_of, with_next, without_first, KeepsMost, off_most, coloured, fate_at, relieved, with_freed, with_released, Parts, Begun, counted_by, last_tested, tested, tested_as, verdict_of, with_freeing, with_release, zeros_released, Phase, Freeing, Releasing, Passed, Touched, Held}
+use Rattle.rec_collector.proofs.Common.{State, slot_at, out_of_set, emptied, with_next, KeepsMost, off_most, coloured, fate_at, relieved, with_freed, with_released, Parts, Begun, counted_by, last_tested, tested, tested_as, verdict_of, with_freeing, with_release, zeros_released, Phase, Freeing, Releasing, Passed, Touched, Held}
 use Rattle.rec_word.specs.Word.{target_of}
 use Rattle.rec_counts.specs.Groups.{earlier_sets, last_set}
 use Rattle.rec_release.specs.CycleFree as frees

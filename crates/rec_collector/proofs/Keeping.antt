@@ -1,20 +1,20 @@
 -- What every machine keeps holds after every step, by the phase: while an epoch is requested and the buffers of the mutators are
 -- gathered, and on a turn that works on the parts.
-use Rattle.std.proofs.Common.{◌≡◌, ◌≢◌, ℕ, ◌+◌, ◌-◌, ◌^◌, ◌<◌, ◌==◌, true, false, Bool, cond, inl, inr, length, set, refl, arith, sym, ◌∙◌, ap, subst, List}
+use Rattle.std.proofs.Common.{◌≡◌, ℕ, ◌+◌, ◌-◌, ◌^◌, ◌<◌, ◌==◌, true, false, Bool, cond, if◌then◌else◌, Option, None, Some, inl, inr, length, set, refl, arith, sym, ◌∙◌, ap, subst, List}
 use Rattle.std.proofs.lemmas.List.{length-set, get_or-set_same, get_or-set_other}
-use Rattle.std.proofs.lemmas.Bool.{eqb-false, cases_eq, eqb-true}
-use Rattle.rec_collector.proofs.Common.{Contents, IsWork, IsSized, IsGiven, IsGivenAt, AreSized, AreSpare, IsAt, IsMachine, IsTold, swept_at, under_way, KeepsSizes, IsGathering, IsSweeping, Private, blank, buffer_at, parts_of, moved, swapped_at, took_at, batched, came, came_turn, ended_if, took_of, turn_at, turn_of, step_of, swapped_of, Phase, Idle, Looking, Swapping, Returning, Releasing, Freeing, Trying, Preparing, Sweeping, Closing, Opening, worked, Next, followed, with_freed, with_released, zeros_released, told}
+use Rattle.std.proofs.lemmas.Bool.{eqb-false, cases_eq}
+use Rattle.rec_collector.proofs.Common.{HaveLeft, batch_next, behind, gathering_on, MayGatherBehind, next_present, noted, requested, Contents, IsWork, IsSized, IsGiven, IsGivenAt, AreSized, IsAt, IsMachine, IsTold, swept_at, under_way, KeepsSizes, IsGathering, IsSweeping, Private, blank, buffer_at, parts_of, moved, swapped_at, took_at, came, came_turn, ended_if, took_of, turn_at, turn_of, step_of, swapped_of, Phase, Idle, Looking, Swapping, Returning, Releasing, Freeing, Trying, Preparing, Sweeping, Closing, Opening, worked, Next, followed, with_freed, with_released, zeros_released, told}
 use Rattle.rec_word.specs.Mailbox.{crossing_word}
 use Rattle.rec_word.specs.declared.mailbox.Mailbox.TheVariants.{Retired}
-use Rattle.rec_apply.specs.Batch.{batch}
+use Rattle.rec_apply.specs.Batch.{batch, IsCovered}
 use Rattle.rec_release.proofs.Kept.{sweep_kept}
 use Rattle.rec_collector.specs.Works.{MayWork}
 use Rattle.rec_collector.specs.Next.{is_spent}
 use Rattle.rec_collector.specs.declared.turn.Turn.{Turn}
-use Rattle.rec_collector.specs.declared.turn.Turn.TheVariants.{Moved}
 use Rattle.rec_collector.specs.Step.{IsBetween}
-use Rattle.rec_collector.proofs.Landing.{work_none, work_phase, machine_on, IsWorking, freed_at, now_at, told_at, under_way_at, Lands, landed, landed_keeps, landed_sizes, work_of}
-use Rattle.rec_collector.proofs.Following.{begun_has, followed_lands, freed_has, released_has}
+use Rattle.rec_collector.proofs.Gathering.{batch_keeps, next_keeps, noted_gathers, noted_keeps, requested_gathers, requested_keeps}
+use Rattle.rec_collector.proofs.Landing.{freed_at, landed, landed_keeps, landed_sizes, Lands, machine_on, now_at, told_at, under_way_at, work_none, work_on}
+use Rattle.rec_collector.proofs.Following.{followed_lands, freed_has, released_has}
 use Rattle.rec_collector.proofs.Trying.{prepared_lands, took_prepared, took_tried, tried_lands}
 use Rattle.rec_collector.proofs.Steps.{same_swapped, took_between}
 use Rattle.rec_collector.proofs.Sweeping.{ended_keeps, opening_keeps, sweeping_keeps}
@@ -22,21 +22,6 @@ use Rattle.rec_release.specs.Sweep.{swept}
 use Rattle.rec_release.specs.Sweep as sweeps
 use Rattle.rec_trial.specs.Rules.{visible}
 use Rattle.rec_trial.proofs.Visible.{visible_leads}
-
--- the next epoch is requested, if there is one
-idle_keeps : (p : Private) (word : ℕ) → IsMachine p → p.phase ≡ Idle → IsMachine (took_at p word Idle)
-unfolding took_at
-idle_keeps p word k e = go (is_spent p) refl
-  where
-    requested : Private
-    requested = moved (record p { epoch = p.epoch + 1 }) (Looking 1)
-
-    go : (b : Bool) → is_spent p ≡ b → IsMachine (cond b p requested)
-    go true s = k
-    go false s =
-        let a : IsAt p Idle = now_at p Idle k e in
-        machine_on p (p.epoch + 1) p.counts p.freed (Looking 1) k (omega (arith, k.epoch, eqb-false (p.epoch + 1) (2 ^ 24) s)) (omega (arith, under_way_at p Idle k e)) (freed_at p Idle k e) k.counts (told_at p Idle k e)
-        (record { rest = a.0; first = omega arith; there = omega (arith, k.mutators); spares = a.1; turns = omega (arith, a.2) })
 
 -- the mailbox of a mutator is held where it has crossed
 look_keeps : (p : Private) (word t : ℕ) → IsMachine p → p.phase ≡ Looking t → IsMachine (took_at p word (Looking t))
@@ -48,21 +33,7 @@ look_keeps p word t k e = go (word == crossing_word p.epoch Retired)
     go true =
         let a : IsAt p (Looking t) = now_at p (Looking t) k e in
         machine_on p p.epoch p.counts p.freed (Swapping t) k k.epoch (under_way_at p (Looking t) k e) (freed_at p (Looking t) k e) k.counts (told_at p (Looking t) k e)
-        (record { rest = a.rest; first = a.first; there = a.there; spares = a.spares; turns = omega (arith, a.turns, a.first) })
-
--- the next mutator's mailbox follows
-next_keeps : (p : Private) (t : ℕ) → IsMachine p → p.phase ≡ Returning t → t ≢ length p.newer → IsMachine (moved p (Looking (t + 1)))
-next_keeps p t k e other =
-    let a : IsAt p (Returning t) = now_at p (Returning t) k e in
-    let same : t + 1 - 1 ≡ t = omega arith in
-    machine_on p p.epoch p.counts p.freed (Looking (t + 1)) k k.epoch (under_way_at p (Returning t) k e) (freed_at p (Returning t) k e) k.counts (told_at p (Returning t) k e)
-    (record {
-      rest = a.rest;
-      first = omega arith;
-      there = omega (arith, a.there, other);
-      spares = subst (λ from. AreSpare p from) (sym same) a.spares;
-      turns = omega (arith, a.turns);
-    })
+        (record { gathering = record { rest = a.rest; first = a.first; there = a.there; spares = a.spares; turns = omega (arith, a.turns, a.first) }; present = a.present })
 
 -- a buffer joins the newer ones
 swap_sized : (p : Private) (i : ℕ) (box : Contents) → IsSized p.registers p.capacity box → AreSized p.registers p.capacity p.newer → AreSized p.registers p.capacity (set p.newer i box)
@@ -85,6 +56,7 @@ swap_keeps p t box z k e =
       some_fields = k.some_fields;
       few_fields = k.few_fields;
       rows = record { mutators = omega (arith, k.mutators, many); few = omega (arith, k.few, many); both = k.both ∙ sym many; newer = swap_sized p (t - 1) box z k.newer; older = k.older };
+      left = k.left ∙ sym many;
       counts = k.counts;
       told = told_at p (Swapping t) k e;
       now = record {
@@ -97,24 +69,23 @@ swap_keeps p t box z k e =
     }
 
 -- what follows a word that works on the parts lands
-work_lands : (p : Private) (word : ℕ) (phase : Phase) → IsMachine p → p.phase ≡ phase → IsGivenAt p word phase → IsWorking p phase → Lands p (work_of p word phase)
+work_lands : (p : Private) (word : ℕ) (phase : Phase) → IsMachine p → p.phase ≡ phase → IsGivenAt p word phase → IsWork phase → Lands p (worked (parts_of p) word phase)
 unfolding IsGivenAt
-work_lands p word (Returning t) k e g last = followed_lands p (zeros_released false (batched p)) (begun_has p t k e last (g last))
 work_lands p word (Releasing m) k e g at_work = followed_lands p (with_released m (parts_of p) word) (released_has p m word k e g)
 work_lands p word (Freeing m) k e g at_work = followed_lands p (with_freed m (parts_of p) word) (freed_has p m word k e g)
 work_lands p word (Trying m) k e g at_work = tried_lands p (parts_of p) _ (took_tried p m (visible p.counts word) k e (visible_leads p.counts word g))
 work_lands p word (Preparing m) k e g at_work = prepared_lands p (parts_of p) _ (took_prepared p m word k e)
 work_lands p word _ k e g at_work = absurd at_work
 
-work_keeps : (p : Private) (word : ℕ) (phase : Phase) → IsMachine p → p.phase ≡ phase → IsGivenAt p word phase → IsWorking p phase → IsMachine (landed p (work_of p word phase))
+work_keeps : (p : Private) (word : ℕ) (phase : Phase) → IsMachine p → p.phase ≡ phase → IsGivenAt p word phase → IsWork phase → IsMachine (landed p (worked (parts_of p) word phase))
 work_keeps p word phase k e g at_work =
-    landed_keeps p (work_of p word phase) phase k e (way phase at_work) (none phase at_work) (work_phase (λ f. under_way f ≡ 1) (λ m. refl) (λ m. refl) (λ m. refl) (λ m. refl) refl refl p word phase at_work) (work_none p word phase at_work) (work_lands p word phase k e g at_work)
+    landed_keeps p (worked (parts_of p) word phase) k (omega (arith, under_way_at p phase k e, way phase at_work)) (omega (arith, freed_at p phase k e, none phase at_work)) (work_on (parts_of p) word phase at_work) (work_none (parts_of p) word phase at_work) (work_lands p word phase k e g at_work)
   where
-    way : (phase : Phase) → IsWorking p phase → under_way phase ≡ 1
+    way : (phase : Phase) → IsWork phase → under_way phase ≡ 1
     way Idle a = absurd a
     way _ a = refl
 
-    none : (phase : Phase) → IsWorking p phase → swept_at phase ≡ 0
+    none : (phase : Phase) → IsWork phase → swept_at phase ≡ 0
     none (Sweeping due n) a = absurd a
     none (Closing n) a = absurd a
     none _ a = refl
@@ -128,42 +99,17 @@ may_work p word (Trying m) k e at_work g = let a : IsAt p (Trying m) = now_at p 
 may_work p word (Preparing m) k e at_work g = let a : IsAt p (Preparing m) = now_at p (Preparing m) k e in (a.busy, a.kept, g)
 may_work p word _ k e at_work g = absurd at_work
 
-pub works_there : (p : Private) (phase : Phase) → IsWork phase → IsWorking p phase
-works_there p (Returning t) w = absurd w
-works_there p (Releasing m) w = tt
-works_there p (Freeing m) w = tt
-works_there p (Trying m) w = tt
-works_there p (Preparing m) w = tt
-works_there p _ w = absurd w
-
--- what follows such a word, and what is learnt and answered then
-pub work_is : (p : Private) (word : ℕ) (phase : Phase) → IsWork phase → work_of p word phase ≡ worked (parts_of p) word phase
-work_is p word (Returning t) w = absurd w
-work_is p word (Releasing m) w = refl
-work_is p word (Freeing m) w = refl
-work_is p word (Trying m) w = refl
-work_is p word (Preparing m) w = refl
-work_is p word _ w = absurd w
-
-pub work_took : (p : Private) (word : ℕ) (phase : Phase) → IsWork phase → (came p (work_of p word phase) ≡ took_at p word phase) × (came_turn p.epoch (work_of p word phase).phase ≡ turn_at p word phase)
+-- what is learnt and answered then
+work_took : (p : Private) (word : ℕ) (phase : Phase) → IsWork phase → (came p (worked (parts_of p) word phase) ≡ took_at p word phase) × (came_turn p.epoch (worked (parts_of p) word phase).phase ≡ turn_at p word phase)
 unfolding took_at turn_at
-work_took p word (Returning t) w = absurd w
 work_took p word (Releasing m) w = (refl, refl)
 work_took p word (Freeing m) w = (refl, refl)
 work_took p word (Trying m) w = (refl, refl)
 work_took p word (Preparing m) w = (refl, refl)
 work_took p word _ w = absurd w
 
--- a mailbox was given back: with the last one the batch was applied, and else another one follows
-pub returned_as : (p now : Private) (t : ℕ) (b : Bool) → p ≡ now → (t == length p.newer) ≡ b →
-    (cond b (came p (work_of p 0 (Returning t))) (moved p (Looking (t + 1))) ≡ took_at now 0 (Returning t)) × (cond b (came_turn p.epoch (work_of p 0 (Returning t)).phase) Moved ≡ turn_at now 0 (Returning t))
-unfolding took_at turn_at
-returned_as p now t b v e = (
-  ap (λ c. cond c (came p (work_of p 0 (Returning t))) (moved p (Looking (t + 1)))) (sym e) ∙ ap (λ (q : Private). took_at q 0 (Returning t)) v,
-  ap (λ c. cond c (came_turn p.epoch (work_of p 0 (Returning t)).phase) Moved) (sym e) ∙ ap (λ (q : Private). turn_at q 0 (Returning t)) v,
-)
-
-pub batch_follows : (p : Private) (n : Next) (newer older : List Contents) → n ≡ followed (zeros_released false (record (parts_of p) { counts = batch p.counts newer older })) → newer ≡ p.newer → older ≡ p.older → n ≡ followed (zeros_released false (batched p))
+-- the batch as its call tells it
+pub batch_follows : (p : Private) (n : Next) (newer older : List Contents) → n ≡ followed (zeros_released false (record (parts_of p) { counts = batch p.counts newer older })) → newer ≡ p.newer → older ≡ p.older → n ≡ batch_next p
 batch_follows p n newer older e f g =
     e ∙ ap (λ (b : List Contents). followed (zeros_released false (record (parts_of p) { counts = batch p.counts b older }))) f
     ∙ ap (λ (b : List Contents). followed (zeros_released false (record (parts_of p) { counts = batch p.counts p.newer b }))) g
@@ -181,7 +127,7 @@ learnt p now word q turn phase v e took told =
     (took ∙ sym (ap (took_at now word) f), told ∙ sym (ap (turn_at now word) f))
 
 -- a turn on the parts, as its calls tell: it came to `n`, which is what follows
-module _ (p now : Private) (word : ℕ) (phase : Phase) (n : Next) (k : IsMachine p) (v : p ≡ now) (e : now.phase ≡ phase) (g : IsGivenAt now word phase) (at_work : IsWorking p phase) (is : n ≡ work_of p word phase) where
+module _ (p now : Private) (word : ℕ) (phase : Phase) (n : Next) (k : IsMachine p) (v : p ≡ now) (e : now.phase ≡ phase) (g : IsGivenAt now word phase) (at_work : IsWork phase) (is : n ≡ worked (parts_of p) word phase) where
   abbrev at : p.phase ≡ phase
   at = ap (λ (q : Private). q.phase) v ∙ e
 
@@ -191,11 +137,10 @@ module _ (p now : Private) (word : ℕ) (phase : Phase) (n : Next) (k : IsMachin
   pub turned_keeps : IsMachine (landed p n)
   turned_keeps = subst (λ (m : Next). IsMachine (landed p m)) (sym is) (work_keeps p word phase k at given at_work)
 
-  pub turned : (q : Private) (turn : Turn) → came p (work_of p word phase) ≡ took_at p word phase → came_turn p.epoch (work_of p word phase).phase ≡ turn_at p word phase →
-      q ≡ ended_if n.phase (landed p n) → turn ≡ came_turn p.epoch n.phase → KeepsSizes (landed p n) q → (q ≡ took_at now word phase) × (turn ≡ turn_at now word phase) × KeepsSizes now q
-  turned q turn took told ends answers sizes = (
-    ends ∙ ap (came p) is ∙ took ∙ ap (λ (r : Private). took_at r word phase) v,
-    answers ∙ ap (λ (m : Next). came_turn p.epoch m.phase) is ∙ told ∙ ap (λ (r : Private). turn_at r word phase) v,
+  pub turned : (q : Private) (turn : Turn) → q ≡ ended_if n.phase (landed p n) → turn ≡ came_turn p.epoch n.phase → KeepsSizes (landed p n) q → (q ≡ took_at now word phase) × (turn ≡ turn_at now word phase) × KeepsSizes now q
+  turned q turn ends answers sizes = (
+    ends ∙ ap (came p) is ∙ (work_took p word phase at_work).0 ∙ ap (λ (r : Private). took_at r word phase) v,
+    answers ∙ ap (λ (m : Next). came_turn p.epoch m.phase) is ∙ (work_took p word phase at_work).1 ∙ ap (λ (r : Private). turn_at r word phase) v,
     subst (λ (r : Private). KeepsSizes r q) v (landed_sizes p q n (subst (Lands p) (sym is) (work_lands p word phase k at given at_work)) sizes),
   )
 
@@ -205,29 +150,35 @@ ended_if_keeps p (Closing n) k e = ended_keeps p n k e
 ended_if_keeps p _ k e = k
 
 -- a turn that works on the parts
-came_keeps : (p : Private) (word : ℕ) (phase : Phase) → IsMachine p → p.phase ≡ phase → IsGivenAt p word phase → IsWorking p phase → IsMachine (came p (work_of p word phase))
-came_keeps p word phase k e g at_work = let n : Next = work_of p word phase in ended_if_keeps (landed p n) n.phase (work_keeps p word phase k e g at_work) refl
+came_keeps : (p : Private) (n : Next) → IsMachine (landed p n) → IsMachine (came p n)
+came_keeps p n k = ended_if_keeps (landed p n) n.phase k refl
 
--- a mailbox was given back
-return_keeps : (p : Private) (word t : ℕ) → IsMachine p → p.phase ≡ Returning t → IsGivenAt p word (Returning t) → IsMachine (took_at p word (Returning t))
-unfolding took_at
-return_keeps p word t k e g = go (t == length p.newer) refl
+-- the next mutator follows, or the batch
+behind_keeps : (p : Private) (t : ℕ) → IsMachine p → MayGatherBehind p t → IsMachine (behind p t)
+behind_keeps p t k g = go (next_present p.left t) refl
   where
-    go : (b : Bool) → (t == length p.newer) ≡ b → IsMachine (cond b (came p (work_of p word (Returning t))) (moved p (Looking (t + 1))))
-    go true q = came_keeps p word (Returning t) k e g (eqb-true t (length p.newer) q)
-    go false q = next_keeps p t k e (eqb-false t (length p.newer) q)
+    go : (next : Option ℕ) → next_present p.left t ≡ next → IsMachine (gathering_on p next)
+    go None none = came_keeps p (batch_next p) (batch_keeps p t k g none)
+    go (Some next) found = next_keeps p t next k g found
+
+idle_keeps : (p : Private) → IsMachine p → p.phase ≡ Idle → (HaveLeft p.left 0 → IsCovered p.counts p.newer p.older) → IsMachine (if is_spent p then p else behind (requested p) 0)
+idle_keeps p k e g = go (is_spent p) refl
+  where
+    go : (b : Bool) → is_spent p ≡ b → IsMachine (cond b p (behind (requested p) 0))
+    go true s = k
+    go false s = behind_keeps (requested p) 0 (requested_keeps p k e (eqb-false (p.epoch + 1) (2 ^ 24) s)) (requested_gathers p k e g)
 
 -- what is learnt
 took_keeps_at : (p : Private) (word : ℕ) (phase : Phase) → IsMachine p → p.phase ≡ phase → IsGivenAt p word phase → IsMachine (took_at p word phase)
 unfolding took_at IsGivenAt sweeps.took_of
-took_keeps_at p word Idle k e g = idle_keeps p word k e
+took_keeps_at p word Idle k e g = idle_keeps p k e g
 took_keeps_at p word (Looking t) k e g = look_keeps p word t k e
 took_keeps_at p word (Swapping t) k e g = absurd g
-took_keeps_at p word (Returning t) k e g = return_keeps p word t k e g
+took_keeps_at p word (Returning t) k e g = behind_keeps (noted p t) t (noted_keeps p t k e) (noted_gathers p t k e g)
 took_keeps_at p word Opening k e g = opening_keeps p k e
 took_keeps_at p word (Sweeping due n) k e g = sweeping_keeps p due n word k e (sweep_kept p.counts due k.counts)
 took_keeps_at p word (Closing n) k e g = ended_keeps p n k e
-took_keeps_at p word phase k e g = came_keeps p word phase k e g tt
+took_keeps_at p word phase k e g = came_keeps p (worked (parts_of p) word phase) (work_keeps p word phase k e g tt)
 
 -- a whole step: where a mailbox is held, its buffer is swapped
 kept_at : (p : Private) (word : ℕ) (box : Contents) (phase : Phase) → IsMachine p → p.phase ≡ phase → IsBetween phase → IsGivenAt p word phase → IsSized p.registers p.capacity box → IsMachine (swapped_of (took_at p word phase) box)
@@ -247,8 +198,8 @@ unfolding step_of took_of IsGiven
 machine_kept p word box k between given sized = kept_at p word box p.phase k refl between given sized
 
 module _ (p : Private) (b : Bool) where
-  gathering_on : (t given_back made : ℕ) → IsGathering p t given_back made → IsGathering (record p { offers = b }) t given_back made
-  gathering_on t given_back made g = record { rest = g.rest; first = g.first; there = g.there; spares = g.spares; turns = g.turns }
+  gathering_kept : (t given_back made : ℕ) → IsGathering p t given_back made → IsGathering (record p { offers = b }) t given_back made
+  gathering_kept t given_back made g = record { rest = g.rest; first = g.first; there = g.there; spares = g.spares; turns = g.turns }
 
   sweeping_on : (swept made : ℕ) → IsSweeping p swept made → IsSweeping (record p { offers = b }) swept made
   sweeping_on swept made s = record { before = s.before; left = s.left; turns = s.turns }
@@ -262,7 +213,9 @@ module _ (p : Private) (b : Bool) where
   at_on Opening a = (sweeping_on 0 0 a.0, a.1)
   at_on (Sweeping due n) a = (sweeping_on n _ a.0, a.1, a.2)
   at_on (Closing n) a = (sweeping_on n _ a.0, a.1)
-  at_on _ a = gathering_on _ _ _ a
+  at_on (Looking t) a = record { gathering = gathering_kept _ _ _ a.gathering; present = a.present }
+  at_on (Swapping t) a = record { gathering = gathering_kept _ _ _ a.gathering; present = a.present }
+  at_on (Returning t) a = gathering_kept _ _ _ a
 
   told_on : (phase : Phase) → IsTold p phase → IsTold (record p { offers = b }) phase
   told_on Idle t = t
@@ -276,6 +229,7 @@ module _ (p : Private) (b : Bool) where
     some_fields = k.some_fields;
     few_fields = k.few_fields;
     rows = k.rows;
+    left = k.left;
     counts = k.counts;
     told = told_on p.phase k.told;
     now = at_on p.phase k.now;

@@ -1,6 +1,6 @@
 -- Where a turn lands that works on the parts of the machine: the phase that it came to, and what holds there.
 use Rattle.std.proofs.Common.{◌≡◌, ℕ, ◌+◌, ◌*◌, ◌^◌, ◌<◌, ◌≤◌, false, Option, None, Some, List, [], ◌∷◌, length, refl, arith, ap, subst, ◌∙◌, IfSome, Bool, slice_get, true}
-use Rattle.rec_collector.proofs.Common.{State, Next, followed, prepared, prepared_at, tried, tried_at, with_freed, with_released, going_on, gone_on, relieved_at, with_offers, worked, prep_started, all_fields, IsAt, IsMachine, IsTold, KeepsSizes, swept_at, under_way, Parts, new_release, Private, parts_of, with_parts, tested, zeros_released, Begun, freeing_at, last_tested, releasing_at, batched, moved, Phase, Idle, Releasing, Freeing, Trying, Preparing, Opening, Closing, Returning, IsWork}
+use Rattle.rec_collector.proofs.Common.{State, Next, followed, prepared, prepared_at, tried, tried_at, with_freed, with_released, going_on, gone_on, relieved_at, with_offers, worked, prep_started, all_fields, IsAt, IsMachine, IsTold, KeepsSizes, swept_at, under_way, Parts, new_release, Private, with_parts, tested, zeros_released, Begun, freeing_at, last_tested, releasing_at, batch_next, batched, moved, Phase, Idle, Releasing, Freeing, Trying, Preparing, Opening, Closing, IsWork}
 use Rattle.rec_counts.specs.Counts.{IsKept as IsKeptCounts}
 use Rattle.rec_release.specs.declared.at.At.{At}
 use Rattle.rec_trial.specs.Trial.{Machine as Trial}
@@ -90,28 +90,22 @@ module _ (P : Phase → Type 0) (preparing : (m : preps.Machine) → P (Preparin
       worked_phase w word (Preparing m) at_work = prepared_phase w (preps.took_of (record { machine = m; counts = w.counts }) word)
       worked_phase w word _ at_work = absurd at_work
 
--- the phases in which a word works on the parts, and what follows it there
-abbrev pub IsWorking : Private → Phase → Type 0
-IsWorking p (Returning t) = t ≡ length p.newer
-IsWorking p phase = IsWork phase
+      -- what follows a batch
+      pub batch_phase : (p : Private) → P (batch_next p).phase
+      batch_phase p = followed_phase (zeros_released false (batched p)) (zeros_phase false (batched p))
 
-abbrev pub work_of : Private → (word : ℕ) → Phase → Next
-work_of p word (Returning t) = followed (zeros_released false (batched p))
-work_of p word phase = worked (parts_of p) word phase
+-- a collection is under way then, and nothing is swept yet
+pub work_on : (w : Parts) (word : ℕ) (phase : Phase) → IsWork phase → under_way (worked w word phase).phase ≡ 1
+work_on w word phase at_work = worked_phase (λ f. under_way f ≡ 1) (λ m. refl) refl refl (λ m. refl) (λ m. refl) (λ m. refl) w word phase at_work
 
--- what holds of each phase that may follow
-pub work_phase : (P : Phase → Type 0) → ((m : releases.Machine) → P (Releasing m)) → ((m : frees.Machine) → P (Freeing m)) → ((m : Trial) → P (Trying m)) → ((m : preps.Machine) → P (Preparing m)) → P Opening → P (Closing 0) →
-    (p : Private) (word : ℕ) (phase : Phase) → IsWorking p phase → P (work_of p word phase).phase
-work_phase P r f t l o c p word (Returning u) at_work = followed_phase P l o c t f r (zeros_released false (batched p)) (zeros_phase P l o c t f r false (batched p))
-work_phase P r f t l o c p word (Releasing m) at_work = worked_phase P l o c t f r (parts_of p) word (Releasing m) at_work
-work_phase P r f t l o c p word (Freeing m) at_work = worked_phase P l o c t f r (parts_of p) word (Freeing m) at_work
-work_phase P r f t l o c p word (Trying m) at_work = worked_phase P l o c t f r (parts_of p) word (Trying m) at_work
-work_phase P r f t l o c p word (Preparing m) at_work = worked_phase P l o c t f r (parts_of p) word (Preparing m) at_work
-work_phase P r f t l o c p word _ at_work = absurd at_work
+pub work_none : (w : Parts) (word : ℕ) (phase : Phase) → IsWork phase → swept_at (worked w word phase).phase ≡ 0
+work_none w word phase at_work = worked_phase (λ f. swept_at f ≡ 0) (λ m. refl) refl refl (λ m. refl) (λ m. refl) (λ m. refl) w word phase at_work
 
--- nothing is swept yet where the parts were at work
-pub work_none : (p : Private) (word : ℕ) (phase : Phase) → IsWorking p phase → swept_at (work_of p word phase).phase ≡ 0
-work_none p word phase at_work = work_phase (λ f. swept_at f ≡ 0) (λ m. refl) (λ m. refl) (λ m. refl) (λ m. refl) refl refl p word phase at_work
+pub batch_on : (p : Private) → under_way (batch_next p).phase ≡ 1
+batch_on p = batch_phase (λ f. under_way f ≡ 1) (λ m. refl) refl refl (λ m. refl) (λ m. refl) (λ m. refl) p
+
+pub batch_none : (p : Private) → swept_at (batch_next p).phase ≡ 0
+batch_none p = batch_phase (λ f. swept_at f ≡ 0) (λ m. refl) refl refl (λ m. refl) (λ m. refl) (λ m. refl) p
 
 -- these parts have as many slots, and as many fields a slot, as the machine
 pub record Fits (p : Private) (w : Parts) : Type 0 where
@@ -133,14 +127,15 @@ pub record Lands (p : Private) (n : Next) : Type 0 where
   pub told : IsTold (landed p n) n.phase
   pub now : IsAt (landed p n) n.phase
 
-pub landed_keeps : (p : Private) (n : Next) (phase : Phase) → IsMachine p → p.phase ≡ phase → under_way phase ≡ 1 → swept_at phase ≡ 0 → under_way n.phase ≡ 1 → swept_at n.phase ≡ 0 → Lands p n → IsMachine (landed p n)
-landed_keeps p n phase k e under none on still l = record {
+pub landed_keeps : (p : Private) (n : Next) → IsMachine p → p.collections + 1 ≤ p.epoch → p.freed ≤ 2 ^ 16 * p.collections → under_way n.phase ≡ 1 → swept_at n.phase ≡ 0 → Lands p n → IsMachine (landed p n)
+landed_keeps p n k requested freed on still l = record {
   epoch = k.epoch;
-  collections = omega (arith, under_way_at p phase k e, under, on);
-  freed = omega (arith, freed_at p phase k e, none, still);
+  collections = omega (arith, requested, on);
+  freed = omega (arith, freed, still);
   some_fields = omega (arith, k.some_fields, l.fits.fields);
   few_fields = omega (arith, k.few_fields, l.fits.fields);
   rows = k.rows;
+  left = k.left;
   counts = l.counts;
   told = l.told;
   now = l.now;
@@ -153,7 +148,7 @@ landed_sizes p q n l s = record { slots = s.slots ∙ l.fits.slots; fields = s.f
 -- a turn that leaves the buffers and the sets that were tested
 pub machine_on : (p : Private) (epoch : ℕ) (s : State) (freed : ℕ) (next : Phase) → IsMachine p → epoch < 2 ^ 24 → p.collections + under_way next ≤ epoch → freed ≤ 2 ^ 16 * p.collections + swept_at next → IsKeptCounts s →
     (let q : Private = moved (record p { epoch = epoch; counts = s; freed = freed }) next in IsTold q next → IsAt q next → IsMachine q)
-machine_on p epoch s freed next k fits under swept counts told now = record { epoch = fits; collections = under; freed = swept; some_fields = k.some_fields; few_fields = k.few_fields; rows = k.rows; counts = counts; told = told; now = now }
+machine_on p epoch s freed next k fits under swept counts told now = record { epoch = fits; collections = under; freed = swept; some_fields = k.some_fields; few_fields = k.few_fields; rows = k.rows; left = k.left; counts = counts; told = told; now = now }
 
 -- at most one collection is under way
 pub under_way_most : (phase : Phase) → under_way phase ≤ 1

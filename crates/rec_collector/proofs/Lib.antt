@@ -7,6 +7,7 @@ pub mod Counting
 pub mod Exchanging
 pub mod Following
 pub mod Freeing
+pub mod Gathering
 pub mod Goings
 pub mod Greens
 pub mod Judging
@@ -15,6 +16,7 @@ pub mod Landing
 pub mod Offering
 pub mod Opening
 pub mod Outside
+pub mod Presence
 pub mod Rows
 pub mod Sends
 pub mod Steps

@@ -66,6 +66,7 @@ opened_keeps slots fields registers mutators capacity epoch f few r m small e k 
         newer = row_sized registers capacity mutators (blank registers capacity) (length-replicate registers None, refl);
         older = row_sized registers capacity mutators (retired (first_registers registers) capacity) (omega (arith, r, length-replicate {A = Option ℕ} (registers - 1) None), refl);
       };
+      left = length-replicate mutators false ∙ sym newer;
       counts = k;
       told = omega arith;
       now = (

@@ -3,25 +3,28 @@
 use Rattle.std.proofs.Common.{◌≡◌, ◌≢◌, ℕ, zero, suc, ◌+◌, ◌-◌, ◌^◌, ◌<◌, ◌==◌, true, false, Bool, cond, Option, None, Some, List, [], ◌∷◌, length, refl, arith, sym, ap, subst, ◌∙◌, inl, inr, ◌≤◌, IsSome, IsNone, is_some}
 use Rattle.std.proofs.lemmas.Bool.{eqb-false, eq-eqb, eqb-true, false≢true, cases_eq, ne_eqb, cond-false}
 use Rattle.std.proofs.lemmas.List.{nil_from_length}
-use Rattle.rec_collector.proofs.Common.{Op, Contents, LastRefurbished, Next, followed, next_in, prep_started, prepared, prepared_at, sweep_phase, tried, tried_at, with_freed, with_released, going_on, gone_on, with_offers, IsGiven, IsGivenAt, IsMachine, swept_at, IsAt, Parts, Private, parts_of, with_parts, last_tested, tested, tested_as, verdict_of, zeros_released, Begun, batched, came, came_turn, moved, step_of, swapped_of, swapped_at, swept_phase, took_at, took_of, turn_at, turn_of, ended_if, left_at, left_of, Phase, Idle, Looking, Swapping, Returning, Releasing, Freeing, Trying, Preparing, Opening, Sweeping, Closing, Passed, Touched, Held, IsClearingIn}
+use Rattle.rec_collector.proofs.Common.{HaveLeft, batch_next, behind, behind_turn, gathering_on, gathering_turn, IsNextPresent, IsWork, MayGatherBehind, next_present, noted, requested, worked, Op, Contents, LastRefurbished, Next, followed, next_in, prep_started, prepared, prepared_at, sweep_phase, tried, tried_at, with_freed, with_released, going_on, gone_on, with_offers, IsGiven, IsGivenAt, IsMachine, swept_at, IsAt, Parts, Private, parts_of, with_parts, last_tested, tested, tested_as, verdict_of, zeros_released, Begun, batched, came, came_turn, moved, step_of, swapped_of, swapped_at, swept_phase, took_at, took_of, turn_at, turn_of, ended_if, left_at, left_of, Phase, Idle, Looking, Swapping, Returning, Releasing, Freeing, Trying, Preparing, Opening, Sweeping, Closing, Passed, Touched, Held, IsClearingIn}
 use Rattle.rec_word.specs.Mailbox.{crossing_word}
 use Rattle.rec_word.specs.declared.mailbox.Mailbox.TheVariants.{Retired}
-use Rattle.rec_word.specs.declared.op.Op.TheVariants.{StoreEpoch, LookBox, ReturnBox}
+use Rattle.rec_word.specs.declared.op.Op.TheVariants.{StoreEpoch, LookBox}
 use Rattle.rec_release.specs.Sweep.{next_of as sweep_next}
 use Rattle.rec_sigma.specs.Settling.{refurbished_of}
 use Rattle.rec_sigma.proofs.Renewals.{refurbished_last}
 use Rattle.rec_trial.specs.Trial.{next_of as trial_next}
 use Rattle.rec_apply.specs.Batch.{IsCovered}
 use Rattle.rec_collector.specs.Next.{is_spent, next_at, next_of}
-use Rattle.rec_collector.specs.Step.{Step, ClearsOn, IsTested, PreparesOn, TriesOn, IsNext, IsBetween, LeavesBox, WholeStep}
+use Rattle.rec_collector.specs.Step.{Step, Applies, ClearsOn, GoesOn, IsTested, PreparesOn, TriesOn, IsNext, IsBetween, LeavesBox, WholeStep}
+use Rattle.rec_collector.specs.declared.turn.Turn.{Turn}
 use Rattle.rec_collector.specs.declared.turn.Turn.TheVariants.{Moved, Waiting, EpochsSpent}
 use Rattle.rec_collector.specs.declared.verdict.Verdict.{Verdict}
 use Rattle.rec_collector.specs.Causes.{HasCause}
 use Rattle.rec_collector.proofs.Clearing.{Clears}
 use Rattle.rec_collector.proofs.Following.{HasCleared, begun_has, freed_has, released_has}
+use Rattle.rec_collector.proofs.Gathering.{noted_gathers, noted_keeps, requested_gathers, requested_keeps}
 use Rattle.rec_collector.proofs.Goings.{last_sets, still}
 use Rattle.rec_collector.proofs.Judging.{Says, verdict_says, last_refusable}
-use Rattle.rec_collector.proofs.Landing.{work_none, work_of, work_phase, landed, now_at, under_way_at, IsWorking}
+use Rattle.rec_collector.proofs.Landing.{batch_none, batch_phase, landed, now_at, under_way_at, work_none, worked_phase}
+use Rattle.rec_collector.proofs.Presence.{next_none, next_some}
 use Rattle.rec_collector.proofs.Sweeping.{due_slot}
 use Rattle.rec_collector.proofs.Testing.{last_clear}
 use Rattle.rec_release.specs.Sweep as sweeps
@@ -133,13 +136,31 @@ same_swapped p box phase e b = ap (swapped_at p box) e ∙ go phase b
     go (Swapping t) b = absurd b
     go _ b = refl
 
-idle_step : (p : Private) (word : ℕ) (box : Contents) → p.phase ≡ Idle → Step p word box (next_at p Idle) (swapped_of (took_at p word Idle) box) (turn_at p word Idle)
-unfolding next_at took_at turn_at swapped_of swapped_at
-idle_step p word box is = go (is_spent p) refl
+-- the next mutator's mailbox follows, or the batch
+data Gathers (p q : Private) (turn : Turn) (t : ℕ) : Type 0 where
+  next_one : (next : ℕ) → IsNextPresent p.left t next → GoesOn p q turn (Looking next) → Gathers p q turn t
+  batch_now : HaveLeft p.left t → Applies p q turn → Gathers p q turn t
+
+gathers : (p : Private) (t : ℕ) (box : Contents) → IsMachine p → MayGatherBehind p t → Gathers p (swapped_of (behind p t) box) (behind_turn p t) t
+unfolding swapped_of swapped_at
+gathers p t box k g = go (next_present p.left t) refl
   where
-    go : (b : Bool) → is_spent p ≡ b → Step p word box (cond b None (Some (StoreEpoch (p.epoch + 1)))) (swapped_of (cond b p (moved (record p { epoch = p.epoch + 1 }) (Looking 1))) box) (cond b EpochsSpent Moved)
+    go : (next : Option ℕ) → next_present p.left t ≡ next → Gathers p (swapped_of (gathering_on p next) box) (gathering_turn p next) t
+    go None e = let gone : HaveLeft p.left t = next_none p.left t e in Gathers.batch_now gone (cleared_on p (zeros_released false (batched p)) box (begun_has p t k g (g.covered gone)))
+    go (Some next) e = Gathers.next_one next (next_some p.left t next e) (record { after = refl; answer = refl })
+
+idle_step : (p : Private) (word : ℕ) (box : Contents) → IsMachine p → p.phase ≡ Idle → (HaveLeft p.left 0 → IsCovered p.counts p.newer p.older) → Step p word box (next_at p Idle) (swapped_of (took_at p word Idle) box) (turn_at p word Idle)
+unfolding next_at took_at turn_at
+idle_step p word box k is covered = go (is_spent p) refl
+  where
+    go : (b : Bool) → is_spent p ≡ b → Step p word box (cond b None (Some (StoreEpoch (p.epoch + 1)))) (swapped_of (cond b p (behind (requested p) 0)) box) (cond b EpochsSpent (behind_turn (requested p) 0))
     go true e = Step.spent is (eqb-true (p.epoch + 1) (2 ^ 24) e) refl (same_swapped p box Idle is tt) refl
-    go false e = Step.request is (eqb-false (p.epoch + 1) (2 ^ 24) e) refl (record { after = refl; answer = refl })
+    go false e =
+        let more : p.epoch + 1 ≢ 2 ^ 24 = eqb-false (p.epoch + 1) (2 ^ 24) e in
+        elim (gathers (requested p) 0 box (requested_keeps p k is more) (requested_gathers p k is covered)) [
+          | Gathers.next_one next n g ↦ Step.request next is more refl n g
+          | Gathers.batch_now gone a ↦ Step.request_alone is more refl gone a
+        ]
 
 look_step : (p : Private) (word : ℕ) (box : Contents) (t : ℕ) → p.phase ≡ Looking t → Step p word box (next_at p (Looking t)) (swapped_of (took_at p word (Looking t)) box) (turn_at p word (Looking t))
 unfolding next_at took_at turn_at swapped_of swapped_at
@@ -149,18 +170,13 @@ look_step p word box t is = go (word == crossing_word p.epoch Retired) refl
     go true e = Step.gather t is (eqb-true word (crossing_word p.epoch Retired) e) refl (record { after = refl; answer = refl })
     go false e = Step.wait t is (eqb-false word (crossing_word p.epoch Retired) e) refl (same_swapped p box (Looking t) is tt) refl
 
--- with the last mailbox the batch is applied
-return_step : (p : Private) (word : ℕ) (box : Contents) (t : ℕ) → IsMachine p → p.phase ≡ Returning t → (t ≡ length p.newer → IsCovered p.counts p.newer p.older) → Step p word box (next_at p (Returning t)) (swapped_of (took_at p word (Returning t)) box) (turn_at p word (Returning t))
-unfolding next_at took_at turn_at swapped_of swapped_at
-return_step p word box t k is c = go (t == length p.newer) refl
-  where
-    w : Begun
-    w = zeros_released false (batched p)
-
-    go : (b : Bool) → (t == length p.newer) ≡ b
-        → Step p word box (Some (ReturnBox t p.epoch)) (swapped_of (cond b (came p (followed w)) (moved p (Looking (t + 1)))) box) (cond b (came_turn p.epoch (followed w).phase) Moved)
-    go true e = let last : t ≡ length p.newer = eqb-true t (length p.newer) e in Step.apply t is last refl (cleared_on p w box (begun_has p t k is last (c last)))
-    go false e = Step.give_back t is (eqb-false t (length p.newer) e) refl (record { after = refl; answer = refl })
+-- a mailbox was given back
+return_step : (p : Private) (word : ℕ) (box : Contents) (t : ℕ) → IsMachine p → p.phase ≡ Returning t → (HaveLeft p.left t → IsCovered p.counts p.newer p.older) → Step p word box (next_at p (Returning t)) (swapped_of (took_at p word (Returning t)) box) (turn_at p word (Returning t))
+unfolding next_at took_at turn_at
+return_step p word box t k is covered = elim (gathers (noted p t) t box (noted_keeps p t k is) (noted_gathers p t k is covered)) [
+  | Gathers.next_one next n g ↦ Step.give_back t next is refl n g
+  | Gathers.batch_now gone a ↦ Step.apply t is refl gone a
+]
 
 swept_step : (p : Private) (word : ℕ) (box : Contents) (first : Option ℕ) (n : ℕ) (w : sweeps.Work) → p.phase ≡ Sweeping first n → w ≡ sweeps.took_of (record { due = first; counts = p.counts }) word → (due : Option ℕ) → w.due ≡ due
     → Step p word box (sweeps.next_of first) (swapped_of (moved (record p { counts = w.counts; freed = p.freed + 1 }) (swept_phase (n + 1) due)) box) Moved
@@ -171,7 +187,7 @@ swept_step p word box first n w is e (Some x) d = Step.sweep first n w (Sweeping
 -- a step, by phase
 step_at : (p : Private) (word : ℕ) (box : Contents) (phase : Phase) → IsMachine p → p.phase ≡ phase → IsBetween phase → IsGivenAt p word phase → Step p word box (next_at p phase) (swapped_of (took_at p word phase) box) (turn_at p word phase)
 unfolding next_at took_at turn_at swapped_of swapped_at IsGivenAt
-step_at p word box Idle k is b g = idle_step p word box is
+step_at p word box Idle k is b g = idle_step p word box k is g
 step_at p word box (Looking t) k is b g = look_step p word box t is
 step_at p word box (Swapping t) k is b g = absurd b
 step_at p word box (Returning t) k is b g = return_step p word box t k is g
@@ -188,9 +204,12 @@ pub step_made : (p : Private) (word : ℕ) (box : Contents) → IsMachine p → 
 unfolding next_of step_of took_of turn_of IsGiven
 step_made p word box k b g = step_at p word box p.phase k refl b g
 
--- what follows a word in the middle of a collection holds no mailbox
-work_between : (p : Private) (word : ℕ) (phase : Phase) → IsWorking p phase → IsBetween (work_of p word phase).phase
-work_between p word phase at_work = work_phase IsBetween (λ m. tt) (λ m. tt) (λ m. tt) (λ m. tt) tt tt p word phase at_work
+-- what follows a word in the middle of a collection, or a batch, holds no mailbox
+work_between : (w : Parts) (word : ℕ) (phase : Phase) → IsWork phase → IsBetween (worked w word phase).phase
+work_between w word phase at_work = worked_phase IsBetween (λ m. tt) tt tt (λ m. tt) (λ m. tt) (λ m. tt) w word phase at_work
+
+batch_between : (p : Private) → IsBetween (batch_next p).phase
+batch_between p = batch_phase IsBetween (λ m. tt) tt tt (λ m. tt) (λ m. tt) (λ m. tt) p
 
 came_between : (p : Private) (n : Next) → IsBetween n.phase → IsBetween (came p n).phase
 came_between p n b = go n.phase b
@@ -199,20 +218,20 @@ came_between p n b = go n.phase b
     go (Closing m) b = tt
     go _ b = b
 
+gathers_between : (p : Private) (next : Option ℕ) → IsBetween (gathering_on p next).phase
+gathers_between p None = came_between p (batch_next p) (batch_between p)
+gathers_between p (Some next) = tt
+
 pub took_between : (p : Private) (word : ℕ) (phase : Phase) → p.phase ≡ phase → IsBetween phase → ((t : ℕ) → phase ≢ Looking t) → IsBetween (took_at p word phase).phase
 unfolding took_at
-took_between p word Idle is b other = elim (is_spent p) as (λ c. IsBetween (cond c p (moved (record p { epoch = p.epoch + 1 }) (Looking 1))).phase) [ true ↦ subst IsBetween (sym is) tt | false ↦ tt ]
+took_between p word Idle is b other = elim (is_spent p) as (λ c. IsBetween (cond c p (behind (requested p) 0)).phase) [ true ↦ subst IsBetween (sym is) tt | false ↦ gathers_between (requested p) (next_present p.left 0) ]
 took_between p word (Looking t) is b other = absurd (other t refl)
 took_between p word (Swapping t) is b other = absurd b
-took_between p word (Returning t) is b other =
-    (elim (t == length p.newer) as (λ c. (t == length p.newer) ≡ c → IsBetween (cond c (came p (work_of p word (Returning t))) (moved p (Looking (t + 1)))).phase) [
-      | true ↦ λ e. came_between p (work_of p word (Returning t)) (work_between p word (Returning t) (eqb-true t (length p.newer) e))
-      | false ↦ λ e. tt
-    ]) refl
+took_between p word (Returning t) is b other = gathers_between (noted p t) (next_present (noted p t).left t)
 took_between p word Opening is b other = tt
 took_between p word (Sweeping due n) is b other = elim (sweeps.took_of (record { due = due; counts = p.counts }) word).due as (λ d. IsBetween (swept_phase (n + 1) d)) [ None ↦ tt | Some x ↦ tt ]
 took_between p word (Closing n) is b other = tt
-took_between p word phase is b other = came_between p (work_of p word phase) (work_between p word phase tt)
+took_between p word phase is b other = came_between p (worked (parts_of p) word phase) (work_between (parts_of p) word phase tt)
 
 left_between : (q : Private) (box : Contents) → IsBetween q.phase → left_of q box ≡ box
 unfolding left_of left_at
@@ -237,26 +256,27 @@ pub whole_made : (p : Private) (word : ℕ) (box : Contents) → IsMachine p →
 unfolding took_of
 whole_made p word box k between given = record { own = step_made p word box k between given; mailbox = leaves_at p word box p.phase refl between }
 
--- a turn that came to these parts and this phase, from a phase that has swept nothing
-came_cause : (p : Private) (word : ℕ) (n : Next) → p.collections + 1 ≤ p.epoch → swept_at p.phase ≡ 0 → swept_at n.phase ≡ 0 → HasCause p word (came p n) (came_turn p.epoch n.phase)
-came_cause p word n u z none = go n.phase none
-  where
-    go : (phase : Phase) → swept_at phase ≡ 0 → HasCause p word (ended_if phase (landed p (record { parts = n.parts; phase = phase }))) (came_turn p.epoch phase)
-    go (Sweeping due m) none = (refl, refl, omega (arith, z, none))
-    go (Closing m) none = (omega (arith, u), omega (arith, z, none), refl, refl, refl, refl)
-    go _ none = (refl, refl, ap (λ m. p.freed + m) z)
+-- a turn that came to these parts and this phase, from a phase that has swept nothing; the epoch and who has left may have changed
+module _ (p : Private) (word : ℕ) (epoch : ℕ) (left : List Bool) (some : 1 ≤ epoch) (z : swept_at p.phase ≡ 0) where
+  came_cause : (n : Next) → swept_at n.phase ≡ 0 → HasCause p word (came (record p { epoch = epoch; left = left }) n) (came_turn epoch n.phase)
+  came_cause n none = go n.phase none
+    where
+      go : (phase : Phase) → swept_at phase ≡ 0 → HasCause p word (ended_if phase (landed (record p { epoch = epoch; left = left }) (record { parts = n.parts; phase = phase }))) (came_turn epoch phase)
+      go (Sweeping due m) none = (refl, refl, omega (arith, z, none))
+      go (Closing m) none = (omega (arith, some), omega (arith, z, none), refl, refl, refl, refl)
+      go _ none = (refl, refl, ap (λ m. p.freed + m) z)
 
-idle_cause : (p : Private) (word : ℕ) (b : Bool) → is_spent p ≡ b → p.phase ≡ Idle → HasCause p word (cond b p (moved (record p { epoch = p.epoch + 1 }) (Looking 1))) (cond b EpochsSpent Moved)
+  gathers_cause : (next : Option ℕ) → (let q : Private = record p { epoch = epoch; left = left } in HasCause p word (gathering_on q next) (gathering_turn q next))
+  gathers_cause None = let q : Private = record p { epoch = epoch; left = left } in came_cause (batch_next q) (batch_none q)
+  gathers_cause (Some next) = (refl, refl, ap (λ m. p.freed + m) z)
+
+idle_cause : (p : Private) (word : ℕ) (b : Bool) → is_spent p ≡ b → p.phase ≡ Idle → HasCause p word (cond b p (behind (requested p) 0)) (cond b EpochsSpent (behind_turn (requested p) 0))
 idle_cause p word true e is = (is, eqb-true (p.epoch + 1) (2 ^ 24) e, refl)
-idle_cause p word false e is = (refl, refl, ap (λ f. p.freed + swept_at f) is)
+idle_cause p word false e is = gathers_cause p word (p.epoch + 1) p.left (omega arith) (ap swept_at is) (next_present p.left 0)
 
 look_cause : (p : Private) (word t : ℕ) (b : Bool) → (word == crossing_word p.epoch Retired) ≡ b → p.phase ≡ Looking t → HasCause p word (cond b (moved p (Swapping t)) p) (cond b Moved (Waiting t))
 look_cause p word t true e is = (refl, refl, ap (λ f. p.freed + swept_at f) is)
 look_cause p word t false e is = (is, (eqb-false word (crossing_word p.epoch Retired) e), refl)
-
-return_cause : (p : Private) (word t : ℕ) (n : Next) (b : Bool) → (t == length p.newer) ≡ b → p.collections + 1 ≤ p.epoch → p.phase ≡ Returning t → (t ≡ length p.newer → swept_at n.phase ≡ 0) → HasCause p word (cond b (came p n) (moved p (Looking (t + 1)))) (cond b (came_turn p.epoch n.phase) Moved)
-return_cause p word t n true e u is none = came_cause p word n u (ap swept_at is) (none (eqb-true t (length p.newer) e))
-return_cause p word t n false e u is none = (refl, refl, ap (λ f. p.freed + swept_at f) is)
 
 sweep_cause : (p : Private) (first : Option ℕ) (n : ℕ) (due : Option ℕ) → p.phase ≡ Sweeping first n → p.freed + 1 + swept_at p.phase ≡ p.freed + swept_at (swept_phase (n + 1) due)
 sweep_cause p first n None is = omega (arith, ap swept_at is)
@@ -267,11 +287,11 @@ unfolding took_at turn_at
 cause_at p word Idle is k = idle_cause p word (is_spent p) refl is
 cause_at p word (Looking t) is k = look_cause p word t (word == crossing_word p.epoch Retired) refl is
 cause_at p word (Swapping t) is k = (refl, refl, ap (λ f. p.freed + swept_at f) is)
-cause_at p word (Returning t) is k = return_cause p word t (work_of p word (Returning t)) (t == length p.newer) refl (under_way_at p (Returning t) k is) is (work_none p word (Returning t))
+cause_at p word (Returning t) is k = gathers_cause p word p.epoch (noted p t).left (omega (arith, under_way_at p (Returning t) k is)) (ap swept_at is) (next_present (noted p t).left t)
 cause_at p word Opening is k = (refl, refl, ap (λ f. p.freed + swept_at f) is)
 cause_at p word (Sweeping due n) is k = (refl, refl, sweep_cause p due n _ is)
 cause_at p word (Closing n) is k = (omega (arith, under_way_at p (Closing n) k is), sym (ap swept_at is), refl, refl, refl, refl)
-cause_at p word phase is k = came_cause p word (work_of p word phase) (under_way_at p phase k is) (ap swept_at is) (work_none p word phase tt)
+cause_at p word phase is k = came_cause p word p.epoch p.left (omega (arith, under_way_at p phase k is)) (ap swept_at is) (worked (parts_of p) word phase) (work_none (parts_of p) word phase tt)
 
 -- why an answer comes
 pub has_cause : (p : Private) (word : ℕ) → IsMachine p → HasCause p word (took_of p word) (turn_of p word)
@@ -302,7 +322,7 @@ is_none (Some x) s n = false≢true (sym n)
 
 spent_at : (p : Private) (word : ℕ) (phase : Phase) → p.phase ≡ phase → IsMachine p → IsNone (next_at p phase) → turn_at p word phase ≡ EpochsSpent
 unfolding next_at turn_at
-spent_at p word Idle is k n = (elim (is_spent p) as (λ b. IsNone (cond b None (Some (StoreEpoch (p.epoch + 1)))) → cond b EpochsSpent Moved ≡ EpochsSpent) [ true ↦ λ n. refl | false ↦ λ n. absurd (false≢true (sym n)) ]) n
+spent_at p word Idle is k n = (elim (is_spent p) as (λ b. IsNone (cond b None (Some (StoreEpoch (p.epoch + 1)))) → cond b EpochsSpent (behind_turn (requested p) 0) ≡ EpochsSpent) [ true ↦ λ n. refl | false ↦ λ n. absurd (false≢true (sym n)) ]) n
 spent_at p word (Releasing m) is k n = absurd (is_none (releases.next_of m) (release_next m ∙ (now_at p (Releasing m) k is).clearing.busy) n)
 spent_at p word (Freeing m) is k n = absurd (is_none (frees.next_of m) (freeing_next m ∙ (now_at p (Freeing m) k is).clearing.busy) n)
 spent_at p word (Trying m) is k n = absurd (is_none (trial_next m) (now_at p (Trying m) k is).busy n)

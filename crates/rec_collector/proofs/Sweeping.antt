@@ -131,6 +131,7 @@ ended_keeps p n k e =
       some_fields = k.some_fields;
       few_fields = k.few_fields;
       rows = record { mutators = omega (arith, k.mutators, m); few = omega (arith, k.few, m); both = sym m; newer = cleared_sized p p.older k.older; older = k.newer };
+      left = k.left ∙ sym m;
       counts = k.counts;
       told = omega (arith, told_at p (Closing n) k e);
       now = (

@@ -3,7 +3,7 @@ use Rattle.std.proofs.Common.{◌≡◌, ◌≢◌, ℕ, zero, suc, ◌-◌, ◌
 use Rattle.std.specs.List.{concat}
 use Rattle.std.proofs.lemmas.Bool.{cases_Bool, cases_lt}
 use Rattle.std.proofs.lemmas.List.{length-append, nil_from_length}
-use Rattle.rec_collector.proofs.Common.{Orange, State, IsKept, slot_at, one, times, times-append, times-nil, given_up, listed, IsReady, IsRefusable, LastRefurbished, fields_left, freeing_left, HasExchanged, IsCleared, IsTidy, IsListed, Parts, freeing_at, Begun, last_tested, tested, verdict_of, zeros_released, Phase, Freeing, Passed}
+use Rattle.rec_collector.proofs.Common.{Orange, State, IsKept, slot_at, one, times, times-append, times-nil, given_up, IsReady, IsRefusable, LastRefurbished, fields_left, freeing_left, HasExchanged, IsCleared, IsTidy, IsListed, Parts, freeing_at, Begun, last_tested, tested, verdict_of, zeros_released, Phase, Freeing, Passed}
 use Rattle.rec_counts.specs.Groups.{last_set}
 use Rattle.rec_counts.proofs.Front.{nothing_first}
 use Rattle.rec_release.proofs.Giving.{given_is_work, given_many, given_released}

@@ -1,28 +1,28 @@
 -- A step leaves an orange member as it was, or lowers it, and names it nowhere.
-use Rattle.std.proofs.Common.{◌≡◌, ◌⊎◌, ℕ, ◌+◌, ◌-◌, ◌<◌, ◌==◌, ◌&&◌, not, Bool, true, false, Option, None, Some, IfSome, IsSome, List, length, refl, sym, ap, subst, ◌∙◌, arith, inl, inr}
-use Rattle.std.proofs.lemmas.Bool.{cond-true, cond-false, eq-eqb, ne_eqb}
+use Rattle.std.proofs.Common.{◌≡◌, ◌⊎◌, ℕ, ◌+◌, ◌-◌, ◌^◌, ◌<◌, ◌==◌, ◌&&◌, not, Bool, true, false, Option, None, Some, IfSome, IsSome, List, refl, sym, ap, subst, ◌∙◌, arith, inl, inr}
+use Rattle.std.proofs.lemmas.Bool.{cond-false, cond-true, eq-eqb, ne_eqb}
 use Rattle.std.proofs.lemmas.Bool.Decides.{eqb_tells}
-use Rattle.rec_collector.proofs.Common.{Op, Contents, Orange, Slot, State, slot_at, one, emptied, next_from, prep_started, with_freed, with_released, relieved_at, IsGiven, IsGivenAt, IsAtRest, IsMachine, under_way, Parts, new_freeing, new_release, Private, parts_of, zeros_released, Begun, counted_by, freeing_at, releasing_at, tested, step_of, swapped_of, took_at, took_of, turn_of, Phase, Returning, Releasing, Freeing, Trying, Preparing, Held, Touched}
+use Rattle.rec_collector.proofs.Common.{Op, Contents, Orange, Slot, State, slot_at, one, emptied, next_from, prep_started, with_freed, with_released, relieved_at, IsGiven, IsGivenAt, Idle, IsAt, IsAtRest, IsMachine, buffer_at, next_present, noted, under_way, Parts, new_freeing, new_release, Private, parts_of, zeros_released, Begun, counted_by, freeing_at, releasing_at, tested, step_of, swapped_of, took_at, took_of, turn_of, Phase, Returning, Releasing, Freeing, Trying, Preparing, Held, Touched}
 use Rattle.rec_word.specs.Word.{target_of}
 use Rattle.rec_apply.specs.Batch.{batch, counted_down, names, IsBatch, IsCovered}
 use Rattle.rec_apply.specs.declared.way.Way.TheVariants.{Down}
-use Rattle.rec_apply.specs.Targets.{added, taken, named, leaves as leaf_births}
 use Rattle.rec_apply.proofs.Touching.{counted_touches, touched_orange}
 use Rattle.rec_apply.proofs.Whole.{is_batch}
 use Rattle.rec_release.specs.TakenOff.{down_if, IsApart, is_lowered, taken_off}
 use Rattle.rec_walk.specs.Load.{Load}
 use Rattle.rec_collector.specs.Outside.{HasSets, IsOutside}
 use Rattle.rec_collector.specs.Step.{Step, GoesOn, PreparesOn, TriesOn, ClearsOn, IsNext, IsTested, IsBetween}
-use Rattle.rec_collector.specs.Touched.{decrements, IsOrangeIn, named_at, named_by, tried_at, WasUntouched}
+use Rattle.rec_collector.specs.Touched.{decrements, IsOrangeIn, named_at, named_behind, named_by, tried_at, WasUntouched}
 use Rattle.rec_collector.specs.declared.turn.Turn.{Turn}
 use Rattle.rec_collector.proofs.Following.{none_released}
 use Rattle.rec_collector.proofs.Goings.{emptied_same, freed_by, freed_off, released_by, released_off, freed_listed}
 use Rattle.rec_collector.proofs.Outside.{Lowers, next_lowers, given_lowers, off_lowers, refurbished_lowers, same_lowers, swept_lowers, batch_same}
 use Rattle.rec_collector.proofs.Steps.{prepared_on, step_made, tried_on}
 use Rattle.rec_collector.proofs.Landing.{now_at}
+use Rattle.rec_collector.proofs.Presence.{gone_behind, next_is, none_is}
+use Rattle.rec_collector.specs.Next.{is_spent}
 use Rattle.rec_release.specs.declared.at.At.{At}
 use Rattle.rec_walk.specs.declared.member.Member.{Member}
-use Rattle.rec_collector.proofs.Keeping.{turned}
 use Rattle.rec_release.specs.CycleFree as frees
 use Rattle.rec_release.specs.Release as releases
 use Rattle.rec_trial.specs.Trial as trials
@@ -175,8 +175,11 @@ counts_started p = refl
 
 module _ (p q : Private) (word x : ℕ) (turn : Turn) (k : IsMachine p) (same : tried_at q.epoch q.phase ≡ tried_at p.epoch p.phase) where
   -- in a collection that has still to make its trial, none begins
-  early : under_way p.phase ≡ 1 → tried_at p.epoch p.phase ≡ p.epoch - 1 → tried_at q.epoch q.phase ≡ p.epoch → ⊥
-  early way was late = omega (arith, k.collections, way, was, late, same)
+  early : (epoch : ℕ) → tried_at p.epoch p.phase + 1 ≡ epoch → tried_at q.epoch q.phase ≡ epoch → ⊥
+  early epoch was late = omega (arith, was, late, same)
+
+  trying_before : under_way p.phase ≡ 1 → tried_at p.epoch p.phase ≡ p.epoch - 1 → tried_at p.epoch p.phase + 1 ≡ p.epoch
+  trying_before way was = omega (arith, k.collections, way, was)
 
   named_as : {phase : Phase} → p.phase ≡ phase → named_by p word x ≡ named_at p word x phase
   named_as e = ap (named_at p word x) e
@@ -189,32 +192,36 @@ module _ (p q : Private) (word x : ℕ) (turn : Turn) (k : IsMachine p) (same : 
   goes g e has none = leaves (ap (λ (r : Private). r.counts) g.after) e (ap (λ (r : Private). r.phase) g.after) has none
 
   -- the sets are tested, after a move that names the slot so often
-  clears : {b : Begun} {n : ℕ} → IsSetting b.phase → ClearsOn p q turn b → under_way p.phase ≡ 1 → tried_at p.epoch p.phase ≡ p.epoch - 1 → Spares p.counts b.parts.counts x n → named_by p word x ≡ n → Leaves p.counts q x (named_by p word x)
-  clears {b} {n} has on way was s e =
-      let c = clears_leave p q turn x has on (early way was) in
+  clears : {r : Private} {b : Begun} {n : ℕ} → IsSetting b.phase → ClearsOn r q turn b → tried_at p.epoch p.phase + 1 ≡ r.epoch → Spares p.counts b.parts.counts x n → named_by p word x ≡ n → Leaves p.counts q x (named_by p word x)
+  clears {r} {b} {n} has on was s e =
+      let c = clears_leave r q turn x has on (early r.epoch was) in
       (subst (Spares p.counts q.counts x) (sym e) (spares_then s c.0), c.1)
 
   step_leaves : {box : Contents} {op : Option Op} → IsGiven p word → HasSets p.phase → Step p word box op q turn → Leaves p.counts q x (named_by p word x)
   unfolding IsGiven IsGivenAt sweeps.took_of
-  step_leaves given has (Step.spent at last none is t) = leaves (ap (λ (r : Private). r.counts) is) refl (ap (λ (r : Private). r.phase) is) has (named_as at)
-  step_leaves given has (Step.request at more is g) = goes g refl tt (named_as at)
-  step_leaves given has (Step.wait t at other is kept turned) = leaves (ap (λ (r : Private). r.counts) kept) refl (ap (λ (r : Private). r.phase) kept) has (named_as at)
-  step_leaves given has (Step.gather t at crossed is g) = goes g refl tt (named_as at)
-  step_leaves given has (Step.give_back t at other is g) = goes g refl tt (named_as at ∙ cond-false (t == length p.newer) (added x p.newer + taken x p.older + leaf_births x p.newer) 0 (ne_eqb t (length p.newer) other))
-  step_leaves given has (Step.apply t at last is on) =
+  step_leaves given has (Step.spent at last none is t) = leaves (ap (λ (r : Private). r.counts) is) refl (ap (λ (r : Private). r.phase) is) has (named_as at ∙ cond-true (is_spent p) 0 (named_behind p x (next_present p.left 0)) (eq-eqb (p.epoch + 1) (2 ^ 24) last))
+  step_leaves given has (Step.request next at more is n g) = goes g refl tt (named_as at ∙ cond-false (is_spent p) 0 (named_behind p x (next_present p.left 0)) (ne_eqb (p.epoch + 1) (2 ^ 24) more) ∙ ap (named_behind p x) (next_is p.left 0 next n))
+  step_leaves given has (Step.request_alone at more is gone on) =
       let w : Parts = record (parts_of p) { counts = batch p.counts p.newer p.older } in
-      let n : ℕ = added x p.newer + taken x p.older + leaf_births x p.newer in
-      clears (zeros_setting false w) on (ap under_way at) (ap (tried_at p.epoch) at)
-      (spares_then (batched_spares p x (now_at p (Returning t) k at).rest (subst (IsGivenAt p word) at given last)) (zeros_spares false w x))
-      (named_as at ∙ cond-true (t == length p.newer) n 0 (eq-eqb t (length p.newer) last))
+      clears (zeros_setting false w) on (ap (λ f. tried_at p.epoch f + 1) at) (spares_then (batched_spares p x (now_at p Idle k at).0 (subst (IsGivenAt p word) at given gone)) (zeros_spares false w x))
+      (named_as at ∙ cond-false (is_spent p) 0 (named_behind p x (next_present p.left 0)) (ne_eqb (p.epoch + 1) (2 ^ 24) more) ∙ ap (named_behind p x) (none_is p.left 0 gone))
+  step_leaves given has (Step.wait t at other is kept answers) = leaves (ap (λ (r : Private). r.counts) kept) refl (ap (λ (r : Private). r.phase) kept) has (named_as at)
+  step_leaves given has (Step.gather t at crossed is g) = goes g refl tt (named_as at)
+  step_leaves given has (Step.give_back t next at is n g) = goes g refl tt (named_as at ∙ ap (named_behind p x) (next_is (noted p t).left t next n))
+  step_leaves given has (Step.apply t at is gone on) =
+      let w : Parts = record (parts_of p) { counts = batch p.counts p.newer p.older } in
+      let a : IsAt p (Returning t) = now_at p (Returning t) k at in
+      clears (zeros_setting false w) on (trying_before (ap under_way at) (ap (tried_at p.epoch) at))
+      (spares_then (batched_spares p x a.rest (subst (IsGivenAt p word) at given (gone_behind p.left t (buffer_at p.newer (t - 1)).last a.first gone))) (zeros_spares false w x))
+      (named_as at ∙ ap (named_behind p x) (none_is (noted p t).left t gone))
   step_leaves given has (Step.release m at is on) =
       let now = now_at p (Releasing m) k at in
       let v : releases.Work = releases.took_of (record { machine = m; counts = p.counts }) word in
-      clears (releasing_setting v.machine v.machine.at) on (ap under_way at) (ap (tried_at p.epoch) at) (released_spares m (parts_of p) word x now.clearing.busy now.clearing.apart (subst (IsGivenAt p word) at given)) (named_as at)
+      clears (releasing_setting v.machine v.machine.at) on (trying_before (ap under_way at) (ap (tried_at p.epoch) at)) (released_spares m (parts_of p) word x now.clearing.busy now.clearing.apart (subst (IsGivenAt p word) at given)) (named_as at)
   step_leaves given has (Step.freeing m at is on) =
       let now = now_at p (Freeing m) k at in
       let v : frees.Work = frees.took_of (record { machine = m; counts = p.counts }) word in
-      clears (relieved_setting (record (parts_of p) { counts = v.counts }) v.machine v.machine.at) on (ap under_way at) (ap (tried_at p.epoch) at)
+      clears (relieved_setting (record (parts_of p) { counts = v.counts }) v.machine v.machine.at) on (trying_before (ap under_way at) (ap (tried_at p.epoch) at))
       (freed_spares m (parts_of p) word x now.clearing.busy now.clearing.apart (subst (IsGivenAt p word) at given)) (named_as at)
   step_leaves given has (Step.trial m at is on) = absurd (subst HasSets at has)
   step_leaves given has (Step.preparation m at is on) = absurd (subst HasSets at has)

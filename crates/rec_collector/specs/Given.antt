@@ -5,16 +5,19 @@ use Rattle.rec_log.specs.declared.contents.Contents.{Contents}
 use Rattle.rec_counts.specs.Counts.{slot_at}
 use Rattle.rec_apply.specs.Batch.{IsCovered}
 use Rattle.rec_trial.specs.Rules.{LeadsToUnreleased}
+use Rattle.rec_collector.specs.Present.{HaveLeft}
 use Rattle.rec_collector.specs.Private.{Private}
 use Rattle.rec_collector.specs.declared.phase.Phase.{Phase}
-use Rattle.rec_collector.specs.declared.phase.Phase.TheVariants.{Swapping, Returning, Releasing, Freeing, Trying, Preparing, Sweeping}
+use Rattle.rec_collector.specs.declared.phase.Phase.TheVariants.{Idle, Swapping, Returning, Releasing, Freeing, Trying, Preparing, Sweeping}
 
--- what the word found has to be, by phase: with the last mailbox given back the batch is covered; what comes out of a field
+-- what the word found has to be, by phase: where all mutators have left that are still to be gathered from, the batch is covered, with
+-- the last mailbox given back or, if there is none, with the request; what comes out of a field
 -- is counted; what is loaded for a trial leads to no released slot, and for a preparation to a slot that is there; a mailbox that
 -- is held was swapped
 unfoldable pub IsGivenAt : Private → (word : ℕ) → Phase → Type 0
+IsGivenAt p word Idle = HaveLeft p.left 0 → IsCovered p.counts p.newer p.older
 IsGivenAt p word (Swapping t) = ⊥
-IsGivenAt p word (Returning t) = t ≡ length p.newer → IsCovered p.counts p.newer p.older
+IsGivenAt p word (Returning t) = HaveLeft p.left t → IsCovered p.counts p.newer p.older
 IsGivenAt p word (Releasing release) = IfSome (target_of word) (λ slot. 0 < (slot_at p.counts slot).count)
 IsGivenAt p word (Freeing freeing) = IfSome (target_of word) (λ slot. 0 < (slot_at p.counts slot).count)
 IsGivenAt p word (Trying trial) = LeadsToUnreleased p.counts word

@@ -18,6 +18,7 @@ private inside =
       counts = inside.parts.counts;
       newer = inside.newer.items;
       older = inside.older.items;
+      left = inside.left.items;
       sets = inside.parts.sets;
       offers = inside.parts.offers;
     }

@@ -15,6 +15,7 @@ use Rattle.rec_collector.specs.Clearing.{IsUntried, IsClearingIn, HasExchanged}
 use Rattle.rec_collector.specs.Given.{IsSized}
 use Rattle.rec_collector.specs.Outside.{AreOutside}
 use Rattle.rec_collector.specs.Parts.{Parts}
+use Rattle.rec_collector.specs.Present.{has_left}
 use Rattle.rec_collector.specs.Private.{Private, parts_of, spare, buffer_at}
 use Rattle.rec_collector.specs.Testing.{told}
 use Rattle.rec_collector.specs.Zeros.{AreCounted}
@@ -75,13 +76,19 @@ pub record AreResting (fields : ℕ) (s : State) : Type 0 where
 abbrev pub IsAtRest : Parts → Type 0
 IsAtRest w = AreResting w.fields w.counts
 
--- so many mailboxes were given back; the mutator at work is there, and so many turns were made
+-- the mutators up to this number were looked at or have left; the mutator at work is there, and so many turns were made at most
 pub record IsGathering (p : Private) (t given_back made : ℕ) : Type 0 where
   pub rest : IsAtRest (parts_of p)
   pub first : 0 < t
   pub there : t ≤ length p.newer
   pub spares : AreSpare p given_back
-  pub turns : p.turns ≡ made
+  pub turns : p.turns ≤ made
+
+-- the mailbox of a mutator is looked at or held that hasn't left
+pub record IsLooking (p : Private) (t made : ℕ) : Type 0 where
+  pub gathering : IsGathering p t (t - 1) made
+  pub open gathering use *
+  pub present : has_left p.left t ≡ false
 
 -- Slots are released, or a set is freed. Each turn since the batch exchanged another field.
 pub record IsTesting (p : Private) (phase : Phase) : Type 0 where
@@ -134,8 +141,8 @@ pub record IsSweeping (p : Private) (swept made : ℕ) : Type 0 where
 -- what holds in each phase
 abbrev pub IsAt : Private → Phase → Type 0
 IsAt p Idle = IsAtRest (parts_of p) × AreSpare p 0 × (p.turns ≡ 0)
-IsAt p (Looking t) = IsGathering p t (t - 1) (2 * t - 1)
-IsAt p (Swapping t) = IsGathering p t (t - 1) (2 * t)
+IsAt p (Looking t) = IsLooking p t (2 * t - 1)
+IsAt p (Swapping t) = IsLooking p t (2 * t)
 IsAt p (Returning t) = IsGathering p t t (2 * t)
 IsAt p (Releasing release) = IsTesting p (Releasing release)
 IsAt p (Freeing freeing) = IsTesting p (Freeing freeing)
@@ -187,6 +194,7 @@ pub record IsMachine (p : Private) : Type 0 where
   pub few_fields : p.fields < 2 ^ 8
   pub rows : AreRows p.registers p.capacity p.newer p.older
   pub open rows use *
+  pub left : length p.left ≡ length p.newer
   pub counts : IsKeptCounts p.counts
   pub told : IsTold p p.phase
   pub now : IsAt p p.phase

@@ -2,6 +2,7 @@
 pub mod Causes
 pub mod Clearing
 pub mod Followed
+pub mod Gathering
 pub mod Given
 pub mod Inside
 pub mod Kept
@@ -9,6 +10,7 @@ pub mod Next
 pub mod Offered
 pub mod Outside
 pub mod Parts
+pub mod Present
 pub mod Private
 pub mod Step
 pub mod Testing

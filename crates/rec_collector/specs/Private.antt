@@ -9,8 +9,8 @@ use Rattle.rec_collector.specs.declared.phase.Phase.TheVariants.{Idle}
 
 -- the requested epoch, the collections completed and the slots swept since opening, and the turns since the last collection;
 -- how far the collection has come, with the machine that is at work; the registers and the room of each buffer; how many fields a slot
--- has; the counts; for each mutator the newer buffer, which is a spare until its mailbox was gathered, and the older one; what became of
--- the sets that were tested; and whether every slot is to be offered to the next trial
+-- has; the counts; for each mutator the newer buffer, which is a spare until its mailbox was gathered, the older one, and whether it has
+-- left: its last buffer was gathered; what became of the sets that were tested; and whether every slot is to be offered to the next trial
 pub record Private : Type 0 where
   pub epoch : ℕ
   pub collections : ℕ
@@ -23,6 +23,7 @@ pub record Private : Type 0 where
   pub counts : State
   pub newer : List Contents
   pub older : List Contents
+  pub left : List Bool
   pub sets : Sets
   pub offers : Bool
 
@@ -57,6 +58,7 @@ opened slots fields registers mutators capacity first_epoch =
       counts = opened_counts slots mutators;
       newer = replicate mutators (blank registers capacity);
       older = replicate mutators (retired (first_registers registers) capacity);
+      left = replicate mutators false;
       sets = no_sets;
       offers = false;
     }

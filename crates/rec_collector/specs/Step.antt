@@ -20,9 +20,10 @@ use Rattle.rec_trial.specs.Trial as trials
 use Rattle.rec_trial.specs.Trial.{next_of as trial_next}
 use Rattle.rec_collector.specs.Followed.{prep_started, with_freed, with_offers, with_released}
 use Rattle.rec_collector.specs.Parts.{Parts, new_freeing}
+use Rattle.rec_collector.specs.Present.{HaveLeft, IsNextPresent}
 use Rattle.rec_collector.specs.Private.{Private, parts_of, with_parts}
 use Rattle.rec_collector.specs.Testing.{Begun, counted_by, with_freeing, zeros_released}
-use Rattle.rec_collector.specs.Took.{cleared}
+use Rattle.rec_collector.specs.Took.{cleared, noted, requested}
 use Rattle.rec_collector.specs.declared.verdict.Verdict.TheVariants.{Passed, Touched, Held}
 use Rattle.rec_collector.specs.declared.phase.Phase.{Phase}
 use Rattle.rec_collector.specs.declared.phase.Phase.TheVariants.{Idle, Looking, Swapping, Returning, Releasing, Freeing, Trying, Preparing, Opening, Sweeping, Closing}
@@ -70,6 +71,10 @@ pub data ClearsOn (p q : Private) (turn : Turn) : Begun → Type 0 where
   tests : {b : Begun} (c : Begun) → b.phase ≡ None → 0 < length b.parts.counts.sets → IsTested b.parts c → ClearsOn p q turn c → ClearsOn p q turn b
   tries : {b : Begun} → b.phase ≡ None → b.parts.counts.sets ≡ [] → TriesOn p (with_offers b.parts) (trials.started_of b.parts.fields (with_offers b.parts).counts) q turn → ClearsOn p q turn b
 
+-- The batch is applied, and its zeros are released.
+abbrev pub Applies : (p q : Private) → Turn → Type 0
+Applies p q turn = ClearsOn p q turn (zeros_released false (record (parts_of p) { counts = batch p.counts p.newer p.older }))
+
 -- after one slot more was swept, the next one follows, or the end of the sweep
 pub data IsNext (swept : ℕ) (w : sweeps.Work) (next_phase : Phase) : Type 0 where
   more : w.due ≢ None → next_phase ≡ Sweeping w.due (swept + 1) → IsNext swept w next_phase
@@ -79,16 +84,18 @@ pub data IsNext (swept : ℕ) (w : sweeps.Work) (next_phase : Phase) : Type 0 wh
 -- one; `q` is what the step leaves of `p`, and `turn` what it answers. Without an operation there is no step.
 pub data Step (p : Private) (word : ℕ) (box : Contents) (op : Option Op) (q : Private) (turn : Turn) : Type 0 where
   spent : p.phase ≡ Idle → p.epoch + 1 ≡ 2 ^ 24 → op ≡ None → q ≡ p → turn ≡ EpochsSpent → Step p word box op q turn
-  request : p.phase ≡ Idle → p.epoch + 1 ≢ 2 ^ 24 → op ≡ Some (StoreEpoch (p.epoch + 1))
-      → GoesOn (record p { epoch = p.epoch + 1 }) q turn (Looking 1) → Step p word box op q turn
+  request : (next : ℕ) → p.phase ≡ Idle → p.epoch + 1 ≢ 2 ^ 24 → op ≡ Some (StoreEpoch (p.epoch + 1)) → IsNextPresent p.left 0 next
+      → GoesOn (requested p) q turn (Looking next) → Step p word box op q turn
+  request_alone : p.phase ≡ Idle → p.epoch + 1 ≢ 2 ^ 24 → op ≡ Some (StoreEpoch (p.epoch + 1)) → HaveLeft p.left 0
+      → Applies (requested p) q turn → Step p word box op q turn
   wait : (t : ℕ) → p.phase ≡ Looking t → word ≢ crossing_word p.epoch Retired → op ≡ Some (LookBox t p.epoch)
       → q ≡ p → turn ≡ Waiting t → Step p word box op q turn
   gather : (t : ℕ) → p.phase ≡ Looking t → word ≡ crossing_word p.epoch Retired → op ≡ Some (LookBox t p.epoch)
       → GoesOn (record p { newer = slice_set p.newer (t - 1) box }) q turn (Returning t) → Step p word box op q turn
-  give_back : (t : ℕ) → p.phase ≡ Returning t → t ≢ length p.newer → op ≡ Some (ReturnBox t p.epoch)
-      → GoesOn p q turn (Looking (t + 1)) → Step p word box op q turn
-  apply : (t : ℕ) → p.phase ≡ Returning t → t ≡ length p.newer → op ≡ Some (ReturnBox t p.epoch)
-      → ClearsOn p q turn (zeros_released false (record (parts_of p) { counts = batch p.counts p.newer p.older })) → Step p word box op q turn
+  give_back : (t next : ℕ) → p.phase ≡ Returning t → op ≡ Some (ReturnBox t p.epoch) → IsNextPresent (noted p t).left t next
+      → GoesOn (noted p t) q turn (Looking next) → Step p word box op q turn
+  apply : (t : ℕ) → p.phase ≡ Returning t → op ≡ Some (ReturnBox t p.epoch) → HaveLeft (noted p t).left t
+      → Applies (noted p t) q turn → Step p word box op q turn
   release : (m : releases.Machine) → p.phase ≡ Releasing m → op ≡ release_next m → ClearsOn p q turn (with_released m (parts_of p) word) → Step p word box op q turn
   freeing : (m : frees.Machine) → p.phase ≡ Freeing m → op ≡ freeing_next m → ClearsOn p q turn (with_freed m (parts_of p) word) → Step p word box op q turn
   trial : (m : trials.Machine) → p.phase ≡ Trying m → op ≡ trial_next m → TriesOn p (parts_of p) (trials.took_of (record { machine = m; counts = p.counts }) (visible p.counts word)) q turn → Step p word box op q turn

@@ -1,5 +1,5 @@
 -- What is learnt, and what a turn answers: functions of the private record and of the word found.
-use Rattle.std.specs.Prelude.{ℕ, ◌+◌, ◌-◌, ◌==◌, false, Option, None, [], if◌then◌else◌, length, map, replicate, slice_set}
+use Rattle.std.specs.Prelude.{ℕ, ◌+◌, ◌-◌, ◌==◌, false, Option, None, Some, [], if◌then◌else◌, length, map, replicate, slice_set}
 use Rattle.rec_word.specs.Mailbox.{crossing_word}
 use Rattle.rec_word.specs.declared.mailbox.Mailbox.TheVariants.{Retired}
 use Rattle.rec_log.specs.declared.contents.Contents.{Contents}
@@ -8,7 +8,8 @@ use Rattle.rec_release.specs.Sweep as sweeps
 use Rattle.rec_collector.specs.Followed.{Next, followed, worked}
 use Rattle.rec_collector.specs.Next.{is_spent}
 use Rattle.rec_collector.specs.Parts.{Parts}
-use Rattle.rec_collector.specs.Private.{Private, parts_of, with_parts, spare}
+use Rattle.rec_collector.specs.Present.{next_present}
+use Rattle.rec_collector.specs.Private.{Private, buffer_at, parts_of, with_parts, spare}
 use Rattle.rec_collector.specs.Testing.{zeros_released}
 use Rattle.rec_collector.specs.declared.phase.Phase.{Phase}
 use Rattle.rec_collector.specs.declared.phase.Phase.TheVariants.{Idle, Looking, Swapping, Returning, Opening, Sweeping, Closing}
@@ -40,9 +41,26 @@ came p n = ended_if n.phase (moved (with_parts p n.parts) n.phase)
 abbrev pub batched : Private → Parts
 batched p = record (parts_of p) { counts = batch p.counts p.newer p.older }
 
--- a mailbox was given back: the next mutator's follows, or with the last one the batch is applied, and its zeros are released
-abbrev pub returned : Private → (t : ℕ) → Private
-returned p t = if t == length p.newer then came p (followed (zeros_released false (batched p))) else moved p (Looking (t + 1))
+-- what follows the batch: its zeros are released
+abbrev pub batch_next : Private → Next
+batch_next p = followed (zeros_released false (batched p))
+
+-- the collection goes on with this mutator's mailbox; without one the batch is applied
+abbrev pub gathering_on : Private → Option ℕ → Private
+gathering_on p None = came p (batch_next p)
+gathering_on p (Some t) = moved p (Looking t)
+
+-- it goes on with the next mutator behind this one that hasn't left
+abbrev pub behind : Private → (t : ℕ) → Private
+behind p t = gathering_on p (next_present p.left t)
+
+-- the next epoch is requested
+abbrev pub requested : Private → Private
+requested p = record p { epoch = p.epoch + 1 }
+
+-- a mutator's mailbox was given back: if the buffer that was gathered from it is its last one, it has left
+abbrev pub noted : Private → (t : ℕ) → Private
+noted p t = record p { left = slice_set p.left (t - 1) (buffer_at p.newer (t - 1)).last }
 
 -- after so many slots the sweep goes on, or ends
 abbrev pub swept_phase : (swept : ℕ) → Option ℕ → Phase
@@ -55,10 +73,10 @@ swept_one p swept w = moved (record p { counts = w.counts; freed = p.freed + 1 }
 
 -- what is learnt, by phase
 unfoldable pub took_at : Private → (word : ℕ) → Phase → Private
-took_at p word Idle = if is_spent p then p else moved (record p { epoch = p.epoch + 1 }) (Looking 1)
+took_at p word Idle = if is_spent p then p else behind (requested p) 0
 took_at p word (Looking t) = if word == crossing_word p.epoch Retired then moved p (Swapping t) else p
 took_at p word (Swapping t) = moved p (Swapping t)
-took_at p word (Returning t) = returned p t
+took_at p word (Returning t) = behind (noted p t) t
 took_at p word Opening = let w : sweeps.Work = sweeps.started_of p.counts in moved (record p { counts = w.counts }) (Sweeping w.due 0)
 took_at p word (Sweeping due swept) = swept_one p swept (sweeps.took_of (record { due = due; counts = p.counts }) word)
 took_at p word (Closing swept) = ended p
@@ -95,11 +113,20 @@ abbrev pub came_turn : (epoch : ℕ) → Phase → Turn
 came_turn epoch (Closing swept) = Collected (epoch - 1) swept
 came_turn epoch phase = Moved
 
+-- what a turn answers that goes on with this mutator's mailbox, or applies the batch
+abbrev pub gathering_turn : Private → Option ℕ → Turn
+gathering_turn p None = came_turn p.epoch (batch_next p).phase
+gathering_turn p (Some t) = Moved
+
+-- what a turn answers that goes on with the next mutator behind this one
+abbrev pub behind_turn : Private → (t : ℕ) → Turn
+behind_turn p t = gathering_turn p (next_present p.left t)
+
 -- what a turn answers, by phase
 unfoldable pub turn_at : Private → (word : ℕ) → Phase → Turn
-turn_at p word Idle = if is_spent p then EpochsSpent else Moved
+turn_at p word Idle = if is_spent p then EpochsSpent else behind_turn (requested p) 0
 turn_at p word (Looking t) = if word == crossing_word p.epoch Retired then Moved else Waiting t
-turn_at p word (Returning t) = if t == length p.newer then came_turn p.epoch (followed (zeros_released false (batched p))).phase else Moved
+turn_at p word (Returning t) = behind_turn (noted p t) t
 turn_at p word (Closing swept) = Collected (p.epoch - 1) swept
 turn_at p word phase = came_turn p.epoch (worked (parts_of p) word phase).phase
 

@@ -1,14 +1,17 @@
 -- What names a slot from one step to the next: a batch, and what is taken off afterwards.
-use Rattle.std.specs.Prelude.{◌≡◌, ℕ, ◌+◌, ◌-◌, ◌==◌, ◌&&◌, not, if◌then◌else◌, Bool, true, Option, Some, length}
+use Rattle.std.specs.Prelude.{◌≡◌, ℕ, ◌+◌, ◌-◌, ◌&&◌, not, if◌then◌else◌, Bool, true, Option, None, Some}
 use Rattle.rec_word.specs.Word.{target_of, is_slot}
 use Rattle.rec_apply.specs.Targets.{added, leaves, taken}
 use Rattle.rec_counts.specs.declared.colour.Colour.TheVariants.{Orange}
 use Rattle.rec_counts.specs.Counts.{State, slot_at}
 use Rattle.rec_counts.specs.Lists.{one}
 use Rattle.rec_release.specs.TakenOff.{is_lowered}
+use Rattle.rec_collector.specs.Next.{is_spent}
+use Rattle.rec_collector.specs.Present.{next_present}
 use Rattle.rec_collector.specs.Private.{Private}
+use Rattle.rec_collector.specs.Took.{noted}
 use Rattle.rec_collector.specs.declared.phase.Phase.{Phase}
-use Rattle.rec_collector.specs.declared.phase.Phase.TheVariants.{Looking, Swapping, Returning, Releasing, Freeing}
+use Rattle.rec_collector.specs.declared.phase.Phase.TheVariants.{Idle, Looking, Swapping, Returning, Releasing, Freeing}
 
 -- The epoch that was requested when the last trial was made, by phase: a collection that is under way has still to make its trial
 -- until the sets of the one before are tested.
@@ -25,10 +28,16 @@ tried_at requested _ = requested
 abbrev pub decrements : (lowers : Bool) → State → (target : Option ℕ) → (x : ℕ) → ℕ
 decrements lowers s target x = one (is_slot x target && not (is_lowered lowers (slot_at s x).colour))
 
--- how often a step names the slot, by phase: the increments, the decrements, the snapshots and the births of leaves of a batch, or
--- one decrement
+-- how often a turn names the slot that goes on with this mutator's mailbox, or applies the batch: the increments, the decrements, the
+-- snapshots and the births of leaves of the batch
+abbrev pub named_behind : Private → (x : ℕ) → Option ℕ → ℕ
+named_behind p x None = added x p.newer + taken x p.older + leaves x p.newer
+named_behind p x (Some t) = 0
+
+-- how often a step names the slot, by phase: what a batch names, or one decrement
 abbrev pub named_at : Private → (word x : ℕ) → Phase → ℕ
-named_at p word x (Returning t) = if t == length p.newer then added x p.newer + taken x p.older + leaves x p.newer else 0
+named_at p word x Idle = if is_spent p then 0 else named_behind p x (next_present p.left 0)
+named_at p word x (Returning t) = named_behind p x (next_present (noted p t).left t)
 named_at p word x (Releasing release) = decrements release.lowers p.counts (target_of word) x
 named_at p word x (Freeing freeing) = decrements true p.counts (target_of word) x
 named_at p word x _ = 0

@@ -1,12 +1,12 @@
 //! The collector's machine: it decides which atomic step of a collection comes next, and learns the word that the step
 //! found.
 //!
-//! A collection requests the next epoch, and gathers from each mutator the buffer that it retired on crossing. With the last
-//! buffer the batch is applied, and its zeros are released. Then the sets that the last collection found are tested, the last one
-//! first, and freed or refurbished; a trial is made from the roots, the sets that it finds are prepared for their tests, and what is
-//! free is swept. Where `offer_all` has asked for that, the next trial begins by offering every slot: each that isn't released is then
-//! one of its roots. The machine never sees the words: `next` names one operation, whoever has the words carries it out, and `took`
-//! learns what was found.
+//! A collection requests the next epoch, and gathers from each mutator that hasn't left the buffer that it retired on crossing. One
+//! whose buffer was its last is passed over from then on. With the last buffer the batch is applied, and its zeros are released. Then
+//! the sets that the last collection found are tested, the last one first, and freed or refurbished; a trial is made from the roots,
+//! the sets that it finds are prepared for their tests, and what is free is swept. Where `offer_all` has asked for that, the next trial
+//! begins by offering every slot: each that isn't released is then one of its roots. The machine never sees the words: `next` names one
+//! operation, whoever has the words carries it out, and `took` learns what was found.
 //! The rule that this crate keeps: what comes next and what is learnt are functions of the machine's private record and of
 //! the word found alone; an epoch is requested only after the last collection is complete, a batch is applied only once all
 //! mutators have crossed, and no collection takes more than a bounded number of turns, beside those in which it waits.
@@ -24,6 +24,7 @@ mod machine;
 mod offer;
 mod parts;
 mod phase;
+mod present;
 mod sets;
 mod turn;
 mod verdict;

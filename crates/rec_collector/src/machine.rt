@@ -5,14 +5,17 @@ ghost use Rattle.rec_counts.specs.Counts.{slot_at};
 ghost use Rattle.rec_collector.specs.Causes.{HasCause};
 ghost use Rattle.rec_apply.specs.Batch.{IsCovered};
 ghost use Rattle.rec_collector.specs.Given.{IsGiven, IsGivenAt, IsSized, IsSwapping, IsSweepingIn, IsWork, swapping_for};
+ghost use Rattle.rec_collector.specs.Gathering.{MayGatherBehind};
 ghost use Rattle.rec_collector.specs.Kept.{IsMachine, KeepsSizes, limit_of};
 ghost use Rattle.rec_collector.specs.Next.{next_of};
+ghost use Rattle.rec_collector.specs.Present.{HaveLeft};
 ghost use Rattle.rec_collector.specs.Private.{Private, opened};
-ghost use Rattle.rec_collector.specs.Took.{came_turn, ended_if, left_of, swapped_of, took_at, took_of, turn_at, turn_of};
+ghost use Rattle.rec_collector.specs.Took.{behind, behind_turn, came_turn, ended_if, left_of, swapped_of, took_at, took_of, turn_at, turn_of};
 
 use crate::buffers::{clear_all, open_row};
 use crate::parts::Parts;
 use crate::phase::Phase;
+use crate::present::next_present;
 use crate::sets::Sets;
 use crate::turn::Turn;
 use rec_counts::Counts;
@@ -40,6 +43,7 @@ pub struct Machine {
     parts: Parts,
     newer: Vec<Buffer>,
     older: Vec<Buffer>,
+    left: Vec<bool>,
 }
 
 impl Model for Machine {
@@ -80,6 +84,7 @@ impl Machine {
         let newer = open_row(alloc, mutators, cap, regs, &frame)?;
         frame.set(0, 0);
         let older = open_row(alloc, mutators, cap, regs, &frame)?;
+        let left = vec![in alloc; false; usize::from(mutators)]?;
         let counts = Counts::open(alloc, slots, u64::from(mutators))?;
         counts.rules();
         Ok(Machine {
@@ -93,6 +98,7 @@ impl Machine {
             parts: Parts::of(counts, fields),
             newer,
             older,
+            left,
         })
     }
 
@@ -291,9 +297,9 @@ impl Machine {
     }
 
     // The next epoch is requested, if there is one.
-    #[tactic(auto, unfolding(crate::specs::Took::took_at, crate::specs::Took::turn_at))]
     fn took_request(&mut self) -> Turn
         requires phase { self.old.phase ≡ Phase.Idle }
+        requires covered { HaveLeft self.old.left 0 → IsCovered self.old.counts self.old.newer self.old.older }
 
         ensures took { self.new ≡ took_at self.old 0 Phase.Idle }
         ensures turn { result ≡ turn_at self.old 0 Phase.Idle }
@@ -304,9 +310,7 @@ impl Machine {
             return Turn::EpochsSpent;
         }
         self.epoch += 1;
-        self.phase = Phase::Looking { mutator: 1 };
-        self.turns += 1;
-        Turn::Moved
+        self.gather_behind(0)
     }
 
     // The mailbox of a mutator is held where it has crossed.
@@ -327,21 +331,35 @@ impl Machine {
         Turn::Moved
     }
 
-    // A mailbox was given back. With the last one the batch is applied, and its zeros are released.
+    // A mailbox was given back, from which the last buffer of a mutator may have come: then it has left.
     #[inline(always)]
     fn took_return(&mut self, mutator: u8) -> Turn
         requires phase { self.old.phase ≡ Phase.Returning mutator }
-        requires covered { mutator ≡ length self.old.newer → IsCovered self.old.counts self.old.newer self.old.older }
+        requires covered { HaveLeft self.old.left mutator → IsCovered self.old.counts self.old.newer self.old.older }
 
         ensures took { self.new ≡ took_at self.old 0 (Phase.Returning mutator) }
         ensures turn { result ≡ turn_at self.old 0 (Phase.Returning mutator) }
         ensures same { KeepsSizes self.old self.new }
         ensures kept { IsMachine self.new }
     {
-        if usize::from(mutator) != self.newer.len() {
-            self.phase = Phase::Looking {
-                mutator: mutator + 1,
-            };
+        self.rules();
+        let place = usize::from(mutator) - 1;
+        self.left[place] = self.newer[place].is_last();
+        self.gather_behind(mutator)
+    }
+
+    // The next mutator's mailbox is looked at that hasn't left. Behind the last one the batch is applied, and its zeros are released.
+    #[inline(always)]
+    fn gather_behind(&mut self, mutator: u8) -> Turn
+        requires gathers { MayGatherBehind self.old mutator }
+
+        ensures took { self.new ≡ behind self.old mutator }
+        ensures turn { result ≡ behind_turn self.old mutator }
+        ensures same { KeepsSizes self.old self.new }
+        ensures kept { IsMachine self.new }
+    {
+        if let Some(next) = next_present(&self.left, mutator) {
+            self.phase = Phase::Looking { mutator: next };
             self.turns += 1;
             return Turn::Moved;
         }

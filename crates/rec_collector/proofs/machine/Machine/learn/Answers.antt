@@ -3,6 +3,10 @@ use Rattle.rec_collector.proofs.Common.{IsGiven, IsGivenAt, took_at, took_of, tu
 use Rattle.rec_collector.proofs.Keeping.{asked, learnt}
 use Rattle.rec_collector.proofs.machine.Machine.learn.Goals as goal
 
+pub took_request-requires-clause-covered : goal.took_request-requires-clause-covered
+unfolding IsGivenAt
+took_request-requires-clause-covered c = asked _ _ _ _ c.self.view_is c.in-Idle.is c.requires
+
 pub took_return-requires-clause-covered : goal.took_return-requires-clause-covered
 unfolding IsGivenAt
 took_return-requires-clause-covered c = asked _ _ _ _ c.self.view_is c.in-Returning.is c.requires

@@ -9,18 +9,18 @@ use Rattle.rec_collector.proofs.machine.Machine.open.Goals as goal
 pub returns-clause-opened : goal.returns-clause-opened
 returns-clause-opened c =
     let row : c.set.new.self ≡ first_registers c.args.regs = c.set.ensures ∙ ap (λ (xs : List (Option ℕ)). set xs 0 (Some 0)) c.in_ok-frame.ensures ∙ first_row c.args.regs c.requires.registers in
-    rw (c.of.ensures, c.in_ok-counts.ensures, c.from.ensures, c.in_ok-newer.ensures, c.in_ok-older.ensures, c.in_ok-frame.ensures, row) refl
+    rw (c.of.ensures, c.in_ok-counts.ensures, c.from-2.ensures, c.in_ok-newer.ensures, c.in_ok-older.ensures, c.in_ok-left.ensures.items_if_clones_equal (λ y e. e), c.from.ensures, c.in_ok-frame.ensures, row) refl
 
 pub invariant_of-result : goal.invariant_of-result
 invariant_of-result c =
     let row : c.set.new.self ≡ first_registers c.args.regs = c.set.ensures ∙ ap (λ (xs : List (Option ℕ)). set xs 0 (Some 0)) c.in_ok-frame.ensures ∙ first_row c.args.regs c.requires.registers in
-    let counts : IsKeptCounts (opened_counts c.args.slots c.args.mutators) = subst (λ (s : State). IsKeptCounts s) (c.in_ok-counts.ensures ∙ ap (opened_counts c.args.slots) c.from.ensures) c.rules.ensures in
-    rw (c.of.ensures, c.in_ok-counts.ensures, c.from.ensures, c.in_ok-newer.ensures, c.in_ok-older.ensures, c.in_ok-frame.ensures, row)
+    let counts : IsKeptCounts (opened_counts c.args.slots c.args.mutators) = subst (λ (s : State). IsKeptCounts s) (c.in_ok-counts.ensures ∙ ap (opened_counts c.args.slots) c.from-2.ensures) c.rules.ensures in
+    rw (c.of.ensures, c.in_ok-counts.ensures, c.from-2.ensures, c.in_ok-newer.ensures, c.in_ok-older.ensures, c.in_ok-left.ensures.items_if_clones_equal (λ y e. e), c.from.ensures, c.in_ok-frame.ensures, row)
     (opened_keeps c.args.slots c.args.fields c.args.regs c.args.mutators c.args.cap c.args.first_epoch c.requires.fields c.ranges.fields.fits c.requires.registers c.requires.mutators c.ranges.mutators.fits c.requires.epoch counts)
 
 pub returns-clause-kept : goal.returns-clause-kept
 returns-clause-kept c =
     let row : c.set.new.self ≡ first_registers c.args.regs = c.set.ensures ∙ ap (λ (xs : List (Option ℕ)). set xs 0 (Some 0)) c.in_ok-frame.ensures ∙ first_row c.args.regs c.requires.registers in
-    let counts : IsKeptCounts (opened_counts c.args.slots c.args.mutators) = subst (λ (s : State). IsKeptCounts s) (c.in_ok-counts.ensures ∙ ap (opened_counts c.args.slots) c.from.ensures) c.rules.ensures in
-    rw (c.of.ensures, c.in_ok-counts.ensures, c.from.ensures, c.in_ok-newer.ensures, c.in_ok-older.ensures, c.in_ok-frame.ensures, row)
+    let counts : IsKeptCounts (opened_counts c.args.slots c.args.mutators) = subst (λ (s : State). IsKeptCounts s) (c.in_ok-counts.ensures ∙ ap (opened_counts c.args.slots) c.from-2.ensures) c.rules.ensures in
+    rw (c.of.ensures, c.in_ok-counts.ensures, c.from-2.ensures, c.in_ok-newer.ensures, c.in_ok-older.ensures, c.in_ok-left.ensures.items_if_clones_equal (λ y e. e), c.from.ensures, c.in_ok-frame.ensures, row)
     (opened_keeps c.args.slots c.args.fields c.args.regs c.args.mutators c.args.cap c.args.first_epoch c.requires.fields c.ranges.fields.fits c.requires.registers c.requires.mutators c.ranges.mutators.fits c.requires.epoch counts)

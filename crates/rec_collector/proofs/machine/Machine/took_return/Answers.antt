@@ -1,41 +1,30 @@
--- The contract of `Machine::took_return`: a mailbox was given back.
-use Rattle.std.proofs.Common.{true, false, refl, ◌≡◌, length, ap, sym, ◌∙◌}
-use Rattle.std.proofs.lemmas.Bool.{eq-eqb, ne_eqb}
-use Rattle.rec_collector.proofs.Common.{IsGivenAt, Private, parts_of, Returning}
+-- The contract of `Machine::took_return`: a mailbox was given back, from which a mutator's last buffer may have come.
+use Rattle.std.proofs.Common.{◌-◌, ◌<◌, length, arith, ap, ◌∙◌}
+use Rattle.std.proofs.lemmas.List.{get_or_default}
+use Rattle.rec_log.specs.declared.contents.Contents.{Contents}
+use Rattle.rec_collector.proofs.Common.{behind, behind_turn, blank, Private, took_at, turn_at, Returning}
 use Rattle.rec_collector.specs.Inside.{private}
-use Rattle.rec_collector.proofs.Following.{none_released, resting_cleared}
+use Rattle.rec_collector.proofs.Gathering.{noted_as}
 use Rattle.rec_collector.proofs.Landing.{now_at}
-use Rattle.rec_collector.proofs.Keeping.{batch_follows, returned_as, turned, turned_keeps}
 use Rattle.rec_collector.proofs.machine.Machine.took_return.Goals as goal
 
-pub returns-then-from-len-clause-took : goal.returns-then-from-len-clause-took
-returns-then-from-len-clause-took c = (returned_as _ _ c.args.mutator false c.self.view_is (ne_eqb _ _ (λ q. c.if-from-len.true (c.from.ensures ∙ q ∙ sym c.self.inside.newer.ok.0 ∙ sym c.len.ensures)))).0
+pub overflow_sub-place : goal.overflow_sub-place
+overflow_sub-place c = omega (arith, (now_at c.args.self.now (Returning c.args.mutator) c.rules.ensures c.requires.phase).first, c.from-place.ensures)
 
-pub returns-then-from-len-clause-turn : goal.returns-then-from-len-clause-turn
-returns-then-from-len-clause-turn c = (returned_as _ _ c.args.mutator false c.self.view_is (ne_eqb _ _ (λ q. c.if-from-len.true (c.from.ensures ∙ q ∙ sym c.self.inside.newer.ok.0 ∙ sym c.len.ensures)))).1
-
-pub apply_batch-self-inside-requires-clause-cleared : goal.apply_batch-self-inside-requires-clause-cleared
-apply_batch-self-inside-requires-clause-cleared c =
+pub returns-clause-took : goal.returns-clause-took
+unfolding took_at
+returns-clause-took c =
     let p : Private = private c.self.inside in
-    resting_cleared (parts_of p) (now_at p (Returning c.args.mutator) c.self.invariant (ap (λ (q : Private). q.phase) c.self.view_is ∙ c.requires.phase)).rest
+    let a = now_at p (Returning c.args.mutator) c.self.invariant (ap (λ (q : Private). q.phase) c.self.view_is ∙ c.requires.phase) in
+    let there : c.from-place.result - 1 < length p.newer = omega (arith, a.first, a.there, c.from-place.ensures) in
+    let last = c.is_last.ensures ∙ ap (λ (b : Contents). b.last) (c.index.ensures ∙ get_or_default p.newer (c.from-place.result - 1) c.index.result.now (blank 0 0) there) in
+    c.gather_behind.ensures.took ∙ ap (λ (q : Private). behind q c.args.mutator) (noted_as p _ c.args.mutator c.from-place.result c.is_last.result c.self.view_is c.from-place.ensures last)
 
-pub apply_batch-self-inside-requires-clause-unreleased : goal.apply_batch-self-inside-requires-clause-unreleased
-apply_batch-self-inside-requires-clause-unreleased c =
+pub returns-clause-turn : goal.returns-clause-turn
+unfolding turn_at
+returns-clause-turn c =
     let p : Private = private c.self.inside in
-    none_released (now_at p (Returning c.args.mutator) c.self.invariant (ap (λ (q : Private). q.phase) c.self.view_is ∙ c.requires.phase)).rest
-
-pub invariant_of-self-2 : goal.invariant_of-self-2
-unfolding IsGivenAt
-invariant_of-self-2 c =
-    let last : c.args.mutator ≡ length c.self.inside.newer.items = sym c.from.ensures ∙ c.if-from-len.false ∙ c.len.ensures ∙ c.self.inside.newer.ok.0 in
-    turned_keeps _ _ 0 (Returning c.args.mutator) _ c.self.invariant c.self.view_is c.requires.phase c.requires.covered last (batch_follows (private c.self.inside) _ _ _ c.apply_batch-self-inside.ensures c.deref.ensures.value c.deref-2.ensures.value)
-
-pub returns : goal.returns
-unfolding IsGivenAt
-returns c =
-    let p : Private = private c.self.inside in
-    let last : c.args.mutator ≡ length c.self.inside.newer.items = sym c.from.ensures ∙ c.if-from-len.false ∙ c.len.ensures ∙ c.self.inside.newer.ok.0 in
-    let ends = c.end_if_nothing_is_free.ensures in
-    let r = returned_as p p c.args.mutator true refl (eq-eqb _ _ last) in
-    let t = turned p _ 0 (Returning c.args.mutator) _ c.self.invariant c.self.view_is c.requires.phase c.requires.covered last (batch_follows p _ _ _ c.apply_batch-self-inside.ensures c.deref.ensures.value c.deref-2.ensures.value) _ _ r.0 r.1 ends.took ends.turn ends.same in
-    record { took = t.0; turn = t.1; same = t.2; kept = ends.kept }
+    let a = now_at p (Returning c.args.mutator) c.self.invariant (ap (λ (q : Private). q.phase) c.self.view_is ∙ c.requires.phase) in
+    let there : c.from-place.result - 1 < length p.newer = omega (arith, a.first, a.there, c.from-place.ensures) in
+    let last = c.is_last.ensures ∙ ap (λ (b : Contents). b.last) (c.index.ensures ∙ get_or_default p.newer (c.from-place.result - 1) c.index.result.now (blank 0 0) there) in
+    c.gather_behind.ensures.turn ∙ ap (λ (q : Private). behind_turn q c.args.mutator) (noted_as p _ c.args.mutator c.from-place.result c.is_last.result c.self.view_is c.from-place.ensures last)

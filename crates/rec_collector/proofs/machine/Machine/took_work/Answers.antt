@@ -1,9 +1,9 @@
 -- The contract of `Machine::took_work`: a word came out of a field, or was loaded from one, for the machine at work.
-use Rattle.std.proofs.Common.{◌≡◌, arith, refl, sym, ◌∙◌, subst}
+use Rattle.std.proofs.Common.{◌≡◌, arith, refl, sym, subst}
 use Rattle.rec_collector.proofs.Common.{Next, IsGivenAt, IsWork, KeepsSizes, Private, took_at, turn_at}
 use Rattle.rec_collector.specs.Inside.{private}
 use Rattle.rec_collector.proofs.Always.{turns_fit}
-use Rattle.rec_collector.proofs.Keeping.{may_work, turned, turned_keeps, work_is, work_took, works_there}
+use Rattle.rec_collector.proofs.Keeping.{may_work, turned, turned_keeps}
 use Rattle.rec_collector.proofs.machine.Machine.took_work.Goals as goal
 use Rattle.rec_collector.proofs.machine.Machine.took_work.Goals.{After-end_if_nothing_is_free}
 
@@ -20,7 +20,7 @@ invariant_of-self c =
     let p : Private = private c.self.inside in
     let w : IsWork p.phase = subst (λ (q : Private). IsWork q.phase) (sym c.self.view_is) c.requires.works in
     let n : Next = record { parts = c.took.new.self; phase = c.took.new.phase } in
-    turned_keeps p p c.args.word p.phase n c.self.invariant refl refl (subst (λ (q : Private). IsGivenAt q c.args.word q.phase) (sym c.self.view_is) c.requires.given) (works_there p p.phase w) (c.took.ensures ∙ sym (work_is p c.args.word p.phase w))
+    turned_keeps p p c.args.word p.phase n c.self.invariant refl refl (subst (λ (q : Private). IsGivenAt q c.args.word q.phase) (sym c.self.view_is) c.requires.given) w c.took.ensures
 
 told : (c : After-end_if_nothing_is_free) → (let now : Private = c.args.self.now in
     (c.end_if_nothing_is_free.new.self ≡ took_at now c.args.word now.phase) × (c.end_if_nothing_is_free.result ≡ turn_at now c.args.word now.phase) × KeepsSizes now c.end_if_nothing_is_free.new.self)
@@ -29,10 +29,9 @@ told c =
     let w : IsWork p.phase = subst (λ (q : Private). IsWork q.phase) (sym c.self.view_is) c.requires.works in
     let n : Next = record { parts = c.took.new.self; phase = c.took.new.phase } in
     let ends = c.end_if_nothing_is_free.ensures in
-    let learnt = work_took p c.args.word p.phase w in
     subst (λ (now : Private). (c.end_if_nothing_is_free.new.self ≡ took_at now c.args.word now.phase) × (c.end_if_nothing_is_free.result ≡ turn_at now c.args.word now.phase) × KeepsSizes now c.end_if_nothing_is_free.new.self) c.self.view_is
-    (turned p p c.args.word p.phase n c.self.invariant refl refl (subst (λ (q : Private). IsGivenAt q c.args.word q.phase) (sym c.self.view_is) c.requires.given) (works_there p p.phase w) (c.took.ensures ∙ sym (work_is p c.args.word p.phase w))
-    c.end_if_nothing_is_free.new.self c.end_if_nothing_is_free.result learnt.0 learnt.1 ends.took ends.turn ends.same)
+    (turned p p c.args.word p.phase n c.self.invariant refl refl (subst (λ (q : Private). IsGivenAt q c.args.word q.phase) (sym c.self.view_is) c.requires.given) w c.took.ensures
+    c.end_if_nothing_is_free.new.self c.end_if_nothing_is_free.result ends.took ends.turn ends.same)
 
 pub returns-clause-took : goal.returns-clause-took
 returns-clause-took c = (told c).0
