@@ -1,12 +1,12 @@
 -- The batch: with the last mailbox given back, what the buffers name is counted, and the accounts are those of the next epoch.
-use Rattle.std.proofs.Common.{◌≡◌, ◌⊎◌, inl, inr, ℕ, ◌+◌, ◌-◌, ◌*◌, ◌<◌, ◌≤◌, ◌==◌, nat_lt, if◌then◌else◌, Bool, true, List, [], ◌∷◌, ◌++◌, suc, Option, None, Some, length, map, slice_index_or, refl, sym, ap, subst, ◌∙◌, arith}
-use Rattle.std.specs.List.{sum_by}
+use Rattle.std.proofs.Common.{◌≡◌, ◌⊎◌, inl, inr, ℕ, ◌+◌, ◌-◌, ◌*◌, ◌<◌, ◌≤◌, ◌==◌, if◌then◌else◌, Bool, true, List, [], ◌∷◌, ◌++◌, suc, Option, None, Some, length, map, slice_index_or, refl, sym, ap, subst, ◌∙◌, arith}
+use Rattle.std.specs.List.{sum_by, zip}
 use Rattle.std.proofs.Math.Nat.{suc-mul, mul-le-mul}
-use Rattle.std.proofs.lemmas.Bool.{cases_eq, cases_lt, eq-eqb, lt-ltb, lt-leb, cond-true}
+use Rattle.std.proofs.lemmas.Bool.{cases_Bool, cases_lt, cond-false, cond-true, eq-eqb, lt-leb}
 use Rattle.std.proofs.lemmas.List.{get_or_past, get_or_default}
 use Rattle.std.proofs.lemmas.List.Concat.{length-flat_map}
 use Rattle.std.proofs.lemmas.List.Sums.{sum_by-cons, sum_by-append}
-use Rattle.rec_core.proofs.Common.{Spare, WithCollector, is_dead, is_leaf_from, Applies, is_up_to, puts_in, replaces_in, Write, Dated, dated, is_at, sum_by-flat_map, sum_by-map, counts_bounded, only_if, Contents, Entry, State, slot_at, fresh, absent, Slot, Private, Returning, IsMutator, Core, mutator, box, crossing_of, spare_of, nobody, IsBufferOf, Handshake, stand_at, HasCrossed, IsHandshake, IsKept, Filed, filed, code, writes_in, births_in, dated_names, dated_all, older_at, applied_at, epoch_at, buffers, writes_of, births_of, snapshots_of, registers_of, pending, Config, is_leaf}
+use Rattle.rec_core.proofs.Common.{is_dead, is_leaf_from, Applies, is_up_to, puts_in, replaces_in, Write, Dated, dated, is_at, sum_by-flat_map, sum_by-map, counts_bounded, only_if, Contents, Entry, State, slot_at, fresh, absent, Slot, Private, Returning, IsMutator, Core, mutator, box, crossing_of, spare_of, nobody, IsActor, IsBufferOf, Handshake, has_left, has_let_go, HasGone, stand_at, IsHandshake, IsKeptBy, Opening, Filed, filed, code, writes_in, births_in, dated_names, dated_all, dated_registers, older_at, applied_at, epoch_at, filed_box, buffers, writes_of, births_of, snapshots_of, registers_of, pending, Config, is_leaf}
 use Rattle.rec_model.specs.Moves.{added, taken}
 use Rattle.rec_model.proofs.CollectorMoves.{unnamed_uncounted}
 use Rattle.rec_model.proofs.Ledgers.{batch_covered}
@@ -17,12 +17,12 @@ use Rattle.rec_apply.proofs.Whole.{is_batch}
 use Rattle.rec_collector.specs.Private as collectors
 use Rattle.rec_collector.specs.Kept as collector_kept
 use Rattle.rec_word.proofs.Headers.{leaf_taken}
-use Rattle.rec_core.proofs.Actors.{epoch_here, settled_here}
+use Rattle.rec_core.proofs.Actors.{crossed_here, epoch_here, epoch_next, idle_here, left_let_go}
 use Rattle.rec_core.proofs.Batches.{buffer_there, gain, loss, gain_named, gain_none, loss_named, loss_none, same_at, none_of, sum_parts, leaves_named}
 use Rattle.rec_core.proofs.Counts.{slot_in, accounts_with}
 use Rattle.rec_core.proofs.Moves.{spare_names}
-use Rattle.rec_core.proofs.Sums.{share, log_share, buffers_sum}
-use Rattle.rec_core.proofs.Turns.{now_at, returned_home}
+use Rattle.rec_core.proofs.Sums.{share, log_share, box_share, zip_sum-none, buffers_sum, dated_most}
+use Rattle.rec_core.proofs.Turns.{now_in}
 
 -- a spare adds nothing, and takes nothing
 gain_spare : (config : Config) (epoch node of : ℕ) → gain epoch node of (spare_of config) ≡ 0
@@ -53,10 +53,10 @@ all_within f most (x ∷ xs) d within =
 
 -- a sum over all buffers, row by row
 rows_sum : (size : Filed → ℕ) (w : Core) → sum_by size (buffers w)
-    ≡ sum_by (λ (p : Private). size (filed (epoch_at p) p.log)) w.mutators + (sum_by (λ (b : Contents). size (filed (w.epoch - 1) b)) w.boxes + (sum_by (λ (b : Contents). size (filed (w.epoch - 1) b)) w.collector.newer + sum_by (λ (b : Contents). size (filed (older_at w.epoch w.collector.phase) b)) w.collector.older))
+    ≡ sum_by (λ (p : Private). size (filed (epoch_at p) p.log)) w.mutators + (sum_by (λ (own : Private × Contents). size (filed_box own)) (zip w.mutators w.boxes) + (sum_by (λ (b : Contents). size (filed (w.epoch - 1) b)) w.collector.newer + sum_by (λ (b : Contents). size (filed (older_at w.epoch w.collector.phase) b)) w.collector.older))
 rows_sum size w =
     let logs : List Filed = map (λ (p : Private). filed (epoch_at p) p.log) w.mutators in
-    let boxes : List Filed = map (filed (w.epoch - 1)) w.boxes in
+    let boxes : List Filed = map filed_box (zip w.mutators w.boxes) in
     let newer : List Filed = map (filed (w.epoch - 1)) w.collector.newer in
     let older : List Filed = map (filed (older_at w.epoch w.collector.phase)) w.collector.older in
     omega (
@@ -65,7 +65,7 @@ rows_sum size w =
       sum_by-append size boxes (newer ++ older),
       sum_by-append size newer older,
       sum_by-map size (λ (p : Private). filed (epoch_at p) p.log) w.mutators,
-      sum_by-map size (filed (w.epoch - 1)) w.boxes,
+      sum_by-map size filed_box (zip w.mutators w.boxes),
       sum_by-map size (filed (w.epoch - 1)) w.collector.newer,
       sum_by-map size (filed (older_at w.epoch w.collector.phase)) w.collector.older,
     )
@@ -91,36 +91,85 @@ none_late epoch late (x ∷ xs) after =
 by_number : (n i : ℕ) → i < n → (1 ≤ i + 1) × (i + 1 ≤ n)
 by_number n i below = (omega arith, omega arith)
 
-module _ (w : Core) (t : ℕ) (kept : IsKept w) (phase : w.collector.phase ≡ Returning t) (last : t ≡ length w.collector.newer) where
+-- a buffer of an epoch from the requested one on, or a spare
+record IsFar (config : Config) (requested epoch : ℕ) (b : Contents) : Type 0 where
+  pub buffer : IsBufferOf config epoch b
+  pub late : (requested ≤ epoch) ⊎ (b ≡ spare_of config)
+
+-- a batch counts nothing of it
+far_gain : (config : Config) (e requested of node : ℕ) (b : Contents) → e < requested → IsFar config requested of b → gain e node of b ≡ 0
+far_gain config e requested of node b below f = elim f.late [
+  | inl late ↦ gain_none config e of node b (λ same. omega (arith, same, late, below)) f.buffer
+  | inr spare ↦ ap (gain e node of) spare ∙ gain_spare config e node of
+]
+
+far_loss : (config : Config) (e requested of node : ℕ) (b : Contents) → e < requested → IsFar config requested of b → loss e node of b ≡ 0
+far_loss config e requested of node b below f = elim f.late [
+  | inl late ↦ loss_none config e of node b (λ same. omega (arith, same, late, below)) f.buffer
+  | inr spare ↦ ap (loss e node of) spare ∙ loss_spare config e node of
+]
+
+-- such are a mutator's log and what its mailbox holds, and its registers are of no earlier epoch
+record IsFarFrom (config : Config) (requested : ℕ) (p : Private) (box : Contents) : Type 0 where
+  pub log : IsFar config requested (epoch_at p) p.log
+  pub mailbox : IsFar config requested (epoch_at p - 1) box
+  pub registers : (has_let_go p ≡ true) ⊎ (requested ≤ epoch_at p)
+
+-- where a mutator has left
+far_left : {config : Config} {requested : ℕ} {stand : Handshake} {t : ℕ} {p : Private} {crossing : ℕ} {box : Contents}
+    → IsActor config requested stand t p crossing box → p.left ≡ true → (requested ≤ epoch_at p - 1) ⊎ (box ≡ spare_of config) → IsFarFrom config requested p box
+far_left {p = p} a left late = record {
+  log = record { buffer = a.log; late = inr (a.let_go (left_let_go p left)).log };
+  mailbox = record { buffer = a.mailbox; late = late };
+  registers = inl (left_let_go p left);
+}
+
+-- where its turn in the gathering is past
+far_done : {config : Config} {requested : ℕ} {stand : Handshake} {t : ℕ} {p : Private} {crossing : ℕ} {box : Contents}
+    → IsActor config requested stand t p crossing box → IsHandshake config requested p crossing box Handshake.Done → IsFarFrom config requested p box
+far_done a (inl (crossed, stays, spare)) =
+    let here = crossed_here crossed in
+    record { log = record { buffer = a.log; late = inl (omega (arith, here)) }; mailbox = record { buffer = a.mailbox; late = inr spare }; registers = inr (omega (arith, here)) }
+far_done {p = p} a (inr (inl (crosses, parting))) =
+    let next : epoch_at p ≡ p.epoch + 1 = epoch_next p crosses.phase in
+    record {
+      log = record { buffer = a.log; late = inr crosses.spare };
+      mailbox = record { buffer = a.mailbox; late = inl (omega (arith, next, crosses.epoch)) };
+      registers = inr (omega (arith, next, crosses.epoch));
+    }
+far_done {p = p} a (inr (inr retired)) =
+    let here : epoch_at p ≡ p.epoch = epoch_here p (idle_here p.phase (a.own.idle retired.left)) in
+    far_left a retired.left (inl (omega (arith, here, retired.epoch)))
+
+-- a sum over two rows side by side, of terms that are within a bound
+zip_within : {X Y : Type 0} (f : X × Y → ℕ) (most : ℕ) (xs : List X) (ys : List Y) (d : X) (e : Y) → ((i : ℕ) → i < length xs → i < length ys → f (slice_index_or xs i d, slice_index_or ys i e) ≤ most) → sum_by f (zip xs ys) ≤ length xs * most
+zip_within f most [] ys d e within = omega arith
+zip_within f most (x ∷ xs) [] d e within = omega arith
+zip_within f most (x ∷ xs) (y ∷ ys) d e within =
+    let first : f (x, y) ≤ most = within 0 (omega arith) (omega arith) in
+    let rest : sum_by f (zip xs ys) ≤ length xs * most = zip_within f most xs ys d e (λ i below here. within (suc i) (omega arith) (omega arith)) in
+    let product : suc (length xs) * most ≡ length xs * most + most = suc-mul (length xs) most in
+    omega (arith, sum_by-cons f (x, y) (zip xs ys), product)
+
+-- Every mailbox is home: what the batch counts.
+module _ (w : Core) (t : ℕ) (kept : IsKeptBy (stand_at w.collector.left Opening) w) (phase : w.collector.phase ≡ Returning t) where
   open w use {collector as c}
   open kept use {collector.{slots as slots_are}}
 
   many : length c.newer ≡ w.config.mutators
   many = kept.collector.mutators
 
-  -- the mutator whose mailbox was given back is the last one
-  pub last_is : IsMutator w.config t
-  last_is = let some : 1 ≤ w.config.mutators = kept.config.some_mutators in (omega (arith, many), omega (arith, many))
-
-  -- every mutator has crossed
-  crossed : (s : ℕ) → IsMutator w.config s → (HasCrossed w.epoch (mutator w s) (crossing_of w s) Spare ⊎ HasCrossed w.epoch (mutator w s) (crossing_of w s) WithCollector) × (box w s ≡ spare_of w.config)
-  crossed s there = elim (cases_eq s t) [
-    | inl same ↦
-        let home = returned_home w t kept phase last_is in
-        (inr (subst (λ n. HasCrossed w.epoch (mutator w n) (crossing_of w n) WithCollector) (sym same) home.0), ap (box w) same ∙ home.1)
-    | inr other ↦
-        let up : s ≤ t = omega (arith, there.1, many) in
-        let below : s < t = omega arith in
-        let done : stand_at c.phase s ≡ Handshake.Done = ap (λ p. stand_at p s) phase ∙ cond-true (nat_lt s t) Handshake.Done (if s == t then Handshake.Held else Handshake.Due) (lt-ltb s t below) in
-        let home : IsHandshake w.config w.epoch (mutator w s) (crossing_of w s) (box w s) Handshake.Done = subst (IsHandshake w.config w.epoch (mutator w s) (crossing_of w s) (box w s)) done (kept.mutators.each s there).handshake in
-        (inl home.0, home.1)
+  -- what each mutator has in its log and in its mailbox
+  far : (s : ℕ) → IsMutator w.config s → IsFarFrom w.config w.epoch (mutator w s) (box w s)
+  far s there = elim (cases_Bool (has_left c.left s)) [
+    | inl gone ↦
+        let g : HasGone w.config w.epoch (mutator w s) (crossing_of w s) (box w s) = subst (IsHandshake w.config w.epoch (mutator w s) (crossing_of w s) (box w s)) (cond-true (has_left c.left s) Handshake.Gone Handshake.Done gone) (actor s there).handshake in
+        far_left (actor s there) g.left (inr g.spare)
+    | inr present ↦ far_done (actor s there) (subst (IsHandshake w.config w.epoch (mutator w s) (crossing_of w s) (box w s)) (cond-false (has_left c.left s) Handshake.Gone Handshake.Done present) (actor s there).handshake)
   ]
-
-  in_epoch : (s : ℕ) → IsMutator w.config s → epoch_at (mutator w s) ≡ w.epoch
-  in_epoch s there = elim (crossed s there).0 [
-    | inl h ↦ epoch_here (mutator w s) (settled_here (mutator w s).phase h.settled) ∙ h.epoch
-    | inr h ↦ epoch_here (mutator w s) (settled_here (mutator w s).phase h.settled) ∙ h.epoch
-  ]
+    where
+      actor : (s : ℕ) → IsMutator w.config s → IsActor w.config w.epoch (stand_at c.left Opening s) s (mutator w s) (crossing_of w s) (box w s)
+      actor s there = kept.mutators.each s there
 
   some_epochs : 2 ≤ w.epoch
   some_epochs =
@@ -135,21 +184,12 @@ module _ (w : Core) (t : ℕ) (kept : IsKept w) (phase : w.collector.phase ≡ R
   applied_is = ap (applied_at w.epoch) phase
 
   -- each item of the rows
-  log_of : (i : ℕ) → i < length w.mutators → IsBufferOf w.config w.epoch (slice_index_or w.mutators i nobody).log × (epoch_at (slice_index_or w.mutators i nobody) ≡ w.epoch)
-  log_of i below =
+  far_at : (i : ℕ) → i < length w.mutators → IsFarFrom w.config w.epoch (slice_index_or w.mutators i nobody) (slice_index_or w.boxes i (collectors.blank 0 0))
+  far_at i below =
       let all : length w.mutators ≡ w.config.mutators = kept.mutators.many in
       let is : IsMutator w.config (i + 1) = by_number w.config.mutators i (omega arith) in
       let at : i + 1 - 1 ≡ i = omega arith in
-      let epoch : epoch_at (mutator w (i + 1)) ≡ w.epoch = in_epoch (i + 1) is in
-      subst (λ n. IsBufferOf w.config w.epoch (slice_index_or w.mutators n nobody).log × (epoch_at (slice_index_or w.mutators n nobody) ≡ w.epoch)) at
-      (subst (λ e. IsBufferOf w.config e (mutator w (i + 1)).log) epoch (kept.mutators.each (i + 1) is).log, epoch)
-
-  box_of : (i : ℕ) → i < length w.boxes → slice_index_or w.boxes i (collectors.blank 0 0) ≡ spare_of w.config
-  box_of i below =
-      let all : length w.boxes ≡ w.config.mutators = kept.mutators.mailboxes in
-      let is : IsMutator w.config (i + 1) = by_number w.config.mutators i (omega arith) in
-      let at : i + 1 - 1 ≡ i = omega arith in
-      ap (λ n. slice_index_or w.boxes n (collectors.blank 0 0)) (sym at) ∙ (crossed (i + 1) is).1
+      subst (λ n. IsFarFrom w.config w.epoch (slice_index_or w.mutators n nobody) (slice_index_or w.boxes n (collectors.blank 0 0))) at (far (i + 1) is)
 
   newer_of : (i : ℕ) → i < length c.newer → IsBufferOf w.config (w.epoch - 1) (slice_index_or c.newer i (collectors.blank 0 0))
   newer_of = buffer_there w.config (w.epoch - 1) c.newer many kept.collector.newer
@@ -170,13 +210,12 @@ module _ (w : Core) (t : ℕ) (kept : IsKept w) (phase : w.collector.phase ≡ R
         buffers_sum (puts_in e (x + 1)) of_writes w,
         buffers_sum (is_at e (x + 1)) of_names w,
         sum_parts (log_share (puts_in e (x + 1)) of_writes) (log_share (is_at e (x + 1)) of_names) w.mutators,
-        sum_parts (share (puts_in e (x + 1)) of_writes e) (share (is_at e (x + 1)) of_names e) w.boxes,
+        sum_parts (box_share (puts_in e (x + 1)) of_writes) (box_share (is_at e (x + 1)) of_names) (zip w.mutators w.boxes),
         sum_parts (share (puts_in e (x + 1)) of_writes e) (share (is_at e (x + 1)) of_names e) c.newer,
         sum_parts (share (puts_in e (x + 1)) of_writes (older_at w.epoch c.phase)) (share (is_at e (x + 1)) of_names (older_at w.epoch c.phase)) c.older,
-        none_of (λ (p : Private). gain e (x + 1) (epoch_at p) p.log) w.mutators nobody (λ i below.
-            let l = log_of i below in
-            ap (λ n. gain e (x + 1) n (slice_index_or w.mutators i nobody).log) l.1 ∙ gain_none w.config e w.epoch (x + 1) (slice_index_or w.mutators i nobody).log (λ same. omega (arith, same, some_epochs)) l.0),
-        none_of (λ (b : Contents). gain e (x + 1) e b) w.boxes (collectors.blank 0 0) (λ i below. ap (gain e (x + 1) e) (box_of i below) ∙ gain_spare w.config e (x + 1) e),
+        none_of (λ (p : Private). gain e (x + 1) (epoch_at p) p.log) w.mutators nobody (λ i below. far_gain w.config e w.epoch (epoch_at (slice_index_or w.mutators i nobody)) (x + 1) (slice_index_or w.mutators i nobody).log (omega (arith, some_epochs)) (far_at i below).log),
+        zip_sum-none (λ (own : Private × Contents). gain e (x + 1) (epoch_at own.0 - 1) own.1) w.mutators w.boxes nobody (collectors.blank 0 0)
+            (λ i below _. far_gain w.config e w.epoch (epoch_at (slice_index_or w.mutators i nobody) - 1) (x + 1) (slice_index_or w.boxes i (collectors.blank 0 0)) (omega (arith, some_epochs)) (far_at i below).mailbox),
         same_at (λ (b : Contents). gain e (x + 1) e b) (λ (b : Contents). targets.named x (map targets.new_target b.entries) + targets.named x b.snapshot) c.newer (collectors.blank 0 0)
             (λ i below. gain_named w.config e x (slice_index_or c.newer i (collectors.blank 0 0)) (newer_of i below)),
         none_of (λ (b : Contents). gain e (x + 1) (older_at w.epoch c.phase) b) c.older (collectors.blank 0 0) (λ i below.
@@ -200,16 +239,15 @@ module _ (w : Core) (t : ℕ) (kept : IsKept w) (phase : w.collector.phase ≡ R
         buffers_sum (is_at e (x + 1)) of_names w,
         sum_parts (λ (p : Private). log_share (replaces_in e (x + 1)) of_writes p + log_share (is_at e (x + 1)) of_births p) (log_share (is_at e (x + 1)) of_names) w.mutators,
         sum_parts (log_share (replaces_in e (x + 1)) of_writes) (log_share (is_at e (x + 1)) of_births) w.mutators,
-        sum_parts (λ (b : Contents). share (replaces_in e (x + 1)) of_writes l b + share (is_at e (x + 1)) of_births l b) (share (is_at e (x + 1)) of_names l) w.boxes,
-        sum_parts (share (replaces_in e (x + 1)) of_writes l) (share (is_at e (x + 1)) of_births l) w.boxes,
+        sum_parts (λ (own : Private × Contents). box_share (replaces_in e (x + 1)) of_writes own + box_share (is_at e (x + 1)) of_births own) (box_share (is_at e (x + 1)) of_names) (zip w.mutators w.boxes),
+        sum_parts (box_share (replaces_in e (x + 1)) of_writes) (box_share (is_at e (x + 1)) of_births) (zip w.mutators w.boxes),
         sum_parts (λ (b : Contents). share (replaces_in e (x + 1)) of_writes l b + share (is_at e (x + 1)) of_births l b) (share (is_at e (x + 1)) of_names l) c.newer,
         sum_parts (share (replaces_in e (x + 1)) of_writes l) (share (is_at e (x + 1)) of_births l) c.newer,
         sum_parts (λ (b : Contents). share (replaces_in e (x + 1)) of_writes o b + share (is_at e (x + 1)) of_births o b) (share (is_at e (x + 1)) of_names o) c.older,
         sum_parts (share (replaces_in e (x + 1)) of_writes o) (share (is_at e (x + 1)) of_births o) c.older,
-        none_of (λ (p : Private). loss e (x + 1) (epoch_at p) p.log) w.mutators nobody (λ i below.
-            let own = log_of i below in
-            ap (λ n. loss e (x + 1) n (slice_index_or w.mutators i nobody).log) own.1 ∙ loss_none w.config e w.epoch (x + 1) (slice_index_or w.mutators i nobody).log (λ same. omega (arith, same, some_epochs)) own.0),
-        none_of (λ (b : Contents). loss e (x + 1) l b) w.boxes (collectors.blank 0 0) (λ i below. ap (loss e (x + 1) l) (box_of i below) ∙ loss_spare w.config e (x + 1) l),
+        none_of (λ (p : Private). loss e (x + 1) (epoch_at p) p.log) w.mutators nobody (λ i below. far_loss w.config e w.epoch (epoch_at (slice_index_or w.mutators i nobody)) (x + 1) (slice_index_or w.mutators i nobody).log (omega (arith, some_epochs)) (far_at i below).log),
+        zip_sum-none (λ (own : Private × Contents). loss e (x + 1) (epoch_at own.0 - 1) own.1) w.mutators w.boxes nobody (collectors.blank 0 0)
+            (λ i below _. far_loss w.config e w.epoch (epoch_at (slice_index_or w.mutators i nobody) - 1) (x + 1) (slice_index_or w.boxes i (collectors.blank 0 0)) (omega (arith, some_epochs)) (far_at i below).mailbox),
         none_of (λ (b : Contents). loss e (x + 1) l b) c.newer (collectors.blank 0 0)
             (λ i below. loss_none w.config e l (x + 1) (slice_index_or c.newer i (collectors.blank 0 0)) (λ same. omega (arith, same, some_epochs)) (newer_of i below)),
         same_at (λ (b : Contents). loss e (x + 1) o b) (λ (b : Contents). targets.named x (map targets.old_target b.entries) + targets.named x b.snapshot) c.older (collectors.blank 0 0)
@@ -255,7 +293,6 @@ module _ (w : Core) (t : ℕ) (kept : IsKept w) (phase : w.collector.phase ≡ R
   few_writes : length (writes_of w) ≤ 252 * 262143
   few_writes =
       let mutators : length w.mutators ≡ w.config.mutators = kept.mutators.many in
-      let boxes : length w.boxes ≡ w.config.mutators = kept.mutators.mailboxes in
       let both : length c.older ≡ length c.newer = kept.collector.machine.both in
       let most : w.config.mutators ≤ 63 = kept.config.few_mutators in
       let size : Filed → ℕ = λ b. length (writes_in b.buffer.entries) in
@@ -264,13 +301,12 @@ module _ (w : Core) (t : ℕ) (kept : IsKept w) (phase : w.collector.phase ≡ R
         arith,
         length-flat_map (λ (b : Filed). writes_in b.buffer.entries) (buffers w),
         rows_sum size w,
-        all_within (λ (p : Private). size (filed (epoch_at p) p.log)) cap w.mutators nobody (λ i below. log_within (log_of i below).0),
-        all_within (λ (b : Contents). size (filed (w.epoch - 1) b)) cap w.boxes (collectors.blank 0 0) (λ i below. let is : size (filed (w.epoch - 1) (slice_index_or w.boxes i (collectors.blank 0 0))) ≡ 0 = ap (λ (b : Contents). length (writes_in b.entries)) (box_of i below) in omega (arith, is)),
+        all_within (λ (p : Private). size (filed (epoch_at p) p.log)) cap w.mutators nobody (λ i below. log_within (far_at i below).log.buffer),
+        zip_within (λ (own : Private × Contents). size (filed_box own)) cap w.mutators w.boxes nobody (collectors.blank 0 0) (λ i below _. log_within (far_at i below).mailbox.buffer),
         all_within (λ (b : Contents). size (filed (w.epoch - 1) b)) cap c.newer (collectors.blank 0 0) (λ i below. log_within (newer_of i below)),
         all_within (λ (b : Contents). size (filed (older_at w.epoch c.phase) b)) cap c.older (collectors.blank 0 0) (λ i below. log_within (older_of i below)),
         products w.config.mutators cap most kept.config.few_log_entries,
         ap (λ n. n * cap) (sym mutators),
-        ap (λ n. n * cap) (sym boxes),
         ap (λ n. n * cap) (sym many),
         ap (λ n. n * cap) (sym (both ∙ many)),
       )
@@ -281,7 +317,6 @@ module _ (w : Core) (t : ℕ) (kept : IsKept w) (phase : w.collector.phase ≡ R
   few_names : length (snapshots_of w) ≤ 252 * 64
   few_names =
       let mutators : length w.mutators ≡ w.config.mutators = kept.mutators.many in
-      let boxes : length w.boxes ≡ w.config.mutators = kept.mutators.mailboxes in
       let both : length c.older ≡ length c.newer = kept.collector.machine.both in
       let most : w.config.mutators ≤ 63 = kept.config.few_mutators in
       let size : Filed → ℕ = λ b. length (dated_names b.epoch b.buffer.snapshot) in
@@ -290,14 +325,12 @@ module _ (w : Core) (t : ℕ) (kept : IsKept w) (phase : w.collector.phase ≡ R
         arith,
         length-flat_map (λ (b : Filed). dated_names b.epoch b.buffer.snapshot) (buffers w),
         rows_sum size w,
-        all_within (λ (p : Private). size (filed (epoch_at p) p.log)) cap w.mutators nobody (λ i below. names_within (epoch_at (slice_index_or w.mutators i nobody)) (log_of i below).0),
-        all_within (λ (b : Contents). size (filed (w.epoch - 1) b)) cap w.boxes (collectors.blank 0 0)
-            (λ i below. let is : size (filed (w.epoch - 1) (slice_index_or w.boxes i (collectors.blank 0 0))) ≡ 0 = ap (λ (b : Contents). length (dated_names (w.epoch - 1) b.snapshot)) (box_of i below) ∙ ap length (spare_names w.config (w.epoch - 1)) in omega (arith, is)),
+        all_within (λ (p : Private). size (filed (epoch_at p) p.log)) cap w.mutators nobody (λ i below. names_within (epoch_at (slice_index_or w.mutators i nobody)) (far_at i below).log.buffer),
+        zip_within (λ (own : Private × Contents). size (filed_box own)) cap w.mutators w.boxes nobody (collectors.blank 0 0) (λ i below _. names_within (epoch_at (slice_index_or w.mutators i nobody) - 1) (far_at i below).mailbox.buffer),
         all_within (λ (b : Contents). size (filed (w.epoch - 1) b)) cap c.newer (collectors.blank 0 0) (λ i below. names_within (w.epoch - 1) (newer_of i below)),
         all_within (λ (b : Contents). size (filed (older_at w.epoch c.phase) b)) cap c.older (collectors.blank 0 0) (λ i below. names_within (older_at w.epoch c.phase) (older_of i below)),
         registers_products w.config.mutators cap most kept.config.few_registers,
         ap (λ n. n * cap) (sym mutators),
-        ap (λ n. n * cap) (sym boxes),
         ap (λ n. n * cap) (sym many),
         ap (λ n. n * cap) (sym (both ∙ many)),
       )
@@ -334,7 +367,7 @@ module _ (w : Core) (t : ℕ) (kept : IsKept w) (phase : w.collector.phase ≡ R
   counted = batch c.counts c.newer c.older
 
   zeros_before : c.counts.zeros ≡ []
-  zeros_before = (now_at w (Returning t) kept phase).rest.zeros
+  zeros_before = (now_in w (Returning t) kept phase).rest.zeros
 
   pub is_counted : IsBatch c.counts c.newer c.older counted
   is_counted = is_batch c.counts c.newer c.older zeros_before covered
@@ -345,11 +378,13 @@ module _ (w : Core) (t : ℕ) (kept : IsKept w) (phase : w.collector.phase ≡ R
       let all : length w.mutators ≡ w.config.mutators = kept.mutators.many in
       let next : applied_at w.epoch c.phase + 1 ≡ w.epoch - 1 = omega (arith, applied_is, some_epochs) in
       ap (λ n. sum_by (is_up_to n) (registers_of w)) next
-      ∙ sum_by-flat_map (is_up_to (w.epoch - 1)) (λ (p : Private). dated_all (epoch_at p) p.registers) w.mutators
-      ∙ none_of (λ (p : Private). sum_by (is_up_to (w.epoch - 1)) (dated_all (epoch_at p) p.registers)) w.mutators nobody (λ i below.
-      let l = log_of i below in
-      ap (λ e. sum_by (is_up_to (w.epoch - 1)) (dated_all e (slice_index_or w.mutators i nobody).registers)) l.1
-      ∙ none_late (w.epoch - 1) w.epoch (slice_index_or w.mutators i nobody).registers (omega (arith, some_epochs)))
+      ∙ sum_by-flat_map (is_up_to (w.epoch - 1)) dated_registers w.mutators
+      ∙ none_of (λ (p : Private). sum_by (is_up_to (w.epoch - 1)) (dated_registers p)) w.mutators nobody (λ i below.
+      let p : Private = slice_index_or w.mutators i nobody in
+      elim (far_at i below).registers [
+        | inl gone ↦ ap (λ (b : Bool). sum_by (is_up_to (w.epoch - 1)) (if b then [] else dated_all (epoch_at p) p.registers)) gone
+        | inr late ↦ omega (arith, dated_most (is_up_to (w.epoch - 1)) p, none_late (w.epoch - 1) (epoch_at p) p.registers (omega (arith, late, some_epochs)))
+      ])
 
   -- the batch is one of the accounts
   pub applies : Applies (pending w) (record (accounts_with (pending w) w.words counted) { applied = w.epoch - 1 })

@@ -1,20 +1,20 @@
 -- The batch is applied, and the first of its zeros is released: the tests of the sets that waited for it begin.
-use Rattle.std.proofs.Common.{◌≡◌, inl, inr, ℕ, ◌+◌, ◌-◌, ◌<◌, ◌≤◌, ◌==◌, nat_lt, if◌then◌else◌, true, false, length, slice_set, refl, sym, ap, subst, ◌∙◌, arith}
+use Rattle.std.proofs.Common.{◌≡◌, inl, inr, ℕ, ◌+◌, ◌<◌, true, false, length, refl, sym, ap, subst, ◌∙◌, arith}
 use Rattle.std.specs.List.{concat}
-use Rattle.std.proofs.lemmas.Bool.{cases_lt, cond-true, false≢true, lt-ltb}
+use Rattle.std.proofs.lemmas.Bool.{cases_lt, false≢true}
 use Rattle.std.proofs.lemmas.List.{get_or_past}
-use Rattle.rec_core.proofs.Common.{crossing_word, Spare, AccountMove, move_uncounted, move_accounted, State, slot_at, one, times, absent, Slot, times-nil, leaves, IsReady, IsCleared, Parts, parts_of, zeros_released, Opening, Returning, still, IsMutator, Core, HasCyclesAt, freeing_due, Handshake, stand_at, one_if_sweeping, IsKept, older_at, pending}
+use Rattle.rec_core.proofs.Common.{AccountMove, move_uncounted, move_accounted, State, slot_at, one, times, absent, Slot, times-nil, leaves, IsReady, IsCleared, Parts, parts_of, zeros_released, Opening, Returning, still, Core, HasCyclesAt, freeing_due, stand_at, one_if_sweeping, IsKeptBy, older_at, pending}
 use Rattle.rec_counts.specs.Counts.{IsKept as IsKeptCounts}
 use Rattle.rec_apply.specs.Batch.{IsBatch}
 use Rattle.rec_collector.specs.Kept as collector_kept
 use Rattle.rec_collector.proofs.Clearing.{zeros_clear, Clears}
 use Rattle.rec_collector.proofs.Exchanging.{none_exchanged}
 use Rattle.rec_collector.proofs.Following.{batched_clear, none_released, resting_cleared}
-use Rattle.rec_core.proofs.Applying.{last_is, counted, is_counted, added_is, applies, leaves_are}
+use Rattle.rec_core.proofs.Applying.{counted, is_counted, added_is, applies, leaves_are}
 use Rattle.rec_core.proofs.Counts.{counted_slot}
 use Rattle.rec_core.proofs.CyclesBatch.{is_batch_of, sets_test_begun}
 use Rattle.rec_core.proofs.Landed.{landed_pending, HasCleared}
-use Rattle.rec_core.proofs.Turns.{now_at, returned_mutators}
+use Rattle.rec_core.proofs.Turns.{now_in}
 use Rattle.rec_core.proofs.Zeros.{HasCome, cleared, zeros_come}
 
 -- a member of a set is a slot that is there
@@ -24,22 +24,22 @@ member_there s x k member = elim (cases_lt x (length s.slots)) [
   | inr past ↦ absurd (omega (arith, member, k.buffers x, ap (λ (v : Slot). one v.buffered) (get_or_past s.slots x absent past)))
 ]
 
-module _ (w : Core) (t : ℕ) (kept : IsKept w) (phase : w.collector.phase ≡ Returning t) (last : t ≡ length w.collector.newer) where
+module _ (w : Core) (t : ℕ) (kept : IsKeptBy (stand_at w.collector.left Opening) w) (phase : w.collector.phase ≡ Returning t) where
   open w use {collector as c}
   open kept use {collector.{slots}}
 
   -- the counts then, and the parts
   abbrev s : State
-  s = counted w t kept phase last
+  s = counted w t kept phase
 
   abbrev pub batched : Parts
   batched = record (parts_of c) { counts = s }
 
   -- nothing was at work before
-  open (now_at w (Returning t) kept phase) use {rest}
+  open (now_in w (Returning t) kept phase) use {rest}
 
   is : IsBatch c.counts c.newer c.older s
-  is = is_counted w t kept phase last
+  is = is_counted w t kept phase
 
   ready : IsReady s
   ready = record { zeros = is.zeros; free = λ x there. absurd (omega (arith, there, ap (times x) (is.rest.free ∙ rest.free), times-nil x)) }
@@ -53,24 +53,21 @@ module _ (w : Core) (t : ℕ) (kept : IsKept w) (phase : w.collector.phase ≡ R
       let there : x < length c.counts.slots = member_there c.counts x kept.collector.machine.counts member in
       ap (λ (v : Slot). v.released) (counted_slot c.counts x there) ∙ none_released rest x there
 
-  pub batch_comes : HasCome w (slice_set w.crossing (t - 1) (crossing_word w.epoch Spare)) w.words (still batched)
+  pub batch_comes : HasCome w w.crossing w.words (still batched)
   batch_comes =
-      let there : IsMutator w.config t = last_is w t kept phase last in
-      let move = AccountMove.batch (applies w t kept phase last) in
-      let many : length c.newer ≡ w.config.mutators = kept.collector.mutators in
+      let move = AccountMove.batch (applies w t kept phase) in
       record {
         landed = record {
+          stands = stand_at c.left Opening;
           kept = kept;
           way = ap collector_kept.under_way phase;
           still = ap one_if_sweeping phase;
           older = ap (older_at w.epoch) phase;
-          mutators = returned_mutators w t kept phase there {next = Opening} refl (λ s_ own other.
-              let up : s_ ≤ t = omega (arith, own.1, many) in
-              sym (ap (λ q. stand_at q s_) phase ∙ cond-true (nat_lt s_ t) Handshake.Done (if s_ == t then Handshake.Held else Handshake.Due) (lt-ltb s_ t (omega arith))));
+          mutators = kept.mutators;
           accounted = move_accounted move kept.accounted;
           uncounted = λ _. move_uncounted move kept.accounted (kept.uncounted (ap freeing_due phase));
           sound = kept.sound;
-          greens = λ x green. elim (cases_lt 0 (leaves x c.newer)) [ inl born ↦ leaves_are w t kept phase last x born | inr none ↦ kept.greens x (sym (is.greens x (omega (arith, none))) ∙ green) ];
+          greens = λ x green. elim (cases_lt 0 (leaves x c.newer)) [ inl born ↦ leaves_are w t kept phase x born | inr none ↦ kept.greens x (sym (is.greens x (omega (arith, none))) ∙ green) ];
           many_words = refl;
           slots = is.rest.slots ∙ slots;
           fields = kept.collector.fields;
@@ -78,7 +75,7 @@ module _ (w : Core) (t : ℕ) (kept : IsKept w) (phase : w.collector.phase ≡ R
           listed = ready.free;
           emptied = λ x f below within released. absurd (unreleased x below released);
         };
-        tests = sets_test_begun (pending w) (landed_pending w w.words s) c.counts s kept.accounted (applies w t kept phase last) alive (is_batch_of (pending w) is (none_released rest) (added_is w t kept phase last))
+        tests = sets_test_begun (pending w) (landed_pending w w.words s) c.counts s kept.accounted (applies w t kept phase) alive (is_batch_of (pending w) is (none_released rest) (added_is w t kept phase))
             (subst (HasCyclesAt (pending w) c) phase kept.cycles);
       }
 
@@ -91,5 +88,5 @@ module _ (w : Core) (t : ℕ) (kept : IsKept w) (phase : w.collector.phase ≡ R
       (none_exchanged batched (λ x l. is.rest.released x ∙ none_released rest x (omega (arith, l, is.rest.slots))))
 
   -- The batch is applied, and the first of its zeros is released.
-  pub applied_lands : HasCleared w (slice_set w.crossing (t - 1) (crossing_word w.epoch Spare)) w.words (zeros_released false batched)
+  pub applied_lands : HasCleared w w.crossing w.words (zeros_released false batched)
   applied_lands = cleared (zeros_come false batch_comes ready) batch_clears

@@ -46,11 +46,12 @@ unfoldable pub use Rattle.rec_sigma.specs.Prepared.{seen}
 pub use Rattle.rec_collector.specs.Clearing.{IsCleared, IsClearing, IsClearingIn, IsFreeing, IsReleasing, IsTidy}
 pub use Rattle.rec_collector.specs.Followed.{prep_started, relieved_at, with_freed, with_offers, with_released}
 pub use Rattle.rec_collector.specs.Parts.{Parts, new_freeing, new_prep, new_release}
+pub use Rattle.rec_collector.specs.Present.{HaveLeft, IsNextPresent, has_left, next_present}
 pub use Rattle.rec_collector.specs.Private.{blank, buffer_at, parts_of, spare, with_parts}
 pub use Rattle.rec_collector.specs.Step.{ClearsOn, IsBetween, IsNext, IsTested, PreparesOn, TriesOn}
 pub use Rattle.rec_collector.specs.Testing.{Begun, counted_by, freeing_at, releasing_at, with_freeing, zeros_released}
 unfoldable pub use Rattle.rec_collector.specs.Testing.{last_tested}
-pub use Rattle.rec_collector.specs.Took.{batched, cleared, ended, moved}
+pub use Rattle.rec_collector.specs.Took.{batched, cleared, ended, moved, noted, requested}
 unfoldable pub use Rattle.rec_collector.specs.Took.{step_of, turn_at, turn_of}
 pub use Rattle.rec_collector.specs.declared.phase.Phase.{Phase}
 pub use Rattle.rec_collector.specs.declared.phase.Phase.TheVariants.{Closing, Freeing, Idle, Looking, Opening, Preparing, Releasing, Returning, Swapping, Sweeping, Trying}
@@ -68,9 +69,9 @@ pub use Rattle.rec_core.specs.Config.{HasLabel, IsConfig, IsMutator}
 pub use Rattle.rec_core.specs.Core.{Core, box, cells_of, crossing_of, log_length, mutator, nobody, opened, opened_mutator, opened_mutators, sight, spare_of, with_mutator}
 pub use Rattle.rec_core.specs.Cycles.{AreFields, SetsStand, SetsTest, SetsWait, TrialStands, is_member, is_member_of, word_loaded, word_seen}
 pub use Rattle.rec_core.specs.CyclesAt.{AreSeen, HasCyclesAt, IsLoading}
-pub use Rattle.rec_core.specs.Kept.{Handshake, HasCollector, HasCrossed, HasGreens, HasLabelAt, HasLearnt, HasMutators, HasPassed, HaveLearnt, IsActor, IsBehind, IsBufferOf, IsCrossing, IsHandshake, IsHeader, IsKept, IsLeft, IsLeftOf, IsMadeIn, IsOwn, IsSettledIn, IsSomeSwept, entries_made, freeing_due, one_if_sweeping, release_due, stand_at}
+pub use Rattle.rec_core.specs.Kept.{Handshake, HasCollector, HasCrossed, HasGreens, HasLabelAt, HasLearnt, HasMutators, HasPassed, HasRetired, HaveLearnt, IsActor, IsAhead, IsBehind, IsBufferOf, IsCrossing, HasGone, IsHandshake, IsHeader, IsHeldAt, IsKept, IsKeptBy, IsLeft, IsLeftOf, IsMadeIn, IsOwn, IsSettledIn, IsSomeSwept, LetGo, entries_made, freeing_due, one_if_sweeping, release_due, stand_at, stand_in}
 pub use Rattle.rec_core.specs.Moves.{AllFit, EndsRun, Fits, IsRun, IsStart, Move, after_move, after_moves, begun, begun_from, collected, found_by, left_by, looked_at, offering, performed, stepped, turned, turned_at, turned_by}
-pub use Rattle.rec_core.specs.Pending.{Filed, applied_at, births_in, births_of, buffers, code, dated_all, dated_names, epoch_at, filed, older_at, pending, registers_of, slot_of, snapshots_of, writes_in, writes_of}
+pub use Rattle.rec_core.specs.Pending.{Filed, applied_at, births_in, births_of, buffers, code, dated_all, dated_names, dated_registers, epoch_at, filed, filed_box, has_let_go, is_parting, older_at, pending, registers_of, slot_of, snapshots_of, writes_in, writes_of}
 pub use Rattle.rec_core.specs.Resting.{AreCounted, AreFound, AreLeaves, AreUnnamed, AreWithinReach, ComesTo, FreesRest, IsHeldIn, PrepRests, RestsIn, Round, SetsRest, TrialRests, TurnsTo, epochs_before, holds}
 pub use Rattle.rec_core.specs.Settling.{AreEmptied, AreLoadsOf, AreUnheld, FindsGarbage, IsGarbage, IsLoadOf, IsOffered, IsReachable, LeadBack, LeadsFromMembers, LeadsToEarlier, heap_sum, leading, leading_outside, offered_slots, outside_sum}
 pub use Rattle.rec_core.specs.declared.config.Config.{Config}

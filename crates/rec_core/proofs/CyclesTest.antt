@@ -4,7 +4,7 @@ use Rattle.std.proofs.lemmas.Bool.{true≢false}
 use Rattle.std.proofs.lemmas.Bool.Decides.{eqb_tells}
 use Rattle.std.proofs.lemmas.List.Sums.{sum_by-cons}
 use Rattle.rec_core.proofs.Common.{only_if, one_if_same, sum_at, node_of, home, Pending, Clears, puts_in, AccountMove, IsAccounted, HasLoaded, IsStanding, IsTesting, IsAmongTests, ReleasesSet, seen_in, sum_at_same, State, slot_at, one, times, is_in, some_set, times-nil, times-cons, move_fields, members_of, given_up, IsApart, is_member_of, word_seen, SetsTest}
-use Rattle.rec_model.specs.Moves.AccountMove.{put, register, birth, crossing, request, batch, release, clearing, freeing, dropping}
+use Rattle.rec_model.specs.Moves.AccountMove.{put, register, birth, crossing, leaving, request, batch, release, clearing, freeing, dropping}
 use Rattle.rec_model.specs.Sets.{IsTested}
 use Rattle.rec_model.proofs.Since.{loaded_stands}
 use Rattle.rec_model.proofs.Testing.{move_testing, set_accounted}
@@ -73,6 +73,7 @@ move_places (put m) f = omega (arith, m.words (λ p word. f p))
 move_places (register m) f = m.words (λ p word. f p)
 move_places (birth m) f = m.words (λ p word. f p)
 move_places (crossing m) f = m.words (λ p word. f p)
+move_places (leaving m) f = m.words (λ p word. f p)
 move_places (request m) f = m.words (λ p word. f p)
 move_places (batch m) f = m.words (λ p word. f p)
 move_places (release m) f = m.words (λ p word. f p)

@@ -7,7 +7,7 @@ use Rattle.std.proofs.lemmas.Nat.{div-mul-add, mod-mul-add}
 use Rattle.rec_word.specs.declared.op.Op.TheVariants.{LoadChild}
 use Rattle.rec_model.specs.Pending.{word_in}
 use Rattle.rec_model.specs.References.{closed_at}
-use Rattle.rec_model.specs.Moves.AccountMove.{put, register, birth, crossing, request, batch, release, clearing, freeing, dropping}
+use Rattle.rec_model.specs.Moves.AccountMove.{put, register, birth, crossing, leaving, request, batch, release, clearing, freeing, dropping}
 use Rattle.rec_model.proofs.Loading.{same_length, replaced_length, nothing_loaded, move_loaded, load_loaded, loaded_replaced, move_replaced}
 use Rattle.rec_trial.specs.declared.phase.Phase.{Phase}
 use Rattle.rec_trial.specs.declared.phase.Phase.TheVariants.{Idle, Marking, Scanning, Collecting}
@@ -50,6 +50,7 @@ move_places {w} {v} (put {epoch} {place} {new} s) = replaced_length w.words v.wo
 move_places {w} {v} (register s) = same_length w.words v.words s.words
 move_places {w} {v} (birth s) = same_length w.words v.words s.words
 move_places {w} {v} (crossing s) = same_length w.words v.words s.words
+move_places {w} {v} (leaving s) = same_length w.words v.words s.words
 move_places {w} {v} (request s) = same_length w.words v.words s.words
 move_places {w} {v} (batch s) = same_length w.words v.words s.words
 move_places {w} {v} (release s) = same_length w.words v.words s.words

@@ -8,7 +8,7 @@ use Rattle.std.proofs.lemmas.Option.{none-some}
 use Rattle.rec_core.proofs.Common.{place_of, only_if, one_if_same, sum_at, node_of, home, Pending, AccountMove, IsAccounted, HasLoaded, with_load, IsAfterLoads, IsMarked, seen_in, sum_at_same, none_if_differs, State, slot_at, times, Slot, absent, is_in, times-nil, move_fields, Load, place_loaded, KeepsOthers, loaded_at, is_member, is_member_of, word_loaded, word_seen, SetsStand, SetsWait}
 use Rattle.rec_model.specs.Pending.{word_in}
 use Rattle.rec_model.specs.References.{references_at}
-use Rattle.rec_model.specs.Moves.AccountMove.{put, register, birth, crossing, request, batch, release, clearing, freeing, dropping}
+use Rattle.rec_model.specs.Moves.AccountMove.{put, register, birth, crossing, leaving, request, batch, release, clearing, freeing, dropping}
 use Rattle.rec_model.proofs.Ledgers.{node_of_null}
 use Rattle.rec_model.proofs.Loading.{same_length, replaced_length, nothing_loaded, move_loaded, load_loaded, move_replaced}
 use Rattle.rec_sigma.specs.declared.at.At.{At}
@@ -19,6 +19,7 @@ move_places {w} {v} (put {epoch} {place} {new} s) _ = replaced_length w.words v.
 move_places {w} {v} (register s) _ = same_length w.words v.words s.words
 move_places {w} {v} (birth s) _ = same_length w.words v.words s.words
 move_places {w} {v} (crossing s) _ = same_length w.words v.words s.words
+move_places {w} {v} (leaving s) _ = same_length w.words v.words s.words
 move_places {w} {v} (request s) _ = same_length w.words v.words s.words
 move_places (batch s) after = absurd after
 move_places {w} {v} (release s) _ = same_length w.words v.words s.words
@@ -32,6 +33,7 @@ move_weight weight (put s) _ = omega (arith, s.words (λ p word. weight p))
 move_weight weight (register s) _ = s.words (λ p word. weight p)
 move_weight weight (birth s) _ = s.words (λ p word. weight p)
 move_weight weight (crossing s) _ = s.words (λ p word. weight p)
+move_weight weight (leaving s) _ = s.words (λ p word. weight p)
 move_weight weight (request s) _ = s.words (λ p word. weight p)
 move_weight weight (batch s) after = absurd after
 move_weight weight (release s) _ = s.words (λ p word. weight p)
@@ -45,6 +47,7 @@ move_count z (put s) _ pos alive = s.slots.count z pos
 move_count z (register s) _ pos alive = s.slots.count z pos
 move_count z (birth s) _ pos alive = s.count z pos
 move_count z (crossing s) _ pos alive = s.slots.count z pos
+move_count z (leaving s) _ pos alive = s.slots.count z pos
 move_count z (request s) _ pos alive = s.slots.count z pos
 move_count z (batch s) after pos alive = absurd after
 move_count z (release s) _ pos alive = s.count z pos

@@ -1,6 +1,6 @@
 -- The sets that pass both tests are out of reach, and a slot that is freed is named by nothing.
 use Rattle.std.proofs.Common.{◌≡◌, ℕ, ◌+◌, ◌-◌, ◌<◌, ◌≤◌, Bool, true, false, if◌then◌else◌, ltb, Option, None, Some, length, slice_get, refl, sym, ap, subst, ◌∙◌, arith}
-use Rattle.rec_core.proofs.Common.{Op, is_dead, HasUncountedReleased, uncounted_gone, slot_at, one, times, Slot, in_range_once, one-le, times-nil, IsApart, At, Member, Phase, Idle, Looking, Swapping, Returning, Releasing, Freeing, Trying, Preparing, Opening, Sweeping, Closing, Core, is_member_of, SetsTest, freeing_due, IsKept, slot_of, pending, applied_at}
+use Rattle.rec_core.proofs.Common.{Op, is_dead, HasUncountedReleased, uncounted_gone, slot_at, one, times, Slot, in_range_once, one-le, times-nil, IsApart, At, Member, Phase, Idle, Releasing, Freeing, Trying, Preparing, Sweeping, Core, is_member_of, SetsTest, freeing_due, IsKept, slot_of, pending, applied_at}
 use Rattle.rec_word.specs.declared.op.Op.TheVariants as ops
 use Rattle.rec_model.proofs.Naming.{dead_out_of_reach}
 use Rattle.rec_model.proofs.Sets.{passed_out_of_reach}
@@ -41,8 +41,8 @@ pub passed_are_garbage : (w : Core) (number : ℕ) → IsKept w → TestsSets w.
 passed_are_garbage w number kept tests p = go w.collector.phase refl tests
   where
     go : (phase : Phase) → w.collector.phase ≡ phase → TestsSets phase → IsProvenGarbage w number
-    go (Releasing m) is t = passes_with w number kept (cycles_in w (Releasing m) kept is) (now_at w (Releasing m) kept is).clearing.apart p
-    go (Freeing m) is t = passes_with w number kept (cycles_in w (Freeing m) kept is) (now_at w (Freeing m) kept is).clearing.apart p
+    go (Releasing m) is t = passes_with w number kept (cycles_in w (Releasing m) kept.whole is) (now_at w (Releasing m) kept is).clearing.apart p
+    go (Freeing m) is t = passes_with w number kept (cycles_in w (Freeing m) kept.whole is) (now_at w (Freeing m) kept is).clearing.apart p
     go _ is t = absurd t
 
 -- what was given up is dead

@@ -41,7 +41,7 @@ module _ (w : Core) (m : Machine) (a : Member) (kept : IsKept w) (phase : w.coll
       let there : a.slot < length c.counts.slots = in_range_once (length c.counts.slots) c.counts.work a.slot kept.collector.machine.counts.work_once in_work in
       record {
         kept = kept;
-        unswept = subst (IsUnswept w.epoch) (sym phase) (record { way = refl; still = refl; applied = refl; older = refl; stands = λ s. refl; between = tt; some = tt });
+        unswept = subst (IsUnswept w.epoch) (sym phase) (record { way = refl; still = refl; applied = refl; older = refl; stands = λ s. refl; held = λ v. tt; between = tt; some = tt });
         below = omega (arith, there, kept.collector.slots);
         within = omega (arith, at_work.field, fields);
         released = at_work.released a.slot in_work;
@@ -55,7 +55,7 @@ module _ (w : Core) (m : Machine) (a : Member) (kept : IsKept w) (phase : w.coll
 
   -- what was still to be emptied of the set, or is empty
   was_left : (x f : ℕ) → x < w.config.slots → f < w.config.fields → (slot_at off x).released ≡ true → IsLeftOf c.counts.work (Some a) x f ⊎ (slice_index_or words (place_of x f w.config.fields) 0 ≡ 0)
-  was_left x f there in_range is = elim (emptied_in w (Freeing m) kept phase x f there in_range (sym (still_released x) ∙ is)) [
+  was_left x f there in_range is = elim (emptied_in w (Freeing m) kept.whole phase x f there in_range (sym (still_released x) ∙ is)) [
     | inl due ↦ absurd due
     | inr rest ↦ elim rest [
       | inl due ↦ inl (subst (λ o. IsLeftOf c.counts.work o x f) at due)
@@ -73,7 +73,7 @@ module _ (w : Core) (m : Machine) (a : Member) (kept : IsKept w) (phase : w.coll
       → ((x f : ℕ) → x < w.config.slots → f < w.config.fields → (slot_at off x).released ≡ true → IsLeftOf c.counts.work (begun_freeing begun) x f ⊎ (slice_index_or words (place_of x f w.config.fields) 0 ≡ 0))
       → HasCome w w.crossing words (record { parts = record (parts_of c) { counts = off }; phase = begun })
   came begun uncounted due =
-      taken.off_comes w a.slot a.field may_empty true begun uncounted clearing.freeing.ready.zeros (cycles_in w (Freeing m) kept phase)
+      taken.off_comes w a.slot a.field may_empty true begun uncounted clearing.freeing.ready.zeros (cycles_in w (Freeing m) kept.whole phase)
       (λ x f there in_range is. inr (subst (λ work. IsLeftOf work (begun_freeing begun) x f ⊎ (slice_index_or words (place_of x f w.config.fields) 0 ≡ 0)) (sym still_work) (due x f there in_range is)))
 
   -- a set is still freed

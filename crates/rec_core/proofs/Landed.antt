@@ -1,6 +1,6 @@
 -- Where a turn of the collector has come to, before it says in which phase the collection goes on.
 use Rattle.std.specs.Prelude.{◌≡◌, ◌⊎◌, ℕ, ◌-◌, ◌<◌, true, Option, None, Some, List, slice_index_or, length}
-use Rattle.rec_core.proofs.Common.{place_of, IsAccounted, HasUncountedReleased, Pending, IsSound, State, slot_at, times, Begun, Phase, At, Member, Opening, Core, sight, SetsTest, HasMutators, IsLeft, IsLeftOf, freeing_due, one_if_sweeping, release_due, IsKept, HasGreens, older_at, pending}
+use Rattle.rec_core.proofs.Common.{place_of, IsAccounted, HasUncountedReleased, Pending, IsSound, State, slot_at, times, Begun, Phase, At, Member, Opening, Core, sight, SetsTest, HasMutators, IsLeft, IsLeftOf, freeing_due, one_if_sweeping, release_due, Handshake, IsKeptBy, stand_at, HasGreens, older_at, pending}
 use Rattle.rec_counts.specs.Counts.{IsKept as IsKeptCounts}
 use Rattle.rec_collector.specs.Kept as collector_kept
 use Rattle.rec_collector.proofs.Clearing.{Clears}
@@ -26,13 +26,14 @@ begun_freeing (Some phase) = freeing_due phase
 -- What is known where a collection has come to: with these field words and crossing words, these are the collector's parts, and what was
 -- begun.
 pub record HasLanded (w : Core) (crossing words : List ℕ) (b : Begun) : Type 0 where
-  pub kept : IsKept w
+  pub stands : (t : ℕ) → Handshake
+  pub kept : IsKeptBy stands w
   -- the collection is under way, and nothing is swept yet
   pub way : collector_kept.under_way w.collector.phase ≡ 1
   pub still : one_if_sweeping w.collector.phase ≡ 0
   pub older : older_at w.epoch w.collector.phase ≡ w.epoch - 2
-  -- every mailbox is home
-  pub mutators : HasMutators w.config w.epoch Opening w.mutators crossing w.boxes
+  -- no mailbox is to be gathered
+  pub mutators : HasMutators w.config w.epoch (stand_at w.collector.left Opening) w.mutators crossing w.boxes
   -- the batch of the last epoch is applied
   pub accounted : IsAccounted (landed_pending w words b.parts.counts)
   pub uncounted : begun_freeing b.phase ≡ None → HasUncountedReleased (landed_pending w words b.parts.counts)

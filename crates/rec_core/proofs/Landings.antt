@@ -7,7 +7,7 @@ use Rattle.std.proofs.lemmas.Bool.{cases_Bool}
 use Rattle.std.proofs.lemmas.List.{get_or_default, length-map, length-replicate}
 use Rattle.std.proofs.lemmas.List.Elements.{All-head, All-tail, All-nil}
 use Rattle.std.proofs.lemmas.List.Sums.{sum_by-cons}
-use Rattle.rec_core.proofs.Common.{IsAccounted, HasUncountedReleased, AccountMove, Drops, epoch_of, Write, Dated, dated, Pending, dated_birth, IsMarked, move_uncounted, move_accounted, Contents, Entry, State, slot_at, times, absent, fresh, Slot, times-append, released_among, KeepsOthers, prep_started, with_offers, Parts, new_prep, Begun, parts_of, with_parts, PreparesOn, TriesOn, IsBetween, cleared, ended, moved, Phase, Idle, Trying, Preparing, Opening, Turn, still, IsMutator, Core, is_member, word_loaded, SetsWait, IsLoading, AreSeen, HasCyclesAt, IsMadeIn, IsBufferOf, Handshake, stand_at, freeing_due, one_if_sweeping, release_due, IsLeft, IsLeftOf, IsSomeSwept, IsKept, Filed, writes_in, births_in, dated_names, applied_at, older_at, buffers, pending, Config}
+use Rattle.rec_core.proofs.Common.{IsAccounted, HasUncountedReleased, AccountMove, Drops, epoch_of, Write, Dated, dated, Pending, dated_birth, IsMarked, move_uncounted, move_accounted, Contents, Entry, State, slot_at, times, absent, fresh, Slot, times-append, released_among, KeepsOthers, prep_started, with_offers, Parts, new_prep, Begun, parts_of, with_parts, PreparesOn, TriesOn, IsBetween, cleared, ended, moved, Phase, Idle, Trying, Preparing, Opening, Turn, still, IsMutator, Core, is_member, word_loaded, SetsWait, IsLoading, AreSeen, HasCyclesAt, IsMadeIn, IsBufferOf, Handshake, IsHeldAt, stand_at, stand_in, freeing_due, one_if_sweeping, release_due, IsLeft, IsLeftOf, IsSomeSwept, IsKept, Filed, writes_in, births_in, dated_names, applied_at, older_at, buffers, pending, Config}
 use Rattle.rec_log.specs.declared.entry.Entry.TheVariants as entries
 use Rattle.rec_counts.specs.Counts.{IsKept as IsKeptCounts}
 use Rattle.rec_model.proofs.Opened.{named-nones}
@@ -36,9 +36,8 @@ use Rattle.rec_core.proofs.CyclesWait.{sets_stand_begun, sets_wait_moved}
 use Rattle.rec_core.proofs.Cycling.{none_alive}
 use Rattle.rec_core.proofs.Landed.{landed_pending, HasLanded}
 use Rattle.rec_core.proofs.Zeros.{landed_empty}
-use Rattle.rec_core.proofs.Steps.{fields_many}
 use Rattle.rec_core.proofs.Sums.{share, buffers_sum}
-use Rattle.rec_core.proofs.Turns.{phase_moves}
+use Rattle.rec_core.proofs.Turns.{phase_moves, stands_as}
 use Rattle.rec_collector.proofs.Greens.{KeepsGreens, others_greens}
 
 -- writes of an early epoch weigh nothing, if nothing early does
@@ -195,6 +194,7 @@ pub landed_alike : {w : Core} {crossing words : List ℕ} {v : Parts} → HasLan
 landed_alike {w} {crossing} {words} {v} l t same counts =
     let move : AccountMove (landed_pending w words v.counts) (landed_pending w words t) = AccountMove.dropping (landed_drops w words v.counts t same) in
     record {
+      stands = l.stands;
       kept = l.kept;
       way = l.way;
       still = l.still;
@@ -215,6 +215,7 @@ landed_alike {w} {crossing} {words} {v} l t same counts =
 -- a phase in which nothing is released or freed is one in which nothing of that is begun
 pub landed_in : {w : Core} {crossing words : List ℕ} (v : Parts) (phase : Phase) → release_due phase ≡ None → freeing_due phase ≡ None → HasLanded w crossing words (still v) → HasLanded w crossing words (record { parts = v; phase = Some phase })
 landed_in {w} {crossing} {words} v phase unreleased unfreed l = record {
+  stands = l.stands;
   kept = l.kept;
   way = l.way;
   still = l.still;
@@ -234,6 +235,7 @@ landed_in {w} {crossing} {words} v phase unreleased unfreed l = record {
 
 pub landed_still : {w : Core} {crossing words : List ℕ} (v : Parts) (phase : Phase) → release_due phase ≡ None → freeing_due phase ≡ None → HasLanded w crossing words (record { parts = v; phase = Some phase }) → HasLanded w crossing words (still v)
 landed_still {w} {crossing} {words} v phase unreleased unfreed l = record {
+  stands = l.stands;
   kept = l.kept;
   way = l.way;
   still = l.still;
@@ -257,6 +259,7 @@ landed_still {w} {crossing} {words} v phase unreleased unfreed l = record {
 -- whether every slot is to be offered to the next trial doesn't matter to it
 landed_asked : {w : Core} {crossing words : List ℕ} {v : Parts} → HasLanded w crossing words (still v) → (offers : Bool) → HasLanded w crossing words (still (record v { offers = offers }))
 landed_asked l offers = record {
+  stands = l.stands;
   kept = l.kept;
   way = l.way;
   still = l.still;
@@ -291,7 +294,8 @@ pub record IsUnswept (requested : ℕ) (phase : Phase) : Type 0 where
   pub still : one_if_sweeping phase ≡ 0
   pub applied : applied_at requested phase ≡ requested - 1
   pub older : older_at requested phase ≡ requested - 2
-  pub stands : (s : ℕ) → stand_at phase s ≡ Handshake.Done
+  pub stands : (s : ℕ) → stand_in phase s ≡ Handshake.Done
+  pub held : (v : Core) → IsHeldAt v phase
   pub between : IsBetween phase
   pub some : IsSomeSwept phase
 
@@ -311,11 +315,12 @@ lands_here w phase kept is on =
     let k = kept.collector in
     let same : pending w ≡ landed_pending w w.words w.collector.counts = here_pending w phase is on in
     record {
-      kept = kept;
+      stands = stand_at w.collector.left w.collector.phase;
+      kept = kept.whole;
       way = ap collector_kept.under_way is ∙ on.way;
       still = ap one_if_sweeping is ∙ on.still;
       older = ap (older_at w.epoch) is ∙ on.older;
-      mutators = phase_moves kept.mutators (λ s there. sym (ap (λ f. stand_at f s) is ∙ on.stands s));
+      mutators = phase_moves kept.mutators (λ s there. stands_as w.collector.left s (sym (ap (λ f. stand_in f s) is ∙ on.stands s)));
       accounted = subst IsAccounted same kept.accounted;
       uncounted = λ unfreed. subst HasUncountedReleased same (kept.uncounted unfreed);
       sound = kept.sound;
@@ -339,33 +344,36 @@ module _ (w : Core) (crossing words : List ℕ) (q : collectors.Private) (machin
       let c : collectors.Private = moved (with_parts w.collector v) next in
       let same : pending (record w { crossing = crossing; words = words; collector = c }) ≡ landed_pending w words v.counts = rw (on.applied, on.older, l.older) refl in
       let whole : IsKept (record w { crossing = crossing; words = words; collector = c }) = record {
-        config = l.kept.config;
-        headers = l.kept.headers;
-        labels = l.kept.labels;
-        mutators = phase_moves l.mutators (λ s there. on.stands s);
-        collector = record {
-          machine = subst collector_kept.IsMachine is machine;
-          between = on.between;
-          slots = l.slots;
-          fields = l.fields;
-          registers = k.registers;
-          capacity = k.capacity;
-          mutators = k.mutators;
-          epoch = k.epoch;
-          begun = omega (arith, k.begun, l.way, on.way);
-          newer = k.newer;
-          older = λ s there. subst (λ e. IsBufferOf w.config e (collectors.buffer_at w.collector.older (s - 1))) (l.older ∙ sym on.older) (k.older s there);
-          listed = l.listed;
-          emptied = l.emptied;
+        whole = record {
+          config = l.kept.config;
+          headers = l.kept.headers;
+          labels = l.kept.labels;
+          mutators = phase_moves l.mutators (λ s there. stands_as w.collector.left s (on.stands s));
+          collector = record {
+            machine = subst collector_kept.IsMachine is machine;
+            between = on.between;
+            slots = l.slots;
+            fields = l.fields;
+            registers = k.registers;
+            capacity = k.capacity;
+            mutators = k.mutators;
+            epoch = k.epoch;
+            begun = omega (arith, k.begun, l.way, on.way);
+            newer = k.newer;
+            older = λ s there. subst (λ e. IsBufferOf w.config e (collectors.buffer_at w.collector.older (s - 1))) (l.older ∙ sym on.older) (k.older s there);
+            listed = l.listed;
+            emptied = l.emptied;
+          };
+          sweeps = record { odd = l.kept.sweeps.odd ∙ l.still ∙ sym on.still; few = omega (arith, l.kept.sweeps.few, l.still); some = on.some };
+          learnt = l.kept.learnt;
+          made = l.kept.made;
+          sound = l.sound;
+          greens = l.greens;
+          accounted = subst IsAccounted (sym same) l.accounted;
+          uncounted = λ none. subst HasUncountedReleased (sym same) (l.uncounted none);
+          cycles = subst (λ p. HasCyclesAt p c next) (sym same) (came_cycles (landed_pending w words v.counts) (with_parts w.collector v) next cycles);
         };
-        sweeps = record { odd = l.kept.sweeps.odd ∙ l.still ∙ sym on.still; few = omega (arith, l.kept.sweeps.few, l.still); some = on.some };
-        learnt = l.kept.learnt;
-        made = l.kept.made;
-        sound = l.sound;
-        greens = l.greens;
-        accounted = subst IsAccounted (sym same) l.accounted;
-        uncounted = λ none. subst HasUncountedReleased (sym same) (l.uncounted none);
-        cycles = subst (λ p. HasCyclesAt p c next) (sym same) (came_cycles (landed_pending w words v.counts) (with_parts w.collector v) next cycles);
+        held = on.held (record w { crossing = crossing; words = words; collector = c });
       } in
       subst (λ (x : collectors.Private). IsKept (record w { crossing = crossing; words = words; collector = x })) (sym is) whole
 
@@ -382,41 +390,44 @@ module _ (w : Core) (crossing words : List ℕ) (q : collectors.Private) (machin
       let drops : Drops (landed_pending w words v.counts) (pending (record w { crossing = crossing; words = words; collector = c }))
       = complete_drops w w.collector w.collector.phase some_epochs l.older both older words v.counts 0 (w.collector.collections + 1) in
       let whole : IsKept (record w { crossing = crossing; words = words; collector = c }) = record {
-        config = l.kept.config;
-        headers = l.kept.headers;
-        labels = l.kept.labels;
-        mutators = phase_moves l.mutators (λ s there. refl);
-        collector = record {
-          machine = its;
-          between = tt;
-          slots = l.slots;
-          fields = l.fields;
-          registers = k.registers;
-          capacity = k.capacity;
-          mutators = length-map w.collector.older cleared ∙ both;
-          epoch = k.epoch;
-          begun = omega (arith, k.begun, l.way);
-          newer = λ s there.
-              let at : slice_index_or (map cleared w.collector.older) (s - 1) (cleared (collectors.blank 0 0)) ≡ cleared (collectors.buffer_at w.collector.older (s - 1)) = get_or-map cleared w.collector.older (s - 1) (collectors.blank 0 0) in
-              subst (IsBufferOf w.config (w.epoch - 1)) (sym at) (cleared_buffer w.config (w.epoch - 1) (w.epoch - 2) (collectors.buffer_at w.collector.older (s - 1)) (older s there));
-          older = k.newer;
-          listed = l.listed;
-          emptied = l.emptied;
+        whole = record {
+          config = l.kept.config;
+          headers = l.kept.headers;
+          labels = l.kept.labels;
+          mutators = phase_moves l.mutators (λ s there. refl);
+          collector = record {
+            machine = its;
+            between = tt;
+            slots = l.slots;
+            fields = l.fields;
+            registers = k.registers;
+            capacity = k.capacity;
+            mutators = length-map w.collector.older cleared ∙ both;
+            epoch = k.epoch;
+            begun = omega (arith, k.begun, l.way);
+            newer = λ s there.
+                let at : slice_index_or (map cleared w.collector.older) (s - 1) (cleared (collectors.blank 0 0)) ≡ cleared (collectors.buffer_at w.collector.older (s - 1)) = get_or-map cleared w.collector.older (s - 1) (collectors.blank 0 0) in
+                subst (IsBufferOf w.config (w.epoch - 1)) (sym at) (cleared_buffer w.config (w.epoch - 1) (w.epoch - 2) (collectors.buffer_at w.collector.older (s - 1)) (older s there));
+            older = k.newer;
+            listed = l.listed;
+            emptied = l.emptied;
+          };
+          sweeps = record { odd = l.kept.sweeps.odd ∙ l.still; few = omega (arith, l.kept.sweeps.few, l.still); some = tt };
+          learnt = l.kept.learnt;
+          made = l.kept.made;
+          sound = l.sound;
+          greens = l.greens;
+          accounted = move_accounted (AccountMove.dropping drops) l.accounted;
+          uncounted = λ none. move_uncounted (AccountMove.dropping drops) l.accounted (l.uncounted refl);
+          cycles = sets_wait_moved v.counts (AccountMove.dropping drops) tt l.accounted (none_alive v.counts (none_released its.now.0)) waits;
         };
-        sweeps = record { odd = l.kept.sweeps.odd ∙ l.still; few = omega (arith, l.kept.sweeps.few, l.still); some = tt };
-        learnt = l.kept.learnt;
-        made = l.kept.made;
-        sound = l.sound;
-        greens = l.greens;
-        accounted = move_accounted (AccountMove.dropping drops) l.accounted;
-        uncounted = λ none. move_uncounted (AccountMove.dropping drops) l.accounted (l.uncounted refl);
-        cycles = sets_wait_moved v.counts (AccountMove.dropping drops) tt l.accounted (none_alive v.counts (none_released its.now.0)) waits;
+        held = tt;
       } in
       subst (λ (x : collectors.Private). IsKept (record w { crossing = crossing; words = words; collector = x })) (sym is) whole
 
   -- all fields, by the slots of the counts
   places_landed : {b : Begun} → HasLanded w crossing words b → (slots : ℕ) → length b.parts.counts.slots ≡ slots → length words ≡ slots * w.config.fields
-  places_landed l slots many = l.many_words ∙ sym (fields_many w slots w.config.fields l.kept (sym many ∙ l.slots) refl)
+  places_landed l slots many = l.many_words ∙ l.kept.sound.places ∙ ap (λ n. n * w.config.fields) (l.kept.headers ∙ sym l.slots ∙ many)
 
   -- whatever follows a preparation
   pub prepares_kept : (v : Parts) (u : preps.Work) (turn : Turn) → HasLanded w crossing words (still (record v { counts = u.counts })) → AreSeen (landed_pending w words u.counts) u.counts u.machine → PreparesOn w.collector v u q turn → IsKept landed
@@ -431,8 +442,8 @@ module _ (w : Core) (crossing words : List ℕ) (q : collectors.Private) (machin
           sets_wait_prepared (landed_pending w words u.counts) seen.before u.counts seen.loads seen.before_kept (places_landed l (length seen.before.slots) all.others.many) seen.fields all seen.stands
 
       go : PreparesOn w.collector v u q turn → IsKept landed
-      go (PreparesOn.more some g) = goes_on its (Preparing u.machine) (landed_in its (Preparing u.machine) refl refl l) (record { way = refl; still = refl; applied = refl; older = refl; stands = λ s. refl; between = tt; some = tt }) seen g.after
-      go (PreparesOn.sweeps_next none some g) = goes_on its Opening (landed_in its Opening refl refl l) (record { way = refl; still = refl; applied = refl; older = refl; stands = λ s. refl; between = tt; some = tt }) (waits none) g.after
+      go (PreparesOn.more some g) = goes_on its (Preparing u.machine) (landed_in its (Preparing u.machine) refl refl l) (record { way = refl; still = refl; applied = refl; older = refl; stands = λ s. refl; held = λ v. tt; between = tt; some = tt }) seen g.after
+      go (PreparesOn.sweeps_next none some g) = goes_on its Opening (landed_in its Opening refl refl l) (record { way = refl; still = refl; applied = refl; older = refl; stands = λ s. refl; held = λ v. tt; between = tt; some = tt }) (waits none) g.after
       go (PreparesOn.completes none free e) = completes its l (waits none) e.after
 
   prep_others : (v : Parts) → KeepsOthers v.counts (prep_started v).counts
@@ -476,7 +487,7 @@ module _ (w : Core) (crossing words : List ℕ) (q : collectors.Private) (machin
 
   -- whatever follows a trial
   pub tries_kept : (v : Parts) (u : trials.Work) (turn : Turn) → HasLanded w crossing words (still (record v { counts = u.counts })) → IsLoading (landed_pending w words u.counts) u.counts u.machine → TriesOn w.collector v u q turn → IsKept landed
-  tries_kept v u turn l loading (TriesOn.more some g) = goes_on (record v { counts = u.counts }) (Trying u.machine) (landed_in (record v { counts = u.counts }) (Trying u.machine) refl refl l) (record { way = refl; still = refl; applied = refl; older = refl; stands = λ s. refl; between = tt; some = tt }) loading g.after
+  tries_kept v u turn l loading (TriesOn.more some g) = goes_on (record v { counts = u.counts }) (Trying u.machine) (landed_in (record v { counts = u.counts }) (Trying u.machine) refl refl l) (record { way = refl; still = refl; applied = refl; older = refl; stands = λ s. refl; held = λ v. tt; between = tt; some = tt }) loading g.after
   tries_kept v u turn l loading (TriesOn.prepares over on) =
       let its : Parts = record v { counts = u.counts } in
       prepares_kept its (prep_started its) turn (prep_lands its l) (prep_seen its u.machine l loading over) on

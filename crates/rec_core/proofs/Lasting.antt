@@ -1,13 +1,13 @@
 -- What the collector loaded lasts over a move: it stands in its field, was replaced, or was taken out.
-use Rattle.std.proofs.Common.{◌≡◌, ◌≢◌, ◌⊎◌, inl, inr, ℕ, ◌+◌, ◌-◌, ◌<◌, ◌≤◌, ◌==◌, true, leb, Option, None, Some, IfSome, List, [], ◌∷◌, map, length, slice_index_or, slice_set, refl, sym, ap, subst, ◌∙◌, arith}
-use Rattle.std.specs.List.{sum_by, Contains}
-use Rattle.std.proofs.lemmas.Bool.{cases_eq, cases_lt, cond-true, cond-false, eq-eqb, ne_eqb}
+use Rattle.std.proofs.Common.{◌≡◌, ◌≢◌, ◌⊎◌, inl, inr, ℕ, ◌+◌, ◌-◌, ◌<◌, ◌≤◌, ◌==◌, if◌then◌else◌, Bool, true, false, leb, Option, None, Some, IfSome, List, [], ◌∷◌, map, length, slice_index_or, slice_set, refl, sym, ap, subst, ◌∙◌, arith}
+use Rattle.std.specs.List.{sum_by, zip, Contains}
+use Rattle.std.proofs.lemmas.Bool.{cases_eq, cases_lt, cond-true, cond-false, eq-eqb, false≢true, ne_eqb}
 use Rattle.std.proofs.lemmas.Bool.Decides.{nat_tests}
 use Rattle.std.proofs.lemmas.List.{set-get_or, get_or-set_other}
 use Rattle.std.proofs.lemmas.List.Elements.{Contains-append_left, Contains-append_right, Contains-get_or}
 use Rattle.std.proofs.lemmas.List.Sums.{sum_by-cons, sum_by-set}
 use Rattle.rec_mutator.specs.Step.{TakesBox}
-use Rattle.rec_core.proofs.Common.{crossing_word, Retired, place_of, Op, only_if, epoch_of, Write, Cleared, Contents, Private, is_busy, IsMachine, next_stamp, word_for, IsStore, probe_of, next_of, Step, Decides, GoesOn, LeavesBox, HasRoom, begun_of, left_of, took_of, whole_made, Parts, with_parts, Begun, cleared, Phase, Idle, Looking, Swapping, Returning, Turn, Cells, cell, with_cell, IsMutator, Core, cells_of, mutator, box, nobody, crossing_of, IsBufferOf, IsHandshake, IsKept, Handshake, stand_at, Fits, Move, after_move, begun_from, found_by, left_by, looked_at, offering, stepped, turned, turned_by, older_at, writes_in, writes_of, Config, header_word}
+use Rattle.rec_core.proofs.Common.{has_left, noted, requested, crossing_word, Retired, place_of, Op, only_if, epoch_of, Write, Cleared, Contents, Private, is_busy, IsMachine, next_stamp, word_for, IsStore, probe_of, next_of, Step, Decides, GoesOn, LeavesBox, HasRoom, begun_of, left_of, took_of, whole_made, Parts, with_parts, Begun, cleared, Phase, Idle, Looking, Swapping, Returning, Turn, Cells, cell, with_cell, IsMutator, Core, cells_of, mutator, box, nobody, crossing_of, IsBufferOf, IsHandshake, IsKept, Handshake, stand_at, Fits, Move, after_move, begun_from, found_by, left_by, looked_at, offering, stepped, turned, turned_by, older_at, writes_in, writes_of, Config, header_word}
 use Rattle.rec_word.specs.Op.{written}
 use Rattle.rec_word.specs.declared.op.Op.TheVariants as ops
 use Rattle.rec_model.specs.declared.command.Cmd.{Cmd}
@@ -32,8 +32,9 @@ use Rattle.rec_mutator.proofs.LogStamps.{word_stamp}
 use Rattle.rec_core.proofs.Rules.{epoch_of_stamp}
 use Rattle.rec_core.proofs.Runs.{rule_of}
 use Rattle.rec_core.proofs.Turning.{turn_case}
+use Rattle.rec_core.proofs.Actors.{busy_stays}
 use Rattle.rec_core.proofs.Steps.{actor_of, in_list}
-use Rattle.rec_core.proofs.Sums.{buffers_sum, writes_more, writes_same}
+use Rattle.rec_core.proofs.Sums.{zip_sum-first_same, zip_sum-set, zip_sum-set_second, buffers_sum, writes_more, writes_same}
 use Rattle.rec_core.proofs.Turns.{now_at}
 use Rattle.rec_core.proofs.Shapes.{same_boxes}
 use Rattle.rec_mutator.proofs.Refusals.{at_phase}
@@ -42,8 +43,12 @@ use Rattle.rec_mutator.proofs.Refusals.{at_phase}
 abbrev wrote : (Write → ℕ) → Contents → ℕ
 wrote g b = sum_by g (writes_in b.entries)
 
+-- and those in the mailbox of a mutator
+abbrev wrote_in_box : (Write → ℕ) → Private × Contents → ℕ
+wrote_in_box g own = wrote g own.1
+
 -- what all writes weigh, row by row
-writes_sum : (g : Write → ℕ) (w : Core) → sum_by g (writes_of w) ≡ sum_by (λ (p : Private). wrote g p.log) w.mutators + (sum_by (wrote g) w.boxes + (sum_by (wrote g) w.collector.newer + sum_by (wrote g) w.collector.older))
+writes_sum : (g : Write → ℕ) (w : Core) → sum_by g (writes_of w) ≡ sum_by (λ (p : Private). wrote g p.log) w.mutators + (sum_by (wrote_in_box g) (zip w.mutators w.boxes) + (sum_by (wrote g) w.collector.newer + sum_by (wrote g) w.collector.older))
 writes_sum g w = buffers_sum g (λ b. writes_in b.buffer.entries) w
 
 -- what becomes of the word in a field
@@ -212,18 +217,27 @@ step_logs {p} {q} m (Step.give_box d) b =
     inl (plain_as b _ d.operation (λ cells e. refl) other (λ g. ap (λ (x : Private). wrote g x.log) d.after))
 
 -- a mutator is behind the requested epoch by one at most, and not at all unless its turn in a gathering is still to come
-own_late : (config : Config) (requested : ℕ) (p : Private) (crossing : ℕ) (b : Contents) (stand : Handshake) → IsHandshake config requested p crossing b stand → requested - 1 ≤ p.epoch
-own_late config requested p crossing b Handshake.Done h = omega (arith, h.0.epoch)
-own_late config requested p crossing b Handshake.Held h = omega (arith, h.0.epoch)
-own_late config requested p crossing b Handshake.Due (inl behind) = omega (arith, behind.epoch)
-own_late config requested p crossing b Handshake.Due (inr (inl crosses)) = omega (arith, crosses.epoch)
-own_late config requested p crossing b Handshake.Due (inr (inr crossed)) = omega (arith, crossed.epoch)
+own_late : (config : Config) (requested : ℕ) (p : Private) (crossing : ℕ) (b : Contents) (stand : Handshake) → p.left ≡ false → IsHandshake config requested p crossing b stand → requested - 1 ≤ p.epoch
+own_late config requested p crossing b Handshake.Done present (inl (crossed, there, spare)) = omega (arith, crossed.epoch)
+own_late config requested p crossing b Handshake.Done present (inr (inl (crosses, parting))) = omega (arith, crosses.epoch)
+own_late config requested p crossing b Handshake.Done present (inr (inr retired)) = omega (arith, retired.epoch)
+own_late config requested p crossing b Handshake.Held present h = omega (arith, h.0.epoch)
+own_late config requested p crossing b Handshake.Due present (inl behind) = omega (arith, behind.epoch)
+own_late config requested p crossing b Handshake.Due present (inr (inl crosses)) = omega (arith, crosses.epoch)
+own_late config requested p crossing b Handshake.Due present (inr (inr (crossed, last))) = omega (arith, crossed.epoch)
+own_late config requested p crossing b Handshake.Gone present gone = absurd (false≢true (sym present ∙ gone.left))
 
-late_at : (config : Config) (requested t : ℕ) (p : Private) (crossing : ℕ) (b : Contents) (phase : Phase) → IsHandshake config requested p crossing b (stand_at phase t) → tried_at requested phase ≤ p.epoch
-late_at config requested t p crossing b (Looking u) h = own_late config requested p crossing b (stand_at (Looking u) t) h
-late_at config requested t p crossing b (Swapping u) h = own_late config requested p crossing b (stand_at (Swapping u) t) h
-late_at config requested t p crossing b (Returning u) h = own_late config requested p crossing b (stand_at (Returning u) t) h
-late_at config requested t p crossing b _ h = omega (arith, h.0.epoch)
+home_late : (config : Config) (requested : ℕ) (p : Private) (crossing : ℕ) (b : Contents) (gone : Bool) → p.left ≡ false → IsHandshake config requested p crossing b (if gone then Handshake.Gone else Handshake.Done) → requested ≤ p.epoch
+home_late config requested p crossing b true present gone = absurd (false≢true (sym present ∙ gone.left))
+home_late config requested p crossing b false present (inl (crossed, there, spare)) = omega (arith, crossed.epoch)
+home_late config requested p crossing b false present (inr (inl (crosses, parting))) = omega (arith, crosses.epoch)
+home_late config requested p crossing b false present (inr (inr retired)) = omega (arith, retired.epoch)
+
+late_at : (config : Config) (requested t : ℕ) (p : Private) (crossing : ℕ) (b : Contents) (left : List Bool) (phase : Phase) → p.left ≡ false → IsHandshake config requested p crossing b (stand_at left phase t) → tried_at requested phase ≤ p.epoch
+late_at config requested t p crossing b left (Looking u) present h = own_late config requested p crossing b (stand_at left (Looking u) t) present h
+late_at config requested t p crossing b left (Swapping u) present h = own_late config requested p crossing b (stand_at left (Swapping u) t) present h
+late_at config requested t p crossing b left (Returning u) present h = own_late config requested p crossing b (stand_at left (Returning u) t) present h
+late_at config requested t p crossing b left _ present h = omega (arith, home_late config requested p crossing b (has_left left t) present h)
 
 -- a step of a mutator
 module _ (w : Core) (t : ℕ) (kept : IsKept w) (is : IsMutator w.config t) (busy : is_busy (mutator w t) ≡ true) where
@@ -250,7 +264,7 @@ module _ (w : Core) (t : ℕ) (kept : IsKept w) (is : IsMutator w.config t) (bus
         writes_sum g (stepped w t),
         writes_sum g w,
         sum_by-set (λ (x : Private). wrote g x.log) w.mutators (t - 1) own nobody (in_list w t kept is),
-        sum_by-set (wrote g) w.boxes (t - 1) left (collectors.blank 0 0) (omega (arith, boxes, is.0, is.1)),
+        zip_sum-set (wrote_in_box g) w.mutators w.boxes (t - 1) own nobody left (collectors.blank 0 0) (in_list w t kept is) (omega (arith, boxes, is.0, is.1)),
       )
 
   logged_keeps : IsPlain (next_of p) word p own own_box left ⊎ IsPut (next_of p) word p own own_box left → Keeps w (stepped w t) [] (tried_in w)
@@ -262,7 +276,7 @@ module _ (w : Core) (t : ℕ) (kept : IsKept w) (is : IsMutator w.config t) (bus
     words = λ place. elim (cases_eq place put.place) [
       | inl same ↦
           let found : word ≡ slice_index_or w.words put.place 0 = ap (cell (cells_of w)) put.operation in
-          let late : tried_in w ≤ p.epoch = late_at w.config w.epoch t p (crossing_of w t) own_box w.collector.phase (actor_of w t kept is).handshake in
+          let late : tried_in w ≤ p.epoch = late_at w.config w.epoch t p (crossing_of w t) own_box w.collector.left w.collector.phase (busy_stays (actor_of w t kept is).own busy) (actor_of w t kept is).handshake in
           subst (Goes w (stepped w t) [] (tried_in w)) (sym same) (Goes.written_over put.new (omega (arith, late, put.stamp)) (λ g. omega (arith, step_sums g, put.more g, ap (λ o. g (record { place = put.place; new = put.new; old = o })) found)))
       | inr other ↦ Goes.stays (ap (λ (o : Op). slice_index_or (with_cell (cells_of w) o (written o word)).words place 0) put.operation ∙ get_or-set_other w.words put.place place put.new 0 other)
     ];
@@ -279,6 +293,11 @@ module _ (w : Core) (t : ℕ) (kept : IsKept w) (is : IsMutator w.config t) (bus
 data Rows (p q : collectors.Private) : Type 0 where
   kept_rows : q.newer ≡ p.newer → q.older ≡ p.older → Rows p q
   turned_rows : q.newer ≡ map cleared p.older → q.older ≡ p.newer → Rows p q
+
+-- the same from a record with these buffers
+rows_as : {p r q : collectors.Private} → r.newer ≡ p.newer → r.older ≡ p.older → Rows r q → Rows p q
+rows_as newer older (Rows.kept_rows a b) = Rows.kept_rows (a ∙ newer) (b ∙ older)
+rows_as newer older (Rows.turned_rows a b) = Rows.turned_rows (a ∙ ap (map cleared) older) (b ∙ newer)
 
 goes_rows : (p q : collectors.Private) (w : Parts) (turn : Turn) (next : Phase) → collectors_step.GoesOn (with_parts p w) q turn next → Rows p q
 goes_rows p q w turn next g = Rows.kept_rows (ap (λ (x : collectors.Private). x.newer) g.after) (ap (λ (x : collectors.Private). x.older) g.after)
@@ -354,14 +373,15 @@ module _ (w : Core) (op : Op) (kept : IsKept w) (named : ◌≡◌ {A = Option O
       early_writes g (older_at w.epoch c.phase) (tried_in w) (slice_index_or c.older i (collectors.blank 0 0)).entries (older_early w.config.first_epoch c.collections w.epoch c.phase kept.config.some_epoch kept.collector.begun) early one.made)
 
   rows_keep : v.boxes ≡ w.boxes → Rows c q → (g : Write → ℕ) → ((x : Write) → epoch_of x.new < tried_in w → g x ≡ 0) → sum_by g (writes_of w) ≤ sum_by g (writes_of v)
-  rows_keep boxes (Rows.kept_rows newer older) g early = omega (arith, writes_sum g v, writes_sum g w, ap (sum_by (wrote g)) boxes, ap (sum_by (wrote g)) newer, ap (sum_by (wrote g)) older)
-  rows_keep boxes (Rows.turned_rows newer older) g early = omega (arith, writes_sum g v, writes_sum g w, ap (sum_by (wrote g)) boxes, ap (sum_by (wrote g)) newer, ap (sum_by (wrote g)) older, cleared_none g c.older, older_none g early)
+  rows_keep boxes (Rows.kept_rows newer older) g early = omega (arith, writes_sum g v, writes_sum g w, ap (λ bs. sum_by (wrote_in_box g) (zip w.mutators bs)) boxes, ap (sum_by (wrote g)) newer, ap (sum_by (wrote g)) older)
+  rows_keep boxes (Rows.turned_rows newer older) g early = omega (arith, writes_sum g v, writes_sum g w, ap (λ bs. sum_by (wrote_in_box g) (zip w.mutators bs)) boxes, ap (sum_by (wrote g)) newer, ap (sum_by (wrote g)) older, cleared_none g c.older, older_none g early)
 
   -- a mailbox is gathered: its buffer is one of the newer ones, in the place of a spare
   gathered_keep : (t : ℕ) → c.phase ≡ Looking t → found ≡ crossing_word c.epoch Retired → q.newer ≡ slice_set c.newer (t - 1) its_box → q.older ≡ c.older → (g : Write → ℕ) → sum_by g (writes_of w) ≤ sum_by g (writes_of v)
   gathered_keep t at crossed newer older g =
       let now = now_at w (Looking t) kept at in
       let many : length c.newer ≡ w.config.mutators = kept.collector.mutators in
+      let all : length w.mutators ≡ w.config.mutators = kept.mutators.many in
       let boxes : length w.boxes ≡ w.config.mutators = kept.mutators.mailboxes in
       let first : 0 < t = now.first in
       let there : t ≤ length c.newer = now.there in
@@ -374,21 +394,22 @@ module _ (w : Core) (op : Op) (kept : IsKept w) (named : ◌≡◌ {A = Option O
         arith,
         writes_sum g v,
         writes_sum g w,
-        ap (sum_by (wrote g)) filled,
+        ap (λ bs. sum_by (wrote_in_box g) (zip w.mutators bs)) filled,
         ap (sum_by (wrote g)) (newer ∙ ap (slice_set c.newer (t - 1)) b),
         ap (sum_by (wrote g)) older,
-        sum_by-set (wrote g) w.boxes (t - 1) (collectors.spare c) (collectors.blank 0 0) (omega (arith, first, there, many, boxes)),
+        zip_sum-set_second (wrote_in_box g) w.mutators w.boxes (t - 1) nobody (collectors.spare c) (collectors.blank 0 0) (omega (arith, first, there, many, all)) (omega (arith, first, there, many, boxes)),
         sum_by-set (wrote g) c.newer (t - 1) (box w t) (collectors.blank 0 0) (omega (arith, first, there)),
         ap (wrote g) was,
       )
 
   writes_keep : {turn : Turn} → collectors_step.Step c found its_box (Some op) q turn → (g : Write → ℕ) → ((x : Write) → epoch_of x.new < tried_in w → g x ≡ 0) → sum_by g (writes_of w) ≤ sum_by g (writes_of v)
   writes_keep (collectors_step.Step.spent at last none is turn) = let n : ◌≡◌ {A = Option Op} (Some op) None = none in absurd (cc)
-  writes_keep (collectors_step.Step.request at more is g) = rows_keep (boxes_stay at refl) (Rows.kept_rows (ap (λ (x : collectors.Private). x.newer) g.after) (ap (λ (x : collectors.Private). x.older) g.after))
+  writes_keep (collectors_step.Step.request next at more is n g) = rows_keep (boxes_stay at refl) (Rows.kept_rows (ap (λ (x : collectors.Private). x.newer) g.after) (ap (λ (x : collectors.Private). x.older) g.after))
+  writes_keep (collectors_step.Step.request_alone at more is gone on) = rows_keep (boxes_stay at refl) (rows_as refl refl (clears_rows (requested c) q _ on))
   writes_keep (collectors_step.Step.wait t at other is same turn) = rows_keep (boxes_stay at (cond-false (found == crossing_word c.epoch Retired) _ _ (ne_eqb found (crossing_word c.epoch Retired) other))) (Rows.kept_rows (ap (λ (x : collectors.Private). x.newer) same) (ap (λ (x : collectors.Private). x.older) same))
   writes_keep (collectors_step.Step.gather t at crossed is g) = λ weight early. gathered_keep t at crossed (ap (λ (x : collectors.Private). x.newer) g.after) (ap (λ (x : collectors.Private). x.older) g.after) weight
-  writes_keep (collectors_step.Step.give_back t at other is g) = rows_keep (boxes_stay at refl) (Rows.kept_rows (ap (λ (x : collectors.Private). x.newer) g.after) (ap (λ (x : collectors.Private). x.older) g.after))
-  writes_keep (collectors_step.Step.apply t at last is on) = rows_keep (boxes_stay at refl) (clears_rows c q _ on)
+  writes_keep (collectors_step.Step.give_back t next at is n g) = rows_keep (boxes_stay at refl) (Rows.kept_rows (ap (λ (x : collectors.Private). x.newer) g.after) (ap (λ (x : collectors.Private). x.older) g.after))
+  writes_keep (collectors_step.Step.apply t at is gone on) = rows_keep (boxes_stay at refl) (rows_as refl refl (clears_rows (noted c t) q _ on))
   writes_keep (collectors_step.Step.release m at is on) = rows_keep (boxes_stay at refl) (clears_rows c q _ on)
   writes_keep (collectors_step.Step.freeing m at is on) = rows_keep (boxes_stay at refl) (clears_rows c q _ on)
   writes_keep (collectors_step.Step.trial m at is on) = rows_keep (boxes_stay at refl) (tries_rows c q _ _ _ on)
@@ -414,7 +435,7 @@ turn_keeps w kept = turn_case w (λ o v. Keeps w v (cleared_by w o) (tried_in w)
 
 begun_keeps : (w : Core) (t : ℕ) (work : Work) (from : ℕ) → IsKept w → IsMutator w.config t → Keeps w (begun_from w t work from) [] (tried_in w)
 unfolding begun_of
-begun_keeps w t work from kept is = same_keeps w (begun_from w t work from) (tried_in w) refl (λ g. omega (arith, writes_sum g (begun_from w t work from), writes_sum g w, sum_by-set (λ (x : Private). wrote g x.log) w.mutators (t - 1) (begun_of (mutator w t) work from) nobody (in_list w t kept is)))
+begun_keeps w t work from kept is = same_keeps w (begun_from w t work from) (tried_in w) refl (λ g. omega (arith, writes_sum g (begun_from w t work from), writes_sum g w, sum_by-set (λ (x : Private). wrote g x.log) w.mutators (t - 1) (begun_of (mutator w t) work from) nobody (in_list w t kept is), zip_sum-first_same (wrote_in_box g) w.mutators w.boxes (t - 1) (begun_of (mutator w t) work from) nobody (λ b. refl)))
 
 -- each move keeps what was loaded
 pub move_keeps : (w : Core) (m : Move) → IsKept w → Fits w m → Keeps w (after_move w m) (cleared_in w m) (tried_in w)

@@ -17,15 +17,18 @@ pub mod CyclesWait
 pub mod Cycling
 pub mod Freed
 pub mod Freeing
+pub mod Gathering
 pub mod Landed
 pub mod Landings
 pub mod Lasting
+pub mod Leaving
 pub mod Loads
 pub mod Moves
 pub mod Offering
 pub mod OpenedMutators
 pub mod Opening
 pub mod Outside
+pub mod Phases
 pub mod Places
 pub mod Preparing
 pub mod Reach
@@ -38,6 +41,7 @@ pub mod Scans
 pub mod SetTests
 pub mod Shapes
 pub mod Showing
+pub mod Staying
 pub mod Step
 pub mod Steps
 pub mod Sums

@@ -1,13 +1,13 @@
 -- What every heap with its collector keeps holds as it is opened.
 use Rattle.std.proofs.Common.{◌≡◌, inl, inr, ℕ, ◌+◌, ◌-◌, ◌*◌, ◌<◌, ◌≤◌, ◌==◌, zero, suc, false, List, [], ◌∷◌, Option, None, Some, slice_index_or, length, map, flat_map, replicate, refl, sym, ap, subst, ◌∙◌, arith}
-use Rattle.std.specs.List.{sum_by}
-use Rattle.std.proofs.lemmas.Bool.{cases_lt, false≢true}
+use Rattle.std.specs.List.{sum_by, zip}
+use Rattle.std.proofs.lemmas.Bool.{cases_lt, cond-false, false≢true}
 use Rattle.std.proofs.lemmas.Bool.Decides.{nat_tests}
 use Rattle.std.proofs.lemmas.List.{get_or_past, get_or-replicate, get_or-set_same, get_or-set_other, length-replicate, length-set}
 use Rattle.std.proofs.lemmas.List.Elements.{All-nil, All-from_get_or}
 use Rattle.std.proofs.lemmas.List.Folds.{sum_by-replicate}
 use Rattle.std.proofs.lemmas.List.Sums.{sum_by-cons, sum_by-append}
-use Rattle.rec_core.proofs.Common.{crossing_word, Spare, is_wrong_register, is_late_snapshot, Write, Dated, dated, opening_uncounted, sum_at-replicate_none, sum_by-flat_map, Contents, State, slot_at, one, times, fresh, is_in, Slot, keep_open, one-same, times-nil, Private, Idle, IsConfig, IsMutator, Core, spare_of, opened, nobody, opened_mutator, opened_mutators, IsOwn, IsBufferOf, IsMadeIn, IsActor, HasCollector, HasLearnt, IsKept, IsHeader, Filed, buffers, writes_in, births_in, dated_names, dated_all, epoch_at, pending, Config}
+use Rattle.rec_core.proofs.Common.{crossing_word, Spare, is_wrong_register, is_late_snapshot, Write, Dated, dated, opening_uncounted, sum_at-replicate_none, sum_by-flat_map, Contents, State, slot_at, one, times, fresh, is_in, Slot, keep_open, one-same, times-nil, Private, has_left, Handshake, stand_at, IsConfig, IsMutator, Core, spare_of, opened, nobody, opened_mutator, opened_mutators, IsOwn, IsBufferOf, IsMadeIn, IsActor, HasCollector, HasLearnt, IsKept, IsHeader, Filed, buffers, writes_in, births_in, dated_names, dated_all, dated_registers, pending, Config}
 use Rattle.rec_model.specs.Opened.{IsOpening}
 use Rattle.rec_model.proofs.Beginning.{opening_accounted}
 use Rattle.rec_model.proofs.Opened.{opening_sound, named-nones, nulls_at}
@@ -20,8 +20,8 @@ use Rattle.rec_core.proofs.Actors.{spare_buffer}
 use Rattle.rec_core.proofs.Batches.{none_of}
 use Rattle.rec_core.proofs.CyclesWait.{sets_wait_none}
 use Rattle.rec_core.proofs.OpenedMutators.{small_header, registers_opened, length-opened, opened_at, registers_many, machine_opened as mutator_opened, opened_black}
-use Rattle.rec_core.proofs.Sums.{share, log_share, buffers_sum}
-use Rattle.rec_core.proofs.Turns.{AddsNothing, writes_nothing, births_nothing, snapshots_nothing}
+use Rattle.rec_core.proofs.Sums.{share, log_share, box_share, buffers_sum}
+use Rattle.rec_core.proofs.Turns.{AddsNothing, spare_boxes, writes_nothing, births_nothing, snapshots_nothing}
 
 -- a mutator as it is opened
 own_kept : (config : Config) (t : ℕ) → IsConfig config → IsMutator config t → IsOwn config t (opened_mutator config t)
@@ -35,18 +35,20 @@ own_kept config t is there =
       machine = mutator_opened config t is there;
       between = tt;
       label = tt;
-      stays = refl;
+      idle = λ left. absurd (false≢true left);
     }
 
 -- its crossing word and its mailbox
-actor_kept : (config : Config) (t : ℕ) → IsConfig config → IsMutator config t → IsActor config config.first_epoch Idle t (opened_mutator config t) (crossing_word config.first_epoch Spare) (spare_of config)
+actor_kept : (config : Config) (t : ℕ) → IsConfig config → IsMutator config t → IsActor config config.first_epoch Handshake.Done t (opened_mutator config t) (crossing_word config.first_epoch Spare) (spare_of config)
 actor_kept config t is there =
     record {
       own = own_kept config t is there;
       log = spare_buffer config config.first_epoch;
       unwritten = named-nones config.registers;
+      unmarked = refl;
+      let_go = λ gone. absurd (false≢true gone);
       mailbox = spare_buffer config (config.first_epoch - 1);
-      handshake = (record { epoch = refl; word = omega arith; settled = tt }, refl);
+      handshake = inl (record { epoch = refl; word = omega arith; settled = tt }, refl, refl);
     }
 
 -- what a mutator's number says of its place
@@ -63,12 +65,12 @@ one_of config t there =
     opened_at config config.mutators (t - 1) (place_there config t there) ∙ ap (opened_mutator config) number
 
 each_kept : (config : Config) (t : ℕ) → IsConfig config → IsMutator config t
-    → IsActor config config.first_epoch Idle t (slice_index_or (opened config).mutators (t - 1) nobody) (slice_index_or (opened config).crossing (t - 1) 0) (slice_index_or (opened config).boxes (t - 1) (collectors.blank 0 0))
+    → IsActor config config.first_epoch Handshake.Done t (slice_index_or (opened config).mutators (t - 1) nobody) (slice_index_or (opened config).crossing (t - 1) 0) (slice_index_or (opened config).boxes (t - 1) (collectors.blank 0 0))
 each_kept config t is there =
     let at = place_there config t there in
-    subst (λ (p : Private). IsActor config config.first_epoch Idle t p (slice_index_or (opened config).crossing (t - 1) 0) (slice_index_or (opened config).boxes (t - 1) (collectors.blank 0 0))) (sym (one_of config t there))
-    (subst (λ (n : ℕ). IsActor config config.first_epoch Idle t (opened_mutator config t) n (slice_index_or (opened config).boxes (t - 1) (collectors.blank 0 0))) (sym (get_or-replicate config.mutators (t - 1) (crossing_word config.first_epoch Spare) 0 at))
-    (subst (λ (b : Contents). IsActor config config.first_epoch Idle t (opened_mutator config t) (crossing_word config.first_epoch Spare) b) (sym (get_or-replicate config.mutators (t - 1) (spare_of config) (collectors.blank 0 0) at))
+    subst (λ (p : Private). IsActor config config.first_epoch Handshake.Done t p (slice_index_or (opened config).crossing (t - 1) 0) (slice_index_or (opened config).boxes (t - 1) (collectors.blank 0 0))) (sym (one_of config t there))
+    (subst (λ (n : ℕ). IsActor config config.first_epoch Handshake.Done t (opened_mutator config t) n (slice_index_or (opened config).boxes (t - 1) (collectors.blank 0 0))) (sym (get_or-replicate config.mutators (t - 1) (crossing_word config.first_epoch Spare) 0 at))
+    (subst (λ (b : Contents). IsActor config config.first_epoch Handshake.Done t (opened_mutator config t) (crossing_word config.first_epoch Spare) b) (sym (get_or-replicate config.mutators (t - 1) (spare_of config) (collectors.blank 0 0) at))
     (actor_kept config t is there)))
 
 -- the collector
@@ -120,13 +122,16 @@ older_sum {Y} g f config nothing =
     let last : ℕ = config.first_epoch - 1 in
     let spares : List Contents = replicate config.mutators (spare_of config) in
     let sums : sum_by g (flat_map f (buffers (opened config)))
-    ≡ sum_by (log_share g f) (opened_mutators config config.mutators) + (sum_by (share g f last) spares + (sum_by (share g f last) spares + sum_by (share g f last) (replicate config.mutators (first_snapshot config))))
+    ≡ sum_by (log_share g f) (opened_mutators config config.mutators)
+    + (sum_by (box_share g f) (zip (opened_mutators config config.mutators) spares) + (sum_by (share g f last) spares + sum_by (share g f last) (replicate config.mutators (first_snapshot config))))
     = buffers_sum g f (opened config) in
+    let boxes : sum_by (box_share g f) (zip (opened_mutators config config.mutators) spares) ≡ 0
+    = spare_boxes g f config (opened_mutators config config.mutators) spares nothing (λ i below. get_or-replicate config.mutators i (spare_of config) (collectors.blank 0 0) (omega (arith, below, length-replicate config.mutators (spare_of config)))) in
     let logs : sum_by (log_share g f) (opened_mutators config config.mutators) ≡ 0
     = none_of (log_share g f) (opened_mutators config config.mutators) nobody (λ i below.
     ap (log_share g f) (opened_at config config.mutators i (omega (arith, below, length-opened config config.mutators))) ∙ nothing.nothing config.first_epoch) in
     let spare : sum_by (share g f last) spares ≡ 0 = sum_by-replicate (share g f last) config.mutators (spare_of config) ∙ ap (λ n. config.mutators * n) (nothing.nothing last) ∙ omega arith in
-    omega (arith, sums, logs, spare, sum_by-replicate (share g f last) config.mutators (first_snapshot config))
+    omega (arith, sums, logs, boxes, spare, sum_by-replicate (share g f last) config.mutators (first_snapshot config))
 
 -- a snapshot and registers that name slot 0 and nothing else
 one_named : (g : Dated → ℕ) (epoch : ℕ) (config : Config) → sum_by g (dated_names epoch (collectors.first_registers config.registers)) ≡ g (dated epoch 1)
@@ -166,8 +171,8 @@ own_registers g config t =
 
 opened_registers : (g : Dated → ℕ) (config : Config) → sum_by g (pending (opened config)).registers ≡ config.mutators * registers_weight config g
 opened_registers g config =
-    sum_by-flat_map g (λ (p : Private). dated_all (epoch_at p) p.registers) (opened_mutators config config.mutators)
-    ∙ each_sum config (λ (p : Private). sum_by g (dated_all (epoch_at p) p.registers)) (registers_weight config g) config.mutators (own_registers g config)
+    sum_by-flat_map g dated_registers (opened_mutators config config.mutators)
+    ∙ each_sum config (λ (p : Private). sum_by g (dated_registers p)) (registers_weight config g) config.mutators (own_registers g config)
 
 -- what the opened heap has to account for
 module _ (config : Config) (is : IsConfig config) where
@@ -249,28 +254,40 @@ in_no_set s k none x = go (slot_at s x).set refl
         let out : times x (slice_index_or s.sets number []) ≡ 0 = ap (λ (xss : List (List ℕ)). times x (slice_index_or xss number [])) none ∙ times-nil x in
         absurd (omega (arith, k.numbers number x, in_it, out))
 
+-- none has left, and no gathering is under way
+all_done : (config : Config) (t : ℕ) → stand_at (opened config).collector.left (opened config).collector.phase t ≡ Handshake.Done
+all_done config t = cond-false (has_left (opened config).collector.left t) Handshake.Gone Handshake.Done (get_or_any config.mutators (t - 1))
+  where
+    get_or_any : (n i : ℕ) → slice_index_or (replicate n false) i false ≡ false
+    get_or_any zero i = refl
+    get_or_any (suc n) zero = refl
+    get_or_any (suc n) (suc i) = get_or_any n i
+
 -- The opened heap keeps it all.
 pub opened_kept : (config : Config) → IsConfig config → IsKept (opened config)
 opened_kept config is =
     let slots : 1 ≤ config.slots = is.some_slots in
     let free : length {A = ℕ} (replicate (config.slots - 1) 0) ≡ config.slots - 1 = length-replicate (config.slots - 1) 0 in
     record {
-      config = is;
-      headers = omega arith;
-      labels = All-from_get_or IsHeader (1 ∷ replicate (config.slots - 1) 0) 0 (λ i there. small_header config.slots i);
-      mutators = record {
-        many = length-opened config config.mutators;
-        words = length-replicate config.mutators (crossing_word config.first_epoch Spare);
-        mailboxes = length-replicate config.mutators (spare_of config);
-        each = λ t there. each_kept config t is there;
+      whole = record {
+        config = is;
+        headers = omega arith;
+        labels = All-from_get_or IsHeader (1 ∷ replicate (config.slots - 1) 0) 0 (λ i there. small_header config.slots i);
+        mutators = record {
+          many = length-opened config config.mutators;
+          words = length-replicate config.mutators (crossing_word config.first_epoch Spare);
+          mailboxes = length-replicate config.mutators (spare_of config);
+          each = λ t there. subst (λ (stand : Handshake). IsActor config config.first_epoch stand t (slice_index_or (opened config).mutators (t - 1) nobody) (slice_index_or (opened config).crossing (t - 1) 0) (slice_index_or (opened config).boxes (t - 1) (collectors.blank 0 0))) (sym (all_done config t)) (each_kept config t is there);
+        };
+        collector = collector_opened config is;
+        sweeps = record { odd = refl; few = omega arith; some = tt };
+        learnt = λ t there. subst (λ (p : Private). HasLearnt config.slots (opened config).headers 0 p.from p.phase) (sym (one_of config t there)) tt;
+        made = omega arith;
+        greens = λ x green. absurd (false≢true (sym (opened_black config x) ∙ green));
+        sound = rw (registers_opened config config.mutators) (opening_sound config.slots config.fields config.registers config.mutators slots);
+        accounted = opening_accounted (pending (opened config)) config.first_epoch config.mutators (pending_opens config is);
+        uncounted = λ unfreed. opening_uncounted (pending (opened config)) config.first_epoch config.mutators (pending_opens config is);
+        cycles = sets_wait_none (pending (opened config)) (opened config).collector.counts refl (in_no_set (opened config).collector.counts (machine_opened config is).counts refl);
       };
-      collector = collector_opened config is;
-      sweeps = record { odd = refl; few = omega arith; some = tt };
-      learnt = λ t there. subst (λ (p : Private). HasLearnt config.slots (opened config).headers 0 p.from p.phase) (sym (one_of config t there)) tt;
-      made = omega arith;
-      greens = λ x green. absurd (false≢true (sym (opened_black config x) ∙ green));
-      sound = rw (registers_opened config config.mutators) (opening_sound config.slots config.fields config.registers config.mutators slots);
-      accounted = opening_accounted (pending (opened config)) config.first_epoch config.mutators (pending_opens config is);
-      uncounted = λ unfreed. opening_uncounted (pending (opened config)) config.first_epoch config.mutators (pending_opens config is);
-      cycles = sets_wait_none (pending (opened config)) (opened config).collector.counts refl (in_no_set (opened config).collector.counts (machine_opened config is).counts refl);
+      held = tt;
     }

@@ -47,7 +47,7 @@ module _ (w : Core) (m : Machine) (kept : IsKept w) (phase : w.collector.phase �
   now = now_at w (Preparing m) kept phase
 
   unswept : IsUnswept w.epoch (Preparing m)
-  unswept = record { way = refl; still = refl; applied = refl; older = refl; stands = λ s. refl; between = tt; some = tt }
+  unswept = record { way = refl; still = refl; applied = refl; older = refl; stands = λ s. refl; held = λ v. tt; between = tt; some = tt }
 
   fields : m.fields ≡ w.config.fields
   fields = now.fields ∙ kept.collector.fields
@@ -80,7 +80,7 @@ module _ (w : Core) (m : Machine) (kept : IsKept w) (phase : w.collector.phase �
     alike = prepared_alike c.counts after.counts others
 
     seen : AreSeen (pending w) c.counts m
-    seen = cycles_in w (Preparing m) kept phase
+    seen = cycles_in w (Preparing m) kept.whole phase
 
     came : Came w.config.fields seen.before after (seen.loads ++ loaded_at m.at found)
     came = came_on w.config.fields seen.before (record { machine = m; counts = c.counts }) seen.loads found seen.before_kept.numbers (record { fields_kept = fields; work = now.kept; law = seen.prepares })
@@ -97,7 +97,7 @@ module _ (w : Core) (m : Machine) (kept : IsKept w) (phase : w.collector.phase �
         let v : Pending = landed_pending w w.words after.counts in
         let drops : Drops p v = landed_drops w w.words c.counts after.counts alike in
         let stands : SetsStand p c.counts seen.loads = subst (λ (x : Pending). SetsStand x c.counts seen.loads) (here_pending w (Preparing m) phase unswept) seen.stands in
-        let moved : SetsStand v c.counts seen.loads = sets_stand_moved c.counts seen.loads (dropping drops) tt (lands_here w (Preparing m) kept phase unswept).accounted (alive_in w (Preparing m) kept phase) stands in
+        let moved : SetsStand v c.counts seen.loads = sets_stand_moved c.counts seen.loads (dropping drops) tt (lands_here w (Preparing m) kept phase unswept).accounted (alive_in w (Preparing m) kept.whole phase) stands in
         let below : a.member.field < w.config.fields = subst (λ n. a.member.field < n) fields (subst (λ (o : Option At). IfSome o (λ (b : At). b.member.field < m.fields)) at now.kept.field) in
         record {
           before = seen.before;

@@ -4,7 +4,7 @@ use Rattle.std.specs.List.{sum_by}
 use Rattle.std.proofs.lemmas.Bool.{cases_lt, cases_eq, ne_eqb, cond-false, false≢true, true≢false}
 use Rattle.std.proofs.lemmas.List.{get_or-set_other, get_or-set_same, set-get_or, get_or_past, length-set}
 use Rattle.std.proofs.lemmas.List.Sums.{sum_by-cons}
-use Rattle.rec_core.proofs.Common.{place_of, target_of, Op, is_dead, is_node, Dated, is_at, counted_by_formula, Sight, IsTaken, Reaches, StandsBy, field_of, targets_of, one_if_same, reached_is_taken, only_if_self, slot_at, At, Member, Private, IsBetween, Phase, Idle, Looking, Swapping, Returning, Releasing, Freeing, Trying, Preparing, Opening, Sweeping, Closing, cell, with_cell, Core, cells_of, sight, mutator, IsKept, stepped, turned, turned_at, pending, IsHeaderOf}
+use Rattle.rec_core.proofs.Common.{place_of, target_of, Op, is_dead, is_node, Dated, is_at, counted_by_formula, Sight, IsTaken, Reaches, StandsBy, field_of, targets_of, one_if_same, reached_is_taken, only_if_self, slot_at, At, Member, Private, IsBetween, Phase, Idle, Looking, Swapping, Returning, Releasing, Freeing, Trying, Preparing, Opening, Sweeping, Closing, cell, with_cell, Core, cells_of, sight, mutator, Handshake, IsKept, IsKeptBy, stepped, turned, turned_at, pending, IsHeaderOf}
 use Rattle.rec_word.specs.Op.{written}
 use Rattle.rec_word.specs.declared.op.Op.TheVariants as ops
 use Rattle.rec_model.specs.Heap.{Heap, roots, object}
@@ -42,12 +42,12 @@ some_epoch n (d ∷ ds) more = elim (cases_lt 0 (one_if_same n d.node)) [
 ]
 
 -- the accounts are those of what is seen
-pub sight_is : (w : Core) → IsSightOf (sight w) (pending w)
-sight_is w = record { fields = refl; words = refl; registers = λ slot there. some_epoch (slot + 1) (pending w).registers (root_named slot w.mutators there) }
+pub sight_is : {stands : (t : ℕ) → Handshake} (w : Core) → IsKeptBy stands w → IsSightOf (sight w) (pending w)
+sight_is w kept = record { fields = refl; words = refl; registers = λ slot there. some_epoch (slot + 1) (pending w).registers (root_named w slot kept there) }
 
 -- what a register reaches is neither free nor given up
 alive : (w : Core) → IsKept w → (slot : ℕ) → Reaches (sight w) slot → is_dead (pending w) (slot + 1) ≡ false
-alive w kept = reached_taken (sight w) (pending w) kept.accounted (sight_is w)
+alive w kept = reached_taken (sight w) (pending w) kept.accounted (sight_is w kept.whole)
 
 -- what is taken is a slot that is there
 taken_there : (w : Core) (slot : ℕ) → IsKept w → IsTaken (sight w) slot → slot < w.config.slots

@@ -36,7 +36,7 @@ module _ (w : Core) (m : Machine) (a : At) (kept : IsKept w) (phase : w.collecto
   pub may_empty : taken.MayEmpty w a.slot a.field
   may_empty = record {
     kept = kept;
-    unswept = subst (IsUnswept w.epoch) (sym phase) (record { way = refl; still = refl; applied = refl; older = refl; stands = λ s. refl; between = tt; some = tt });
+    unswept = subst (IsUnswept w.epoch) (sym phase) (record { way = refl; still = refl; applied = refl; older = refl; stands = λ s. refl; held = λ v. tt; between = tt; some = tt });
     below = omega (arith, at_work.held.in_range, kept.collector.slots);
     within = omega (arith, at_work.field, fields);
     released = at_work.held.released;
@@ -50,7 +50,7 @@ module _ (w : Core) (m : Machine) (a : At) (kept : IsKept w) (phase : w.collecto
 
   -- what is left to be emptied: less by this field
   left : (x f : ℕ) → x < w.config.slots → f < w.config.fields → (slot_at off x).released ≡ true → IsLeft (Some (record { slot = a.slot; field = a.field + 1 })) x f ⊎ (slice_index_or words (place_of x f w.config.fields) 0 ≡ 0)
-  left x f there in_range is = elim (emptied_in w (Releasing m) kept phase x f there in_range (sym (still_released x) ∙ is)) [
+  left x f there in_range is = elim (emptied_in w (Releasing m) kept.whole phase x f there in_range (sym (still_released x) ∙ is)) [
     | inl due ↦
         let own : IsLeft (Some a) x f = subst (λ o. IsLeft o x f) at due in
         elim (cases_eq f a.field) [
@@ -67,7 +67,7 @@ module _ (w : Core) (m : Machine) (a : At) (kept : IsKept w) (phase : w.collecto
       → ((x f : ℕ) → x < w.config.slots → f < w.config.fields → (slot_at off x).released ≡ true → IsLeft (begun_release begun) x f ⊎ (slice_index_or words (place_of x f w.config.fields) 0 ≡ 0))
       → HasCome w w.crossing words (record { parts = record (parts_of c) { counts = off }; phase = begun })
   came begun unfreed due =
-      taken.off_comes w a.slot a.field may_empty m.lowers begun (λ none. taken.off_uncounted w a.slot a.field may_empty m.lowers (kept.uncounted (ap freeing_due phase))) clearing.release.ready.zeros (cycles_in w (Releasing m) kept phase)
+      taken.off_comes w a.slot a.field may_empty m.lowers begun (λ none. taken.off_uncounted w a.slot a.field may_empty m.lowers (kept.uncounted (ap freeing_due phase))) clearing.release.ready.zeros (cycles_in w (Releasing m) kept.whole phase)
       (λ x f there in_range is. elim (due x f there in_range is) [ inl l ↦ inl l | inr none ↦ inr (inr none) ])
 
   -- the next field of the slot follows

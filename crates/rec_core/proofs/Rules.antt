@@ -4,27 +4,31 @@ use Rattle.std.proofs.lemmas.Bool.{false≢true, cases_eq}
 use Rattle.std.proofs.lemmas.List.{length-set, get_or-set_same, get_or-set_other}
 use Rattle.std.proofs.lemmas.List.Elements.{All-set}
 use Rattle.std.proofs.lemmas.Option.{same_Some}
-use Rattle.rec_core.proofs.Common.{place_of, target_of, stamp_of, Op, Loads, AccountMove, node_of, epoch_of, Holds, Sight, IsTaken, IsSound, word_at, sight_with_header, sight_with_word, register_sound, birth_sound, write_sound, Contents, Entry, Private, register, word_for, next_stamp, IsStore, probe_of, slot_behind, Step, Decides, HasRoom, TakesNone, cell, IsMutator, HasLabel, Core, cells_of, sight, mutator, box, crossing_of, with_mutator, HasLabelAt, HasPassed, HasLearnt, entries_made, IsKept, IsActor, IsHeader, performed, code, epoch_at, pending, header_word, is_leaf}
+use Rattle.rec_core.proofs.Common.{Retired, Spare, WithCollector, WithMutator, place_of, target_of, stamp_of, Op, Loads, AccountMove, node_of, epoch_of, Holds, Sight, IsTaken, IsSound, word_at, sight_with_header, sight_with_word, register_sound, birth_sound, write_sound, Contents, Entry, Private, register, word_for, next_stamp, IsStore, probe_of, slot_behind, Step, Decides, HasRoom, TakesNone, cell, IsMutator, HasLabel, Core, cells_of, sight, mutator, box, crossing_of, with_mutator, HasLabelAt, HasPassed, HasLearnt, entries_made, IsKept, IsActor, IsHeader, performed, code, epoch_at, has_let_go, pending, header_word, is_leaf}
 use Rattle.rec_word.specs.declared.stamps.Stamp.{Stamp}
+use Rattle.rec_word.specs.Mailbox.{mailbox_of}
+use Rattle.rec_word.specs.declared.mailbox.Mailbox.{Mailbox}
 use Rattle.rec_word.specs.declared.op.Op.TheVariants as ops
 use Rattle.rec_model.specs.declared.answer.Answer.TheVariants as answers_
 use Rattle.rec_model.specs.declared.command.Cmd.TheVariants as commands
 use Rattle.rec_log.specs.declared.entry.Entry.TheVariants as entries
 use Rattle.rec_model.specs.Asking.{plain, allocation}
-use Rattle.rec_mutator.specs.Causes.{is_giving}
+use Rattle.rec_mutator.specs.Causes.{gives_back}
+use Rattle.rec_mutator.specs.Step.{IsUncollected}
+use Rattle.rec_mutator.specs.Took.{is_uncollected_in}
 use Rattle.rec_mutator.specs.declared.phase.Phase as phases
 use Rattle.rec_mutator.specs.declared.phase.Phase.TheVariants as at
 use Rattle.rec_mutator.specs.declared.work.Work.TheVariants as works
 use Rattle.rec_mutator.proofs.Around.{behind_below}
 use Rattle.rec_mutator.proofs.Refusals.{at_phase}
-use Rattle.rec_core.proofs.Actors.{one_entry, epoch_here}
+use Rattle.rec_core.proofs.Actors.{one_entry, epoch_here, mailbox_told}
 use Rattle.rec_mutator.proofs.LogStamps.{word_stamp}
 use Rattle.rec_mutator.proofs.Machines.{has_room, register_target}
 use Rattle.rec_core.proofs.Moves.{code_target, home_of, has_register, put_moves, birth_moves}
 use Rattle.rec_core.proofs.Places.{place_within}
 use Rattle.rec_core.proofs.Shapes.{after_cross, after_field, after_header, after_epoch, after_freed, after_probe, after_swap, after_claim}
 use Rattle.rec_word.proofs.Packing.{target_of-packed}
-use Rattle.rec_core.proofs.Steps.{Makes, actor_of, in_list, register_taken, target_taken, taken_slot, held_stays, emptied_stays, changed_kept, moved_accounts, answers, answered_actor, unchanged, sets, goes_on, about_to_cross, registers_stay, registers_set, Answers}
+use Rattle.rec_core.proofs.Steps.{Makes, stand_of, actor_of, in_list, register_taken, target_taken, taken_slot, held_stays, emptied_stays, changed_kept, moved_accounts, answers, answered_actor, unchanged, sets, goes_on, about_to_cross, registers_stay, registers_set, Answers}
 use Rattle.rec_word.proofs.Headers.{header_is, header_taken}
 
 -- the epoch of a word is that of its stamp
@@ -43,25 +47,25 @@ place_there w slot f kept below in_range =
     place_within w.config.fields (length w.headers) (length w.words) slot f kept.sound.places (omega arith) in_range
 
 -- what a register names is held
-names_held : (w : Core) (t r slot : ℕ) → IsKept w → IsMutator w.config t → r < length (mutator w t).registers → register (mutator w t) r ≡ Some slot → Holds (pending w) (epoch_at (mutator w t)) (slot + 1)
-names_held w t r slot kept is within names = subst (Holds (pending w) (epoch_at (mutator w t))) (ap code names) (has_register w t r (in_list w t kept is) within)
+names_held : (w : Core) (t r slot : ℕ) → IsKept w → IsMutator w.config t → has_let_go (mutator w t) ≡ false → r < length (mutator w t).registers → register (mutator w t) r ≡ Some slot → Holds (pending w) (epoch_at (mutator w t)) (slot + 1)
+names_held w t r slot kept is held within names = subst (Holds (pending w) (epoch_at (mutator w t))) (ap code names) (has_register w t r (in_list w t kept is) held within)
 
 -- the entry that a write made is one of its log's epoch
 -- the word that a write leaves leads to what the register names
-pub leads_to : (w : Core) (t val : ℕ) → IsKept w → IsMutator w.config t → HasRoom (mutator w t) → target_of (word_for (mutator w t) val) ≡ register (mutator w t) val
-leads_to w t val kept is room =
+pub leads_to : (w : Core) (t val : ℕ) → IsKept w → IsMutator w.config t → (mutator w t).left ≡ false → HasRoom (mutator w t) → target_of (word_for (mutator w t) val) ≡ register (mutator w t) val
+leads_to w t val kept is stays room =
     let p : Private = mutator w t in
     let own = (actor_of w t kept is).own in
     let machine = own.machine in
     let free : length p.log.entries < p.log.capacity = has_room p machine room in
     let most : p.log.capacity ≤ 2 ^ 18 = machine.capacity in
-    target_of-packed (register p val) (next_stamp p) (register_target p val machine) (record { writer = machine.number; epoch = machine.stamped own.stays; index = omega arith })
+    target_of-packed (register p val) (next_stamp p) (register_target p val machine) (record { writer = machine.number; epoch = machine.stamped stays; index = omega arith })
 
 module _ {w : Core} {t word : ℕ} {op : Op} {q : Private} (m : Makes w t word op q) where
   abbrev p : Private
   p = mutator w t
 
-  abbrev actor : IsActor w.config w.epoch w.collector.phase t p (crossing_of w t) (box w t)
+  abbrev actor : IsActor w.config w.epoch (stand_of w t) t p (crossing_of w t) (box w t)
   actor = actor_of w t m.kept m.is
 
   -- the entries of an answer are more than before
@@ -96,18 +100,18 @@ module _ {w : Core} {t word : ℕ} {op : Op} {q : Private} (m : Makes w t word o
       let stamp : stamp_of left ≡ next_stamp p = word_stamp p val actor.own.machine store.stamp room in
       let here : epoch_at p ≡ p.epoch = epoch_here p a.here in
       let in_epoch : epoch_of left ≡ epoch_at p = epoch_of_stamp left (next_stamp p) stamp ∙ sym here in
-      let leads : target_of left ≡ register p val = leads_to w t val m.kept m.is room in
+      let leads : target_of left ≡ register p val = leads_to w t val m.kept m.is a.stays room in
       let node : node_of left ≡ code (register p val) = sym (code_target left) ∙ ap code leads in
       let there : t - 1 < length w.mutators = in_list w t m.kept m.is in
-      let holds : Holds (pending w) (epoch_at p) (slot + 1) = names_held w t src slot m.kept m.is from names in
+      let holds : Holds (pending w) (epoch_at p) (slot + 1) = names_held w t src slot m.kept m.is a.held from names in
       subst (λ (n : ℕ). IsKept (record (with_mutator w t q) { words = slice_set w.words place left; made = n })) (add-zero w.made)
       (changed_kept w t q w.headers (slice_set w.words place left) 0 m.kept m.is (answered_actor a (one_entry w.config (epoch_at p) p.log _ actor.log free in_epoch)) refl m.kept.labels
       (emptied_stays w slot f left m.kept in_range (held_stays w t slot m.kept below holds)) (a.learnt w.config.slots w.freed w.headers) (λ s is. refl)
-      (let more = entries_grow p.registers _ a in omega (arith, more))
+      (let more = entries_grow p.registers _ a in omega (arith, more)) a.left
       (subst (λ (rss : List (List (Option ℕ))). IsSound (record (sight_with_word (sight w) slot f left) { registers = rss })) (sym (registers_stay w t q a.registers_are))
       (write_sound (sight w) slot f left in_range taken unmarked (λ n is. register_taken w m.kept t val n (sym leads ∙ is)) m.kept.sound))
       (moved_accounts w _ m.kept (AccountMove.put (put_moves w t place left slot val q there (place_there w slot f m.kept below in_range) (home_of slot f w.config.fields in_range) holds
-      (λ some. subst (Holds (pending w) (epoch_at p)) (sym node) (has_register w t val there of)) in_epoch a.registers_are a.same a.log)) tt tt))
+      (λ some. subst (Holds (pending w) (epoch_at p)) (sym node) (has_register w t val there a.held of)) in_epoch (a.holds ∙ sym a.held) a.registers_are a.same a.log)) tt tt))
     where
       decided_at : p.fields ≡ w.config.fields → word ≡ slice_index_or w.words (place_of slot f w.config.fields) 0
           → Decides p op q (commands.Put src f val) (at.Storing src f val slot) (ops.SwapField (place_of slot f p.fields) (word_for p val)) p.registers
@@ -134,10 +138,10 @@ module _ {w : Core} {t word : ℕ} {op : Op} {q : Private} (m : Makes w t word o
       let taken : IsTaken seen slot = (let is : slice_index_or (slice_set w.headers slot (header_word leaf label)) slot 0 ≡ header_word leaf label = get_or-set_same w.headers slot (header_word leaf label) 0 inside in omega (arith, is)) in
       changed_kept w t q (slice_set w.headers slot (header_word leaf label)) w.words 1 m.kept m.is (answered_actor a (one_entry w.config (epoch_at p) p.log _ actor.log room tt)) (length-set w.headers slot (header_word leaf label))
       (All-set IsHeader w.headers slot (header_word leaf label) (λ _. header_taken leaf label fits) m.kept.labels) m.kept.collector (a.learnt w.config.slots w.freed (slice_set w.headers slot (header_word leaf label))) (still slot (header_word leaf label) empty)
-      (entries_grow (slice_set p.registers reg (Some slot)) (entries.Born slot leaf ∷ []) a)
+      (entries_grow (slice_set p.registers reg (Some slot)) (entries.Born slot leaf ∷ []) a) a.left
       (subst (λ (rss : List (List (Option ℕ))). IsSound (record seen { registers = rss })) (sym (registers_set w t reg (Some slot) q a.registers_are))
       (register_sound seen t reg (Some slot) (λ n is. subst (IsTaken seen) (same_Some slot n is) taken) (birth_sound (sight w) slot (header_word leaf label) inside empty m.kept.sound)))
-      (moved_accounts w _ m.kept (AccountMove.birth (birth_moves w t reg slot label leaf q (header_is leaf label fits) (in_list w t m.kept m.is) within inside empty a.registers_are a.same a.log)) tt tt)
+      (moved_accounts w _ m.kept (AccountMove.birth (birth_moves w t reg slot label leaf q (header_is leaf label fits) (in_list w t m.kept m.is) a.held a.holds within inside empty a.registers_are a.same a.log)) tt tt)
     where
       kept_headers : length w.headers ≡ w.config.slots
       kept_headers = m.kept.headers
@@ -182,14 +186,21 @@ begun_label : (reg label : ℕ) (leaf : Bool) → HasLabel (works.Command (alloc
 begun_label reg label true fits = fits
 begun_label reg label false fits = fits
 
+-- a crossing word of a mutator that may leave says that no log of its own is to be collected
+is_collected : (word : ℕ) (mailbox : Mailbox) → mailbox_of word ≡ mailbox → (IsUncollected word → ⊥) → is_uncollected_in mailbox ≡ false
+is_collected word Retired told collected = absurd (collected (inl told))
+is_collected word WithCollector told collected = absurd (collected (inr told))
+is_collected word Spare told collected = refl
+is_collected word WithMutator told collected = refl
+
 -- every step that takes no mailbox and gives none back
-pub performed_kept : {w : Core} {t word : ℕ} {op : Op} {q : Private} → is_giving (mutator w t).phase ≡ false → Makes w t word op q → Step (mutator w t) word (box w t) op q → IsKept (performed w t op word q (box w t))
+pub performed_kept : {w : Core} {t word : ℕ} {op : Op} {q : Private} → gives_back (mutator w t).phase ≡ false → Makes w t word op q → Step (mutator w t) word (box w t) op q → IsKept (performed w t op word q (box w t))
 performed_kept {w = w} {t = t} {word = word} {op = op} {q = q} here m (Step.null reg d) =
     after_cross IsKept w t _ word q op d.operation m.found (sets reg None refl m (at_phase (mutator w t) _ (actor m).own.machine d.phase).0 (λ slot e. cc) (λ some. absurd (omega arith)) d)
 performed_kept {w = w} {t = t} {word = word} {op = op} {q = q} here m (Step.copy dst src d) =
     let operands = (at_phase (mutator w t) _ (actor m).own.machine d.phase).0 in
     after_cross IsKept w t _ word q op d.operation m.found
-    (sets dst (register (mutator w t) src) refl m operands.0 (λ slot e. register_taken w m.kept t src slot e) (λ some. inl (has_register w t src (in_list w t m.kept m.is) operands.1)) d)
+    (sets dst (register (mutator w t) src) refl m operands.0 (λ slot e. register_taken w m.kept t src slot e) (λ some. inl (has_register w t src (in_list w t m.kept m.is) (answers refl m d).held operands.1)) d)
 performed_kept {w = w} {t = t} {word = word} {op = op} {q = q} here m (Step.compare a b d) = after_cross IsKept w t _ word q op d.operation m.found (unchanged refl m d)
 performed_kept {w = w} {t = t} {word = word} {op = op} {q = q} here m (Step.get_of_null dst src f names d) = after_cross IsKept w t _ word q op d.operation m.found (unchanged refl m d)
 performed_kept {w = w} {t = t} {word = word} {op = op} {q = q} here m (Step.get dst src f slot names d) =
@@ -205,7 +216,7 @@ performed_kept {w = w} {t = t} {word = word} {op = op} {q = q} here m (Step.get 
     let loads : Loads (pending w) (epoch_at p) (code (target_of word)) = record {
       place = place;
       inside = place_there w slot f m.kept below in_range;
-      source = subst (Holds (pending w) (epoch_at p)) (sym (home_of slot f w.config.fields in_range)) (names_held w t src slot m.kept m.is operands.1 names);
+      source = subst (Holds (pending w) (epoch_at p)) (sym (home_of slot f w.config.fields in_range)) (names_held w t src slot m.kept m.is (answers refl m d).held operands.1 names);
       target = code_target word ∙ ap node_of is_word;
     } in
     after_field IsKept w t _ word q op d.operation m.found
@@ -215,7 +226,7 @@ performed_kept {w = w} {t = t} {word = word} {op = op} {q = q} here m (Step.put_
 performed_kept {w = w} {t = t} {word = word} {op = op} {q = q} here m (Step.put_into_leaf src f val slot names room leaf d) = after_header IsKept w t _ word q op d.operation m.found (unchanged refl m d)
 performed_kept {w = w} {t = t} {word = word} {op = op} {q = q} here m (Step.put_begins src f val slot names room unmarked g) =
     let header : word ≡ slice_index_or w.headers slot 0 = m.found ∙ ap (cell (cells_of w)) g.operation in
-    after_header IsKept w t _ word q op g.operation m.found (goes_on refl m tt tt (sym (ap is_leaf header) ∙ unmarked) g)
+    after_header IsKept w t _ word q op g.operation m.found (goes_on refl m refl (λ mailbox is. tt) tt (sym (ap is_leaf header) ∙ unmarked) g)
 performed_kept {w = w} {t = t} {word = word} {op = op} {q = q} here m (Step.put src f val slot d) =
     let fields : (mutator w t).fields ≡ w.config.fields = (actor m).own.fields in
     after_swap IsKept w t _ _ word q op d.operation
@@ -225,7 +236,7 @@ performed_kept {w = w} {t = t} {word = word} {op = op} {q = q} here m (Step.valu
 performed_kept {w = w} {t = t} {word = word} {op = op} {q = q} here m (Step.new_refused reg label leaf full d) = after_cross IsKept w t _ word q op d.operation m.found (unchanged refl m d)
 performed_kept {w = w} {t = t} {word = word} {op = op} {q = q} here m (Step.new_begins reg label leaf room g) =
     let freed : word ≡ w.freed = m.found ∙ ap (cell (cells_of w)) g.operation in
-    after_freed IsKept w t word q op g.operation m.found (goes_on refl m tt (begun_label reg label leaf (label_at w t _ m.kept m.is g.phase)) (omega (arith, freed), λ _ _ count below. absurd (omega arith)) g)
+    after_freed IsKept w t word q op g.operation m.found (goes_on refl m refl (λ mailbox is. tt) (begun_label reg label leaf (label_at w t _ m.kept m.is g.phase)) (omega (arith, freed), λ _ _ count below. absurd (omega arith)) g)
 performed_kept {w = w} {t = t} {word = word} {op = op} {q = q} here m (Step.new_wins reg label leaf before probed free d) =
     let slot : ℕ = probe_of (mutator w t) probed in
     let there : slot < w.config.slots = (probes w t probed m.kept m.is).1 in
@@ -235,21 +246,23 @@ performed_kept {w = w} {t = t} {word = word} {op = op} {q = q} here m (Step.new_
     let slot : ℕ = probe_of (mutator w t) probed in
     let header : word ≡ slice_index_or w.headers slot 0 = probe_found w word slot (header_word leaf label) op m.found g.operation in
     after_probe IsKept w t slot (header_word leaf label) word q op g.operation m.found taken
-    (goes_on refl m tt (label_at w t (at.Scanning reg label leaf before probed) m.kept m.is g.phase) (passed_on w t reg label leaf before probed m.kept m.is g.phase (omega arith)) g)
+    (goes_on refl m refl (λ mailbox is. tt) (label_at w t (at.Scanning reg label leaf before probed) m.kept m.is g.phase) (passed_on w t reg label leaf before probed m.kept m.is g.phase (omega arith)) g)
 performed_kept {w = w} {t = t} {word = word} {op = op} {q = q} here m (Step.new_finds_none reg label leaf before probed taken last g) =
     let slot : ℕ = probe_of (mutator w t) probed in
     let header : word ≡ slice_index_or w.headers slot 0 = probe_found w word slot (header_word leaf label) op m.found g.operation in
     let slots : (mutator w t).slots ≡ w.config.slots = (actor m).own.slots in
     let all : probed + 1 ≡ w.config.slots = last ∙ slots in
     after_probe IsKept w t slot (header_word leaf label) word q op g.operation m.found taken
-    (goes_on refl m tt tt (subst (HasPassed w.config.slots w.headers w.freed (mutator w t).from before) all (passed_on w t reg label leaf before probed m.kept m.is g.phase (omega arith))) g)
+    (goes_on refl m refl (λ mailbox is. tt) tt (subst (HasPassed w.config.slots w.headers w.freed (mutator w t).from before) all (passed_on w t reg label leaf before probed m.kept m.is g.phase (omega arith))) g)
 performed_kept {w = w} {t = t} {word = word} {op = op} {q = q} here m (Step.new_is_full reg label leaf before still d) = after_freed IsKept w t word q op d.operation m.found (unchanged refl m d)
 performed_kept {w = w} {t = t} {word = word} {op = op} {q = q} here m (Step.new_is_busy reg label leaf before moves d) = after_freed IsKept w t word q op d.operation m.found (unchanged refl m d)
-performed_kept {w = w} {t = t} here m (Step.leave_refused uncollected d) = absurd (label_at w t (at.Begun (works.Command commands.Leave)) m.kept m.is d.phase)
-performed_kept {w = w} {t = t} here m (Step.leave_begins collected g) = absurd (label_at w t (at.Begun (works.Command commands.Leave)) m.kept m.is g.phase)
-performed_kept {w = w} {t = t} here m (Step.leave l) = absurd (label_at w t at.Leaving m.kept m.is l.phase)
-performed_kept {w = w} {t = t} here m (Step.leave_ends l) = absurd (label_at w t at.Parting m.kept m.is l.phase)
-performed_kept {w = w} {t = t} {word = word} {op = op} {q = q} here m (Step.poll_stays own g) = after_epoch IsKept w t word q op g.operation m.found (goes_on refl m tt tt tt g)
+performed_kept {w = w} {t = t} {word = word} {op = op} {q = q} here m (Step.leave_refused uncollected d) = after_cross IsKept w t _ word q op d.operation m.found (unchanged refl m d)
+performed_kept {w = w} {t = t} {word = word} {op = op} {q = q} here m (Step.leave_begins collected g) =
+    let own_word : word ≡ crossing_of w t = m.found ∙ ap (cell (cells_of w)) g.operation ∙ ap (λ n. slice_index_or w.crossing (n - 1) 0) (actor m).own.number in
+    after_cross IsKept w t _ word q op g.operation m.found (goes_on refl m refl (λ mailbox is. is_collected word mailbox (ap mailbox_of (own_word ∙ is) ∙ mailbox_told w.epoch mailbox) collected) tt tt g)
+performed_kept {w = w} {t = t} here m (Step.leave l) = absurd (subst TakesNone l.phase m.none)
+performed_kept {w = w} {t = t} here m (Step.leave_ends l) = absurd (false≢true (sym here ∙ ap gives_back l.phase))
+performed_kept {w = w} {t = t} {word = word} {op = op} {q = q} here m (Step.poll_stays own g) = after_epoch IsKept w t word q op g.operation m.found (goes_on refl m refl (λ mailbox is. tt) tt tt g)
 performed_kept {w = w} {t = t} {word = word} {op = op} {q = q} here m (Step.poll_crosses other g) = after_epoch IsKept w t word q op g.operation m.found (about_to_cross m other g)
 performed_kept here m (Step.take_box c) = absurd (subst TakesNone c.phase m.none)
-performed_kept here m (Step.give_box c) = absurd (false≢true (sym here ∙ ap is_giving c.phase))
+performed_kept here m (Step.give_box c) = absurd (false≢true (sym here ∙ ap gives_back c.phase))

@@ -1,16 +1,16 @@
 -- Every move of a heap with its collector keeps what every such heap keeps, and so does every run.
-use Rattle.std.proofs.Common.{◌≡◌, ◌≢◌, ℕ, ◌-◌, ◌<◌, ◌==◌, Option, None, Some, IfSome, List, [], ◌∷◌, ◌++◌, flat_map, length, slice_index_or, refl, sym, ap, subst, ◌∙◌, arith}
-use Rattle.std.proofs.lemmas.Bool.{cond-true, cond-false, eq-eqb, ne_eqb}
+use Rattle.std.proofs.Common.{◌≡◌, ◌≢◌, ℕ, ◌+◌, ◌-◌, ◌^◌, ◌<◌, ◌==◌, if◌then◌else◌, true, false, Option, None, Some, IfSome, List, [], ◌∷◌, ◌++◌, flat_map, length, slice_index_or, refl, sym, ap, subst, ◌∙◌, arith}
+use Rattle.std.proofs.lemmas.Bool.{cond-true, cond-false, eq-eqb, eqb-false, ne_eqb}
 use Rattle.std.proofs.lemmas.Grind.{flat_map-append}
-use Rattle.std.proofs.lemmas.List.{get_or-set_other}
-use Rattle.rec_core.proofs.Common.{place_of, target_of, Op, Contents, slot_at, At, Member, LeadsToUnreleased, begun_of, IsBetween, step_of, turn_of, Phase, Looking, Swapping, Returning, Releasing, Freeing, Trying, Preparing, cell, IsConfig, IsMutator, Core, cells_of, box, mutator, nobody, opened, IsKept, looked_at, found_by, turned, Move, after_move, after_moves, Fits, AllFit, IsStart, IsRun, EndsRun, Config}
+use Rattle.std.proofs.lemmas.List.{get_or-set_other, length-set}
+use Rattle.rec_core.proofs.Common.{place_of, target_of, Op, Contents, slot_at, At, Member, LeadsToUnreleased, begun_of, IsBetween, step_of, turn_of, buffer_at, noted, HaveLeft, Phase, Idle, Looking, Swapping, Returning, Releasing, Freeing, Trying, Preparing, cell, IsConfig, IsMutator, Core, cells_of, box, mutator, nobody, opened, IsKept, looked_at, found_by, turned, Move, after_move, after_moves, Fits, AllFit, IsStart, IsRun, EndsRun, Config}
 use Rattle.rec_word.specs.declared.op.Op.TheVariants as ops
 use Rattle.rec_release.specs.CycleFree.{op_at as freeing_op_at, next_of as freeing_next}
 use Rattle.rec_release.specs.Release.{op_at as release_op_at, next_of as release_next}
 use Rattle.rec_mutator.specs.Took as mutators_took
 use Rattle.rec_collector.specs.Given.{IsGivenAt, IsGiven, IsSized}
 use Rattle.rec_collector.specs.Kept as collector_kept
-use Rattle.rec_collector.specs.Next.{next_of, next_at}
+use Rattle.rec_collector.specs.Next.{is_spent, next_of, next_at}
 use Rattle.rec_collector.specs.Step.{Step}
 use Rattle.rec_collector.proofs.Keeping.{machine_kept}
 use Rattle.rec_collector.proofs.Steps.{step_made}
@@ -19,6 +19,7 @@ use Rattle.rec_core.specs.Run as step
 use Rattle.rec_core.proofs.Applying.{covered}
 use Rattle.rec_core.proofs.Crossings.{step_kept, begun_kept}
 use Rattle.rec_core.proofs.Freeing as freeing
+use Rattle.rec_core.proofs.Gathering.{awaits_kept}
 use Rattle.rec_core.proofs.Offering.{offering_kept}
 use Rattle.rec_core.proofs.Opening.{opened_kept}
 use Rattle.rec_core.proofs.Preparing.{loads_due, seen_there}
@@ -26,6 +27,7 @@ use Rattle.rec_core.proofs.Releasing as releasing
 use Rattle.rec_core.proofs.Trying.{loads_child, loaded_leads}
 use Rattle.rec_core.proofs.Taken as taken
 use Rattle.rec_core.proofs.Turning.{mutator_at, some_op, rule_kept, turn_case, turned_mutators}
+use Rattle.rec_core.proofs.TurnCases.{Awaits, giving_back, requesting}
 use Rattle.rec_core.proofs.Turns.{now_at}
 
 -- the mailbox that the collector looks at next is that of a mutator
@@ -39,11 +41,27 @@ sized_is w kept =
     let actor = kept.mutators.each (looked_at w.collector.phase) (looked_is w w.collector.phase kept refl) in
     (actor.mailbox.snapshot ∙ sym kept.collector.registers, actor.mailbox.capacity ∙ sym kept.collector.capacity)
 
+-- a mark of the mutator whose mailbox is given back says nothing of those behind
+still_gone : (w : Core) (t : ℕ) → 0 < t → HaveLeft w.collector.left t → HaveLeft (noted w.collector t).left t
+still_gone w t some gone u behind there =
+    get_or-set_other w.collector.left (t - 1) (u - 1) (buffer_at w.collector.newer (t - 1)).last false (λ e. absurd (omega (arith, e, behind, some)))
+    ∙ gone u behind (omega (arith, there, length-set w.collector.left (t - 1) (buffer_at w.collector.newer (t - 1)).last))
+
 -- the word that the collector finds is one that it may be given, by phase
 given_at : (w : Core) (op : Op) (phase : Phase) → IsKept w → w.collector.phase ≡ phase → ◌≡◌ {A = Option Op} (next_at w.collector phase) (Some op) → IsGivenAt w.collector (cell (cells_of w) op) phase
 unfolding IsGivenAt next_at release_next freeing_next
 given_at w op (Swapping t) kept is named = subst IsBetween is kept.collector.between
-given_at w op (Returning t) kept is named = λ last. covered w t kept is last
+given_at w op Idle kept is named = λ gone. covered (requesting w) (length w.collector.newer) (awaits_kept w _ kept (Awaits.alone is more gone)) refl
+  where
+    more : w.epoch + 1 ≢ 2 ^ 24
+    more last = (elim (is_spent w.collector) as (λ b. is_spent w.collector ≡ b → ◌≡◌ {A = Option Op} (if b then None else Some (ops.StoreEpoch (w.collector.epoch + 1))) (Some op) → ⊥) [
+      | true ↦ λ spent some. let not_so : ◌≡◌ {A = Option Op} None (Some op) = some in cc
+      | false ↦ λ spent some. eqb-false (w.collector.epoch + 1) (2 ^ 24) spent (ap (λ n. n + 1) kept.collector.epoch ∙ last)
+    ]) refl named
+given_at w op (Returning t) kept is named = λ gone.
+    let now = now_at w (Returning t) kept is in
+    let there : IsMutator w.config t = mutator_at w t (Returning t) kept is (now.first, now.there) in
+    covered (giving_back w t) (length w.collector.newer) (awaits_kept w _ kept (Awaits.last t there is (still_gone w t now.first gone))) refl
 given_at w op (Releasing m) kept is named = go m.at refl
   where
     go : (x : Option At) → m.at ≡ x → IfSome (target_of (cell (cells_of w) op)) (λ slot. 0 < (slot_at w.collector.counts slot).count)
@@ -98,7 +116,7 @@ turned_kept w kept = turn_case w (λ o v. IsKept v) (λ none. kept) (λ op named
 
 -- a move
 pub move_kept : (w : Core) (m : Move) → IsKept w → Fits w m → IsKept (after_move w m)
-move_kept w (Move.Begins t work from) kept fits = begun_kept w t work from kept fits.0 fits.1 fits.2 fits.3 fits.4
+move_kept w (Move.Begins t work from) kept fits = begun_kept w t work from kept fits.0 fits.1 fits.2 fits.3 fits.4 fits.5
 move_kept w (Move.Steps t) kept fits = step_kept w t kept fits.0 fits.1
 move_kept w Move.Turns kept fits = turned_kept w kept
 move_kept w Move.Offers kept fits = offering_kept w kept

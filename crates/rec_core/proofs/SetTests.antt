@@ -97,6 +97,7 @@ module _ (w : Core) (crossing words : List ℕ) (v : Parts) (h : HasCleared w cr
       let due : begun_freeing (freeing_at (record { fields = v.fields; at = at }) at) ≡ first_member (slice_get (last_set s.sets) 0) = given_due v.fields at ∙ sym first in
       record {
         landed = record {
+          stands = l.stands;
           kept = l.kept;
           way = l.way;
           still = l.still;
@@ -138,6 +139,7 @@ module _ (w : Core) (crossing words : List ℕ) (v : Parts) (h : HasCleared w cr
       let alike = sets_test_alike (landed_pending w words s) (landed_pending w words t) s l.accounted h.tests (none_release (applied_pending w) words s t same) in
       record {
         landed = record {
+          stands = l.stands;
           kept = l.kept;
           way = l.way;
           still = l.still;
@@ -169,8 +171,8 @@ module _ (w : Core) (crossing words : List ℕ) (v : Parts) (h : HasCleared w cr
 
 -- a release, or the freeing of a set, goes on
 begun_unswept : (epoch : ℕ) (v : Parts) (phase : Phase) → IsClearing (record { parts = v; phase = Some phase }) → IsUnswept epoch phase
-begun_unswept epoch v (Releasing m) clearing = record { way = refl; still = refl; applied = refl; older = refl; stands = λ s. refl; between = tt; some = tt }
-begun_unswept epoch v (Freeing m) clearing = record { way = refl; still = refl; applied = refl; older = refl; stands = λ s. refl; between = tt; some = tt }
+begun_unswept epoch v (Releasing m) clearing = record { way = refl; still = refl; applied = refl; older = refl; stands = λ s. refl; held = λ v. tt; between = tt; some = tt }
+begun_unswept epoch v (Freeing m) clearing = record { way = refl; still = refl; applied = refl; older = refl; stands = λ s. refl; held = λ v. tt; between = tt; some = tt }
 begun_unswept epoch v _ clearing = absurd clearing
 
 -- and the sets that are left are to be tested

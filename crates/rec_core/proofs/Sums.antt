@@ -1,34 +1,80 @@
 -- Sums over the buffers and the registers of a heap, where one mutator and its mailbox change.
-use Rattle.std.proofs.Common.{◌≡◌, ℕ, ◌+◌, ◌-◌, ◌<◌, ◌≤◌, List, [], ◌∷◌, ◌++◌, Option, None, Some, length, map, slice_index_or, slice_set, refl, ◌∙◌, arith, Bool}
-use Rattle.std.specs.List.{sum_by, flat_map}
+use Rattle.std.proofs.Common.{◌≡◌, ℕ, zero, suc, ◌+◌, ◌-◌, ◌<◌, ◌≤◌, if◌then◌else◌, List, [], ◌∷◌, ◌++◌, Option, None, Some, length, map, slice_index_or, slice_set, refl, sym, ap, ◌∙◌, arith, Bool, true, false}
+use Rattle.std.specs.List.{sum_by, flat_map, zip}
+use Rattle.std.proofs.lemmas.List.{set-get_or}
 use Rattle.std.proofs.lemmas.List.Sums.{sum_by-append, sum_by-cons, sum_by-set}
-use Rattle.rec_core.proofs.Common.{Write, Dated, dated, dated_birth, sum_by-flat_map, sum_by-map, Contents, Entry, Private, blank, Core, mutator, box, nobody, Filed, filed, code, writes_in, births_in, dated_names, dated_all, older_at, epoch_at, buffers}
+use Rattle.rec_core.proofs.Common.{Write, Dated, dated, dated_birth, sum_by-flat_map, sum_by-map, Contents, Entry, Private, blank, Core, mutator, box, nobody, Filed, filed, filed_box, code, writes_in, births_in, dated_names, dated_all, dated_registers, has_let_go, older_at, epoch_at, buffers}
 use Rattle.rec_log.specs.declared.entry.Entry.TheVariants as entries
+
+-- Two rows side by side.
+module _ {X Y : Type 0} where
+  -- one place of the first changes, to what is worth the same
+  pub zip-first_same : {Z : Type 0} (f : X × Y → Z) (xs : List X) (ys : List Y) (i : ℕ) (x d : X) → ((y : Y) → f (x, y) ≡ f (slice_index_or xs i d, y)) → map f (zip (slice_set xs i x) ys) ≡ map f (zip xs ys)
+  zip-first_same f [] ys i x d same = refl
+  zip-first_same f (first ∷ xs) [] zero x d same = refl
+  zip-first_same f (first ∷ xs) [] (suc i) x d same = refl
+  zip-first_same f (first ∷ xs) (second ∷ ys) zero x d same = ap (λ zs. zs ∷ map f (zip xs ys)) (same second)
+  zip-first_same f (first ∷ xs) (second ∷ ys) (suc i) x d same = ap (λ zs. f (first, second) ∷ zs) (zip-first_same f xs ys i x d same)
+
+  module _ (f : X × Y → ℕ) where
+    pub zip_sum-first_same : (xs : List X) (ys : List Y) (i : ℕ) (x d : X) → ((y : Y) → f (x, y) ≡ f (slice_index_or xs i d, y)) → sum_by f (zip (slice_set xs i x) ys) ≡ sum_by f (zip xs ys)
+    zip_sum-first_same xs ys i x d same = sym (sum_by-map (λ n. n) f (zip (slice_set xs i x) ys)) ∙ ap (sum_by (λ n. n)) (zip-first_same f xs ys i x d same) ∙ sum_by-map (λ n. n) f (zip xs ys)
+
+    -- one place of both changes
+    pub zip_sum-set : (xs : List X) (ys : List Y) (i : ℕ) (x d : X) (y e : Y) → i < length xs → i < length ys
+        → sum_by f (zip (slice_set xs i x) (slice_set ys i y)) + f (slice_index_or xs i d, slice_index_or ys i e) ≡ sum_by f (zip xs ys) + f (x, y)
+    zip_sum-set [] ys i x d y e there here = absurd (omega arith)
+    zip_sum-set (first ∷ xs) [] i x d y e there here = absurd (omega arith)
+    zip_sum-set (first ∷ xs) (second ∷ ys) zero x d y e there here = omega (arith, sum_by-cons f (x, y) (zip xs ys), sum_by-cons f (first, second) (zip xs ys))
+    zip_sum-set (first ∷ xs) (second ∷ ys) (suc i) x d y e there here = omega (
+      arith,
+      sum_by-cons f (first, second) (zip (slice_set xs i x) (slice_set ys i y)),
+      sum_by-cons f (first, second) (zip xs ys),
+      zip_sum-set xs ys i x d y e (omega arith) (omega arith),
+    )
+
+    -- or of the second alone
+    pub zip_sum-set_second : (xs : List X) (ys : List Y) (i : ℕ) (d : X) (y e : Y) → i < length xs → i < length ys
+        → sum_by f (zip xs (slice_set ys i y)) + f (slice_index_or xs i d, slice_index_or ys i e) ≡ sum_by f (zip xs ys) + f (slice_index_or xs i d, y)
+    zip_sum-set_second xs ys i d y e there here = omega (arith, zip_sum-set xs ys i (slice_index_or xs i d) d y e there here, ap (λ zs. sum_by f (zip zs (slice_set ys i y))) (set-get_or xs i d))
+
+    -- no place is worth anything
+    pub zip_sum-none : (xs : List X) (ys : List Y) (d : X) (e : Y) → ((i : ℕ) → i < length xs → i < length ys → f (slice_index_or xs i d, slice_index_or ys i e) ≡ 0) → sum_by f (zip xs ys) ≡ 0
+    zip_sum-none [] ys d e none = refl
+    zip_sum-none (first ∷ xs) [] d e none = refl
+    zip_sum-none (first ∷ xs) (second ∷ ys) d e none = omega (
+      arith,
+      sum_by-cons f (first, second) (zip xs ys),
+      none 0 (omega arith) (omega arith),
+      zip_sum-none xs ys d e (λ i there here. none (suc i) (omega arith) (omega arith)),
+    )
 
 -- what a buffer adds to a sum, by its epoch
 abbrev pub share : {Y : Type 0} → (Y → ℕ) → (Filed → List Y) → (epoch : ℕ) → Contents → ℕ
 share g f epoch b = sum_by g (f (filed epoch b))
 
--- the sum over a row of buffers of one epoch
-row_sum : {Y : Type 0} (g : Y → ℕ) (f : Filed → List Y) (epoch : ℕ) (row : List Contents) → sum_by g (flat_map f (map (filed epoch) row)) ≡ sum_by (share g f epoch) row
-row_sum g f epoch row = sum_by-flat_map g f (map (filed epoch) row) ∙ sum_by-map (λ (b : Filed). sum_by g (f b)) (filed epoch) row
-
 -- what a mutator's log adds to a sum
 abbrev pub log_share : {Y : Type 0} → (Y → ℕ) → (Filed → List Y) → Private → ℕ
 log_share g f p = share g f (epoch_at p) p.log
 
-log_sum : {Y : Type 0} (g : Y → ℕ) (f : Filed → List Y) (ps : List Private) → sum_by g (flat_map f (map (λ (p : Private). filed (epoch_at p) p.log) ps)) ≡ sum_by (log_share g f) ps
-log_sum g f ps = sum_by-flat_map g f (map (λ (p : Private). filed (epoch_at p) p.log) ps) ∙ sum_by-map (λ (b : Filed). sum_by g (f b)) (λ (p : Private). filed (epoch_at p) p.log) ps
+-- what its mailbox adds
+abbrev pub box_share : {Y : Type 0} → (Y → ℕ) → (Filed → List Y) → Private × Contents → ℕ
+box_share g f own = share g f (epoch_at own.0 - 1) own.1
+
+-- the sum over a row of buffers
+row_sum : {X Y : Type 0} (g : Y → ℕ) (f : Filed → List Y) (file : X → Filed) (row : List X) → sum_by g (flat_map f (map file row)) ≡ sum_by (λ x. sum_by g (f (file x))) row
+row_sum g f file row = sum_by-flat_map g f (map file row) ∙ sum_by-map (λ (b : Filed). sum_by g (f b)) file row
 
 flat_map-append : {X Y : Type 0} (g : Y → ℕ) (f : X → List Y) (xs ys : List X) → sum_by g (flat_map f (xs ++ ys)) ≡ sum_by g (flat_map f xs) + sum_by g (flat_map f ys)
 flat_map-append g f xs ys = omega (arith, sum_by-flat_map g f (xs ++ ys), sum_by-append (λ x. sum_by g (f x)) xs ys, sum_by-flat_map g f xs, sum_by-flat_map g f ys)
 
 -- the sum over all buffers, row by row
 pub buffers_sum : {Y : Type 0} (g : Y → ℕ) (f : Filed → List Y) (w : Core) → sum_by g (flat_map f (buffers w))
-    ≡ sum_by (log_share g f) w.mutators + (sum_by (share g f (w.epoch - 1)) w.boxes + (sum_by (share g f (w.epoch - 1)) w.collector.newer + sum_by (share g f (older_at w.epoch w.collector.phase)) w.collector.older))
+    ≡ sum_by (log_share g f) w.mutators + (sum_by (box_share g f) (zip w.mutators w.boxes) + (sum_by (share g f (w.epoch - 1)) w.collector.newer + sum_by (share g f (older_at w.epoch w.collector.phase)) w.collector.older))
 buffers_sum g f w =
-    let logs : List Filed = map (λ (p : Private). filed (epoch_at p) p.log) w.mutators in
-    let boxes : List Filed = map (filed (w.epoch - 1)) w.boxes in
+    let log_of : Private → Filed = λ p. filed (epoch_at p) p.log in
+    let logs : List Filed = map log_of w.mutators in
+    let boxes : List Filed = map filed_box (zip w.mutators w.boxes) in
     let newer : List Filed = map (filed (w.epoch - 1)) w.collector.newer in
     let older : List Filed = map (filed (older_at w.epoch w.collector.phase)) w.collector.older in
     omega (
@@ -36,10 +82,10 @@ buffers_sum g f w =
       flat_map-append g f logs (boxes ++ (newer ++ older)),
       flat_map-append g f boxes (newer ++ older),
       flat_map-append g f newer older,
-      log_sum g f w.mutators,
-      row_sum g f (w.epoch - 1) w.boxes,
-      row_sum g f (w.epoch - 1) w.collector.newer,
-      row_sum g f (older_at w.epoch w.collector.phase) w.collector.older,
+      row_sum g f log_of w.mutators,
+      row_sum g f filed_box (zip w.mutators w.boxes),
+      row_sum g f (filed (w.epoch - 1)) w.collector.newer,
+      row_sum g f (filed (older_at w.epoch w.collector.phase)) w.collector.older,
     )
 
 -- with this mutator and this in its mailbox
@@ -48,25 +94,51 @@ with_own w t q b = record w { mutators = slice_set w.mutators (t - 1) q; boxes =
 
 -- what a change of one mutator and its mailbox does to a sum over all buffers
 pub own_sum : {Y : Type 0} (g : Y → ℕ) (f : Filed → List Y) (w : Core) (t : ℕ) (q : Private) (b : Contents) → t - 1 < length w.mutators → t - 1 < length w.boxes
-    → sum_by g (flat_map f (buffers (with_own w t q b))) + (log_share g f (mutator w t) + share g f (w.epoch - 1) (box w t)) ≡ sum_by g (flat_map f (buffers w)) + (log_share g f q + share g f (w.epoch - 1) b)
+    → sum_by g (flat_map f (buffers (with_own w t q b))) + (log_share g f (mutator w t) + share g f (epoch_at (mutator w t) - 1) (box w t)) ≡ sum_by g (flat_map f (buffers w)) + (log_share g f q + share g f (epoch_at q - 1) b)
 own_sum g f w t q b there boxed = omega (
   arith,
   buffers_sum g f (with_own w t q b),
   buffers_sum g f w,
   sum_by-set (log_share g f) w.mutators (t - 1) q nobody there,
-  sum_by-set (share g f (w.epoch - 1)) w.boxes (t - 1) b (blank 0 0) boxed,
+  zip_sum-set (box_share g f) w.mutators w.boxes (t - 1) q nobody b (blank 0 0) there boxed,
 )
 
 -- and to a sum over the registers
 pub registers_sum : (g : Dated → ℕ) (ps : List Private) (i : ℕ) (q : Private) → i < length ps
-    → sum_by g (flat_map (λ (p : Private). dated_all (epoch_at p) p.registers) (slice_set ps i q)) + sum_by g (dated_all (epoch_at (slice_index_or ps i nobody)) (slice_index_or ps i nobody).registers)
-    ≡ sum_by g (flat_map (λ (p : Private). dated_all (epoch_at p) p.registers) ps) + sum_by g (dated_all (epoch_at q) q.registers)
+    → sum_by g (flat_map dated_registers (slice_set ps i q)) + sum_by g (dated_registers (slice_index_or ps i nobody)) ≡ sum_by g (flat_map dated_registers ps) + sum_by g (dated_registers q)
 registers_sum g ps i q there = omega (
   arith,
-  sum_by-flat_map g (λ (p : Private). dated_all (epoch_at p) p.registers) (slice_set ps i q),
-  sum_by-flat_map g (λ (p : Private). dated_all (epoch_at p) p.registers) ps,
-  sum_by-set (λ (p : Private). sum_by g (dated_all (epoch_at p) p.registers)) ps i q nobody there,
+  sum_by-flat_map g dated_registers (slice_set ps i q),
+  sum_by-flat_map g dated_registers ps,
+  sum_by-set (λ (p : Private). sum_by g (dated_registers p)) ps i q nobody there,
 )
+
+-- a mutator that holds its registers dates each of them
+pub dated_held : (p : Private) → has_let_go p ≡ false → dated_registers p ≡ dated_all (epoch_at p) p.registers
+dated_held p held = ap (λ (gone : Bool). if gone then [] else dated_all (epoch_at p) p.registers) held
+
+-- one that has let go dates none
+pub dated_gone : (p : Private) → has_let_go p ≡ true → dated_registers p ≡ []
+dated_gone p gone = ap (λ (x : Bool). if x then [] else dated_all (epoch_at p) p.registers) gone
+
+-- one that holds them dates them so where the epoch and the registers are these
+pub dated_as : (q : Private) (epoch : ℕ) (registers : List (Option ℕ)) → has_let_go q ≡ false → epoch_at q ≡ epoch → q.registers ≡ registers → dated_registers q ≡ dated_all epoch registers
+dated_as q epoch registers held at are = dated_held q held ∙ ap (λ (n : ℕ). dated_all n q.registers) at ∙ ap (dated_all epoch) are
+
+-- no mutator dates more than its registers
+pub dated_most : (g : Dated → ℕ) (p : Private) → sum_by g (dated_registers p) ≤ sum_by g (dated_all (epoch_at p) p.registers)
+dated_most g p = go (has_let_go p)
+  where
+    go : (gone : Bool) → sum_by g (if gone then [] else dated_all (epoch_at p) p.registers) ≤ sum_by g (dated_all (epoch_at p) p.registers)
+    go true = omega arith
+    go false = omega arith
+
+-- what a mutator dates stays, where its epoch, its registers and whether it holds them do
+pub dated_same : (p q : Private) → has_let_go q ≡ has_let_go p → epoch_at q ≡ epoch_at p → q.registers ≡ p.registers → dated_registers q ≡ dated_registers p
+dated_same p q held epoch registers =
+    ap (λ (gone : Bool). if gone then [] else dated_all (epoch_at q) q.registers) held
+    ∙ ap (λ (n : ℕ). if has_let_go p then [] else dated_all n q.registers) epoch
+    ∙ ap (λ (rs : List (Option ℕ)). if has_let_go p then [] else dated_all (epoch_at p) rs) registers
 
 -- one register more or less
 pub register_sum : (g : Dated → ℕ) (epoch : ℕ) (rs : List (Option ℕ)) (r : ℕ) (x : Option ℕ) → r < length rs

@@ -1,14 +1,14 @@
 -- The turns of a sweep keep what every heap with its collector keeps.
-use Rattle.std.proofs.Common.{◌≡◌, ◌≢◌, inl, inr, ℕ, ◌+◌, ◌-◌, ◌*◌, ◌%◌, ◌<◌, ◌≤◌, ◌==◌, nat_lt, if◌then◌else◌, Bool, true, false, List, [], ◌∷◌, Option, None, Some, length, map, replicate, drop, slice_index_or, slice_set, refl, sym, ap, subst, ◌∙◌, arith}
+use Rattle.std.proofs.Common.{◌≡◌, ◌≢◌, inl, inr, ℕ, suc, ◌+◌, ◌-◌, ◌*◌, ◌%◌, ◌<◌, ◌≤◌, ◌==◌, nat_lt, if◌then◌else◌, Bool, true, false, List, [], ◌∷◌, Option, None, Some, length, map, replicate, drop, slice_index_or, slice_set, refl, sym, ap, subst, ◌∙◌, arith}
 use Rattle.std.specs.List.{sum_by, flat_map, slice_get}
 use Rattle.std.proofs.Math.ListN.{get_or-map}
 use Rattle.std.proofs.Math.Nat.{mul-le-mul, add-mul}
-use Rattle.std.proofs.lemmas.Bool.{false≢true, cases_eq, cond-false, cond-true, eq-eqb, ne_eqb}
+use Rattle.std.proofs.lemmas.Bool.{false≢true, cases_Bool, cases_eq, cond-false, cond-true, eq-eqb, ne_eqb}
 use Rattle.std.proofs.lemmas.List.{length-set, length-map, get_or-set_same, get_or-set_other, get_or_default, get_or-replicate, length-replicate, length-take, length-drop, ext_get_or}
 use Rattle.std.proofs.lemmas.List.Sums.{sum_by-append, sum_by-cons}
 use Rattle.std.proofs.lemmas.List.Elements.{All-set}
 use Rattle.std.proofs.lemmas.Option.{same_Some}
-use Rattle.rec_core.proofs.Common.{place_of, IsAccounted, HasUncountedReleased, is_dead, names, is_node, AccountMove, Frees, leads_out_of, Dated, dated, Pending, one_if_same, sum_at, Sight, IsTaken, IsSound, words_of, targets_of, sight_with_header, move_uncounted, released_count, move_accounted, word_in, get_or-le-sum_at, none_if_differs, one_if_self, State, slot_at, one, times, absent, fresh, swept_clean, Slot, times-nil, times-cons, times_part, times_rest, one-same, one-le, in_range_once, swept, Private, cleared, Phase, Idle, Opening, Sweeping, Closing, IsBetween, IsMutator, Core, sight, nobody, SetsWait, HasCyclesAt, freeing_due, IsBufferOf, Handshake, stand_at, HasPassed, HasLearnt, HaveLearnt, one_if_sweeping, IsSomeSwept, IsKept, IsHeader, dated_all, epoch_at, older_at, applied_at, pending, Config, is_leaf, is_green}
+use Rattle.rec_core.proofs.Common.{place_of, IsAccounted, HasUncountedReleased, is_dead, names, is_node, AccountMove, Frees, leads_out_of, dated, Pending, one_if_same, sum_at, Sight, IsTaken, IsSound, words_of, targets_of, sight_with_header, move_uncounted, released_count, move_accounted, word_in, get_or-le-sum_at, none_if_differs, one_if_self, State, slot_at, one, times, absent, fresh, swept_clean, Slot, times-nil, times-cons, times_part, times_rest, one-same, one-le, in_range_once, swept, Private, cleared, Phase, Idle, Opening, Sweeping, Closing, IsBetween, IsMutator, Core, sight, mutator, nobody, SetsWait, HasCyclesAt, freeing_due, IsBufferOf, Handshake, stand_in, IsHeldAt, HasPassed, HasLearnt, HaveLearnt, one_if_sweeping, IsSomeSwept, IsKept, IsKeptBy, IsHeader, dated_all, dated_registers, epoch_at, has_let_go, registers_of, older_at, applied_at, pending, Config, is_leaf, is_green}
 use Rattle.rec_model.specs.Heap.{roots}
 use Rattle.rec_model.specs.Reach.{is_in, named}
 use Rattle.rec_model.proofs.Members.{is_in-cons, is_in-cases}
@@ -23,7 +23,8 @@ use Rattle.rec_core.proofs.Counts.{slot_in, accounts_with, emptied_leads}
 use Rattle.rec_core.proofs.CyclesWait.{KeepsMembers, sets_wait_moved, sets_wait_swept, slot_keeps_members}
 use Rattle.rec_core.proofs.Landings.{complete_drops, cleared_buffer}
 use Rattle.rec_core.proofs.Places.{place_within}
-use Rattle.rec_core.proofs.Turns.{alive_in, cycles_in, emptied_in, now_at, phase_moves}
+use Rattle.rec_core.proofs.Sums.{dated_held}
+use Rattle.rec_core.proofs.Turns.{alive_in, cycles_in, emptied_in, now_at, phase_moves, stands_as}
 
 -- as a sweep begins or ends, a scan that has begun before knows nothing more
 learnt_change : (config : Config) (headers later : List ℕ) (freed next : ℕ) (mutators : List Private) → ((from before probed : ℕ) → HasPassed config.slots headers freed from before probed → HasPassed config.slots later next from before probed) → ((slot : ℕ) → is_leaf (slice_index_or headers slot 0) ≡ false → is_leaf (slice_index_or later slot 0) ≡ false) → HaveLearnt config headers freed mutators → HaveLearnt config later next mutators
@@ -58,33 +59,36 @@ module _ (w : Core) (due : Option ℕ) (kept : IsKept w) (phase : w.collector.ph
       let older : older_at w.epoch w.collector.phase ≡ w.epoch - 2 = ap (older_at w.epoch) phase in
       let same : pending (record w { freed = w.freed + 1; collector = began_by }) ≡ pending w = rw phase refl in
       record {
-        config = kept.config;
-        headers = kept.headers;
-        labels = kept.labels;
-        mutators = phase_moves kept.mutators (λ s there. sym (ap (λ p. stand_at p s) phase));
-        collector = record {
-          machine = machine;
-          between = tt;
-          slots = k.slots;
-          fields = k.fields;
-          registers = k.registers;
-          capacity = k.capacity;
-          mutators = k.mutators;
-          epoch = k.epoch;
-          begun = omega (arith, k.begun, way);
-          newer = k.newer;
-          older = λ s there. subst (λ e. IsBufferOf w.config e (collectors.buffer_at w.collector.older (s - 1))) older (k.older s there);
-          listed = k.listed;
-          emptied = emptied_in w Opening kept phase;
+        whole = record {
+          config = kept.config;
+          headers = kept.headers;
+          labels = kept.labels;
+          mutators = phase_moves kept.mutators (λ s there. stands_as w.collector.left s (sym (ap (λ p. stand_in p s) phase)));
+          collector = record {
+            machine = machine;
+            between = tt;
+            slots = k.slots;
+            fields = k.fields;
+            registers = k.registers;
+            capacity = k.capacity;
+            mutators = k.mutators;
+            epoch = k.epoch;
+            begun = omega (arith, k.begun, way);
+            newer = k.newer;
+            older = λ s there. subst (λ e. IsBufferOf w.config e (collectors.buffer_at w.collector.older (s - 1))) older (k.older s there);
+            listed = k.listed;
+            emptied = emptied_in w Opening kept.whole phase;
+          };
+          sweeps = record { odd = odd_next w.freed (kept.sweeps.odd ∙ still); few = omega (arith, kept.sweeps.few, still); some = tt };
+          learnt = learnt_change w.config w.headers w.headers w.freed (w.freed + 1) w.mutators (passed_more w.config.slots w.headers w.freed) (λ slot unmarked. unmarked) kept.learnt;
+          made = kept.made;
+          sound = kept.sound;
+          greens = kept.greens;
+          accounted = subst IsAccounted (sym same) kept.accounted;
+          uncounted = λ _. subst HasUncountedReleased (sym same) (kept.uncounted (ap freeing_due phase));
+          cycles = subst (λ (p : Pending). SetsWait p w.collector.counts) (sym same) (cycles_in w Opening kept.whole phase);
         };
-        sweeps = record { odd = odd_next w.freed (kept.sweeps.odd ∙ still); few = omega (arith, kept.sweeps.few, still); some = tt };
-        learnt = learnt_change w.config w.headers w.headers w.freed (w.freed + 1) w.mutators (passed_more w.config.slots w.headers w.freed) (λ slot unmarked. unmarked) kept.learnt;
-        made = kept.made;
-        sound = kept.sound;
-        greens = kept.greens;
-        accounted = subst IsAccounted (sym same) kept.accounted;
-        uncounted = λ _. subst HasUncountedReleased (sym same) (kept.uncounted (ap freeing_due phase));
-        cycles = subst (λ (p : Pending). SetsWait p w.collector.counts) (sym same) (cycles_in w Opening kept phase);
+        held = tt;
       }
     where
       odd_next : (n : ℕ) → n % 2 ≡ 0 → (n + 1) % 2 ≡ 1
@@ -110,49 +114,55 @@ module _ (w : Core) (swept_ : ℕ) (kept : IsKept w) (phase : w.collector.phase 
       let same : record (accounts_with (pending w) w.words w.collector.counts) { applied = w.epoch - 1 } ≡ pending w = ap (λ (n : ℕ). let q : Pending = record (pending w) { applied = n } in q) (sym applied) in
       let accounted : IsAccounted (record (accounts_with (pending w) w.words w.collector.counts) { applied = w.epoch - 1 }) = subst IsAccounted (sym same) kept.accounted in
       record {
-        config = kept.config;
-        headers = kept.headers;
-        labels = kept.labels;
-        mutators = phase_moves kept.mutators (λ s there. sym (ap (λ p. stand_at p s) phase));
-        collector = record {
-          machine = machine;
-          between = tt;
-          slots = k.slots;
-          fields = k.fields;
-          registers = k.registers;
-          capacity = k.capacity;
-          mutators = length-map w.collector.older cleared ∙ both;
-          epoch = k.epoch;
-          begun = omega (arith, k.begun, way);
-          newer = λ s there.
-              let at_ : slice_index_or (map cleared w.collector.older) (s - 1) (cleared (collectors.blank 0 0)) ≡ cleared (collectors.buffer_at w.collector.older (s - 1)) = get_or-map cleared w.collector.older (s - 1) (collectors.blank 0 0) in
-              subst (IsBufferOf w.config (w.epoch - 1)) (sym at_) (cleared_buffer w.config (w.epoch - 1) (w.epoch - 2) (collectors.buffer_at w.collector.older (s - 1)) (older s there));
-          older = k.newer;
-          listed = k.listed;
-          emptied = emptied_in w (Closing swept_) kept phase;
+        whole = record {
+          config = kept.config;
+          headers = kept.headers;
+          labels = kept.labels;
+          mutators = phase_moves kept.mutators (λ s there. stands_as w.collector.left s (sym (ap (λ p. stand_in p s) phase)));
+          collector = record {
+            machine = machine;
+            between = tt;
+            slots = k.slots;
+            fields = k.fields;
+            registers = k.registers;
+            capacity = k.capacity;
+            mutators = length-map w.collector.older cleared ∙ both;
+            epoch = k.epoch;
+            begun = omega (arith, k.begun, way);
+            newer = λ s there.
+                let at_ : slice_index_or (map cleared w.collector.older) (s - 1) (cleared (collectors.blank 0 0)) ≡ cleared (collectors.buffer_at w.collector.older (s - 1)) = get_or-map cleared w.collector.older (s - 1) (collectors.blank 0 0) in
+                subst (IsBufferOf w.config (w.epoch - 1)) (sym at_) (cleared_buffer w.config (w.epoch - 1) (w.epoch - 2) (collectors.buffer_at w.collector.older (s - 1)) (older s there));
+            older = k.newer;
+            listed = k.listed;
+            emptied = emptied_in w (Closing swept_) kept.whole phase;
+          };
+          sweeps = record { odd = even_next w.freed (kept.sweeps.odd ∙ odd); few = omega (arith, kept.sweeps.few, odd); some = tt };
+          learnt = learnt_change w.config w.headers w.headers w.freed (w.freed + 1) w.mutators (passed_more w.config.slots w.headers w.freed) (λ slot unmarked. unmarked) kept.learnt;
+          made = kept.made;
+          sound = kept.sound;
+          greens = kept.greens;
+          accounted = move_accounted (AccountMove.dropping drops) accounted;
+          uncounted = λ _. move_uncounted (AccountMove.dropping drops) accounted (subst HasUncountedReleased (sym same) (kept.uncounted (ap freeing_due phase)));
+          cycles = sets_wait_moved w.collector.counts (AccountMove.dropping drops) tt accounted (alive_in w (Closing swept_) kept.whole phase) (subst (λ (p : Pending). SetsWait p w.collector.counts) (sym same) (cycles_in w (Closing swept_) kept.whole phase));
         };
-        sweeps = record { odd = even_next w.freed (kept.sweeps.odd ∙ odd); few = omega (arith, kept.sweeps.few, odd); some = tt };
-        learnt = learnt_change w.config w.headers w.headers w.freed (w.freed + 1) w.mutators (passed_more w.config.slots w.headers w.freed) (λ slot unmarked. unmarked) kept.learnt;
-        made = kept.made;
-        sound = kept.sound;
-        greens = kept.greens;
-        accounted = move_accounted (AccountMove.dropping drops) accounted;
-        uncounted = λ _. move_uncounted (AccountMove.dropping drops) accounted (subst HasUncountedReleased (sym same) (kept.uncounted (ap freeing_due phase)));
-        cycles = sets_wait_moved w.collector.counts (AccountMove.dropping drops) tt accounted (alive_in w (Closing swept_) kept phase) (subst (λ (p : Pending). SetsWait p w.collector.counts) (sym same) (cycles_in w (Closing swept_) kept phase));
+        held = tt;
       }
     where
       even_next : (n : ℕ) → n % 2 ≡ 1 → (n + 1) % 2 ≡ 0
       even_next n odd = grind arith
 
--- what a register names is named by the accounts
-pub root_named : (n : ℕ) (ps : List Private) → is_in n (roots (map (λ (p : Private). p.registers) ps)) ≡ true → 0 < sum_by (is_node (n + 1)) (flat_map (λ (p : Private). dated_all (epoch_at p) p.registers) ps)
-root_named n [] there = absurd (false≢true there)
-root_named n (p ∷ ps) there =
-    let rest : List Dated = flat_map (λ (q : Private). dated_all (epoch_at q) q.registers) ps in
-    let parts = sum_by-append (is_node (n + 1)) (dated_all (epoch_at p) p.registers) rest in
+-- what registers name is dated, where no mutator that has let go of its own names anything
+roots_dated : (n : ℕ) (ps : List Private) → ((i : ℕ) → i < length ps → has_let_go (slice_index_or ps i nobody) ≡ true → named (slice_index_or ps i nobody).registers ≡ []) → is_in n (roots (map (λ (p : Private). p.registers) ps)) ≡ true
+    → 0 < sum_by (is_node (n + 1)) (flat_map dated_registers ps)
+roots_dated n [] gone there = absurd (false≢true there)
+roots_dated n (p ∷ ps) gone there =
+    let parts = sum_by-append (is_node (n + 1)) (dated_registers p) (flat_map dated_registers ps) in
     elim (is_in-cases n (named p.registers) (roots (map (λ (q : Private). q.registers) ps)) there) [
-      | inl own ↦ omega (arith, parts, own_named (epoch_at p) p.registers own)
-      | inr others ↦ omega (arith, parts, root_named n ps others)
+      | inl own ↦ elim (cases_Bool (has_let_go p)) [
+        | inl left ↦ absurd (false≢true (sym (ap (is_in n) (gone 0 (omega arith) left)) ∙ own))
+        | inr held ↦ omega (arith, parts, ap (sum_by (is_node (n + 1))) (dated_held p held), own_named (epoch_at p) p.registers own)
+      ]
+      | inr others ↦ omega (arith, parts, roots_dated n ps (λ i below. gone (suc i) (omega arith)) others)
     ]
   where
     own_named : (e : ℕ) (rs : List (Option ℕ)) → is_in n (named rs) ≡ true → 0 < sum_by (is_node (n + 1)) (dated_all e rs)
@@ -162,6 +172,17 @@ root_named n (p ∷ ps) there =
       | inl same ↦ omega (arith, sum_by-cons (is_node (n + 1)) (dated e (m + 1)) (dated_all e rs), ap (λ k. one_if_same (n + 1) (k + 1)) same, one_if_self (n + 1))
       | inr rest ↦ omega (arith, sum_by-cons (is_node (n + 1)) (dated e (m + 1)) (dated_all e rs), own_named e rs rest)
     ]
+
+-- so what a register names is named by the accounts
+pub root_named : {stands : (t : ℕ) → Handshake} (w : Core) (n : ℕ) → IsKeptBy stands w → is_in n (roots (sight w).registers) ≡ true → 0 < sum_by (is_node (n + 1)) (registers_of w)
+root_named w n kept = roots_dated n w.mutators gone
+  where
+    gone : (i : ℕ) → i < length w.mutators → has_let_go (slice_index_or w.mutators i nobody) ≡ true → named (slice_index_or w.mutators i nobody).registers ≡ []
+    gone i below left =
+        let many : length w.mutators ≡ w.config.mutators = kept.mutators.many in
+        let at : i + 1 - 1 ≡ i = omega arith in
+        let own : has_let_go (mutator w (i + 1)) ≡ true = ap (λ k. has_let_go (slice_index_or w.mutators k nobody)) at ∙ left in
+        ap (λ k. named (slice_index_or w.mutators k nobody).registers) (sym at) ∙ ((kept.mutators.each (i + 1) (omega (arith, below), omega (arith, below, many))).let_go own).registers
 
 -- The slot of a node that was given up and emptied, and that has no count, is freed.
 slot_freed : (p : Pending) (headers : List ℕ) (s : State) (x : ℕ) → x < length s.slots → x < length headers → (slot_at s x).released ≡ true → (slot_at s x).count ≡ 0
@@ -238,7 +259,7 @@ module _ (w : Core) (done : ℕ) (x : ℕ) (kept : IsKept w) (phase : w.collecto
 
   -- the fields of what was given up are empty
   given_up_empty : (y f : ℕ) → y < w.config.slots → f < w.config.fields → (slot_at c.counts y).released ≡ true → slice_index_or w.words (place_of y f w.config.fields) 0 ≡ 0
-  given_up_empty y f below within released = elim (emptied_in w (Sweeping (Some x) done) kept phase y f below within released) [
+  given_up_empty y f below within released = elim (emptied_in w (Sweeping (Some x) done) kept.whole phase y f below within released) [
     | inl left ↦ absurd left
     | inr rest ↦ elim rest [ inl left ↦ absurd left | inr none ↦ none ]
   ]
@@ -255,7 +276,7 @@ module _ (w : Core) (done : ℕ) (x : ℕ) (kept : IsKept w) (phase : w.collecto
 
   -- nothing that is seen names it
   unrooted : is_in x (roots (sight w).registers) ≡ true → ⊥
-  unrooted there = absurd (omega (arith, root_named x w.mutators there, kept.accounted.unnamed (x + 1) (omega arith) dead))
+  unrooted there = absurd (omega (arith, root_named w x kept.whole there, kept.accounted.unnamed (x + 1) (omega arith) dead))
 
   unheld : (s : ℕ) → is_in x (targets_of (sight w) s) ≡ true → ⊥
   unheld s there =
@@ -340,7 +361,8 @@ module _ (w : Core) (done : ℕ) (x : ℕ) (kept : IsKept w) (phase : w.collecto
     pub way : collector_kept.under_way next ≡ 1
     pub applied : (e : ℕ) → applied_at e next ≡ e - 1
     pub older : (e : ℕ) → older_at e next ≡ e - 2
-    pub stands : (s : ℕ) → stand_at next s ≡ Handshake.Done
+    pub stands : (s : ℕ) → stand_in next s ≡ Handshake.Done
+    pub held : (v : Core) → IsHeldAt v next
     pub between : IsBetween next
     pub some : IsSomeSwept next
     pub waits : (p : Pending) (d : collectors.Private) → SetsWait p d.counts → HasCyclesAt p d next
@@ -392,38 +414,41 @@ module _ (w : Core) (done : ℕ) (x : ℕ) (kept : IsKept w) (phase : w.collecto
       let freed = slot_freed (pending w) w.headers c.counts x (omega (arith, swept_below, slots)) (omega (arith, swept_below, headers)) due_released uncounted leads in
       let same : pending (after_sweep next) ≡ record (accounts_with (pending w) w.words (swept c.counts x)) { free = λ node. slice_index_or (slice_set w.headers x 0) (node - 1) 0 == 0; leaf = λ node. is_leaf (slice_index_or (slice_set w.headers x 0) (node - 1) 0) } = rw (sym applied, sym older) refl in
       record {
-        config = kept.config;
-        headers = length-set w.headers x 0 ∙ headers;
-        labels = All-set IsHeader w.headers x 0 (λ some. absurd (omega (arith, some))) kept.labels;
-        mutators = phase_moves kept.mutators (λ s there. on.stands s ∙ sym (ap (λ p. stand_at p s) phase));
-        collector = record {
-          machine = machine;
-          between = on.between;
-          slots = length-set c.counts.slots x (swept_clean (slot_at c.counts x)) ∙ slots;
-          fields = k.fields;
-          registers = k.registers;
-          capacity = k.capacity;
-          mutators = k.mutators;
-          epoch = k.epoch;
-          begun = omega (arith, k.begun, way, on.way);
-          newer = k.newer;
-          older = λ s there. subst (λ e. IsBufferOf w.config e (collectors.buffer_at c.older (s - 1))) older (k.older s there);
-          listed = λ y there. ap (λ (v : Slot). v.released) (released_else y (gone y there)) ∙ k.listed y (omega (arith, there, times_rest y c.counts.free));
-          emptied = λ y f below within is. elim (cases_eq y x) [
-            | inl same_ ↦ absurd (false≢true (sym swept_unreleased ∙ ap (λ n. (slot_at (swept c.counts x) n).released) (sym same_) ∙ is))
-            | inr other ↦ inr (inr (given_up_empty y f below within (sym (ap (λ (v : Slot). v.released) (released_else y other)) ∙ is)))
+        whole = record {
+          config = kept.config;
+          headers = length-set w.headers x 0 ∙ headers;
+          labels = All-set IsHeader w.headers x 0 (λ some. absurd (omega (arith, some))) kept.labels;
+          mutators = phase_moves kept.mutators (λ s there. stands_as w.collector.left s (on.stands s ∙ sym (ap (λ p. stand_in p s) phase)));
+          collector = record {
+            machine = machine;
+            between = on.between;
+            slots = length-set c.counts.slots x (swept_clean (slot_at c.counts x)) ∙ slots;
+            fields = k.fields;
+            registers = k.registers;
+            capacity = k.capacity;
+            mutators = k.mutators;
+            epoch = k.epoch;
+            begun = omega (arith, k.begun, way, on.way);
+            newer = k.newer;
+            older = λ s there. subst (λ e. IsBufferOf w.config e (collectors.buffer_at c.older (s - 1))) older (k.older s there);
+            listed = λ y there. ap (λ (v : Slot). v.released) (released_else y (gone y there)) ∙ k.listed y (omega (arith, there, times_rest y c.counts.free));
+            emptied = λ y f below within is. elim (cases_eq y x) [
+              | inl same_ ↦ absurd (false≢true (sym swept_unreleased ∙ ap (λ n. (slot_at (swept c.counts x) n).released) (sym same_) ∙ is))
+              | inr other ↦ inr (inr (given_up_empty y f below within (sym (ap (λ (v : Slot). v.released) (released_else y other)) ∙ is)))
+            ];
+          };
+          sweeps = record { odd = kept.sweeps.odd ∙ odd ∙ sym on.sweeping; few = omega (arith, kept.sweeps.few, odd, on.sweeping); some = on.some };
+          learnt = learnt_change w.config w.headers (slice_set w.headers x 0) w.freed w.freed w.mutators (λ from before probed is. (is.0, λ now even. absurd (omega (arith, odd, kept.sweeps.odd, ap (λ n. n % 2) now, even)))) (swept_unmarked w.headers x (omega (arith, swept_below, headers))) kept.learnt;
+          made = kept.made;
+          sound = sound;
+          greens = λ y green. elim (cases_eq y x) [
+            | inl same_ ↦ absurd (false≢true (sym swept_black ∙ ap (λ n. is_green (slot_at (swept c.counts x) n).colour) (sym same_) ∙ green))
+            | inr other ↦ ap is_leaf (get_or-set_other w.headers x y 0 0 other) ∙ kept.greens y (ap (λ (v : Slot). is_green v.colour) (sym (released_else y other)) ∙ green)
           ];
+          accounted = subst IsAccounted (sym same) (move_accounted (AccountMove.freeing freed) kept.accounted);
+          uncounted = λ _. subst HasUncountedReleased (sym same) (move_uncounted (AccountMove.freeing freed) kept.accounted (kept.uncounted (ap freeing_due phase)));
+          cycles = on.waits (pending (after_sweep next)) (swept_by next) (subst (λ (p : Pending). SetsWait p (swept c.counts x)) (sym same)
+              (sets_wait_swept c.counts (swept c.counts x) (AccountMove.freeing freed) tt kept.accounted (alive_in w (Sweeping (Some x) done) kept.whole phase) still_members (cycles_in w (Sweeping (Some x) done) kept.whole phase)));
         };
-        sweeps = record { odd = kept.sweeps.odd ∙ odd ∙ sym on.sweeping; few = omega (arith, kept.sweeps.few, odd, on.sweeping); some = on.some };
-        learnt = learnt_change w.config w.headers (slice_set w.headers x 0) w.freed w.freed w.mutators (λ from before probed is. (is.0, λ now even. absurd (omega (arith, odd, kept.sweeps.odd, ap (λ n. n % 2) now, even)))) (swept_unmarked w.headers x (omega (arith, swept_below, headers))) kept.learnt;
-        made = kept.made;
-        sound = sound;
-        greens = λ y green. elim (cases_eq y x) [
-          | inl same_ ↦ absurd (false≢true (sym swept_black ∙ ap (λ n. is_green (slot_at (swept c.counts x) n).colour) (sym same_) ∙ green))
-          | inr other ↦ ap is_leaf (get_or-set_other w.headers x y 0 0 other) ∙ kept.greens y (ap (λ (v : Slot). is_green v.colour) (sym (released_else y other)) ∙ green)
-        ];
-        accounted = subst IsAccounted (sym same) (move_accounted (AccountMove.freeing freed) kept.accounted);
-        uncounted = λ _. subst HasUncountedReleased (sym same) (move_uncounted (AccountMove.freeing freed) kept.accounted (kept.uncounted (ap freeing_due phase)));
-        cycles = on.waits (pending (after_sweep next)) (swept_by next) (subst (λ (p : Pending). SetsWait p (swept c.counts x)) (sym same)
-            (sets_wait_swept c.counts (swept c.counts x) (AccountMove.freeing freed) tt kept.accounted (alive_in w (Sweeping (Some x) done) kept phase) still_members (cycles_in w (Sweeping (Some x) done) kept phase)));
+        held = on.held (after_sweep next);
       }

@@ -1,7 +1,7 @@
 -- What a turn of the collector shows of its sweep.
 use Rattle.std.proofs.Common.{◌≡◌, ℕ, zero, suc, ◌+◌, ◌-◌, ◌%◌, ◌^◌, ◌<◌, Bool, false, true, Option, None, Some, length, slice_index_or, refl, sym, ap, subst, ◌∙◌, arith}
 use Rattle.std.proofs.lemmas.Bool.{eq-eqb, true≢false}
-use Rattle.rec_core.proofs.Common.{place_of, Op, Contents, IsTaken, State, slot_at, At, Member, prep_started, relieved_at, with_freed, with_released, Parts, new_freeing, new_release, parts_of, ClearsOn, IsTested, TriesOn, PreparesOn, Begun, freeing_at, releasing_at, batched, step_of, turn_of, Phase, Turn, cell, with_cell, Core, cells_of, sight, box, one_if_sweeping, IsSomeSwept, IsKept, looked_at, collected, turned, pending}
+use Rattle.rec_core.proofs.Common.{noted, requested, place_of, Op, Contents, IsTaken, State, slot_at, At, Member, prep_started, relieved_at, with_freed, with_released, Parts, new_freeing, new_release, parts_of, ClearsOn, IsTested, TriesOn, PreparesOn, Begun, freeing_at, releasing_at, batched, step_of, turn_of, Phase, Turn, cell, with_cell, Core, cells_of, sight, box, one_if_sweeping, IsSomeSwept, IsKept, looked_at, collected, turned, pending}
 use Rattle.rec_word.specs.Op.{written}
 use Rattle.rec_word.specs.declared.op.Op.TheVariants as ops
 use Rattle.rec_release.specs.CycleFree as frees
@@ -118,16 +118,18 @@ rule_sweeps : (w : Core) (op : Op) (word : ℕ) (q : Private) (turn : Turn) (lef
     → IsSweep w (collected w op word q left)
 unfolding release_next freeing_next sweeps.next_of
 rule_sweeps w op word q turn left kept names found (Step.spent idle last none same answer) = let not_so : ◌≡◌ {A = Option Op} (Some op) None = none in absurd (cc)
-rule_sweeps w op word q turn left kept names found (Step.request idle more named g) =
+rule_sweeps w op word q turn left kept names found (Step.request next idle more named n g) =
     rests_by w op (ops.StoreEpoch (w.collector.epoch + 1)) word q left (some_op op (ops.StoreEpoch (w.collector.epoch + 1)) named) refl refl (none_told w q (ap (λ c. swept_at c.phase) g.after)) names tt
+rule_sweeps w op word q turn left kept names found (Step.request_alone idle more named gone on) =
+    rests_by w op (ops.StoreEpoch (w.collector.epoch + 1)) word q left (some_op op (ops.StoreEpoch (w.collector.epoch + 1)) named) refl refl (none_told w q (test_told (requested w.collector) q turn _ (zeros_tell false (batched w.collector).fields (batched w.collector).counts) on)) names tt
 rule_sweeps w op word q turn left kept names found (Step.wait t looking other named same answer) =
     rests_by w op (ops.LookBox t w.collector.epoch) word q left (some_op op (ops.LookBox t w.collector.epoch) named) refl refl (none_told w q (ap (λ c. swept_at c.phase) same ∙ ap swept_at looking)) names tt
 rule_sweeps w op word q turn left kept names found (Step.gather t looking crossed named g) =
     rests_by w op (ops.LookBox t w.collector.epoch) word q left (some_op op (ops.LookBox t w.collector.epoch) named) refl refl (none_told w q (ap (λ c. swept_at c.phase) g.after)) names tt
-rule_sweeps w op word q turn left kept names found (Step.give_back t returning more named g) =
+rule_sweeps w op word q turn left kept names found (Step.give_back t next returning named n g) =
     rests_by w op (ops.ReturnBox t w.collector.epoch) word q left (some_op op (ops.ReturnBox t w.collector.epoch) named) refl refl (none_told w q (ap (λ c. swept_at c.phase) g.after)) names tt
-rule_sweeps w op word q turn left kept names found (Step.apply t returning last named on) =
-    rests_by w op (ops.ReturnBox t w.collector.epoch) word q left (some_op op (ops.ReturnBox t w.collector.epoch) named) refl refl (none_told w q (test_told w.collector q turn _ (zeros_tell false (batched w.collector).fields (batched w.collector).counts) on)) names tt
+rule_sweeps w op word q turn left kept names found (Step.apply t returning named gone on) =
+    rests_by w op (ops.ReturnBox t w.collector.epoch) word q left (some_op op (ops.ReturnBox t w.collector.epoch) named) refl refl (none_told w q (test_told (noted w.collector t) q turn _ (zeros_tell false (batched w.collector).fields (batched w.collector).counts) on)) names tt
 rule_sweeps w op word q turn left kept names found (Step.release m releasing named on) = go m.at refl
   where
     go : (x : Option At) → m.at ≡ x → IsSweep w (collected w op word q left)

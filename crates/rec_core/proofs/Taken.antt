@@ -2,7 +2,7 @@
 use Rattle.std.proofs.Common.{◌≡◌, ◌⊎◌, inl, inr, ℕ, ◌+◌, ◌-◌, ◌<◌, ◌==◌, Bool, true, Option, None, Some, IfSome, List, length, slice_index_or, refl, sym, ap, subst, ◌∙◌, arith, slice_set}
 use Rattle.std.proofs.lemmas.Bool.{false≢true, cases_eq, cases_lt, eq-eqb, cases_Bool}
 use Rattle.std.proofs.lemmas.List.{get_or-set_same, get_or-set_other, get_or_past, length-set, get_or-replicate, set-get_or}
-use Rattle.rec_core.proofs.Common.{place_of, target_of, IsAccounted, HasUncountedReleased, names, Clears, AccountMove, node_of, home, Pending, IsTaken, IsSound, one_if_same, clearing_covered, move_uncounted, move_accounted, write_sound, word_in, get_or-le-sum_at, one_if_self, State, slot_at, times, Slot, taken_off, parts_of, Phase, Core, sight, SetsTest, IsLeft, IsLeftOf, IsKept, code, pending, is_leaf}
+use Rattle.rec_core.proofs.Common.{stand_at, place_of, target_of, IsAccounted, HasUncountedReleased, names, Clears, AccountMove, node_of, home, Pending, IsTaken, IsSound, one_if_same, clearing_covered, move_uncounted, move_accounted, write_sound, word_in, get_or-le-sum_at, one_if_self, State, slot_at, times, Slot, taken_off, parts_of, Phase, Core, sight, SetsTest, IsLeft, IsLeftOf, IsKept, code, pending, is_leaf}
 use Rattle.rec_model.proofs.CollectorMoves.{free_unnamed}
 use Rattle.rec_counts.specs.Rest.{AreZeros}
 use Rattle.rec_release.proofs.TakenOff.{KeepsMost, off_most}
@@ -15,7 +15,7 @@ use Rattle.rec_core.proofs.Landed.{landed_pending, applied_pending, begun_freein
 use Rattle.rec_core.proofs.Landings.{IsUnswept}
 use Rattle.rec_core.proofs.Moves.{code_target, home_of}
 use Rattle.rec_core.proofs.Places.{place_within}
-use Rattle.rec_core.proofs.Turns.{phase_moves}
+use Rattle.rec_core.proofs.Turns.{phase_moves, stands_as}
 use Rattle.rec_core.proofs.Zeros.{HasCome}
 
 -- the place of a field that the collector empties, the word there, and the words without it
@@ -139,11 +139,12 @@ module _ (w : Core) (slot field : ℕ) (may : MayEmpty w slot field) where
   off_comes lowers begun uncounted zeros tests left =
       record {
         landed = record {
-          kept = kept;
+          stands = stand_at c.left c.phase;
+          kept = kept.whole;
           way = phase.way;
           still = phase.still;
           older = phase.older;
-          mutators = phase_moves kept.mutators (λ s there. sym (phase.stands s));
+          mutators = phase_moves kept.mutators (λ s there. stands_as c.left s (sym (phase.stands s)));
           accounted = off_accounted lowers;
           uncounted = uncounted;
           sound = sound;

@@ -1,6 +1,6 @@
 -- When another trial begins: the epoch of the last trial never falls, and where it is the same no trial began.
-use Rattle.std.proofs.Common.{◌≡◌, ℕ, ◌-◌, ◌≤◌, true, Option, None, Some, List, [], ◌∷◌, refl, sym, ap, ◌∙◌, arith}
-use Rattle.rec_core.proofs.Common.{Op, Contents, is_busy, Begun, Phase, Idle, Turn, cell, IsMutator, Core, cells_of, mutator, IsKept, AllFit, Fits, Move, after_move, after_moves, stepped, turned, turned_by}
+use Rattle.std.proofs.Common.{◌≡◌, ℕ, ◌-◌, ◌≤◌, true, Option, List, [], ◌∷◌, sym, ap, ◌∙◌, arith}
+use Rattle.rec_core.proofs.Common.{noted, requested, Op, Contents, is_busy, Begun, Phase, Idle, Turn, cell, IsMutator, Core, cells_of, mutator, IsKept, AllFit, Fits, Move, after_move, after_moves, stepped, turned, turned_by}
 use Rattle.rec_release.specs.Sweep as sweeps
 use Rattle.rec_collector.specs.Private as collectors
 use Rattle.rec_collector.specs.Step as collectors_step
@@ -47,11 +47,12 @@ swept_tried {requested = requested} (collectors_step.IsNext.last done is) = ap (
 -- the epoch of the last trial never falls
 step_rises : {p q : collectors.Private} {word : ℕ} {b : Contents} {op : Option Op} {turn : Turn} → collectors_step.Step p word b op q turn → tried_at p.epoch p.phase ≤ tried_at q.epoch q.phase
 step_rises (collectors_step.Step.spent at last none is t) = omega (arith, ap (λ (x : collectors.Private). tried_at x.epoch x.phase) is)
-step_rises {p} (collectors_step.Step.request at more is g) = omega (arith, ap (tried_at p.epoch) at, goes_tried g)
+step_rises {p} (collectors_step.Step.request next at more is n g) = omega (arith, ap (tried_at p.epoch) at, goes_tried g)
+step_rises {p} {q} (collectors_step.Step.request_alone at more is gone on) = omega (arith, ap (tried_at p.epoch) at, clears_tried (requested p) q _ on)
 step_rises (collectors_step.Step.wait t at other is same turn) = omega (arith, ap (λ (x : collectors.Private). tried_at x.epoch x.phase) same)
 step_rises {p} (collectors_step.Step.gather t at crossed is g) = omega (arith, ap (tried_at p.epoch) at, goes_tried g)
-step_rises {p} (collectors_step.Step.give_back t at other is g) = omega (arith, ap (tried_at p.epoch) at, goes_tried g)
-step_rises {p} {q} (collectors_step.Step.apply t at last is on) = omega (arith, ap (tried_at p.epoch) at, clears_tried p q _ on)
+step_rises {p} (collectors_step.Step.give_back t next at is n g) = omega (arith, ap (tried_at p.epoch) at, goes_tried g)
+step_rises {p} {q} (collectors_step.Step.apply t at is gone on) = omega (arith, ap (tried_at p.epoch) at, clears_tried (noted p t) q _ on)
 step_rises {p} {q} (collectors_step.Step.release m at is on) = omega (arith, ap (tried_at p.epoch) at, clears_tried p q _ on)
 step_rises {p} {q} (collectors_step.Step.freeing m at is on) = omega (arith, ap (tried_at p.epoch) at, clears_tried p q _ on)
 step_rises {p} {q} (collectors_step.Step.trial m at is on) = omega (arith, ap (tried_at p.epoch) at, tries_late p q _ _ _ on)

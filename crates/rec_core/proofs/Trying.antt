@@ -117,7 +117,7 @@ module _ (w : Core) (m : Machine) (kept : IsKept w) (phase : w.collector.phase �
   now = now_at w (Trying m) kept phase
 
   unswept : IsUnswept w.epoch (Trying m)
-  unswept = record { way = refl; still = refl; applied = refl; older = refl; stands = λ s. refl; between = tt; some = tt }
+  unswept = record { way = refl; still = refl; applied = refl; older = refl; stands = λ s. refl; held = λ v. tt; between = tt; some = tt }
 
   loaded_inside : (place : ℕ) → ◌≡◌ {A = Option Op} (next_of m) (Some (LoadChild place)) → place < length w.words
   loaded_inside place named = subst (λ n. place < n) (fields_many w (length c.counts.slots) m.fields kept kept.collector.slots (now.fields ∙ kept.collector.fields)) (at_work_place m c.counts now.kept place named)
@@ -143,7 +143,7 @@ module _ (w : Core) (m : Machine) (kept : IsKept w) (phase : w.collector.phase �
     -- and its record goes with it
     pub trying_loads : IsLoading (landed_pending w w.words after.counts) after.counts after.machine
     trying_loads =
-        let loading : IsLoading (pending w) c.counts m = cycles_in w (Trying m) kept phase in
+        let loading : IsLoading (pending w) c.counts m = cycles_in w (Trying m) kept.whole phase in
         let p : Pending = landed_pending w w.words c.counts in
         let named_there : next_of loading.run.work.machine ≡ Some (LoadChild place) = ap (λ (x : Work). next_of x.machine) loading.at ∙ named in
         let same_counts : loading.run.work.counts ≡ c.counts = ap (λ (x : Work). x.counts) loading.at in

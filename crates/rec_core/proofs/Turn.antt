@@ -15,6 +15,7 @@ use Rattle.rec_collector.proofs.Landing.{under_way_most}
 use Rattle.rec_collector.proofs.Steps.{has_cause, spends}
 use Rattle.rec_core.specs.Turn.{TurnHasCause, IsTurn, turn_told, told_at}
 use Rattle.rec_core.proofs.Freed.{freed_is_forgotten, given_up_are_gone}
+use Rattle.rec_core.proofs.Gathering.{awaited_stays}
 use Rattle.rec_core.proofs.Reach.{turned_keeps, keeps_stands_by}
 use Rattle.rec_core.proofs.Runs.{looked_is, move_stays, run_more, turned_kept}
 use Rattle.rec_core.proofs.Shapes.{same_boxes}
@@ -87,22 +88,22 @@ collector_left : (w : Core) (op : Op) → ◌≡◌ {A = Option Op} (next_of w.c
 collector_left w op named = ap (λ (x : Option Op). (turned_at w x).collector) named
 
 -- why a turn with an operation answers this
-caused : (w : Core) (op : Op) (taken : collectors.Private) (turn : Turn) → IsKept w → ◌≡◌ {A = Option Op} (next_of w.collector) (Some op) → taken ≡ took_of w.collector (cell (cells_of w) op)
+caused : (w : Core) (op : Op) (taken : collectors.Private) (turn : Turn) → IsKept w → IsKept (turned w) → ◌≡◌ {A = Option Op} (next_of w.collector) (Some op) → taken ≡ took_of w.collector (cell (cells_of w) op)
     → HasCause w.collector (cell (cells_of w) op) taken turn → (turn ≡ turns.EpochsSpent → ⊥) → TurnHasCause w (turned w) turn
 unfolding step_of
-caused w op taken turns.Moved kept named learns cause none =
+caused w op taken turns.Moved kept later named learns cause none =
     let b : Contents = box w (looked_at w.collector.phase) in
     let left : (turned w).collector ≡ swapped_of taken b = collector_left w op named ∙ ap (λ x. swapped_of x b) (sym learns) in
     let keeps : KeepsNumbers taken (turned w).collector = subst (KeepsNumbers taken) (sym left) (swapped_keeps taken b) in
     (keeps.turns ∙ cause.0, keeps.collections ∙ cause.1, ap (λ n. n + swept_at w.collector.phase) keeps.freed ∙ cause.2 ∙ ap (λ n. w.collector.freed + n) (sym keeps.swept))
-caused w op taken (turns.Waiting t) kept named learns cause none =
+caused w op taken (turns.Waiting t) kept later named learns cause none =
     let other : crossing_of w t ≢ crossing_word w.collector.epoch Retired = λ is. cause.1 (looked_word w t op cause.0 named ∙ is) in
     (cause.0, λ is. other (is ∙ ap (λ n. crossing_word n Retired) (sym kept.collector.epoch)), waits_same w t op cause.0 named other)
-caused w op taken (turns.Collected epoch freed) kept named learns cause none =
+caused w op taken (turns.Collected epoch freed) kept later named learns cause none =
     let b : Contents = box w (looked_at w.collector.phase) in
     let left : (turned w).collector ≡ taken = collector_left w op named ∙ ap (λ x. swapped_of x b) (sym learns) ∙ swapped_idle taken b cause.2 in
-    (cause.0 ∙ kept.collector.epoch, cause.1, ap (λ (c : collectors.Private). c.phase) left ∙ cause.2, ap (λ (c : collectors.Private). c.collections) left ∙ cause.3, ap (λ (c : collectors.Private). c.freed) left ∙ cause.4)
-caused w op taken turns.EpochsSpent kept named learns cause none = absurd (none refl)
+    (cause.0 ∙ ap (λ (c : collectors.Private). c.epoch) (sym left) ∙ later.collector.epoch, cause.1, ap (λ (c : collectors.Private). c.phase) left ∙ cause.2, ap (λ (c : collectors.Private). c.collections) left ∙ cause.3, ap (λ (c : collectors.Private). c.freed) left ∙ cause.4)
+caused w op taken turns.EpochsSpent kept later named learns cause none = absurd (none refl)
 
 -- one epoch more is requested at most
 requests_few : (w v : Core) (turn : Turn) → IsKept w → IsKept v → v.config ≡ w.config → TurnHasCause w v turn → v.epoch ≤ w.epoch + 1
@@ -122,9 +123,9 @@ requests_few w v (turns.Collected epoch freed) kept later same cause =
 requests_few w v turns.EpochsSpent kept later same cause = subst (λ n. n ≤ w.epoch + 1) (sym (ap (λ (x : Core). x.epoch) cause.2)) (omega arith)
 
 -- with or without an operation
-told_cause : (w : Core) → IsKept w → TurnHasCause w (turned w) (turn_told w)
+told_cause : (w : Core) → IsKept w → IsKept (turned w) → TurnHasCause w (turned w) (turn_told w)
 unfolding next_of next_at
-told_cause w kept = go (next_of w.collector) refl
+told_cause w kept later = go (next_of w.collector) refl
   where
     c : collectors.Private
     c = w.collector
@@ -141,7 +142,7 @@ told_cause w kept = go (next_of w.collector) refl
         let none : ◌≡◌ {A = Option Op} (next_of c) None = ap (next_at c) is.0 ∙ ap (λ (b : Bool). if b then None else Some (ops.StoreEpoch (c.epoch + 1))) (eq-eqb (c.epoch + 1) (2 ^ 24) is.1) in
         let not_so : ◌≡◌ {A = Option Op} (Some op) None = sym named ∙ none in
         cc in
-        subst (λ (x : Core). TurnHasCause w x (turn_of c word)) (ap (turned_at w) named) (caused w op (took_of c word) (turn_of c word) kept named refl cause more)
+        subst (λ (x : Core). TurnHasCause w x (turn_of c word)) (ap (turned_at w) named) (caused w op (took_of c word) (turn_of c word) kept later named refl cause more)
 
 -- who hasn't crossed is waited for
 told_waiting : (w : Core) (t : ℕ) → IsKept w → w.collector.phase ≡ Looking t → crossing_of w t ≢ crossing_word w.epoch Retired → turn_told w ≡ turns.Waiting t
@@ -172,7 +173,7 @@ pub turn_is_one : (w : Core) → IsKept w → EndsRun w → IsTurn w (turned w) 
 turn_is_one w kept run =
     let after : IsKept (turned w) = turned_kept w kept in
     let same : (turned w).config ≡ w.config = move_stays w Move.Turns in
-    let cause : TurnHasCause w (turned w) (turn_told w) = told_cause w kept in
+    let cause : TurnHasCause w (turned w) (turn_told w) = told_cause w kept after in
     record {
       turned = refl;
       cause = cause;
@@ -181,6 +182,9 @@ turn_is_one w kept run =
       awaited = λ t is.
           let waits : TurnHasCause w (turned w) (turns.Waiting t) = subst (TurnHasCause w (turned w)) is cause in
           subst (λ (c : Config). IsMutator c t) (sym same) (looked_is w (Looking t) kept waits.0);
+      present = λ t is.
+          let waits : TurnHasCause w (turned w) (turns.Waiting t) = subst (TurnHasCause w (turned w)) is cause in
+          awaited_stays w t kept (looked_is w (Looking t) kept waits.0) (record { looks = waits.0; behind = waits.1 });
       reached = turned_keeps w kept;
       stands = λ heap number. keeps_stands_by heap (sight w) (sight (turned w)) number (turned_keeps w kept);
       sweep = turned_sweeps w kept;

@@ -1,7 +1,7 @@
 -- What a turn can have made of a heap, case by case: the rules of the collector's step, read where the words that they speak of are
 -- those of the heap. `TurnRules` shows that each turn is one of them.
 use Rattle.std.specs.Prelude.{◌≡◌, ◌≢◌, ◌⊎◌, ℕ, ◌+◌, ◌-◌, ◌^◌, false, Option, Some, List, length, drop, slice_get, slice_index_or, slice_set}
-use Rattle.rec_core.proofs.Common.{crossing_word, Retired, Spare, WithCollector, place_of, Op, At, Member, swept, with_freed, with_released, parts_of, spare, ClearsOn, PreparesOn, TriesOn, zeros_released, batched, ended, moved, Phase, Idle, Looking, Returning, Releasing, Freeing, Trying, Preparing, Opening, Sweeping, Closing, Turn, IsMutator, Core, box, crossing_of, visible}
+use Rattle.rec_core.proofs.Common.{crossing_word, Retired, Spare, WithCollector, place_of, Op, At, Member, swept, with_freed, with_released, parts_of, spare, ClearsOn, PreparesOn, TriesOn, zeros_released, batched, ended, moved, noted, requested, HaveLeft, IsNextPresent, Phase, Idle, Looking, Returning, Releasing, Freeing, Trying, Preparing, Opening, Sweeping, Closing, Turn, IsMutator, Core, box, crossing_of, visible}
 use Rattle.rec_word.specs.declared.mailbox.Mailbox.{Mailbox}
 use Rattle.rec_word.specs.declared.op.Op.TheVariants.{LoadChild}
 use Rattle.rec_release.specs.CycleFree.{Machine as SetFreeing}
@@ -31,17 +31,34 @@ swept_by c slot next = record c { counts = swept c.counts slot; freed = c.freed 
 abbrev pub header_freed : Core → (slot : ℕ) → Core
 header_freed w slot = record w { headers = slice_set w.headers slot 0 }
 
+-- a collector that has nothing to gather any more, as with the last mailbox given back
+abbrev pub awaiting : Private → Private
+awaiting p = record p { phase = Returning (length p.newer) }
+
+-- the next epoch is requested, and nothing was gathered
+abbrev pub requesting : Core → Core
+requesting w = record w { epoch = w.epoch + 1; collector = awaiting (requested w.collector) }
+
+-- a mutator's mailbox was given back: if its last buffer came from there, it has left
+abbrev pub giving_back : Core → (t : ℕ) → Core
+giving_back w t = record w { crossing = crossing_with w t Spare; collector = awaiting (noted w.collector t) }
+
+-- a turn that applies the batch finds this heap just before: with the last mailbox given back, or, where every mutator has left, with the
+-- request
+pub data Awaits (w : Core) : Core → Type 0 where
+  alone : w.collector.phase ≡ Idle → w.epoch + 1 ≢ 2 ^ 24 → HaveLeft w.collector.left 0 → Awaits w (requesting w)
+  last : (t : ℕ) → IsMutator w.config t → w.collector.phase ≡ Returning t → HaveLeft (noted w.collector t).left t → Awaits w (giving_back w t)
+
 -- a turn by its cases, one for each rule of the collector
 pub data TurnCase (w v : Core) : Type 0 where
   spent : w.collector.phase ≡ Idle → w.epoch + 1 ≡ 2 ^ 24 → v ≡ w → TurnCase w v
-  requests : w.collector.phase ≡ Idle → v ≡ record w { epoch = w.epoch + 1; collector = moved (record w.collector { epoch = w.collector.epoch + 1 }) (Looking 1) } → TurnCase w v
+  requests : (next : ℕ) → w.collector.phase ≡ Idle → IsNextPresent w.collector.left 0 next → v ≡ record w { epoch = w.epoch + 1; collector = moved (requested w.collector) (Looking next) } → TurnCase w v
   waits : (t : ℕ) → IsMutator w.config t → w.collector.phase ≡ Looking t → crossing_of w t ≢ crossing_word w.epoch Retired → v ≡ w → TurnCase w v
   gathers : (t : ℕ) → IsMutator w.config t → w.collector.phase ≡ Looking t → crossing_of w t ≡ crossing_word w.epoch Retired
       → v ≡ record w { crossing = crossing_with w t WithCollector; boxes = slice_set w.boxes (t - 1) (spare w.collector); collector = moved (record w.collector { newer = slice_set w.collector.newer (t - 1) (box w t) }) (Returning t) } → TurnCase w v
-  gives_back : (t : ℕ) → IsMutator w.config t → w.collector.phase ≡ Returning t → t ≢ length w.collector.newer
-      → v ≡ record w { crossing = crossing_with w t Spare; collector = moved w.collector (Looking (t + 1)) } → TurnCase w v
-  applies : (t : ℕ) (q : Private) (turn : Turn) → IsMutator w.config t → w.collector.phase ≡ Returning t → t ≡ length w.collector.newer
-      → ClearsOn w.collector q turn (zeros_released false (batched w.collector)) → v ≡ record w { crossing = crossing_with w t Spare; collector = q } → TurnCase w v
+  gives_back : (t next : ℕ) → IsMutator w.config t → w.collector.phase ≡ Returning t → IsNextPresent (noted w.collector t).left t next
+      → v ≡ record w { crossing = crossing_with w t Spare; collector = moved (noted w.collector t) (Looking next) } → TurnCase w v
+  applies : (u : Core) (q : Private) (turn : Turn) → Awaits w u → ClearsOn u.collector q turn (zeros_released false (batched u.collector)) → v ≡ record u { collector = q } → TurnCase w v
   releases : (m : Release) (a : At) (q : Private) (turn : Turn) → w.collector.phase ≡ Releasing m → m.at ≡ Some a
       → ClearsOn w.collector q turn (with_released m (parts_of w.collector) (word_at w a.slot a.field)) → v ≡ record w { words = words_without w a.slot a.field; collector = q } → TurnCase w v
   frees : (m : SetFreeing) (a : Member) (q : Private) (turn : Turn) → w.collector.phase ≡ Freeing m → m.at ≡ Some a

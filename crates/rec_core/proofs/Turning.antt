@@ -16,12 +16,15 @@ use Rattle.rec_collector.specs.Private as collectors
 use Rattle.rec_collector.specs.Step.{Step}
 use Rattle.rec_core.proofs.Begun.{applied_lands}
 use Rattle.rec_core.proofs.Freeing.{freed_lands}
+use Rattle.rec_core.proofs.Gathering.{awaits_kept, gathered_kept, giving_back_kept, next_kept, requesting_kept}
+use Rattle.rec_core.proofs.Phases.{clears_in}
 use Rattle.rec_core.proofs.Preparing.{loads_due, preparing_kept}
 use Rattle.rec_core.proofs.Releasing.{released_lands}
 use Rattle.rec_core.proofs.SetTests.{clears_kept}
 use Rattle.rec_core.proofs.Sweeping.{began_kept, ended_kept, swept_kept, IsStillSweeping}
 use Rattle.rec_core.proofs.Trying.{loads_child, trying_kept}
-use Rattle.rec_core.proofs.Turns.{now_at, requested_kept, gathered_kept, returned_kept}
+use Rattle.rec_core.proofs.TurnCases.{Awaits, giving_back, requesting}
+use Rattle.rec_core.proofs.Turns.{now_at}
 use Rattle.rec_core.proofs.Shapes.{same_boxes}
 
 -- one operation in two options
@@ -67,13 +70,21 @@ pub rule_kept : (w : Core) (op : Op) (word : ℕ) (q : collectors.Private) (turn
     → IsKept (collected w op word q (left_by w.collector word (box w (looked_at w.collector.phase)) w.collector.phase))
 unfolding release_next freeing_next sweeps.started_of sweeps.next_of sweeps.took_of
 rule_kept w op word q turn m (Step.spent idle last none same answer) = let not_so : ◌≡◌ {A = Option Op} (Some op) None = none in absurd (cc)
-rule_kept w op word q turn m (Step.request idle more named g) =
+rule_kept w op word q turn m (Step.request next idle more named found g) =
     let its : op ≡ ops.StoreEpoch (w.collector.epoch + 1) = some_op op (ops.StoreEpoch (w.collector.epoch + 1)) named in
-    let whole = requested_kept w q m.kept idle more g.after m.machine in
+    let whole = next_kept (requesting w) 0 (requesting_kept w m.kept idle more) (length w.collector.newer) refl next found (subst collector_kept.IsMachine g.after m.machine) in
     let epoch : w.collector.epoch + 1 ≡ w.epoch + 1 = ap (λ n. n + 1) m.kept.collector.epoch in
     subst IsKept (sym (plain_left w op word q Idle idle refl))
     (subst (λ o. IsKept (record (collected w o word q (box w 1)) { boxes = w.boxes })) (sym its)
     (subst (λ n. IsKept (record w { epoch = n; collector = q })) (sym epoch) (subst (λ x. IsKept (record w { epoch = w.epoch + 1; collector = x })) (sym g.after) whole)))
+rule_kept w op word q turn m (Step.request_alone idle more named gone on) =
+    let its : op ≡ ops.StoreEpoch (w.collector.epoch + 1) = some_op op (ops.StoreEpoch (w.collector.epoch + 1)) named in
+    let u : Core = requesting w in
+    let epoch : w.collector.epoch + 1 ≡ w.epoch + 1 = ap (λ n. n + 1) m.kept.collector.epoch in
+    let home = awaits_kept w u m.kept (Awaits.alone idle (λ last. more (epoch ∙ last)) gone) in
+    let whole = clears_kept u u.crossing u.words q m.machine turn (applied_lands u (length w.collector.newer) home refl) (clears_in u.collector.phase on) in
+    subst IsKept (sym (plain_left w op word q Idle idle refl))
+    (subst (λ o. IsKept (record (collected w o word q (box w 1)) { boxes = w.boxes })) (sym its) (subst (λ n. IsKept (record w { epoch = n; collector = q })) (sym epoch) whole))
 rule_kept w op word q turn m (Step.wait t looking other named same answer) =
     let its : op ≡ ops.LookBox t w.collector.epoch = some_op op (ops.LookBox t w.collector.epoch) named in
     let at : word ≡ slice_index_or w.crossing (t - 1) 0 = m.found ∙ ap (cell (cells_of w)) its in
@@ -102,20 +113,24 @@ rule_kept w op word q turn m (Step.gather t looking crossed named g) =
     (subst (λ (x : Contents). IsKept (record w { crossing = slice_set w.crossing (t - 1) (written (ops.LookBox t w.collector.epoch) word); boxes = slice_set w.boxes (t - 1) x; collector = q })) (sym (cond-true b (collectors.spare w.collector) (box w t) yes))
     (subst (λ (n : ℕ). IsKept (record w { crossing = slice_set w.crossing (t - 1) n; boxes = slice_set w.boxes (t - 1) (collectors.spare w.collector); collector = q })) (sym next)
     (subst (λ x. IsKept (record w { crossing = slice_set w.crossing (t - 1) (crossing_word w.epoch WithCollector); boxes = slice_set w.boxes (t - 1) (collectors.spare w.collector); collector = x })) (sym after) whole))))
-rule_kept w op word q turn m (Step.give_back t returning more named g) =
+rule_kept w op word q turn m (Step.give_back t next returning named found g) =
     let its : op ≡ ops.ReturnBox t w.collector.epoch = some_op op (ops.ReturnBox t w.collector.epoch) named in
     let epoch : w.collector.epoch ≡ w.epoch = m.kept.collector.epoch in
     let now = now_at w (Returning t) m.kept returning in
     let is : IsMutator w.config t = mutator_at w t (Returning t) m.kept returning (now.first, now.there) in
-    let whole = returned_kept w t m.kept returning is (subst collector_kept.IsMachine g.after m.machine) in
+    let whole = next_kept (giving_back w t) t (giving_back_kept w t m.kept returning is) (length w.collector.newer) refl next found (subst collector_kept.IsMachine g.after m.machine) in
     subst IsKept (sym (plain_left w op word q (Returning t) returning refl))
     (subst (λ o. IsKept (record (collected w o word q (box w 1)) { boxes = w.boxes })) (sym its)
     (subst (λ n. IsKept (record w { crossing = slice_set w.crossing (t - 1) (crossing_word n Spare); collector = q })) (sym epoch)
     (subst (λ x. IsKept (record w { crossing = slice_set w.crossing (t - 1) (crossing_word w.epoch Spare); collector = x })) (sym g.after) whole)))
-rule_kept w op word q turn m (Step.apply t returning last named on) =
+rule_kept w op word q turn m (Step.apply t returning named gone on) =
     let its : op ≡ ops.ReturnBox t w.collector.epoch = some_op op (ops.ReturnBox t w.collector.epoch) named in
     let epoch : w.collector.epoch ≡ w.epoch = m.kept.collector.epoch in
-    let whole = clears_kept w (slice_set w.crossing (t - 1) (crossing_word w.epoch Spare)) w.words q m.machine turn (applied_lands w t m.kept returning last) on in
+    let now = now_at w (Returning t) m.kept returning in
+    let is : IsMutator w.config t = mutator_at w t (Returning t) m.kept returning (now.first, now.there) in
+    let u : Core = giving_back w t in
+    let home = awaits_kept w u m.kept (Awaits.last t is returning gone) in
+    let whole = clears_kept u u.crossing u.words q m.machine turn (applied_lands u (length w.collector.newer) home refl) (clears_in u.collector.phase on) in
     subst IsKept (sym (plain_left w op word q (Returning t) returning refl))
     (subst (λ o. IsKept (record (collected w o word q (box w 1)) { boxes = w.boxes })) (sym its)
     (subst (λ n. IsKept (record w { crossing = slice_set w.crossing (t - 1) (crossing_word n Spare); collector = q })) (sym epoch) whole))
@@ -181,8 +196,8 @@ rule_kept w op word q turn m (Step.sweep (Some x) swept u next sweeping named to
     (subst (λ y. IsKept (record w { headers = slice_set w.headers x 0; collector = y })) (sym after) whole))
   where
     still : (n : Phase) → IsNext swept u n → IsStillSweeping w swept x m.kept sweeping n
-    still n (IsNext.more some is) = subst (IsStillSweeping w swept x m.kept sweeping) (sym is) (record { sweeping = refl; way = refl; applied = λ e. refl; older = λ e. refl; stands = λ s. refl; between = tt; some = tt; waits = λ p d h. h })
-    still n (IsNext.last none is) = subst (IsStillSweeping w swept x m.kept sweeping) (sym is) (record { sweeping = refl; way = refl; applied = λ e. refl; older = λ e. refl; stands = λ s. refl; between = tt; some = omega arith; waits = λ p d h. h })
+    still n (IsNext.more some is) = subst (IsStillSweeping w swept x m.kept sweeping) (sym is) (record { sweeping = refl; way = refl; applied = λ e. refl; older = λ e. refl; stands = λ s. refl; held = λ v. tt; between = tt; some = tt; waits = λ p d h. h })
+    still n (IsNext.last none is) = subst (IsStillSweeping w swept x m.kept sweeping) (sym is) (record { sweeping = refl; way = refl; applied = λ e. refl; older = λ e. refl; stands = λ s. refl; held = λ v. tt; between = tt; some = omega arith; waits = λ p d h. h })
 rule_kept w op word q turn m (Step.end_sweep swept closing named e) =
     let its : op ≡ ops.AddFreed = some_op op ops.AddFreed named in
     let found : word ≡ w.freed = m.found ∙ ap (cell (cells_of w)) its in

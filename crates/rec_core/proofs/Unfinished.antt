@@ -16,6 +16,7 @@ use Rattle.rec_mutator.proofs.Machines.{allocation_limit}
 use Rattle.rec_mutator.proofs.Polls.{poll_has_cause}
 use Rattle.rec_mutator.proofs.Sizes.{step_keeps, step_counts}
 use Rattle.rec_core.specs.Unfinished.{OnlyWorks, IsQuiet, HasFound, Waits}
+use Rattle.rec_core.proofs.Leaving.{IsStayingIn}
 use Rattle.rec_core.proofs.Showing.{Says, mutator_left, mutator_other, stepped_mutator, step_says, works_sight}
 use Rattle.rec_core.proofs.Steps.{actor_of, its_box}
 use Rattle.rec_model.specs.Asking.{allocation}
@@ -125,7 +126,7 @@ answered_idle (Finished its other) made is = refl
 answered_idle _ made is = let not_so : ◌≡◌ {A = Option Made} None (Some made) = is in (cc)
 
 -- the step that a mutator makes
-its_step : (w : Core) (t : ℕ) → IsKept w → IsMutator w.config t → is_busy (mutator w t) ≡ true → Step (mutator w t) (found_by w t) (box w t) (next_of (mutator w t)) (step_of (mutator w t) (found_by w t) (box w t))
+pub its_step : (w : Core) (t : ℕ) → IsKept w → IsMutator w.config t → is_busy (mutator w t) ≡ true → Step (mutator w t) (found_by w t) (box w t) (next_of (mutator w t)) (step_of (mutator w t) (found_by w t) (box w t))
 its_step w t kept is busy = step_made (mutator w t) (found_by w t) (box w t) busy (actor_of w t kept is).own.between
 
 -- the work of a mutator stays the same in its step
@@ -193,13 +194,13 @@ giving_answers w t kept is busy phase =
     ap answer_of (stepped_mutator w t kept is)
     ∙ ((poll_has_cause (mutator w t) (found_by w t) (box w t) busy (actor_of w t kept is).own.between).some ((mutator w t).epoch + 1)).1 (phase, refl)
 
--- Steps that finished nothing, and one more that finishes nothing either.
-pub waited : (before w v : Core) (t : ℕ) → IsKept w → IsMutator w.config t → is_busy (mutator w t) ≡ true → Waits before w t → v ≡ stepped w t → answer_of (mutator v t) ≡ None → Waits before v t
-waited before w v t kept is busy (Waits.holds phase still epoch) steps none =
+-- Steps that finished nothing, and one more that finishes nothing either, and isn't one of leaving.
+pub waited : (before w v : Core) (t : ℕ) → IsKept w → IsMutator w.config t → is_busy (mutator w t) ≡ true → IsStayingIn (mutator w t).phase → Waits before w t → v ≡ stepped w t → answer_of (mutator v t) ≡ None → Waits before v t
+waited before w v t kept is busy stays (Waits.holds phase still epoch) steps none =
     let not_so : ◌≡◌ {A = Option Made} None (Some (makes.Crossed (Some ((mutator w t).epoch + 1)))) = sym none ∙ ap (λ (x : Core). answer_of (mutator x t)) steps ∙ giving_answers w t kept is busy phase in
     (cc)
-waited before w v t kept is busy (Waits.works only found) steps none =
-    go (subst (λ (x : Core). Says w t (mutator x t) x) (sym steps) (step_says w t kept is busy))
+waited before w v t kept is busy stays (Waits.works only found) steps none =
+    go (subst (λ (x : Core). Says w t (mutator x t) x) (sym steps) (step_says w t kept is busy stays))
   where
     told : (made : Made) → answer_of (mutator v t) ≡ Some made → Waits before v t
     told made answer =
@@ -207,7 +208,7 @@ waited before w v t kept is busy (Waits.works only found) steps none =
         (cc)
 
     go : Says w t (mutator v t) v → Waits before v t
-    go (Says.decided cmd its_told work answer said refused) = told (makes.Answered its_told) answer
+    go (Says.decided cmd its_told work answer said staying refused) = told (makes.Answered its_told) answer
     go (Says.going answer here finds) = Waits.works (works_both before w v t only here) (works_found w v t (mutator v t).from (mutator v t).phase here (finds found))
     go (Says.holding answer phase still epoch) = Waits.holds phase (quiet_both before w v t (works_quiet before w t is.0 only) still) (epoch ∙ ap (λ (p : Private). p.epoch) only.own)
     go (Says.stayed answer work here its_only) = told (makes.Crossed None) answer

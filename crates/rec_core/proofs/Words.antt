@@ -1,10 +1,11 @@
 -- Each operation that a heap with its collector carries out names one of its words, and finds what its machine may find.
 use Rattle.std.proofs.Common.{◌≡◌, ℕ, ◌<◌, ◌≤◌, true, false, Bool, if◌then◌else◌, Option, None, Some, IfSome, [], length, replicate, refl, sym, ap, subst, ◌∙◌, arith}
-use Rattle.rec_core.proofs.Common.{HasLabelAt, Op, Contents, own_word, read_op, write_op, label_op, first_op, begun_op, next_of, next_at, Private, register, is_busy, is_full, NamesSlots, NamesWord, took_of, took_at, retiring, IsSwapping, TakesNone, learnt_made, step_between, IsWithin, IsMutator, Core, cells_of, mutator, box, spare_of, IsKept, found_by}
+use Rattle.std.proofs.lemmas.List.{length-replicate}
+use Rattle.rec_core.proofs.Common.{Op, Contents, own_word, read_op, write_op, label_op, first_op, begun_op, next_of, next_at, Private, register, is_busy, is_full, NamesSlots, NamesWord, took_of, took_at, retiring, IsSwapping, TakesNone, learnt_made, step_between, IsWithin, IsMutator, Core, cells_of, mutator, box, spare_of, IsKept, found_by}
 use Rattle.rec_word.specs.declared.op.Op.TheVariants as ops
 use Rattle.rec_model.specs.declared.command.Cmd.{Cmd}
 use Rattle.rec_model.specs.declared.command.Cmd.TheVariants as commands
-use Rattle.rec_mutator.specs.Took.{spare, IsBetween}
+use Rattle.rec_mutator.specs.Took.{letting_go, spare, IsBetween}
 use Rattle.rec_mutator.specs.declared.phase.Phase as phases
 use Rattle.rec_mutator.specs.declared.phase.Phase.TheVariants as at
 use Rattle.rec_mutator.specs.declared.work.Work.{Work}
@@ -15,6 +16,7 @@ use Rattle.rec_collector.specs.Step as collector_step
 use Rattle.rec_collector.proofs.Always as collector_words
 use Rattle.rec_core.specs.Preconditions.{MayStep, MayTurn}
 use Rattle.rec_core.proofs.Crossings.{behind_of, next_found}
+use Rattle.rec_core.proofs.Leaving.{leaving_of}
 use Rattle.rec_core.proofs.Runs.{given_is, sized_is}
 use Rattle.rec_core.proofs.Turning.{turn_case}
 use Rattle.rec_core.proofs.Steps.{actor_of, fields_many, register_taken, taken_slot}
@@ -113,6 +115,17 @@ pub learns_taken : (p : Private) (word : ℕ) → p.phase ≡ at.Crossing → to
 unfolding took_of took_at
 learns_taken p word is = ap (took_at p word) is
 
+-- and as it takes it to leave
+learns_leaving : (p : Private) (word : ℕ) → p.phase ≡ at.Leaving → took_of p word ≡ letting_go p
+unfolding took_of took_at
+learns_leaving p word is = ap (took_at p word) is
+
+-- the spare of one that leaves is the same
+nulled : (p : Private) → spare (retiring p) ≡ spare (letting_go p)
+nulled p =
+    let make : ℕ → Contents = λ n. record { entries = []; snapshot = replicate n None; capacity = p.log.capacity; last = false } in
+    ap make (sym (length-replicate (length p.registers) None))
+
 -- A mutator may make its next step.
 pub may_step : (w : Core) (t : ℕ) → IsKept w → IsMutator w.config t → is_busy (mutator w t) ≡ true → MayStep w t
 may_step w t kept is busy =
@@ -120,7 +133,7 @@ may_step w t kept is busy =
     let own = (actor_of w t kept is).own in
     record {
       within = own_within w t (next_of p) kept is (own_next p) (names_word p own.machine (names_slots w t kept is));
-      found = next_found w t kept is;
+      found = next_found w t kept is busy;
       between = own.between;
       spare = spared p.phase refl own.between;
     }
@@ -131,7 +144,7 @@ may_step w t kept is busy =
     spared : (phase : phases.Phase) → (mutator w t).phase ≡ phase → IsBetween phase → IsSwapping (took_of (mutator w t) (found_by w t)).phase → box w t ≡ spare (took_of (mutator w t) (found_by w t))
     spared at.Crossing here between = λ swaps. (behind_of w t kept is here).1.spare ∙ spare_own w t kept is ∙ ap spare (sym (learns_taken (mutator w t) (found_by w t) here))
     spared at.Swapping here between = absurd between
-    spared at.Leaving here between = absurd (subst HasLabelAt here (actor_of w t kept is).own.label)
+    spared at.Leaving here between = λ swaps. (leaving_of w t kept is here).0 ∙ spare_own w t kept is ∙ nulled (mutator w t) ∙ ap spare (sym (learns_leaving (mutator w t) (found_by w t) here))
     spared at.Retiring here between = absurd between
     spared _ here between = none (subst TakesNone (sym here) tt)
 

@@ -90,6 +90,7 @@ first_come {w} {crossing} {words} {v} z zs begun is h ready unfreed left =
     let next = next_released (record (pending w) { applied = w.epoch - 1 }) words s (z ∷ zs) is (some_epochs l) ready l.accounted (l.uncounted refl) in
     record {
       landed = record {
+        stands = l.stands;
         kept = l.kept;
         way = l.way;
         still = l.still;
@@ -121,6 +122,7 @@ listed_come {w} {crossing} {words} {v} t h slots sets listed kept =
     let same : landed_pending w words t ≡ landed_pending w words s = slots_accounts (record (pending w) { applied = w.epoch - 1 }) words s t slots in
     record {
       landed = record {
+        stands = l.stands;
         kept = l.kept;
         way = l.way;
         still = l.still;

@@ -71,8 +71,7 @@ abbrev pub IsWork : Config → Work → Type 0
 IsWork config (works.Command cmd) = HasOperands config cmd × IsNoLeave (works.Command cmd)
 IsWork config works.Poll = Unit {0}
 
--- the label of an allocation fits a header; and no mutator leaves yet
+-- the label of an allocation fits a header
 abbrev pub HasLabel : Work → Type 0
-HasLabel (works.Command commands.Leave) = ⊥
 HasLabel (works.Command cmd) = operands.HasLabel cmd
 HasLabel works.Poll = Unit {0}

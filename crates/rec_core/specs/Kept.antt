@@ -18,39 +18,37 @@ use Rattle.rec_counts.specs.Counts.{State, slot_at}
 use Rattle.rec_counts.specs.Lists.{times}
 use Rattle.rec_release.specs.declared.at.At.{At}
 use Rattle.rec_walk.specs.declared.member.Member.{Member}
-use Rattle.rec_mutator.specs.Causes.{is_giving}
-use Rattle.rec_mutator.specs.Private.{Private, IsMachine, slot_behind}
-use Rattle.rec_mutator.specs.Took.{IsBetween}
+use Rattle.rec_mutator.specs.Causes.{gives_back}
+use Rattle.rec_mutator.specs.Private.{Private, IsMachine, is_busy, slot_behind}
+use Rattle.rec_mutator.specs.Took.{IsBetween, is_uncollected_in}
 use Rattle.rec_mutator.specs.declared.phase.Phase as phases
 use Rattle.rec_mutator.specs.declared.phase.Phase.TheVariants as at
+use Rattle.rec_collector.specs.Present.{has_left}
 use Rattle.rec_collector.specs.Private as collectors
 use Rattle.rec_collector.specs.Kept as collector_kept
 use Rattle.rec_collector.specs.Step as collector_step
 use Rattle.rec_collector.specs.declared.phase.Phase.{Phase}
 use Rattle.rec_collector.specs.declared.phase.Phase.TheVariants.{Looking, Swapping, Returning, Releasing, Freeing, Sweeping, Closing}
 use Rattle.rec_core.specs.Config.{IsConfig, IsMutator, HasLabel}
-use Rattle.rec_core.specs.Core.{Core, sight, spare_of, nobody}
+use Rattle.rec_core.specs.Core.{Core, mutator, sight, spare_of, nobody}
 use Rattle.rec_core.specs.CyclesAt.{HasCyclesAt}
-use Rattle.rec_core.specs.Pending.{pending, older_at, epoch_at}
+use Rattle.rec_core.specs.Pending.{epoch_at, has_let_go, is_parting, older_at, pending}
 use Rattle.rec_core.specs.declared.config.Config.{Config}
 
--- a mutator that is neither crossing nor about to, and doesn't leave
-abbrev pub IsSettledIn : phases.Phase → Type 0
-IsSettledIn at.Crossing = ⊥
-IsSettledIn at.Swapping = ⊥
-IsSettledIn at.Giving = ⊥
-IsSettledIn at.Leaving = ⊥
-IsSettledIn at.Retiring = ⊥
-IsSettledIn at.Parting = ⊥
-IsSettledIn _ = Unit {0}
+-- a mutator whose mailbox is there, and that is neither crossing nor about to; it leaves only where no log of its own is to be collected
+abbrev pub IsSettledIn : Mailbox → phases.Phase → Type 0
+IsSettledIn mailbox at.Crossing = ⊥
+IsSettledIn mailbox at.Swapping = ⊥
+IsSettledIn mailbox at.Giving = ⊥
+IsSettledIn mailbox at.Leaving = is_uncollected_in mailbox ≡ false
+IsSettledIn mailbox at.Retiring = ⊥
+IsSettledIn mailbox at.Parting = ⊥
+IsSettledIn mailbox _ = Unit {0}
 
--- the label of an allocation that goes on fits a header, and no mutator leaves
+-- the label of an allocation that goes on fits a header
 abbrev pub HasLabelAt : phases.Phase → Type 0
 HasLabelAt (at.Begun work) = HasLabel work
 HasLabelAt (at.Scanning reg label leaf before probed) = label < 2 ^ 32
-HasLabelAt at.Leaving = ⊥
-HasLabelAt at.Retiring = ⊥
-HasLabelAt at.Parting = ⊥
 HasLabelAt _ = Unit {0}
 
 -- what is known of a mutator of a heap with these numbers
@@ -63,7 +61,8 @@ pub record IsOwn (config : Config) (t : ℕ) (p : Private) : Type 0 where
   pub machine : IsMachine p
   pub between : IsBetween p.phase
   pub label : HasLabelAt p.phase
-  pub stays : p.left ≡ false
+  -- one that has left does nothing
+  pub idle : p.left ≡ true → is_busy p ≡ false
 
 -- A write was made in this epoch. A birth bears no stamp.
 abbrev pub IsMadeIn : (epoch : ℕ) → Entry → Type 0
@@ -77,60 +76,96 @@ pub record IsBufferOf (config : Config) (epoch : ℕ) (b : Contents) : Type 0 wh
   pub few : length b.entries ≤ b.capacity
   pub made : All (IsMadeIn epoch) b.entries
 
--- the mutator of this number is past its turn in a gathering, its mailbox is held, or its turn is still to come
+-- the mutator of this number is past its turn in a gathering, its mailbox is held, its turn is still to come, or it has left and its
+-- last buffer was gathered
 pub data Handshake : Type 0 where
   Done : Handshake
   Held : Handshake
   Due : Handshake
+  Gone : Handshake
 
--- where a mutator stands in the gathering of this collection; nobody's turn is to come where none is under way
-abbrev pub stand_at : Phase → (t : ℕ) → Handshake
-stand_at (Looking u) t = if nat_lt t u then Handshake.Done else Handshake.Due
-stand_at (Swapping u) t = if nat_lt t u then Handshake.Done else (if t == u then Handshake.Held else Handshake.Due)
-stand_at (Returning u) t = if nat_lt t u then Handshake.Done else (if t == u then Handshake.Held else Handshake.Due)
-stand_at _ t = Handshake.Done
+-- where a mutator that is gathered from stands in the gathering of this collection; nobody's turn is to come where none is under way
+abbrev pub stand_in : Phase → (t : ℕ) → Handshake
+stand_in (Looking u) t = if nat_lt t u then Handshake.Done else Handshake.Due
+stand_in (Swapping u) t = if nat_lt t u then Handshake.Done else (if t == u then Handshake.Held else Handshake.Due)
+stand_in (Returning u) t = if nat_lt t u then Handshake.Done else (if t == u then Handshake.Held else Handshake.Due)
+stand_in _ t = Handshake.Done
+
+-- where a mutator stands, by whether the collector knows that it has left
+abbrev pub stand_at : (left : List Bool) → Phase → (t : ℕ) → Handshake
+stand_at left phase t = if has_left left t then Handshake.Gone else stand_in phase t
 
 -- the mutator is in the requested epoch, and its mailbox is there
 pub record HasCrossed (requested : ℕ) (p : Private) (crossing : ℕ) (mailbox : Mailbox) : Type 0 where
   pub epoch : p.epoch ≡ requested
   pub word : crossing ≡ crossing_word requested mailbox
-  pub settled : IsSettledIn p.phase
+  pub settled : IsSettledIn mailbox p.phase
 
 -- the mutator is in the epoch before the requested one, and its mailbox is home with a spare
 pub record IsBehind (config : Config) (requested : ℕ) (p : Private) (crossing : ℕ) (box : Contents) : Type 0 where
   pub epoch : p.epoch + 1 ≡ requested
   pub word : crossing ≡ crossing_word p.epoch Spare
-  pub here : is_giving p.phase ≡ false
+  pub here : gives_back p.phase ≡ false
+  pub stays : p.left ≡ false
   pub spare : box ≡ spare_of config
 
--- the mutator holds its mailbox: it is crossing into the requested epoch
-pub record IsCrossing (config : Config) (requested : ℕ) (p : Private) (crossing : ℕ) : Type 0 where
-  pub epoch : p.epoch + 1 ≡ requested
-  pub phase : p.phase ≡ at.Giving
-  pub word : crossing ≡ crossing_word requested WithMutator
+-- the mutator holds its mailbox: it is crossing into this epoch, or leaving the one before
+pub record IsCrossing (config : Config) (into : ℕ) (p : Private) (crossing : ℕ) (box : Contents) : Type 0 where
+  pub epoch : p.epoch + 1 ≡ into
+  pub phase : gives_back p.phase ≡ true
+  pub word : crossing ≡ crossing_word into WithMutator
   pub spare : p.log ≡ spare_of config
+  -- the buffer that it retired is marked where it leaves
+  pub last : box.last ≡ is_parting p.phase
+
+-- the mutator has left into this epoch, and its last buffer is in its mailbox
+pub record HasRetired (into : ℕ) (p : Private) (crossing : ℕ) (box : Contents) : Type 0 where
+  pub left : p.left ≡ true
+  pub epoch : p.epoch ≡ into
+  pub word : crossing ≡ crossing_word into Retired
+  pub last : box.last ≡ true
+
+-- the mutator leaves the requested epoch, or has left it, before the next one is requested
+abbrev pub IsAhead : Config → (requested : ℕ) → Private → (crossing : ℕ) → (box : Contents) → Type 0
+IsAhead config requested p crossing box = (IsCrossing config (requested + 1) p crossing box × (p.phase ≡ at.Parting)) ⊎ HasRetired (requested + 1) p crossing box
+
+-- the mutator has left, and its mailbox is home with a spare
+pub record HasGone (config : Config) (requested : ℕ) (p : Private) (crossing : ℕ) (box : Contents) : Type 0 where
+  pub left : p.left ≡ true
+  pub past : p.epoch ≤ requested
+  pub word : crossing ≡ crossing_word p.epoch Spare
+  pub spare : box ≡ spare_of config
 
 -- How a mutator and the collector stand to each other: the mutator's epoch, its crossing word and what its mailbox holds.
 abbrev pub IsHandshake : Config → (requested : ℕ) → Private → (crossing : ℕ) → (box : Contents) → Handshake → Type 0
-IsHandshake config requested p crossing box Handshake.Done = HasCrossed requested p crossing Spare × (box ≡ spare_of config)
+IsHandshake config requested p crossing box Handshake.Done = (HasCrossed requested p crossing Spare × (p.left ≡ false) × (box ≡ spare_of config)) ⊎ IsAhead config requested p crossing box
 IsHandshake config requested p crossing box Handshake.Held = HasCrossed requested p crossing WithCollector × (box ≡ spare_of config)
-IsHandshake config requested p crossing box Handshake.Due = IsBehind config requested p crossing box ⊎ (IsCrossing config requested p crossing ⊎ HasCrossed requested p crossing Retired)
+IsHandshake config requested p crossing box Handshake.Due =
+    IsBehind config requested p crossing box ⊎ (IsCrossing config requested p crossing box ⊎ (HasCrossed requested p crossing Retired × (box.last ≡ p.left)))
+IsHandshake config requested p crossing box Handshake.Gone = HasGone config requested p crossing box
 
--- What is known of a mutator, of its crossing word and of its mailbox, at this epoch and in this phase of the collector.
-pub record IsActor (config : Config) (requested : ℕ) (phase : Phase) (t : ℕ) (p : Private) (crossing : ℕ) (box : Contents) : Type 0 where
+-- a mutator that has let go: no register names anything, and its log is a spare
+pub record LetGo (config : Config) (p : Private) : Type 0 where
+  pub registers : named p.registers ≡ []
+  pub log : p.log ≡ spare_of config
+
+-- What is known of a mutator that stands so, of its crossing word and of its mailbox, at this epoch.
+pub record IsActor (config : Config) (requested : ℕ) (stand : Handshake) (t : ℕ) (p : Private) (crossing : ℕ) (box : Contents) : Type 0 where
   pub own : IsOwn config t p
   pub log : IsBufferOf config (epoch_at p) p.log
-  -- its snapshot is written as it is retired
+  -- its snapshot and its mark are written as it is retired
   pub unwritten : named p.log.snapshot ≡ []
-  pub mailbox : IsBufferOf config (requested - 1) box
-  pub handshake : IsHandshake config requested p crossing box (stand_at phase t)
+  pub unmarked : p.log.last ≡ false
+  pub let_go : has_let_go p ≡ true → LetGo config p
+  pub mailbox : IsBufferOf config (epoch_at p - 1) box
+  pub handshake : IsHandshake config requested p crossing box stand
 
--- what is known of all mutators
-pub record HasMutators (config : Config) (requested : ℕ) (phase : Phase) (mutators : List Private) (crossing : List ℕ) (boxes : List Contents) : Type 0 where
+-- what is known of all mutators, each of which stands so
+pub record HasMutators (config : Config) (requested : ℕ) (stands : (t : ℕ) → Handshake) (mutators : List Private) (crossing : List ℕ) (boxes : List Contents) : Type 0 where
   pub many : length mutators ≡ config.mutators
   pub words : length crossing ≡ config.mutators
   pub mailboxes : length boxes ≡ config.mutators
-  pub each : (t : ℕ) → IsMutator config t → IsActor config requested phase t (slice_index_or mutators (t - 1) nobody) (slice_index_or crossing (t - 1) 0) (slice_index_or boxes (t - 1) (collectors.blank 0 0))
+  pub each : (t : ℕ) → IsMutator config t → IsActor config requested (stands t) t (slice_index_or mutators (t - 1) nobody) (slice_index_or crossing (t - 1) 0) (slice_index_or boxes (t - 1) (collectors.blank 0 0))
 
 -- a field of this slot that is still to be emptied by the release at work
 abbrev pub IsLeft : Option At → (slot f : ℕ) → Type 0
@@ -217,12 +252,12 @@ IsHeader header = 0 < header → IsTakenHeader header
 abbrev pub HasGreens : (headers : List ℕ) → State → Type 0
 HasGreens headers s = (x : ℕ) → is_green (slot_at s x).colour ≡ true → is_leaf (slice_index_or headers x 0) ≡ true
 
--- What every heap with its collector keeps.
-pub record IsKept (w : Core) : Type 0 where
+-- What every heap with its collector keeps, where its mutators stand so.
+pub record IsKeptBy (stands : (t : ℕ) → Handshake) (w : Core) : Type 0 where
   pub config : IsConfig w.config
   pub headers : length w.headers ≡ w.config.slots
   pub labels : All IsHeader w.headers
-  pub mutators : HasMutators w.config w.epoch w.collector.phase w.mutators w.crossing w.boxes
+  pub mutators : HasMutators w.config w.epoch stands w.mutators w.crossing w.boxes
   pub collector : HasCollector w.config w.epoch w.words w.collector
   pub sweeps : HasSweeps w.freed w.collector.collections w.collector.phase
   pub learnt : HaveLearnt w.config w.headers w.freed w.mutators
@@ -233,3 +268,15 @@ pub record IsKept (w : Core) : Type 0 where
   -- what was given up has no count, but while a set is freed
   pub uncounted : freeing_due w.collector.phase ≡ None → HasUncountedReleased (pending w)
   pub cycles : HasCyclesAt (pending w) w.collector w.collector.phase
+
+-- While a mailbox is held, the collector doesn't know yet whether its mutator has left, and the buffer that it took from there is marked
+-- just where it has.
+abbrev pub IsHeldAt : Core → Phase → Type 0
+IsHeldAt w (Returning t) = (has_left w.collector.left t ≡ false) × ((collectors.buffer_at w.collector.newer (t - 1)).last ≡ (mutator w t).left)
+IsHeldAt w _ = Unit {0}
+
+-- What every heap with its collector keeps.
+pub record IsKept (w : Core) : Type 0 where
+  pub whole : IsKeptBy (stand_at w.collector.left w.collector.phase) w
+  pub open whole use *
+  pub held : IsHeldAt w w.collector.phase

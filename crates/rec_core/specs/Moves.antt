@@ -95,10 +95,11 @@ after_move w (Move.Steps t) = stepped w t
 after_move w Move.Turns = turned w
 after_move w Move.Offers = offering w
 
--- A mutator may begin a work where it has none that isn't finished, with any slot as its scan's first one, and make a step where it has.
+-- A mutator that hasn't left may begin a work where it has none that isn't finished, with any slot as its scan's first one, and make a
+-- step where it has.
 -- The collector may always turn, and the slots may always be offered.
 abbrev pub Fits : Core → Move → Type 0
-Fits w (Move.Begins t work from) = IsMutator w.config t × (is_busy (mutator w t) ≡ false) × IsValid (mutator w t) work × HasLabel work × (from < w.config.slots)
+Fits w (Move.Begins t work from) = IsMutator w.config t × (is_busy (mutator w t) ≡ false) × ((mutator w t).left ≡ false) × IsValid (mutator w t) work × HasLabel work × (from < w.config.slots)
 Fits w (Move.Steps t) = IsMutator w.config t × (is_busy (mutator w t) ≡ true)
 Fits w Move.Turns = Unit {0}
 Fits w Move.Offers = Unit {0}

@@ -1,5 +1,6 @@
 -- What a heap with its collector has to account for: its words and registers, and what all its buffers hold.
-use Rattle.std.specs.Prelude.{ℕ, ◌+◌, ◌-◌, ◌==◌, if◌then◌else◌, Option, List, [], ◌∷◌, ◌++◌, map, flat_map, slice_index_or}
+use Rattle.std.specs.Prelude.{ℕ, ◌+◌, ◌-◌, ◌==◌, ◌||◌, if◌then◌else◌, Bool, true, false, Option, List, [], ◌∷◌, ◌++◌, map, flat_map, slice_index_or}
+use Rattle.std.specs.List.{zip}
 use Rattle.rec_word.specs.Header.{is_leaf}
 use Rattle.rec_word.specs.Word.{low_bits}
 use Rattle.rec_model.specs.Reach.{named}
@@ -9,8 +10,10 @@ use Rattle.rec_log.specs.declared.entry.Entry.{Entry}
 use Rattle.rec_log.specs.declared.entry.Entry.TheVariants as entries
 use Rattle.rec_counts.specs.Slot.{fresh}
 use Rattle.rec_counts.specs.declared.slot.Slot.{Slot}
-use Rattle.rec_mutator.specs.Causes.{is_giving}
+use Rattle.rec_mutator.specs.Causes.{gives_back}
 use Rattle.rec_mutator.specs.Private.{Private}
+use Rattle.rec_mutator.specs.declared.phase.Phase as phases
+use Rattle.rec_mutator.specs.declared.phase.Phase.TheVariants as at
 use Rattle.rec_collector.specs.declared.phase.Phase.{Phase}
 use Rattle.rec_collector.specs.declared.phase.Phase.TheVariants.{Idle, Looking, Swapping, Returning}
 use Rattle.rec_core.specs.Core.{Core}
@@ -61,13 +64,18 @@ older_at requested _ = requested - 2
 
 -- the epoch that a mutator is in, or, where its snapshot is written already, the one that it crosses into
 abbrev pub epoch_at : Private → ℕ
-epoch_at p = if is_giving p.phase then p.epoch + 1 else p.epoch
+epoch_at p = if gives_back p.phase then p.epoch + 1 else p.epoch
+
+-- what a mutator's mailbox holds: the log of the epoch before the one that the mutator is in or crosses into, whether that epoch was
+-- requested or not
+abbrev pub filed_box : Private × Contents → Filed
+filed_box own = filed (epoch_at own.0 - 1) own.1
 
 -- every buffer of the heap: the mutators' logs, what their mailboxes hold, and the collector's newer and older ones
 abbrev pub buffers : Core → List Filed
 buffers w =
     map (λ (p : Private). filed (epoch_at p) p.log) w.mutators
-    ++ (map (filed (w.epoch - 1)) w.boxes ++ (map (filed (w.epoch - 1)) w.collector.newer ++ map (filed (older_at w.epoch w.collector.phase)) w.collector.older))
+    ++ (map filed_box (zip w.mutators w.boxes) ++ (map (filed (w.epoch - 1)) w.collector.newer ++ map (filed (older_at w.epoch w.collector.phase)) w.collector.older))
 
 abbrev pub writes_of : Core → List Write
 writes_of w = flat_map (λ (b : Filed). writes_in b.buffer.entries) (buffers w)
@@ -78,8 +86,21 @@ births_of w = flat_map (λ (b : Filed). births_in b.epoch b.buffer.entries) (buf
 abbrev pub snapshots_of : Core → List Dated
 snapshots_of w = flat_map (λ (b : Filed). dated_names b.epoch b.buffer.snapshot) (buffers w)
 
+-- the last log is written, and the mailbox that holds it is given back next
+abbrev pub is_parting : phases.Phase → Bool
+is_parting at.Parting = true
+is_parting _ = false
+
+-- a mutator has let go of its registers: it has left, or is about to
+abbrev pub has_let_go : Private → Bool
+has_let_go p = is_parting p.phase || p.left
+
+-- the registers of a mutator, dated by its epoch; one that has let go has none to date
+abbrev pub dated_registers : Private → List Dated
+dated_registers p = if has_let_go p then [] else dated_all (epoch_at p) p.registers
+
 abbrev pub registers_of : Core → List Dated
-registers_of w = flat_map (λ (p : Private). dated_all (epoch_at p) p.registers) w.mutators
+registers_of w = flat_map dated_registers w.mutators
 
 -- what is kept of a node's slot; past the last slot, what is kept of a free one
 abbrev pub slot_of : Core → (node : ℕ) → Slot

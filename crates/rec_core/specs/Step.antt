@@ -11,7 +11,7 @@ pub record IsStep (before : Core) (t : ℕ) (made : Option Made) (after : Core) 
   pub stepped : after ≡ stepped before t
   pub answer : made ≡ answer_of (mutator after t)
   pub busy : is_busy (mutator after t) ≡ is_none made
-  -- Where the step answers a command, whatever heap stood for this one explains the answer, and each refusal has its cause; else all
+  -- Where the step decides a command, whatever heap stood for this one explains the answer, and each refusal has its cause; else all
   -- that is seen stays.
   pub shown : IsShown before t made after
   pub work : work_of (mutator after t) ≡ work_of (mutator before t)

@@ -1,13 +1,13 @@
 -- What a step of a mutator shows, in a heap with its collector.
-use Rattle.std.specs.Prelude.{◌≡◌, ℕ, ◌+◌, ◌-◌, ◌<◌, if◌then◌else◌, Bool, true, false, Option, None, Some, length, replicate, slice_index_or, slice_set}
+use Rattle.std.specs.Prelude.{◌≡◌, ℕ, ◌+◌, ◌<◌, if◌then◌else◌, Bool, true, false, Option, None, Some, slice_index_or}
 use Rattle.std.specs.Option.{IfSome}
 use Rattle.rec_word.specs.Header.{header_word}
 use Rattle.rec_word.specs.Word.{target_of, stamp_of}
-use Rattle.rec_model.specs.Asking.{is_done, refuses_new}
+use Rattle.rec_model.specs.Asking.{is_done, plain, refuses_new}
 use Rattle.rec_model.specs.Explained.{IsExplained}
-use Rattle.rec_model.specs.Heap.{register, registers_of}
+use Rattle.rec_model.specs.Heap.{register}
 use Rattle.rec_model.specs.LegalOrder.{is_birth, word_left}
-use Rattle.rec_model.specs.Sight.{Sight, IsTaken, sight_with_register, sight_with_word, sight_with_header}
+use Rattle.rec_model.specs.Sight.{Sight, IsTaken, sight_with_register, sight_with_word, sight_with_header, sight_without_registers}
 use Rattle.rec_model.specs.declared.answer.Answer.{Answer}
 use Rattle.rec_model.specs.declared.answer.Answer.TheVariants as answers
 use Rattle.rec_model.specs.declared.command.Cmd.{Cmd}
@@ -18,7 +18,7 @@ use Rattle.rec_mutator.specs.Private.{Private, work_of, probe_of}
 use Rattle.rec_mutator.specs.declared.made.Made.{Made}
 use Rattle.rec_mutator.specs.declared.made.Made.TheVariants as makes
 use Rattle.rec_mutator.specs.declared.phase.Phase.{Phase}
-use Rattle.rec_mutator.specs.declared.phase.Phase.TheVariants.{Scanning}
+use Rattle.rec_mutator.specs.declared.phase.Phase.TheVariants.{Scanning, Leaving, Parting}
 use Rattle.rec_mutator.specs.declared.work.Work.TheVariants as works
 use Rattle.rec_core.specs.Core.{Core, sight, mutator, log_length}
 use Rattle.rec_core.specs.Moves.{found_by}
@@ -40,6 +40,11 @@ entries_of (commands.Leaf reg label) answers.Done = 1
 entries_of (commands.Put src f val) answers.Done = 1
 entries_of _ _ = 0
 
+-- the entries of a mutator's log after a command, where there were so many before: the log of one that has left is a spare
+abbrev pub entries_after : Cmd → Answer → (before : ℕ) → ℕ
+entries_after commands.Leave answers.Done before = 0
+entries_after cmd answer before = before + entries_of cmd answer
+
 -- what is seen after a birth in a slot, with this header
 abbrev pub sight_with_birth : Sight → ℕ → ℕ → ℕ → ℕ → Sight
 sight_with_birth w t reg slot header = sight_with_register (sight_with_header w slot header) t reg (Some slot)
@@ -53,10 +58,6 @@ sight_after_get w t dst (Some slot) target = sight_with_register w t dst target
 abbrev pub sight_after_put : Sight → ℕ → Option ℕ → Bool → ℕ → Sight
 sight_after_put w f (Some slot) true word = sight_with_word w slot f word
 sight_after_put w f _ _ word = w
-
--- what is seen after a mutator left: every register of its own is null
-abbrev pub sight_without_registers : Sight → ℕ → Sight
-sight_without_registers w t = record w { registers = slice_set w.registers (t - 1) (replicate (length (registers_of w.registers t)) None) }
 
 -- What is seen after a command that was told this, where an object that is born has this slot: a birth takes the slot and a
 -- register, a write one field's word, a read, a copy or a null one register, and all else stays.
@@ -87,7 +88,7 @@ pub record Leaves (w : Core) (t : ℕ) (cmd : Cmd) (told : Told) (after : Sight)
   pub seen : after ≡ sight_told (sight w) slot t cmd told
   pub birth : is_birth (cmd, told) ≡ true → IsBirthplace w t slot
 
--- What is said of a step that answers a command. Whatever heap stood for what was seen explains the answer; Full is told only
+-- What is said of a step that decides a command. Whatever heap stood for what was seen explains the answer; Full is told only
 -- where every slot holds an object. Births and the mutator's log entries are counted, a word that is left bears the stamp of the
 -- mutator's next entry, and no epoch and no sweep changes.
 pub record IsDecided (w : Core) (t : ℕ) (cmd : Cmd) (told : Told) (v : Core) : Type 0 where
@@ -96,14 +97,27 @@ pub record IsDecided (w : Core) (t : ℕ) (cmd : Cmd) (told : Told) (v : Core) :
   pub kind : may_answer cmd told.answer ≡ true
   pub full : told.answer ≡ answers.Full → IsFilled w
   pub made : v.made ≡ w.made + (if is_birth (cmd, told) then 1 else 0)
-  pub logged : log_length v t ≡ log_length w t + entries_of cmd told.answer
+  pub logged : log_length v t ≡ entries_after cmd told.answer (log_length w t)
   pub stamp : IfSome (word_left cmd told) (λ word. stamp_of word ≡ record { writer = t; epoch = (mutator w t).epoch; index = log_length w t })
   pub epoch : (mutator v t).epoch ≡ (mutator w t).epoch
   pub requested : v.epoch ≡ w.epoch
   pub freed : v.freed ≡ w.freed
 
--- What came of a step. Where it answers a command, that is decided, and each refusal has its cause; else all that is seen stays.
-abbrev pub IsShown : (before : Core) (t : ℕ) → Option Made → (after : Core) → Type 0
-IsShown before t (Some (makes.Answered told)) after =
+-- What came of a step that isn't one of leaving. Where it answers a command, that is decided, and each refusal has its cause; else
+-- all that is seen stays.
+abbrev pub IsShownAs : (before : Core) (t : ℕ) → Option Made → (after : Core) → Type 0
+IsShownAs before t (Some (makes.Answered told)) after =
     (cmd : Cmd) × (work_of (mutator before t) ≡ Some (works.Command cmd)) × IsDecided before t cmd told after × HasCause (mutator before t) (mutator after t) cmd (found_by before t) told.answer
-IsShown before t _ after = sight after ≡ sight before
+IsShownAs before t _ after = sight after ≡ sight before
+
+-- What came of a step, by the phase in which it is made. A mutator that leaves is done with that where it takes its mailbox, and is
+-- answered by the next step, of which nothing is seen.
+abbrev pub IsShownAt : (before : Core) (t : ℕ) → Phase → Option Made → (after : Core) → Type 0
+IsShownAt before t Leaving made after = IsDecided before t commands.Leave (plain answers.Done) after
+IsShownAt before t Parting made after =
+    (made ≡ Some (makes.Answered (plain answers.Done))) × (sight after ≡ sight before) × HasCause (mutator before t) (mutator after t) commands.Leave (found_by before t) answers.Done
+IsShownAt before t _ made after = IsShownAs before t made after
+
+-- what came of a step
+abbrev pub IsShown : (before : Core) (t : ℕ) → Option Made → (after : Core) → Type 0
+IsShown before t made after = IsShownAt before t (mutator before t).phase made after

@@ -1,5 +1,5 @@
 -- The turn of the collector: what it leaves, why each answer comes, and what it keeps.
-use Rattle.std.specs.Prelude.{◌≡◌, ◌≢◌, ℕ, ◌+◌, ◌^◌, ◌≤◌, Option, None, Some}
+use Rattle.std.specs.Prelude.{◌≡◌, ◌≢◌, ℕ, ◌+◌, ◌^◌, ◌≤◌, false, Option, None, Some}
 use Rattle.rec_word.specs.Mailbox.{crossing_word}
 use Rattle.rec_word.specs.declared.mailbox.Mailbox.TheVariants.{Retired}
 use Rattle.rec_word.specs.declared.op.Op.{Op}
@@ -13,7 +13,7 @@ use Rattle.rec_collector.specs.declared.turn.Turn.{Turn}
 use Rattle.rec_collector.specs.declared.turn.Turn.TheVariants as turns
 use Rattle.rec_core.specs.Cells.{cell}
 use Rattle.rec_core.specs.Config.{IsMutator}
-use Rattle.rec_core.specs.Core.{Core, cells_of, sight, crossing_of}
+use Rattle.rec_core.specs.Core.{Core, cells_of, sight, mutator, crossing_of}
 use Rattle.rec_core.specs.Freed.{AreGone, IsForgotten}
 use Rattle.rec_core.specs.Moves.{turned, EndsRun}
 use Rattle.rec_core.specs.Reach.{KeepsReached}
@@ -42,7 +42,7 @@ turn_told w = told_at w (next_of w.collector)
 abbrev pub TurnHasCause : (before after : Core) → Turn → Type 0
 TurnHasCause w v turns.Moved = (v.collector.turns ≡ w.collector.turns + 1) × (v.collector.collections ≡ w.collector.collections) × (v.collector.freed + swept w ≡ w.collector.freed + swept v)
 TurnHasCause w v (turns.Waiting t) = (w.collector.phase ≡ Looking t) × (crossing_of w t ≢ crossing_word w.epoch Retired) × (v ≡ w)
-TurnHasCause w v (turns.Collected epoch freed) = (epoch + 1 ≡ w.epoch) × (freed ≡ swept w) × (v.collector.phase ≡ Idle) × (v.collector.collections ≡ w.collector.collections + 1) × (v.collector.freed ≡ w.collector.freed)
+TurnHasCause w v (turns.Collected epoch freed) = (epoch + 1 ≡ v.epoch) × (freed ≡ swept w) × (v.collector.phase ≡ Idle) × (v.collector.collections ≡ w.collector.collections + 1) × (v.collector.freed ≡ w.collector.freed)
 TurnHasCause w v turns.EpochsSpent = (w.collector.phase ≡ Idle) × (w.epoch + 1 ≡ 2 ^ 24) × (v ≡ w)
 
 -- The collector made its next turn, and answered this.
@@ -52,8 +52,9 @@ pub record IsTurn (before after : Core) (answer : Turn) : Type 0 where
   pub cause : TurnHasCause before after answer
   pub waiting : (t : ℕ) → before.collector.phase ≡ Looking t → crossing_of before t ≢ crossing_word before.epoch Retired → answer ≡ turns.Waiting t
   pub spent : before.collector.phase ≡ Idle → before.epoch + 1 ≡ 2 ^ 24 → answer ≡ turns.EpochsSpent
-  -- whoever is waited for is a mutator of this heap, so it may poll where it is idle
+  -- whoever is waited for is a mutator of this heap and hasn't left, so it may poll where it is idle
   pub awaited : (t : ℕ) → answer ≡ turns.Waiting t → IsMutator after.config t
+  pub present : (t : ℕ) → answer ≡ turns.Waiting t → (mutator before t).left ≡ false
   -- No slot that a register reaches is freed or changed, and whatever heap stood for this one still does, by the same numbers of its
   -- objects. Within a sweep a turn frees one slot at most.
   pub reached : KeepsReached (sight before) (sight after)

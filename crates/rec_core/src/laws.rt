@@ -127,7 +127,8 @@ pub fn zeros_are_exact()
 
 /// Where a step of a mutator answers a command, in any state of any run of a heap with its collector, whatever heap that never
 /// frees stood for what was seen gives the answer, and what asking makes of it stands for what is seen afterwards. Full is
-/// answered only where no slot is free. Every other step leaves all that is seen.
+/// answered only where no slot is free. That a mutator leaves is decided by the step that takes its mailbox, before the one that
+/// answers. Every other step leaves all that is seen.
 pub fn answers_are_explained()
     ensures { (w : Core) (t : ℕ) → IsConfig w.config → EndsRun w → IsMutator w.config t → is_busy (mutator w t) ≡ true → IsShown w t (answer_of (mutator (stepped w t) t)) (stepped w t) }
 {}

@@ -1,6 +1,5 @@
 -- The collection whose trial is offered every slot, over a whole turn of the collector.
-use Rattle.std.proofs.Common.{◌≡◌, ℕ, ◌<◌, true, Option, None, Some, List, length, refl, sym, ap, subst, ◌∙◌, arith}
-use Rattle.std.proofs.lemmas.Bool.{le-leb}
+use Rattle.std.proofs.Common.{◌≡◌, ◌⊎◌, inl, inr, ℕ, ◌<◌, true, Option, None, Some, List, length, refl, sym, ap, subst, ◌∙◌, arith}
 use Rattle.rec_core.proofs.Common.{State, Member, Work, started_of, IsClearingIn, relieved_at, with_freed, with_offers, Parts, parts_of, with_parts, ClearsOn, IsTested, PreparesOn, TriesOn, Begun, moved, Phase, Idle, Looking, Returning, Releasing, Freeing, Trying, Preparing, Opening, Sweeping, Closing, Turn, still, IsMutator, Core, IsKept, AreCounted, TrialRests, PrepRests, Round, RestsIn, ComesTo}
 use Rattle.rec_trial.specs.Rules.{IsReady}
 use Rattle.rec_trial.proofs.Counted.{started_counted}
@@ -11,7 +10,7 @@ use Rattle.rec_collector.specs.Private.{Private}
 use Rattle.rec_collector.proofs.Offering.{where_ready}
 use Rattle.rec_collector.proofs.Testing.{clear_ready}
 use Rattle.rec_core.specs.Quiet.{gathered, AreGathered}
-use Rattle.rec_core.proofs.TurnCases.{TurnCase, word_at}
+use Rattle.rec_core.proofs.TurnCases.{Awaits, TurnCase, word_at}
 use Rattle.rec_core.proofs.Begun.{applied_lands}
 use Rattle.rec_core.proofs.Freeing.{freed_lands}
 use Rattle.rec_core.proofs.Landed.{HasLanded, HasCleared}
@@ -20,8 +19,11 @@ use Rattle.rec_core.proofs.Preparing.{preparing_lands}
 use Rattle.rec_core.proofs.Releasing.{released_lands}
 use Rattle.rec_core.proofs.Rest.FirstPreparing.{prep_rests_more, sets_rest_begun}
 use Rattle.rec_core.proofs.Rest.FirstTrial.{prep_rests_begun, trial_rests_begun, trial_rests_more}
+use Rattle.rec_core.proofs.Rest.QuietTurns.{awaits_gathered, awaits_way}
+use Rattle.rec_core.proofs.Rest.RestingSeen.{comes_awaited}
 use Rattle.rec_core.proofs.SetTests.{tested_lands}
 use Rattle.rec_core.proofs.Trying.{trying_lands}
+use Rattle.rec_core.proofs.Gathering.{awaits_kept}
 
 -- A preparation came so far: it goes on, or its sets rest, and a sweep follows or the second collection.
 first_prepares : {w : Core} {crossing words : List ℕ} {u : Parts} {v : preps.Work} {q : Private} {turn : Turn} → HasLanded w crossing words (still (record u { counts = v.counts })) → PrepRests w words v → PreparesOn w.collector u v q turn
@@ -76,10 +78,6 @@ first_clears {w} {crossing} {words} {q} {turn} {b} h asked counted (ClearsOn.tri
 pub all_gathered : (w : Core) (phase : Phase) → w.collector.phase ≡ phase → ((t : ℕ) → IsMutator w.config t → gathered phase t ≡ true) → AreGathered w
 all_gathered w phase is h t there = ap (λ f. gathered f t) is ∙ h t there
 
--- the last one is given back
-pub last_gathered : (w : Core) → IsKept w → (t : ℕ) → w.collector.phase ≡ Returning t → t ≡ length w.collector.newer → AreGathered w
-last_gathered w kept t phase last = all_gathered w (Returning t) phase (λ s there. le-leb s t (omega (arith, there.1, last, kept.collector.mutators)))
-
 -- what is known in this phase
 known_in : (w : Core) (phase : Phase) → w.collector.phase ≡ phase → RestsIn Round.First w w.words w.collector w.collector.phase → RestsIn Round.First w w.words w.collector phase
 known_in w phase is h = subst (RestsIn Round.First w w.words w.collector) is h
@@ -98,25 +96,31 @@ freed_offers m v word =
 abbrev Comes : (w after : Core) → Type 0
 Comes w after = ComesTo Round.First w after.words after.collector
 
+-- it is waited for the trial still where a turn applies the batch
+asked_awaited : (w u : Core) → Awaits w u → RestsIn Round.First w w.words w.collector w.collector.phase → u.collector.offers ≡ true
+asked_awaited w u (Awaits.alone idle more left) h = known_in w Idle idle h
+asked_awaited w u (Awaits.last t is returns left) h = known_in w (Returning t) returns h
+
 -- So it is over a whole turn, but for the sweep of a slot, which changes what is held. Counts are to be true once all mailboxes are
 -- gathered.
-pub first_turned : (w v : Core) → IsKept w → TurnCase w v → (AreGathered w → (crossing words : List ℕ) (u : Begun) → HasLanded w crossing words u → AreCounted w words u.parts.counts)
+pub first_turned : (w v : Core) → IsKept w → TurnCase w v → ((x : Core) → (x ≡ w) ⊎ Awaits w x → AreGathered x → (crossing words : List ℕ) (u : Begun) → HasLanded x crossing words u → AreCounted x words u.parts.counts)
     → ((due : Option ℕ) (n : ℕ) → w.collector.phase ≡ Sweeping due n → ⊥) → RestsIn Round.First w w.words w.collector w.collector.phase → (words : List ℕ) × (v.words ≡ words) × ComesTo Round.First w words v.collector
 first_turned w v kept turn counted unswept h = (v.words, refl, go turn)
   where
     go : TurnCase w v → ComesTo Round.First w v.words v.collector
     go (TurnCase.spent phase last is) = subst (Comes w) (sym is) (ComesTo.goes_on refl h)
-    go (TurnCase.requests phase is) = subst (Comes w) (sym is) (ComesTo.goes_on refl (known_in w Idle phase h))
+    go (TurnCase.requests next phase present is) = subst (Comes w) (sym is) (ComesTo.goes_on refl (known_in w Idle phase h))
     go (TurnCase.waits t there phase word is) = subst (Comes w) (sym is) (ComesTo.goes_on refl h)
     go (TurnCase.gathers t there phase word is) = subst (Comes w) (sym is) (ComesTo.goes_on refl (known_in w (Looking t) phase h))
-    go (TurnCase.gives_back t there phase other is) = subst (Comes w) (sym is) (ComesTo.goes_on refl (known_in w (Returning t) phase h))
-    go (TurnCase.applies t q turn there phase last on is) =
-        subst (Comes w) (sym is) (first_clears (applied_lands w t kept phase last) (known_in w (Returning t) phase h) (counted (last_gathered w kept t phase last) _ w.words) on)
+    go (TurnCase.gives_back t next there phase present is) = subst (Comes w) (sym is) (ComesTo.goes_on refl (known_in w (Returning t) phase h))
+    go (TurnCase.applies u q turn awaits on is) =
+        let lands = applied_lands u (length u.collector.newer) (awaits_kept w u kept awaits) (awaits_way w u awaits) in
+        subst (Comes w) (sym is) (comes_awaited Round.First w u awaits u.words q (first_clears lands (asked_awaited w u awaits h) (counted u (inr awaits) (awaits_gathered w u kept awaits) u.crossing u.words) on))
     go (TurnCase.releases m a q turn phase at on is) =
-        subst (Comes w) (sym is) (first_clears (released_lands w m a kept phase at) (known_in w (Releasing m) phase h) (counted (all_gathered w (Releasing m) phase (λ t there. refl)) w.crossing _) on)
+        subst (Comes w) (sym is) (first_clears (released_lands w m a kept phase at) (known_in w (Releasing m) phase h) (counted w (inl refl) (all_gathered w (Releasing m) phase (λ t there. refl)) w.crossing _) on)
     go (TurnCase.frees m a q turn phase at on is) =
         let offers = freed_offers m (parts_of w.collector) (word_at w a.slot a.field) in
-        subst (Comes w) (sym is) (first_clears (freed_lands w m a kept phase at) (offers ∙ known_in w (Freeing m) phase h) (counted (all_gathered w (Freeing m) phase (λ t there. refl)) w.crossing _) on)
+        subst (Comes w) (sym is) (first_clears (freed_lands w m a kept phase at) (offers ∙ known_in w (Freeing m) phase h) (counted w (inl refl) (all_gathered w (Freeing m) phase (λ t there. refl)) w.crossing _) on)
     go (TurnCase.tries m place q turn phase named on is) =
         subst (Comes w) (sym is) (first_tries {u = parts_of w.collector} (trying_lands w m kept phase place named) (trial_rests_more w m place kept phase named (known_in w (Trying m) phase h)) on)
     go (TurnCase.prepares m a q turn phase at on is) =

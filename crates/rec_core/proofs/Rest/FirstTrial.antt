@@ -4,7 +4,7 @@ use Rattle.std.proofs.Math.Nat.{mod-lt, div-add-mod, mul_comm}
 use Rattle.std.proofs.lemmas.Bool.{cases_lt, eq-eqb, eqb-true, false≢true}
 use Rattle.std.proofs.lemmas.List.{get_or_default, get_or_past}
 use Rattle.std.proofs.lemmas.Nat.{div_below}
-use Rattle.rec_core.proofs.Common.{place_of, target_of, Op, is_dead, Pending, registers_name_the_taken, Slot, State, slot_at, one, no_set, some_set, unreleased_within, named, visible, Machine, Work, op_at, started_of, PreparedTo, prep_started, with_offers, Parts, new_prep, Trying, still, Core, sight, IsKept, holds, AreCounted, AreFound, AreLeaves, AreUnnamed, TrialRests, PrepRests, heap_sum, offered_slots, IsOffered, FindsGarbage, AreEmptied, LeadBack, is_green}
+use Rattle.rec_core.proofs.Common.{place_of, target_of, Op, is_dead, Pending, registers_name_the_taken, Slot, State, slot_at, one, no_set, some_set, unreleased_within, named, visible, IsTaken, Machine, Work, op_at, started_of, PreparedTo, prep_started, with_offers, Parts, new_prep, Trying, still, Core, sight, IsKept, holds, AreCounted, AreFound, AreLeaves, AreUnnamed, TrialRests, PrepRests, heap_sum, offered_slots, IsOffered, FindsGarbage, AreEmptied, LeadBack, is_green}
 use Rattle.rec_word.specs.declared.op.Op.TheVariants.{LoadChild}
 use Rattle.rec_model.specs.Heap.{roots}
 use Rattle.rec_model.specs.Reach.{is_in}
@@ -28,7 +28,6 @@ use Rattle.rec_core.proofs.Reach.{sight_is}
 use Rattle.rec_core.proofs.Rest.SettlingFinds.{garbage_unheld, offered_other, offered_unreleased, trial_finds_garbage}
 use Rattle.rec_core.proofs.Rest.SettlingPrepared.{loads_begun}
 use Rattle.rec_core.proofs.Rest.SettlingSets.{found_counts, found_lead_back, references_in_words}
-use Rattle.rec_core.proofs.Steps.{fields_many, taken_slot}
 use Rattle.rec_core.proofs.Trying.{loaded_leads}
 use Rattle.rec_core.proofs.Turns.{now_at}
 use Rattle.rec_core.proofs.Zeros.{landed_empty, leaf_empty}
@@ -43,7 +42,7 @@ module _ {w : Core} {crossing words : List ℕ} {v : Parts} (l : HasLanded w cro
 
   -- There are as many words as the slots have fields.
   pub words_landed : length words ≡ length v.counts.slots * w.config.fields
-  words_landed = l.many_words ∙ sym (fields_many w (length s.slots) w.config.fields l.kept l.slots refl)
+  words_landed = l.many_words ∙ l.kept.sound.places ∙ ap (λ n. n * w.config.fields) (l.kept.headers ∙ sym l.slots)
 
   -- what is known of the node of a slot that is there, is known of the slot
   node_unreleased : (x : ℕ) → x < w.config.slots → p.released (x + 1) ≡ false → (slot_at s x).released ≡ false
@@ -57,9 +56,12 @@ module _ {w : Core} {crossing words : List ℕ} {v : Parts} (l : HasLanded w cro
   named_unreleased : (x : ℕ) → 0 < sum_by (named x) (sight w).registers → (slot_at s x).released ≡ false
   named_unreleased x h =
       let root : is_in x (roots (sight w).registers) ≡ true = named_root x (sight w).registers h in
-      let (epoch, held) = (sight_is w).registers x root in
+      let (epoch, held) = (sight_is w l.kept).registers x root in
       let alive : is_dead p (x + 1) ≡ false = registers_name_the_taken p l.accounted epoch (x + 1) (omega arith) held in
-      node_unreleased x (taken_slot w l.kept x (l.kept.sound.registers x root)) (not_dead (p.free (x + 1)) (p.released (x + 1)) alive)
+      let headers : length w.headers ≡ w.config.slots = l.kept.headers in
+      let taken : IsTaken (sight w) x = l.kept.sound.registers x root in
+      let there : x < w.config.slots = elim (cases_lt x (length w.headers)) [ inl below ↦ omega (arith, below, headers) | inr past ↦ absurd (omega (arith, taken, get_or_past w.headers x 0 past)) ] in
+      node_unreleased x there (not_dead (p.free (x + 1)) (p.released (x + 1)) alive)
 
   -- and neither is what is free
   free_unreleased : (x : ℕ) → slice_index_or w.headers x 1 ≡ 0 → (slot_at s x).released ≡ false

@@ -1,20 +1,21 @@
 -- In a heap at rest each count is the number of fields and registers that name the slot, once the batch of an epoch without writes is
 -- applied.
-use Rattle.std.proofs.Common.{◌≡◌, inl, inr, ℕ, ◌+◌, ◌-◌, ◌<◌, ◌≤◌, ◌==◌, Bool, true, false, List, [], Option, None, Some, length, slice_index_or, refl, sym, ap, subst, ◌∙◌, arith}
+use Rattle.std.proofs.Common.{◌≡◌, ◌⊎◌, inl, inr, ℕ, ◌+◌, ◌-◌, ◌<◌, ◌≤◌, ◌==◌, if◌then◌else◌, Bool, true, false, List, [], Option, None, Some, length, slice_index_or, refl, sym, ap, ◌∙◌, arith}
 use Rattle.std.specs.List.{sum_by}
-use Rattle.std.proofs.lemmas.Bool.{cases_eq, eq-eqb, ne_eqb}
+use Rattle.std.proofs.lemmas.Bool.{cases_eq, eq-eqb, false≢true, ne_eqb}
 use Rattle.std.proofs.lemmas.List.{get_or_default}
-use Rattle.rec_core.proofs.Common.{target_of, is_slot, names, IsAccounted, node_of, Dated, is_at, only_if, one_if_same, sum_at, sum_by-map, sum_at_same, one_if_self, none_if_differs, Contents, State, slot_at, one, Slot, named, Private, blank, buffer_at, Begun, Phase, Idle, IsMutator, Core, sight, mutator, box, spare_of, nobody, IsBufferOf, HasMutators, Handshake, stand_at, IsHandshake, IsKept, Filed, code, dated_names, older_at, applied_at, epoch_at, pending, snapshots_of, holds, AreCounted, leading, heap_sum}
+use Rattle.rec_core.proofs.Common.{target_of, is_slot, names, IsAccounted, node_of, Dated, is_at, only_if, one_if_same, sum_at, sum_by-map, sum_at_same, one_if_self, none_if_differs, Contents, State, slot_at, one, Slot, named, Private, blank, buffer_at, Begun, has_left, Phase, Idle, Opening, IsMutator, Core, sight, mutator, box, spare_of, nobody, IsBufferOf, HasMutators, Handshake, stand_at, stand_in, IsHandshake, IsKept, IsKeptBy, Filed, code, dated_names, older_at, applied_at, epoch_at, pending, snapshots_of, holds, AreCounted, leading, heap_sum}
 use Rattle.rec_model.specs.Reach.{named as named_slots}
 use Rattle.rec_collector.specs.Kept.{under_way}
 use Rattle.rec_core.specs.Quiet.{IsRetired, AreQuiet, AreGathered}
+use Rattle.rec_core.proofs.Actors.{idle_here, left_let_go}
 use Rattle.rec_core.proofs.Batches.{none_of}
 use Rattle.rec_core.proofs.Counts.{accounts_with, counted_slot}
 use Rattle.rec_core.proofs.Landed.{landed_pending, HasLanded}
 use Rattle.rec_core.proofs.Moves.{code_target}
 use Rattle.rec_core.proofs.Rest.QuietSums.{by_place, mutator_at, snapshot_by, same_rows, AreSilent, IsSilent, silent_sums, null_names, other_names, own_names}
 use Rattle.rec_core.proofs.Sums.{log_share, buffers_sum}
-use Rattle.rec_core.proofs.Turns.{its_spare, now_at, spare_row, snapshots_nothing}
+use Rattle.rec_core.proofs.Turns.{its_spare, now_at, spare_boxes, spare_row, snapshots_nothing}
 
 -- a word that names the node of a slot leads to it
 same_word : (x word : ℕ) → one_if_same (x + 1) (node_of word) ≡ leading x word
@@ -62,21 +63,38 @@ ledger_count w words s applied x accounted silent snapshots header slot =
       sum_by-map (named x) (λ (q : Private). q.registers) w.mutators,
     )
 
--- a mutator at rest that has crossed: its log is empty, and its mailbox home with a spare
+-- a mutator at rest that has crossed, or that has left: its log is empty, and its mailbox home with a spare
 record IsHome (w : Core) (i : ℕ) : Type 0 where
   entries : (mutator_at w i).log.entries ≡ []
   unwritten : named_slots (mutator_at w i).log.snapshot ≡ []
   spare : buffer_at w.boxes i ≡ spare_of w.config
 
--- so it is where no mailbox is still to be gathered
-home_of : (first : ℕ) (w : Core) {phase : Phase} {crossing : List ℕ} → HasMutators w.config w.epoch phase w.mutators crossing w.boxes → ((t : ℕ) → stand_at phase t ≡ Handshake.Done)
+-- the turn of a mutator that stands so is over, or it has left
+abbrev pub IsOver : Handshake → Type 0
+IsOver stand = (stand ≡ Handshake.Done) ⊎ (stand ≡ Handshake.Gone)
+
+-- so it is where no mailbox is to be gathered
+pub stands_over : (left : List Bool) (phase : Phase) (t : ℕ) → stand_in phase t ≡ Handshake.Done → IsOver (stand_at left phase t)
+stands_over left phase t done = elim (has_left left t) as (λ (b : Bool). IsOver (if b then Handshake.Gone else stand_in phase t)) [ true ↦ inr refl | false ↦ inl done ]
+
+-- A mutator at rest is home then: the last buffer of one that has left is gathered.
+home_of : (first : ℕ) (w : Core) {stands : ℕ → Handshake} {crossing : List ℕ} → HasMutators w.config w.epoch stands w.mutators crossing w.boxes → ((t : ℕ) → IsOver (stands t))
     → AreQuiet first w → first < w.epoch → (i : ℕ) → i < w.config.mutators → IsHome w i
-home_of first w {phase = phase} {crossing = crossing} mutators done quiet early = by_place w.config (IsHome w) (λ t is.
-    let actor = mutators.each t is in
-    let stands : Handshake → Type 0 = IsHandshake w.config w.epoch (mutator w t) (slice_index_or crossing (t - 1) 0) (box w t) in
-    let home : stands Handshake.Done = subst stands (done t) actor.handshake in
-    let epoch : (mutator w t).epoch ≡ w.epoch = home.0.epoch in
-    record { entries = (quiet t is).log (omega (arith, epoch, early)); unwritten = actor.unwritten; spare = home.1 })
+home_of first w {stands = stands} {crossing = crossing} mutators over quiet early = by_place w.config (IsHome w) (λ t is. go t is (stands t) (over t) (mutators.each t is).handshake)
+  where
+    go : (t : ℕ) (is : IsMutator w.config t) (stand : Handshake) → IsOver stand → IsHandshake w.config w.epoch (mutator w t) (slice_index_or crossing (t - 1) 0) (box w t) stand → IsHome w (t - 1)
+    go t is Handshake.Done _ (inl (crossed, stays, spare)) =
+        let epoch : (mutator w t).epoch ≡ w.epoch = crossed.epoch in
+        record { entries = (quiet t is).log (omega (arith, epoch, early)); unwritten = (mutators.each t is).unwritten; spare = spare }
+    go t is Handshake.Done _ (inr (inl (crosses, parting))) = absurd (false≢true (sym (idle_here (mutator w t).phase (quiet t is).idle) ∙ crosses.phase))
+    go t is Handshake.Done _ (inr (inr retired)) = absurd (omega (arith, (quiet t is).gone retired.left, retired.epoch, early))
+    go t is Handshake.Held (inl not_so) _ = cc
+    go t is Handshake.Held (inr not_so) _ = cc
+    go t is Handshake.Due (inl not_so) _ = cc
+    go t is Handshake.Due (inr not_so) _ = cc
+    go t is Handshake.Gone _ gone =
+        let actor = mutators.each t is in
+        record { entries = ap (λ (b : Contents). b.entries) (actor.let_go (left_let_go (mutator w t) gone.left)).log; unwritten = actor.unwritten; spare = gone.spare }
 
 -- a heap in which all mutators are home
 record AreHome (w : Core) : Type 0 where
@@ -108,7 +126,7 @@ home_snapshots w g all =
       arith,
       buffers_sum g of_names w,
       none_of (log_share g of_names) w.mutators nobody (λ i below. null_names g (epoch_at (mutator_at w i)) (mutator_at w i).log (all.home i (omega (arith, mutators, below))).unwritten),
-      spare_row g of_names w.config (w.epoch - 1) w.boxes (snapshots_nothing w.config g) (λ i below. (all.home i (omega (arith, boxes, below))).spare),
+      spare_boxes g of_names w.config w.mutators w.boxes (snapshots_nothing w.config g) (λ i below. (all.home i (omega (arith, boxes, below))).spare),
     )
 
 -- retired buffers of this epoch name what the registers do
@@ -123,9 +141,9 @@ retired_names w epoch x row many long buffers retired =
 
 -- The batch of an epoch without writes was applied: the newer buffers are its, and the older ones those of the epoch before. So it is
 -- with these words and counts, as long as they are accounted for.
-pub accounted_count : (first : ℕ) (w : Core) (words : List ℕ) (s : State) {phase : Phase} {crossing : List ℕ} → IsKept w → HasMutators w.config w.epoch phase w.mutators crossing w.boxes → ((t : ℕ) → stand_at phase t ≡ Handshake.Done)
+pub accounted_count : (first : ℕ) (w : Core) (words : List ℕ) (s : State) {stands standing : ℕ → Handshake} {crossing : List ℕ} → IsKeptBy stands w → HasMutators w.config w.epoch standing w.mutators crossing w.boxes → ((t : ℕ) → IsOver (standing t))
     → under_way w.collector.phase ≡ 1 → older_at w.epoch w.collector.phase ≡ w.epoch - 2 → IsAccounted (landed_pending w words s) → length s.slots ≡ w.config.slots → AreQuiet first w → AreGathered w → first < w.epoch → AreCounted w words s
-accounted_count first w words s kept mutators stands way behind accounted slots quiet done early x below =
+accounted_count first w words s kept mutators over way behind accounted slots quiet done early x below =
     let c = kept.collector in
     let m = kept.mutators in
     let a : ℕ = w.epoch - 1 in
@@ -135,7 +153,7 @@ accounted_count first w words s kept mutators stands way behind accounted slots 
     let newer : length w.collector.newer ≡ w.config.mutators = c.mutators in
     let older : length w.collector.older ≡ w.config.mutators = c.machine.both ∙ newer in
     let headers : length w.headers ≡ w.config.slots = kept.headers in
-    let all : AreHome w = record { home = home_of first w mutators stands quiet early; mutators = m.many; boxes = m.mailboxes } in
+    let all : AreHome w = record { home = home_of first w mutators over quiet early; mutators = m.many; boxes = m.mailboxes } in
     let retired : (t : ℕ) → IsMutator w.config t → IsRetired (mutator w t).registers (buffer_at w.collector.newer (t - 1)) = λ t is. (quiet t is).newer early (done t is) in
     let newer_silent : (i : ℕ) → i < w.config.mutators → IsSilent a a (buffer_at w.collector.newer i)
     = by_place w.config (λ i. IsSilent a a (buffer_at w.collector.newer i)) (λ t is. inl (retired t is).entries) in
@@ -155,7 +173,7 @@ accounted_count first w words s kept mutators stands way behind accounted slots 
 
 -- So it is where a turn of the collection has come to.
 pub landed_count : (first : ℕ) {w : Core} {crossing words : List ℕ} {b : Begun} → HasLanded w crossing words b → AreQuiet first w → AreGathered w → first < w.epoch → AreCounted w words b.parts.counts
-landed_count first {w} {crossing} {words} {b} k quiet done early = accounted_count first w words b.parts.counts k.kept k.mutators (λ t. refl) k.way k.older k.accounted k.slots quiet done early
+landed_count first {w} {crossing} {words} {b} k quiet done early = accounted_count first w words b.parts.counts k.kept k.mutators (λ t. stands_over w.collector.left Opening t refl) k.way k.older k.accounted k.slots quiet done early
 
 -- Between two collections the older buffers are those of the last batch, and the newer ones spares.
 pub idle_count : (first : ℕ) (w : Core) → IsKept w → AreQuiet first w → w.collector.phase ≡ Idle → first < w.epoch → AreCounted w w.words w.collector.counts
@@ -170,7 +188,7 @@ idle_count first w kept quiet idle early x below =
     let older : length w.collector.older ≡ w.config.mutators = c.machine.both ∙ newer in
     let headers : length w.headers ≡ w.config.slots = kept.headers in
     let slots : length w.collector.counts.slots ≡ w.config.slots = c.slots in
-    let all : AreHome w = record { home = home_of first w m (λ t. ap (λ phase. stand_at phase t) idle) quiet early; mutators = m.many; boxes = m.mailboxes } in
+    let all : AreHome w = record { home = home_of first w m (λ t. stands_over w.collector.left w.collector.phase t (ap (λ phase. stand_in phase t) idle)) quiet early; mutators = m.many; boxes = m.mailboxes } in
     let spares : (i : ℕ) → i < length w.collector.newer → buffer_at w.collector.newer i ≡ spare_of w.config = λ i within. (now_at w Idle kept idle).1 i (omega arith) within ∙ its_spare c in
     let retired : (t : ℕ) → IsMutator w.config t → IsRetired (mutator w t).registers (buffer_at w.collector.older (t - 1)) = λ t is. (quiet t is).older (omega (arith, last, early)) in
     let older_silent : (i : ℕ) → i < w.config.mutators → IsSilent a o (buffer_at w.collector.older i)

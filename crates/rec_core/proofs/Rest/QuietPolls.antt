@@ -3,17 +3,18 @@
 use Rattle.std.proofs.Common.{◌≡◌, ◌≢◌, inl, inr, ℕ, ◌+◌, ◌-◌, ◌<◌, ◌≤◌, ◌==◌, if◌then◌else◌, Bool, true, false, [], None, Some, length, slice_set, refl, sym, ap, subst, ◌∙◌, arith, add-zero}
 use Rattle.std.proofs.lemmas.Bool.{cases_eq, false≢true}
 use Rattle.std.proofs.lemmas.List.{set-get_or, get_or-set_same, get_or-set_other}
-use Rattle.rec_core.proofs.Common.{crossing_word, Retired, WithMutator, Contents, next_of, next_at, Private, is_busy, is_busy_at, begun_of, took_of, took_at, swapped_of, swapped_at, left_of, left_at, retired, polled, crossed, blank, buffer_at, cell, IsMutator, Core, cells_of, mutator, box, crossing_of, nobody, with_mutator, IsKept, performed, stepped, begun, older_at}
+use Rattle.rec_core.proofs.Common.{crossing_word, Retired, WithMutator, Contents, next_of, next_at, Private, is_busy, is_busy_at, begun_of, took_of, took_at, swapped_of, swapped_at, left_of, left_at, retired, polled, crossed, blank, buffer_at, cell, IsMutator, Core, cells_of, mutator, box, crossing_of, nobody, with_mutator, IsCrossing, IsKept, stand_at, performed, stepped, begun, older_at}
 use Rattle.rec_word.specs.declared.op.Op.TheVariants as ops
+use Rattle.rec_mutator.specs.Causes.{gives_back}
 use Rattle.rec_mutator.specs.Took.{step_of, moved}
 use Rattle.rec_mutator.specs.declared.made.Made.TheVariants as makes
 use Rattle.rec_mutator.specs.declared.phase.Phase.{Phase}
-use Rattle.rec_mutator.specs.declared.phase.Phase.TheVariants.{Idle, Begun, Scanning, Scanned, Storing, Crossing, Swapping, Giving, Finished}
+use Rattle.rec_mutator.specs.declared.phase.Phase.TheVariants.{Begun, Crossing, Giving, Parting, Finished}
 use Rattle.rec_mutator.specs.declared.work.Work.TheVariants as works
 use Rattle.rec_core.specs.Quiet.{IsRetired, gathered, IsQuietOf, AreQuiet}
 use Rattle.rec_core.specs.Worked.{StepsTo, IsWorked}
-use Rattle.rec_core.proofs.Crossings.{behind_of, giving_of, begun_kept, step_kept}
-use Rattle.rec_core.proofs.Steps.{actor_of}
+use Rattle.rec_core.proofs.Actors.{crossing_due, giving_crosses}
+use Rattle.rec_core.proofs.Crossings.{begun_kept, step_kept}
 
 -- with this mutator, its crossing word and this in its mailbox
 abbrev with_actor : Core → (t : ℕ) → Private → (word : ℕ) → Contents → Core
@@ -74,8 +75,9 @@ IsOfPoll _ = ⊥
 -- mailbox, that holds its retired log already.
 record IsPolling (first : ℕ) (w : Core) (t : ℕ) (p : Private) (word : ℕ) (b : Contents) : Type 0 where
   polls : IsOfPoll p.phase
+  stays : p.left ≡ false
   log : first ≤ p.epoch → p.log.entries ≡ []
-  box : first < w.epoch → word ≡ crossing_word w.epoch Retired → IsRetired p.registers b
+  box : (into : ℕ) → first < into → word ≡ crossing_word into Retired → IsRetired p.registers b
   held : first < w.epoch → p.phase ≡ Giving → IsRetired p.registers b
   newer : first < w.epoch → gathered w.collector.phase t ≡ true → IsRetired p.registers (buffer_at w.collector.newer (t - 1))
   older : first ≤ older_at w.epoch w.collector.phase → IsRetired p.registers (buffer_at w.collector.older (t - 1))
@@ -111,7 +113,7 @@ polls_changed first t w p word b before is quiet kept own =
           let same_word : crossing_of v s ≡ crossing_of w s = get_or-set_other w.crossing (t - 1) (s - 1) word 0 apart in
           let same_box : box v s ≡ box w s = get_or-set_other w.boxes (t - 1) (s - 1) b (blank 0 0) apart in
           quiet_as s same_p same_word same_box (quiet s there other);
-      own = polling_as p_is word_is box_is (record { polls = own.polls; log = own.log; box = own.box; held = own.held; newer = own.newer; older = own.older });
+      own = polling_as p_is word_is box_is (record { polls = own.polls; stays = own.stays; log = own.log; box = own.box; held = own.held; newer = own.newer; older = own.older });
     }
   where
     v : Core
@@ -122,8 +124,9 @@ polls_changed first t w p word b before is quiet kept own =
         let registers : (mutator w s).registers ≡ (mutator v s).registers = ap (λ (q : Private). q.registers) (sym same_p) in
         record {
           idle = ap is_busy same_p ∙ k.idle;
+          gone = λ left. subst (λ (q : Private). q.epoch ≤ first) (sym same_p) (k.gone (sym (ap (λ (q : Private). q.left) same_p) ∙ left));
           log = λ from. ap (λ (q : Private). q.log.entries) same_p ∙ k.log (subst (λ (q : Private). first ≤ q.epoch) same_p from);
-          box = λ early waits. subst (λ rs. IsRetired rs (box v s)) registers (subst (IsRetired (mutator w s).registers) (sym same_box) (k.box early (sym same_word ∙ waits)));
+          box = λ into early waits. subst (λ rs. IsRetired rs (box v s)) registers (subst (IsRetired (mutator w s).registers) (sym same_box) (k.box into early (sym same_word ∙ waits)));
           newer = λ early has. subst (λ rs. IsRetired rs (buffer_at w.collector.newer (s - 1))) registers (k.newer early has);
           older = λ from. subst (λ rs. IsRetired rs (buffer_at w.collector.older (s - 1))) registers (k.older from);
         }
@@ -140,7 +143,7 @@ on_begun first t w on busy begins =
     let own = on.own in
     let same : Bool = w.epoch == (mutator w t).epoch in
     steps_on first t w (polled (mutator w t) w.epoch) (crossing_of w t) (box w t) on busy (poll_begins w t begins)
-    (record { polls = polls same; log = own.log; box = own.box; held = λ early gives. absurd (held same gives); newer = own.newer; older = own.older })
+    (record { polls = polls same; stays = own.stays; log = own.log; box = own.box; held = λ early gives. absurd (held same gives); newer = own.newer; older = own.older })
   where
     polls : (b : Bool) → IsOfPoll (if b then Finished works.Poll (makes.Crossed None) else Crossing)
     polls true = tt
@@ -155,29 +158,43 @@ on_crossing : (first t : ℕ) (w : Core) → PollsOn first t w → is_busy (muta
 on_crossing first t w on busy crosses =
     let p : Private = mutator w t in
     let own = on.own in
-    let (due, behind) = behind_of w t on.kept on.is crosses in
+    let behind = (crossing_due w.config w.epoch p (crossing_of w t) (box w t) (stand_at w.collector.left w.collector.phase t) own.stays crosses (on.kept.mutators.each t on.is).handshake).1 in
     let epoch : p.epoch + 1 ≡ w.epoch = behind.epoch in
-    steps_on first t w (moved (record p { log = box w t }) Giving) (crossing_word (p.epoch + 1) WithMutator) (retired p) on busy (poll_takes w t crosses (actor_of w t on.kept on.is).own.number)
+    steps_on first t w (moved (record p { log = box w t }) Giving) (crossing_word (p.epoch + 1) WithMutator) (retired p) on busy (poll_takes w t crosses (on.kept.mutators.each t on.is).own.number)
     (record {
       polls = tt;
+      stays = own.stays;
       log = λ from. ap (λ (b : Contents). b.entries) behind.spare;
-      box = λ early waits. absurd (omega (arith, epoch, waits));
+      box = λ into early waits. absurd (omega (arith, waits));
       held = λ early gives. record { entries = own.log (omega (arith, early, epoch)); snapshot = refl };
       newer = own.newer;
       older = own.older;
     })
+
+-- one that is to give its mailbox back is crossing into the requested epoch
+crossing_into : (w : Core) (t : ℕ) → IsKept w → IsMutator w.config t → (mutator w t).left ≡ false → (mutator w t).phase ≡ Giving → IsCrossing w.config w.epoch (mutator w t) (crossing_of w t) (box w t)
+crossing_into w t kept is stays gives =
+    elim (giving_crosses w.config w.epoch (mutator w t) (crossing_of w t) (box w t) (stand_at w.collector.left w.collector.phase t) stays (ap gives_back gives) (kept.mutators.each t is).handshake) [
+      | inl into ↦ into.1
+      | inr leaves ↦ absurd (differs (sym gives ∙ leaves.2))
+    ]
+  where
+    differs : Giving ≡ Parting → ⊥
+    differs is = cc
 
 -- it gives it back with the retired log
 on_giving : (first t : ℕ) (w : Core) → PollsOn first t w → is_busy (mutator w t) ≡ true → (mutator w t).phase ≡ Giving → PollsOn first t (stepped w t)
 on_giving first t w on busy gives =
     let p : Private = mutator w t in
     let own = on.own in
-    let (due, crosses) = giving_of w t on.kept on.is gives in
-    steps_on first t w (crossed p) (crossing_word (p.epoch + 1) Retired) (box w t) on busy (poll_gives w t gives (actor_of w t on.kept on.is).own.number)
+    let crosses = crossing_into w t on.kept on.is own.stays gives in
+    let epoch : p.epoch + 1 ≡ w.epoch = crosses.epoch in
+    steps_on first t w (crossed p) (crossing_word (p.epoch + 1) Retired) (box w t) on busy (poll_gives w t gives (on.kept.mutators.each t on.is).own.number)
     (record {
       polls = tt;
+      stays = own.stays;
       log = λ from. ap (λ (b : Contents). b.entries) crosses.spare;
-      box = λ early waits. own.held early gives;
+      box = λ into early waits. own.held (omega (arith, epoch, early, waits)) gives;
       held = λ early is. absurd (finished is);
       newer = own.newer;
       older = own.older;
@@ -198,15 +215,15 @@ on_step first t w on busy = go (mutator w t).phase refl on.own.polls
     go _ at polls = absurd polls
 
 -- the poll begins
-on_begin : (first t : ℕ) (w : Core) → IsKept w → IsMutator w.config t → AreQuiet first w → PollsOn first t (begun w t works.Poll)
+on_begin : (first t : ℕ) (w : Core) → IsKept w → IsMutator w.config t → (mutator w t).left ≡ false → AreQuiet first w → PollsOn first t (begun w t works.Poll)
 unfolding begun_of
-on_begin first t w kept is quiet =
+on_begin first t w kept is stays quiet =
     let p : Private = begun_of (mutator w t) works.Poll 0 in
     let own = quiet t is in
     let begins : begun w t works.Poll ≡ with_actor w t p (crossing_of w t) (box w t) = sym (same_actor w t p) in
-    let kept_so : IsKept (with_actor w t p (crossing_of w t) (box w t)) = subst IsKept begins (begun_kept w t works.Poll 0 kept is own.idle tt tt kept.config.some_slots) in
+    let kept_so : IsKept (with_actor w t p (crossing_of w t) (box w t)) = subst IsKept begins (begun_kept w t works.Poll 0 kept is own.idle stays tt tt kept.config.some_slots) in
     subst (PollsOn first t) (sym begins) (polls_changed first t w p (crossing_of w t) (box w t) kept is (λ s there other. quiet s there) kept_so
-    (record { polls = tt; log = own.log; box = own.box; held = λ early gives. absurd (begun_gives gives); newer = own.newer; older = own.older }))
+    (record { polls = tt; stays = stays; log = own.log; box = own.box; held = λ early gives. absurd (begun_gives gives); newer = own.newer; older = own.older }))
   where
     begun_gives : Begun works.Poll ≡ Giving → ⊥
     begun_gives is = cc
@@ -216,20 +233,20 @@ on_path : (first t : ℕ) (before w : Core) → PollsOn first t before → Steps
 on_path first t before w on (StepsTo.here _ same) = subst (PollsOn first t) (sym same) on
 on_path first t before w on (StepsTo.further u _ path busy step) = subst (PollsOn first t) (sym step) (on_step first t u (on_path first t before u on path) busy)
 
-polled_on : (first : ℕ) (w v : Core) (t : ℕ) → IsKept w → IsMutator w.config t → IsWorked w t works.Poll v → AreQuiet first w → PollsOn first t v
-polled_on first w v t kept is worked quiet =
-    let last : PollsOn first t worked.last = on_path first t (begun w t works.Poll) worked.last (on_begin first t w kept is quiet) worked.path in
+polled_on : (first : ℕ) (w v : Core) (t : ℕ) → IsKept w → IsMutator w.config t → (mutator w t).left ≡ false → IsWorked w t works.Poll v → AreQuiet first w → PollsOn first t v
+polled_on first w v t kept is stays worked quiet =
+    let last : PollsOn first t worked.last = on_path first t (begun w t works.Poll) worked.last (on_begin first t w kept is stays quiet) worked.path in
     subst (PollsOn first t) (sym worked.steps) (on_step first t worked.last last worked.busy)
 
 -- What every heap keeps, a poll keeps.
-pub polled_kept : (first : ℕ) (w v : Core) (t : ℕ) → IsKept w → IsMutator w.config t → IsWorked w t works.Poll v → AreQuiet first w → IsKept v
-polled_kept first w v t kept is worked quiet = (polled_on first w v t kept is worked quiet).kept
+pub polled_kept : (first : ℕ) (w v : Core) (t : ℕ) → IsKept w → IsMutator w.config t → (mutator w t).left ≡ false → IsWorked w t works.Poll v → AreQuiet first w → IsKept v
+polled_kept first w v t kept is stays worked quiet = (polled_on first w v t kept is stays worked quiet).kept
 
 -- A poll leaves the mutators at rest.
-pub quiet_polled : (first : ℕ) (w v : Core) (t : ℕ) → IsKept w → IsMutator w.config t → IsWorked w t works.Poll v → AreQuiet first w → AreQuiet first v
-quiet_polled first w v t kept is worked quiet s there =
-    let on : PollsOn first t v = polled_on first w v t kept is worked quiet in
-    let own : IsQuietOf first v t = record { idle = worked.idle; log = on.own.log; box = on.own.box; newer = on.own.newer; older = on.own.older } in
+pub quiet_polled : (first : ℕ) (w v : Core) (t : ℕ) → IsKept w → IsMutator w.config t → (mutator w t).left ≡ false → IsWorked w t works.Poll v → AreQuiet first w → AreQuiet first v
+quiet_polled first w v t kept is stays worked quiet s there =
+    let on : PollsOn first t v = polled_on first w v t kept is stays worked quiet in
+    let own : IsQuietOf first v t = record { idle = worked.idle; gone = λ left. absurd (false≢true (sym on.own.stays ∙ left)); log = on.own.log; box = on.own.box; newer = on.own.newer; older = on.own.older } in
     elim (cases_eq s t) [
       | inl same ↦ subst (IsQuietOf first v) (sym same) own
       | inr other ↦ on.others s there other

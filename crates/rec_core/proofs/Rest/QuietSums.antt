@@ -1,6 +1,6 @@
 -- In a heap at rest nothing is left to count, once the batch of an epoch without writes is applied, but what the snapshots name.
 use Rattle.std.proofs.Common.{◌≡◌, ◌⊎◌, inl, inr, ℕ, ◌+◌, ◌-◌, ◌<◌, suc, List, [], ◌∷◌, length, map, slice_index_or, refl, ap, subst, arith}
-use Rattle.std.specs.List.{All, sum_by}
+use Rattle.std.specs.List.{All, sum_by, zip}
 use Rattle.std.proofs.lemmas.Bool.{lt-leb}
 use Rattle.std.proofs.lemmas.List.Elements.{All-head, All-tail}
 use Rattle.std.proofs.lemmas.List.Sums.{sum_by-cons}
@@ -9,7 +9,7 @@ use Rattle.rec_model.specs.Reach.{named as named_slots}
 use Rattle.rec_log.specs.declared.entry.Entry.TheVariants as entries
 use Rattle.rec_apply.proofs.Naming.{named-nil}
 use Rattle.rec_core.proofs.Batches.{gain_named, gain_none, none_of, sum_parts}
-use Rattle.rec_core.proofs.Sums.{share, log_share, buffers_sum}
+use Rattle.rec_core.proofs.Sums.{share, log_share, box_share, zip_sum-none, buffers_sum}
 
 -- what holds of each mutator, by its place
 pub by_place : (config : Config) (P : ℕ → Type 0) → ((t : ℕ) → IsMutator config t → P (t - 1)) → (i : ℕ) → i < config.mutators → P i
@@ -67,7 +67,7 @@ silent_left since node epoch b (inr earlier) = earlier_left since node epoch b.e
 -- every buffer of the heap is silent
 pub record AreSilent (w : Core) (since : ℕ) : Type 0 where
   pub logs : (i : ℕ) → i < length w.mutators → IsSilent since (epoch_at (mutator_at w i)) (mutator_at w i).log
-  pub boxes : (i : ℕ) → i < length w.boxes → IsSilent since (w.epoch - 1) (buffer_at w.boxes i)
+  pub boxes : (i : ℕ) → i < length w.boxes → IsSilent since (epoch_at (mutator_at w i) - 1) (buffer_at w.boxes i)
   pub newer : (i : ℕ) → i < length w.collector.newer → IsSilent since (w.epoch - 1) (buffer_at w.collector.newer i)
   pub older : (i : ℕ) → i < length w.collector.older → IsSilent since (older_at w.epoch w.collector.phase) (buffer_at w.collector.older i)
 
@@ -89,14 +89,15 @@ silent_sums w since node silent =
       buffers_sum born of_births w,
       sum_parts (λ (p : Private). log_share puts of_writes p + log_share olds of_writes p) (log_share born of_births) w.mutators,
       sum_parts (log_share puts of_writes) (log_share olds of_writes) w.mutators,
-      sum_parts (λ (b : Contents). share puts of_writes l b + share olds of_writes l b) (share born of_births l) w.boxes,
-      sum_parts (share puts of_writes l) (share olds of_writes l) w.boxes,
+      sum_parts (λ (own : Private × Contents). box_share puts of_writes own + box_share olds of_writes own) (box_share born of_births) (zip w.mutators w.boxes),
+      sum_parts (box_share puts of_writes) (box_share olds of_writes) (zip w.mutators w.boxes),
       sum_parts (λ (b : Contents). share puts of_writes l b + share olds of_writes l b) (share born of_births l) w.collector.newer,
       sum_parts (share puts of_writes l) (share olds of_writes l) w.collector.newer,
       sum_parts (λ (b : Contents). share puts of_writes o b + share olds of_writes o b) (share born of_births o) w.collector.older,
       sum_parts (share puts of_writes o) (share olds of_writes o) w.collector.older,
       none_of (λ (p : Private). left_by since node (epoch_at p) p.log.entries) w.mutators nobody (λ i below. silent_left since node (epoch_at (mutator_at w i)) (mutator_at w i).log (silent.logs i below)),
-      none_of (λ (b : Contents). left_by since node l b.entries) w.boxes (blank 0 0) (λ i below. silent_left since node l (buffer_at w.boxes i) (silent.boxes i below)),
+      zip_sum-none (λ (own : Private × Contents). left_by since node (epoch_at own.0 - 1) own.1.entries) w.mutators w.boxes nobody (blank 0 0)
+          (λ i _ here. silent_left since node (epoch_at (mutator_at w i) - 1) (buffer_at w.boxes i) (silent.boxes i here)),
       none_of (λ (b : Contents). left_by since node l b.entries) w.collector.newer (blank 0 0) (λ i below. silent_left since node l (buffer_at w.collector.newer i) (silent.newer i below)),
       none_of (λ (b : Contents). left_by since node o b.entries) w.collector.older (blank 0 0) (λ i below. silent_left since node o (buffer_at w.collector.older i) (silent.older i below)),
     )

@@ -1,9 +1,11 @@
 -- What is known of a heap at rest is said of what is held in it alone: of headers and registers.
-use Rattle.std.proofs.Common.{◌≡◌, ℕ, false, None, Some, List, sym, ap, subst}
-use Rattle.rec_core.proofs.Common.{State, slot_at, Work, Phase, Idle, Looking, Swapping, Returning, Releasing, Freeing, Trying, Preparing, Opening, Sweeping, Closing, Core, sight, holds, AreFound, AreUnnamed, AreWithinReach, TrialRests, PrepRests, SetsRest, Round, RestsIn, IsReachable, IsOffered, Config, is_green}
+use Rattle.std.proofs.Common.{◌≡◌, ℕ, ◌+◌, false, None, Some, List, refl, sym, ap, subst, ◌∙◌}
+use Rattle.rec_core.proofs.Common.{State, slot_at, Work, Phase, Idle, Looking, Swapping, Returning, Releasing, Freeing, Trying, Preparing, Opening, Sweeping, Closing, Core, sight, holds, AreFound, AreUnnamed, AreWithinReach, TrialRests, PrepRests, SetsRest, Round, RestsIn, ComesTo, IsReachable, IsOffered, Config, is_green}
 use Rattle.rec_sigma.specs.Prepare as preps
 use Rattle.rec_collector.specs.Private.{Private}
+use Rattle.rec_core.specs.Resting.{next_round}
 use Rattle.rec_core.specs.Settling.{word_in}
+use Rattle.rec_core.proofs.TurnCases.{Awaits, giving_back, requesting}
 
 -- a heap with the numbers of another
 abbrev seen_as : Core → Core → Core
@@ -79,3 +81,13 @@ pub rests_seen : (r : Round) (w v : Core) → v.config ≡ w.config → holds (s
 rests_seen r w v config same words c phase h =
     let is : v ≡ seen_as w v = ap (λ (x : Config). let y : Core = record v { config = x } in y) config in
     subst (λ (x : Core). RestsIn r x words c phase) (sym is) (round_seen w v same words r c phase h)
+
+-- where a turn has come to is said of a heap with the same numbers in which the same is held
+pub comes_seen : (r : Round) (w v : Core) → v.config ≡ w.config → holds (sight v) ≡ holds (sight w) → v.collector.collections ≡ w.collector.collections → (words : List ℕ) (q : Private) → ComesTo r w words q → ComesTo r v words q
+comes_seen r w v config held collections words q (ComesTo.goes_on same h) = ComesTo.goes_on (same ∙ sym collections) (rests_seen r w v config held words q q.phase h)
+comes_seen r w v config held collections words q (ComesTo.completes more idle h) = ComesTo.completes (more ∙ ap (λ n. n + 1) (sym collections)) idle (rests_seen (next_round r) w v config held words q Idle h)
+
+-- as of the heap that a turn finds which applies the batch
+pub comes_awaited : (r : Round) (w u : Core) → Awaits w u → (words : List ℕ) (q : Private) → ComesTo r u words q → ComesTo r w words q
+comes_awaited r w u (Awaits.alone idle more left) words q comes = comes_seen r (requesting w) w refl refl refl words q comes
+comes_awaited r w u (Awaits.last t is returns left) words q comes = comes_seen r (giving_back w t) w refl refl refl words q comes

@@ -1,11 +1,14 @@
 -- A heap at rest, over the turns of the collection whose trial is offered every slot and of the one that frees its sets.
-use Rattle.std.proofs.Common.{◌≡◌, ◌⊎◌, inl, inr, ℕ, ◌+◌, ◌≤◌, Option, Some, drop, slice_get, slice_set, refl, sym, ap, subst, ◌∙◌, arith}
+use Rattle.std.proofs.Common.{◌≡◌, ◌⊎◌, inl, inr, ℕ, ◌+◌, ◌≤◌, Option, Some, List, drop, slice_get, slice_set, refl, sym, ap, subst, ◌∙◌, arith}
 use Rattle.std.proofs.lemmas.Bool.{false≢true}
-use Rattle.rec_core.proofs.Common.{Phase, Idle, Looking, Returning, Releasing, Freeing, Trying, Preparing, Opening, Sweeping, Closing, Core, sight, IsKept, turned, holds, Round, RestsIn, ComesTo, TurnsTo, epochs_before}
+use Rattle.rec_core.proofs.Common.{AreCounted, Begun, Phase, Idle, Looking, Returning, Releasing, Freeing, Trying, Preparing, Opening, Sweeping, Closing, Core, sight, IsKept, turned, holds, Round, RestsIn, ComesTo, TurnsTo, epochs_before}
+use Rattle.rec_collector.specs.Kept.{under_way}
 use Rattle.rec_core.specs.Quiet.{gathered, AreQuiet, AreGathered}
-use Rattle.rec_core.proofs.TurnCases.{TurnCase, header_freed, swept_by}
+use Rattle.rec_core.proofs.Landed.{HasLanded}
+use Rattle.rec_core.proofs.TurnCases.{Awaits, TurnCase, header_freed, swept_by}
 use Rattle.rec_core.proofs.Rest.FirstRound.{first_turned}
 use Rattle.rec_core.proofs.Rest.QuietCounts.{landed_count}
+use Rattle.rec_core.proofs.Rest.QuietTurns.{awaits_epoch, awaits_quiet}
 use Rattle.rec_core.proofs.Rest.RestingSeen.{rests_seen}
 use Rattle.rec_core.proofs.Rest.SecondTurns.{second_turned}
 use Rattle.rec_core.proofs.Rest.TurnRules.{turn_is}
@@ -50,11 +53,12 @@ alike w v turn unswept = go turn
 
     go : TurnCase w v → IsSeenAlike w v
     go (TurnCase.spent phase last is) = same _ is refl refl
-    go (TurnCase.requests phase is) = same _ is refl refl
+    go (TurnCase.requests next phase present is) = same _ is refl refl
     go (TurnCase.waits t there phase word is) = same _ is refl refl
     go (TurnCase.gathers t there phase word is) = same _ is refl refl
-    go (TurnCase.gives_back t there phase other is) = same _ is refl refl
-    go (TurnCase.applies t q answer there phase last on is) = same _ is refl refl
+    go (TurnCase.gives_back t next there phase present is) = same _ is refl refl
+    go (TurnCase.applies _ q answer (Awaits.alone phase more left) on is) = same _ is refl refl
+    go (TurnCase.applies _ q answer (Awaits.last t there phase left) on is) = same _ is refl refl
     go (TurnCase.releases m a q answer phase at on is) = same _ is refl refl
     go (TurnCase.frees m a q answer phase at on is) = same _ is refl refl
     go (TurnCase.tries m place q answer phase named on is) = same _ is refl refl
@@ -72,18 +76,30 @@ sweeping_or_not _ = inr (λ due n is. cc)
 other : {due : Option ℕ} {n : ℕ} {at : Phase} (phase : Phase) → (phase ≡ Sweeping due n → ⊥) → at ≡ phase → at ≡ Sweeping due n → ⊥
 other phase differs is sweeping = differs (sym is ∙ sweeping)
 
+-- a collection that isn't complete is under way
+pub busy_way : (phase : Phase) → (phase ≡ Idle → ⊥) → under_way phase ≡ 1
+busy_way Idle busy = absurd (busy refl)
+busy_way _ busy = refl
+
 module _ (first : ℕ) (w : Core) (kept : IsKept w) (quiet : AreQuiet first w) where
   -- a collection that has gathered all mailboxes is under way
-  busy : AreGathered w → w.collector.phase ≡ Idle → ⊥
-  busy all idle = false≢true (sym (ap (λ phase. gathered phase 1) idle) ∙ all 1 (omega arith, kept.config.some_mutators))
+  way : AreGathered w → under_way w.collector.phase ≡ 1
+  way all = busy_way w.collector.phase (λ idle. false≢true (sym (ap (λ phase. gathered phase 1) idle) ∙ all 1 (omega arith, kept.config.some_mutators)))
+
+  -- so counts are true
+  counted : (x : Core) → (x ≡ w) ⊎ Awaits w x → first + 1 + under_way w.collector.phase ≤ w.epoch + 1 → AreGathered x → (crossing words : List ℕ) (u : Begun) → HasLanded x crossing words u → AreCounted x words u.parts.counts
+  counted x (inl is) late all crossing words u l =
+      let same : w.epoch ≡ x.epoch = ap (λ (y : Core). y.epoch) (sym is) in
+      landed_count first l (subst (AreQuiet first) (sym is) quiet) all (omega (arith, late, way (subst AreGathered is all), same))
+  counted x (inr awaits) late all crossing words u l = landed_count first l (awaits_quiet first w x kept awaits quiet) all (omega (arith, late, awaits_epoch w x awaits))
 
   -- a turn that sweeps no slot
-  comes : (r : Round) (v : Core) → TurnCase w v → ((w.collector.phase ≡ Idle → ⊥) → first + epochs_before r ≤ w.epoch) → ((due : Option ℕ) (n : ℕ) → w.collector.phase ≡ Sweeping due n → ⊥) → RestsIn r w w.words w.collector w.collector.phase → (r ≡ Round.Over → ⊥)
+  comes : (r : Round) (v : Core) → TurnCase w v → first + epochs_before r + under_way w.collector.phase ≤ w.epoch + 1 → ((due : Option ℕ) (n : ℕ) → w.collector.phase ≡ Sweeping due n → ⊥) → RestsIn r w w.words w.collector w.collector.phase → (r ≡ Round.Over → ⊥)
       → ComesTo r w v.words v.collector
   comes Round.First v turn late unswept h some =
-      let (words, same, there) = first_turned w v kept turn (λ all crossing words u l. landed_count first l quiet all (omega (arith, late (busy all)))) unswept h in
+      let (words, same, there) = first_turned w v kept turn (λ x which. counted x which late) unswept h in
       subst (λ ws. ComesTo Round.First w ws v.collector) (sym same) there
-  comes Round.Second v turn late unswept h some = second_turned first w kept quiet v turn (λ on. omega (arith, late on)) unswept h
+  comes Round.Second v turn late unswept h some = second_turned first w kept quiet v turn (omega (arith, late)) unswept h
   comes Round.Over v turn late unswept h some = absurd (some refl)
 
   -- a turn that sweeps one
@@ -93,11 +109,12 @@ module _ (first : ℕ) (w : Core) (kept : IsKept w) (quiet : AreQuiet first w) w
       (swept_rests r w m slot next kept phase which (subst (RestsIn r w w.words w.collector) (sym sweeping ∙ phase) h)) in
       subst (TurnsTo r w) (sym is) (TurnsTo.goes_on refl rests)
   sweeps r due n v (TurnCase.spent phase last is) sweeping h = absurd (other Idle (λ e. cc) phase sweeping)
-  sweeps r due n v (TurnCase.requests phase is) sweeping h = absurd (other Idle (λ e. cc) phase sweeping)
+  sweeps r due n v (TurnCase.requests next phase present is) sweeping h = absurd (other Idle (λ e. cc) phase sweeping)
   sweeps r due n v (TurnCase.waits t there phase word is) sweeping h = absurd (other (Looking t) (λ e. cc) phase sweeping)
   sweeps r due n v (TurnCase.gathers t there phase word is) sweeping h = absurd (other (Looking t) (λ e. cc) phase sweeping)
-  sweeps r due n v (TurnCase.gives_back t there phase more is) sweeping h = absurd (other (Returning t) (λ e. cc) phase sweeping)
-  sweeps r due n v (TurnCase.applies t q answer there phase last on is) sweeping h = absurd (other (Returning t) (λ e. cc) phase sweeping)
+  sweeps r due n v (TurnCase.gives_back t next there phase present is) sweeping h = absurd (other (Returning t) (λ e. cc) phase sweeping)
+  sweeps r due n v (TurnCase.applies _ q answer (Awaits.alone phase more left) on is) sweeping h = absurd (other Idle (λ e. cc) phase sweeping)
+  sweeps r due n v (TurnCase.applies _ q answer (Awaits.last t there phase left) on is) sweeping h = absurd (other (Returning t) (λ e. cc) phase sweeping)
   sweeps r due n v (TurnCase.releases m a q answer phase at on is) sweeping h = absurd (other (Releasing m) (λ e. cc) phase sweeping)
   sweeps r due n v (TurnCase.frees m a q answer phase at on is) sweeping h = absurd (other (Freeing m) (λ e. cc) phase sweeping)
   sweeps r due n v (TurnCase.tries m place q answer phase named on is) sweeping h = absurd (other (Trying m) (λ e. cc) phase sweeping)
@@ -107,7 +124,7 @@ module _ (first : ℕ) (w : Core) (kept : IsKept w) (quiet : AreQuiet first w) w
 
   -- Every turn of either collection keeps what is known of it, and its last one leaves what is known of the next. Mutators did nothing
   -- in so many epochs.
-  pub rests_turned : (r : Round) → ((w.collector.phase ≡ Idle → ⊥) → first + epochs_before r ≤ w.epoch) → (r ≡ Round.Over → ⊥) → RestsIn r w w.words w.collector w.collector.phase → TurnsTo r w (turned w)
+  pub rests_turned : (r : Round) → first + epochs_before r + under_way w.collector.phase ≤ w.epoch + 1 → (r ≡ Round.Over → ⊥) → RestsIn r w w.words w.collector w.collector.phase → TurnsTo r w (turned w)
   rests_turned r late some h = elim (sweeping_or_not w.collector.phase) [
     | inl is ↦ sweeps r is.0 is.1 (turned w) (turn_is w kept) is.2 (subst (RestsIn r w w.words w.collector) is.2 h)
     | inr unswept ↦

@@ -4,6 +4,7 @@ use Rattle.std.proofs.lemmas.List.Sums.{get_or-le-sum_by}
 use Rattle.rec_apply.specs.Batch.{batch, names, IsBatch}
 use Rattle.rec_apply.proofs.Naming.{named-nil}
 use Rattle.rec_release.specs.Release.{started_of}
+use Rattle.rec_collector.specs.Kept.{IsAt}
 use Rattle.rec_collector.specs.Private as collectors
 use Rattle.rec_collector.proofs.Following.{batched_clear, none_released, resting_cleared}
 use Rattle.rec_core.specs.Quiet.{IsRetired}
@@ -11,10 +12,9 @@ use Rattle.rec_core.proofs.Applying.{is_counted}
 use Rattle.rec_core.proofs.Batches.{none_of}
 use Rattle.rec_core.proofs.Rest.SecondReach.{green_zeros_rest}
 use Rattle.rec_core.proofs.Rest.SettlingBetween.{unheld_batch}
-use Rattle.rec_core.proofs.Turns.{now_at}
 use Rattle.std.proofs.lemmas.Bool.{cases_eq, cases_lt, false≢true}
 use Rattle.std.proofs.lemmas.List.{get_or_past}
-use Rattle.rec_core.proofs.Common.{sum_by-map, Contents, Entry, State, slot_at, added, leaf_born, leaves, named, new_target, old_target, taken, IsReady, emptied, next_from, without_first, Private, IsCleared, Parts, buffer_at, parts_of, Begun, zeros_released, releasing_at, batched, Phase, Returning, Freeing, IsMutator, Core, mutator, nobody, sight, IsKept, AreCounted, FreesRest, SetsRest, holds, AreLeaves, is_green, times, absent, is_in, Slot, field_kept, one-same, times-cons, At, AreUnheld}
+use Rattle.rec_core.proofs.Common.{sum_by-map, Contents, Entry, State, slot_at, added, leaf_born, leaves, named, new_target, old_target, taken, IsReady, emptied, next_from, without_first, Private, IsCleared, Parts, buffer_at, parts_of, Begun, zeros_released, releasing_at, batched, Phase, Opening, Returning, Freeing, IsMutator, Core, mutator, nobody, sight, stand_at, IsKeptBy, AreCounted, FreesRest, SetsRest, holds, AreLeaves, is_green, times, absent, is_in, Slot, field_kept, one-same, times-cons, At, AreUnheld}
 use Rattle.rec_release.proofs.Keeping.{each_next, emptied_zeros, released_first, released_same}
 use Rattle.rec_core.proofs.Begun.{batch_comes}
 use Rattle.rec_core.proofs.Counts.{emptied_alike}
@@ -104,7 +104,7 @@ added_by x registers b retired none = omega (arith, ap (λ (es : List Entry). na
 taken_by : (x : ℕ) (registers : List (Option ℕ)) (b : Contents) → IsRetired registers b → named x registers ≡ 0 → named x (map old_target b.entries) + named x b.snapshot ≡ 0
 taken_by x registers b retired none = omega (arith, ap (λ (es : List Entry). named x (map old_target es)) retired.entries, named-nil x, ap (named x) retired.snapshot, none)
 
-module _ (w : Core) (t : ℕ) (kept : IsKept w) (phase : w.collector.phase ≡ Returning t) (last : t ≡ length w.collector.newer)
+module _ (w : Core) (t : ℕ) (kept : IsKeptBy (stand_at w.collector.left Opening) w) (phase : w.collector.phase ≡ Returning t)
     (retired : (s : ℕ) → IsMutator w.config s → IsRetired (mutator w s).registers (buffer_at w.collector.newer (s - 1)) × IsRetired (mutator w s).registers (buffer_at w.collector.older (s - 1)))
     (rested : SetsRest w w.words [] w.collector.counts) where
   open w use {collector as c}
@@ -112,7 +112,7 @@ module _ (w : Core) (t : ℕ) (kept : IsKept w) (phase : w.collector.phase ≡ R
   abbrev s : State
   s = batch c.counts c.newer c.older
 
-  open (now_at w (Returning t) kept phase) use {rest}
+  open (subst (IsAt c) phase kept.collector.machine.now) use {rest}
 
   -- no register names a member
   unnamed : (x i m : ℕ) → (slot_at c.counts x).set ≡ Some i → IsMutator w.config m → named x (mutator w m).registers ≡ 0
@@ -147,7 +147,7 @@ module _ (w : Core) (t : ℕ) (kept : IsKept w) (phase : w.collector.phase ≡ R
       omega (arith, up, down, unborn x)
 
   is : IsBatch c.counts c.newer c.older s
-  is = is_counted w t kept phase last
+  is = is_counted w t kept phase
 
   rested_then : SetsRest w w.words [] s
   rested_then = record {
@@ -161,4 +161,4 @@ module _ (w : Core) (t : ℕ) (kept : IsKept w) (phase : w.collector.phase ≡ R
   frees_rest_applied counted =
       let before : IsCleared (parts_of c) = resting_cleared (parts_of c) rest in
       let tidy = batched_clear is (none_released rest) before.tidy rest.counted before.ready before.work in
-      greens_released w w.words false (batched c) tidy.1 (leaves_landed (batch_comes w t kept phase last).landed) (green_zeros_rest w w.words [] s (is.rest.slots ∙ kept.collector.slots) is.zeros tidy.0.apart counted rested_then) rested_then
+      greens_released w w.words false (batched c) tidy.1 (leaves_landed (batch_comes w t kept phase).landed) (green_zeros_rest w w.words [] s (is.rest.slots ∙ kept.collector.slots) is.zeros tidy.0.apart counted rested_then) rested_then

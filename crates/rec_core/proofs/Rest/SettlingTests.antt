@@ -5,7 +5,7 @@ use Rattle.std.proofs.lemmas.Bool.{cases_lt, false≢true, ne_eqb}
 use Rattle.std.proofs.lemmas.List.{get_or-set_same, get_or-set_other, get_or_past, length-set}
 use Rattle.rec_core.proofs.Common.{target_of, is_slot, only_if, sum_at_same, sum_at-set, Slot, State, slot_at, with_slot, decremented, one, absent, is_in, lessened, lowered, is_orange, field_kept, times-cons, down_if, taken_off, Load, PreparedTo, leading, heap_sum, leading_outside, outside_sum, AreLoadsOf, LeadBack, AreUnheld}
 use Rattle.rec_counts.specs.declared.colour.Colour.{Colour}
-use Rattle.rec_counts.specs.declared.colour.Colour.TheVariants.{Black, Purple, Gray, White, Orange, Green}
+use Rattle.rec_counts.specs.declared.colour.Colour.TheVariants.{Black, Orange}
 use Rattle.rec_counts.specs.Counts.{IsKept}
 use Rattle.rec_counts.specs.Rest.{KeepsRest}
 use Rattle.rec_counts.proofs.Decrementing.{rest_decremented, same_slot}

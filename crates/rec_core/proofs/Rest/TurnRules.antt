@@ -1,8 +1,8 @@
 -- Every turn of the collector is one of its rules.
-use Rattle.std.proofs.Common.{◌≡◌, ◌⊎◌, inl, inr, ℕ, ◌+◌, ◌-◌, ◌%◌, ◌^◌, ◌==◌, Bool, true, Option, None, Some, List, IsNone, drop, slice_get, slice_index_or, slice_set, refl, sym, ap, subst, ◌∙◌}
+use Rattle.std.proofs.Common.{◌≡◌, ◌⊎◌, inl, inr, ℕ, ◌+◌, ◌-◌, ◌%◌, ◌^◌, ◌==◌, Bool, true, Option, None, Some, List, IsNone, drop, length, slice_get, slice_index_or, slice_set, refl, sym, ap, subst, ◌∙◌}
 use Rattle.std.proofs.lemmas.Bool.{eq-eqb, ne_eqb, cond-true, cond-false}
 use Rattle.std.proofs.lemmas.List.{set-get_or}
-use Rattle.rec_core.proofs.Common.{crossing_word, Retired, Spare, WithCollector, place_of, Op, Contents, At, Member, with_freed, with_released, parts_of, ClearsOn, TriesOn, PreparesOn, IsNext, step_of, turn_of, moved, Phase, Idle, Looking, Returning, Releasing, Freeing, Trying, Preparing, Opening, Sweeping, Closing, Turn, cell, Core, cells_of, box, crossing_of, IsKept, looked_at, left_by, collected, turned, visible}
+use Rattle.rec_core.proofs.Common.{crossing_word, Retired, Spare, WithCollector, place_of, Op, Contents, At, Member, with_freed, with_released, parts_of, ClearsOn, TriesOn, PreparesOn, IsNext, step_of, turn_of, moved, Phase, Idle, Looking, Returning, Releasing, Freeing, Trying, Preparing, Opening, Sweeping, Closing, Turn, cell, IsMutator, Core, cells_of, box, crossing_of, IsKept, looked_at, left_by, collected, turned, visible}
 use Rattle.rec_word.specs.Op.{written}
 use Rattle.rec_word.specs.declared.op.Op.TheVariants as ops
 use Rattle.rec_release.specs.CycleFree.{next_of as freeing_next, op_at as freeing_op_at}
@@ -17,7 +17,8 @@ use Rattle.rec_collector.specs.Private.{Private}
 use Rattle.rec_collector.specs.Step.{Step}
 use Rattle.rec_collector.specs.Took.{took_of}
 use Rattle.rec_collector.proofs.Steps.{has_cause, spends}
-use Rattle.rec_core.proofs.TurnCases.{TurnCase, word_at, swept_by}
+use Rattle.rec_core.proofs.TurnCases.{Awaits, TurnCase, crossing_with, giving_back, requesting, word_at, swept_by}
+use Rattle.rec_core.proofs.Phases.{clears_in}
 use Rattle.rec_core.proofs.Preparing.{loads_due}
 use Rattle.rec_core.proofs.Runs.{rule_of}
 use Rattle.rec_core.proofs.Trying.{loads_child}
@@ -29,19 +30,34 @@ plain : (w : Core) (op its : Op) (word : ℕ) (q : Private) (phase : Phase) → 
     → collected w op word q (left_by w.collector word (box w (looked_at w.collector.phase)) w.collector.phase) ≡ record (collected w its word q (box w 1)) { boxes = w.boxes }
 plain w op its word q phase is same named = plain_left w op word q phase is same ∙ ap (λ o. let v : Core = record (collected w o word q (box w 1)) { boxes = w.boxes } in v) named
 
+-- a turn that requests the next epoch
+requests_as : (w : Core) (op : Op) (word : ℕ) (q : Private) → w.collector.phase ≡ Idle → IsKept w → op ≡ ops.StoreEpoch (w.collector.epoch + 1)
+    → collected w op word q (left_by w.collector word (box w (looked_at w.collector.phase)) w.collector.phase) ≡ record w { epoch = w.epoch + 1; collector = q }
+requests_as w op word q idle kept its =
+    plain w op (ops.StoreEpoch (w.collector.epoch + 1)) word q Idle idle refl its
+    ∙ ap (λ (n : ℕ). let v : Core = record w { epoch = n + 1; collector = q } in v) kept.collector.epoch
+
+-- one that gives a mailbox back
+returns_as : (w : Core) (t : ℕ) (op : Op) (word : ℕ) (q : Private) → w.collector.phase ≡ Returning t → IsKept w → op ≡ ops.ReturnBox t w.collector.epoch
+    → collected w op word q (left_by w.collector word (box w (looked_at w.collector.phase)) w.collector.phase) ≡ record w { crossing = crossing_with w t Spare; collector = q }
+returns_as w t op word q returning kept its =
+    plain w op (ops.ReturnBox t w.collector.epoch) word q (Returning t) returning refl its
+    ∙ ap (λ (n : ℕ). let v : Core = record w { crossing = slice_set w.crossing (t - 1) (crossing_word n Spare); collector = q } in v) kept.collector.epoch
+
 -- each rule
 rule_is : (w : Core) (op : Op) (word : ℕ) (q : Private) (turn : Turn) → IsKept w → word ≡ cell (cells_of w) op → Step w.collector word (box w (looked_at w.collector.phase)) (Some op) q turn
     → TurnCase w (collected w op word q (left_by w.collector word (box w (looked_at w.collector.phase)) w.collector.phase))
 unfolding release_next freeing_next sweeps.started_of sweeps.next_of sweeps.took_of
 rule_is w op word q turn kept found (Step.spent idle last none same answer) = let not_so : ◌≡◌ {A = Option Op} (Some op) None = none in absurd (cc)
-rule_is w op word q turn kept found (Step.request idle more named g) =
+rule_is w op word q turn kept found (Step.request next idle more named present g) =
     let its : op ≡ ops.StoreEpoch (w.collector.epoch + 1) = some_op op (ops.StoreEpoch (w.collector.epoch + 1)) named in
-    let epoch : w.collector.epoch + 1 ≡ w.epoch + 1 = ap (λ n. n + 1) kept.collector.epoch in
-    TurnCase.requests idle (
-    plain w op (ops.StoreEpoch (w.collector.epoch + 1)) word q Idle idle refl its
-    ∙ ap (λ (n : ℕ). let v : Core = record w { epoch = n; collector = q } in v) epoch
+    TurnCase.requests next idle present (
+    requests_as w op word q idle kept its
     ∙ ap (λ (c : Private). let v : Core = record w { epoch = w.epoch + 1; collector = c } in v) g.after
     )
+rule_is w op word q turn kept found (Step.request_alone idle more named left on) =
+    let its : op ≡ ops.StoreEpoch (w.collector.epoch + 1) = some_op op (ops.StoreEpoch (w.collector.epoch + 1)) named in
+    TurnCase.applies (requesting w) q turn (Awaits.alone idle (λ last. more (ap (λ n. n + 1) kept.collector.epoch ∙ last)) left) (clears_in (Returning (length w.collector.newer)) on) (requests_as w op word q idle kept its)
 rule_is w op word q turn kept found (Step.wait t looking other named same answer) =
     let its : op ≡ ops.LookBox t w.collector.epoch = some_op op (ops.LookBox t w.collector.epoch) named in
     let at : word ≡ slice_index_or w.crossing (t - 1) 0 = found ∙ ap (cell (cells_of w)) its in
@@ -73,21 +89,18 @@ rule_is w op word q turn kept found (Step.gather t looking crossed named g) =
     ∙ ap (λ (n : ℕ). let v : Core = record w { crossing = slice_set w.crossing (t - 1) n; boxes = slice_set w.boxes (t - 1) (collectors.spare w.collector); collector = q } in v) next
     ∙ ap (λ (c : Private). let v : Core = record w { crossing = slice_set w.crossing (t - 1) (crossing_word w.epoch WithCollector); boxes = slice_set w.boxes (t - 1) (collectors.spare w.collector); collector = c } in v) after
     )
-rule_is w op word q turn kept found (Step.give_back t returning more named g) =
+rule_is w op word q turn kept found (Step.give_back t next returning named present g) =
     let its : op ≡ ops.ReturnBox t w.collector.epoch = some_op op (ops.ReturnBox t w.collector.epoch) named in
     let now = now_at w (Returning t) kept returning in
-    TurnCase.gives_back t (mutator_at w t (Returning t) kept returning (now.first, now.there)) returning more (
-    plain w op (ops.ReturnBox t w.collector.epoch) word q (Returning t) returning refl its
-    ∙ ap (λ (n : ℕ). let v : Core = record w { crossing = slice_set w.crossing (t - 1) (crossing_word n Spare); collector = q } in v) kept.collector.epoch
+    TurnCase.gives_back t next (mutator_at w t (Returning t) kept returning (now.first, now.there)) returning present (
+    returns_as w t op word q returning kept its
     ∙ ap (λ (c : Private). let v : Core = record w { crossing = slice_set w.crossing (t - 1) (crossing_word w.epoch Spare); collector = c } in v) g.after
     )
-rule_is w op word q turn kept found (Step.apply t returning last named on) =
+rule_is w op word q turn kept found (Step.apply t returning named left on) =
     let its : op ≡ ops.ReturnBox t w.collector.epoch = some_op op (ops.ReturnBox t w.collector.epoch) named in
     let now = now_at w (Returning t) kept returning in
-    TurnCase.applies t q turn (mutator_at w t (Returning t) kept returning (now.first, now.there)) returning last on (
-    plain w op (ops.ReturnBox t w.collector.epoch) word q (Returning t) returning refl its
-    ∙ ap (λ (n : ℕ). let v : Core = record w { crossing = slice_set w.crossing (t - 1) (crossing_word n Spare); collector = q } in v) kept.collector.epoch
-    )
+    let is : IsMutator w.config t = mutator_at w t (Returning t) kept returning (now.first, now.there) in
+    TurnCase.applies (giving_back w t) q turn (Awaits.last t is returning left) (clears_in (Returning (length w.collector.newer)) on) (returns_as w t op word q returning kept its)
 rule_is w op word q turn kept found (Step.release m releasing named on) = go m.at refl
   where
     go : (x : Option At) → m.at ≡ x → TurnCase w (collected w op word q (left_by w.collector word (box w (looked_at w.collector.phase)) w.collector.phase))
