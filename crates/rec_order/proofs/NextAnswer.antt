@@ -1,5 +1,5 @@
 -- An answer of a step may come next in the order.
-use Rattle.std.proofs.Common.{◌≡◌, ◌⊎◌, inl, inr, ℕ, ◌-◌, ◌%◌, ◌<◌, ◌≤◌, ◌&&◌, List, [], ◌∷◌, ◌++◌, Some, Bool, true, length, slice_index_or, refl, sym, ap, subst, ◌∙◌, arith}
+use Rattle.std.proofs.Common.{◌≡◌, ◌⊎◌, inl, inr, ℕ, ◌-◌, ◌%◌, ◌<◌, ◌≤◌, ◌&&◌, List, [], ◌∷◌, ◌++◌, Some, Bool, true, false, length, slice_index_or, refl, sym, ap, subst, ◌∙◌, arith}
 use Rattle.std.specs.List.{slice_get}
 use Rattle.std.specs.Option.{IfSome}
 use Rattle.std.proofs.lemmas.Bool.{cases_eq}
@@ -16,13 +16,11 @@ use Rattle.rec_model.specs.LegalOrder.Event.{Answers}
 use Rattle.rec_model.specs.Sight.{IsSound}
 use Rattle.rec_model.proofs.Growing.{MayCome, StampsAnew, same_answer}
 use Rattle.rec_model.proofs.Unfreed.{all_unfreed, fewer_unfreed}
-use Rattle.rec_mutator.specs.Causes.{HasCause, FoundNoneAt}
+use Rattle.rec_mutator.specs.Causes.{HasCause, FoundNoneAt, gives_back}
 use Rattle.rec_mutator.specs.Next.{next_of, next_at}
-use Rattle.rec_mutator.specs.Private.{is_busy, work_of}
 use Rattle.rec_mutator.specs.Step.{IsStill}
 use Rattle.rec_mutator.specs.declared.phase.Phase.{Phase}
 use Rattle.rec_mutator.specs.declared.phase.Phase.TheVariants as at
-use Rattle.rec_mutator.specs.declared.work.Work.TheVariants as works
 use Rattle.rec_core.specs.Cells.{cell}
 use Rattle.rec_core.specs.Config.{IsMutator}
 use Rattle.rec_core.specs.Core.{Core, sight, cells_of, mutator, log_length}
@@ -34,7 +32,7 @@ use Rattle.rec_core.proofs.Actors.{epoch_here}
 use Rattle.rec_core.proofs.Steps.{actor_of}
 use Rattle.rec_order.specs.Naming.{Naming}
 use Rattle.rec_order.specs.Legal.{limits_of}
-use Rattle.rec_order.proofs.Stamps.{HasEntry, IsBefore, commanded_here}
+use Rattle.rec_order.proofs.Stamps.{HasEntry, IsBefore}
 use Rattle.rec_order.proofs.Scans.{HasMet, met_all}
 use Rattle.rec_order.proofs.Stands.{Stands, explained}
 use Rattle.rec_order.proofs.Steps.{Meets}
@@ -76,8 +74,7 @@ stamp_is : (cmd : Cmd) (told : Told) (P : ℕ → Type 0) (v : ℕ) → IfSome (
 stamp_is cmd told P v held leaves = subst (λ o. IfSome o P) leaves held
 
 module _ (limits : Limits) (start : Moment) (lines : List (List Line)) (events : List Event) (w : Core) (n : Naming) (home : ℕ → ℕ) (t : ℕ) (cmd : Cmd) (told : Told)
-    (numbers : limits ≡ limits_of w.config) (kept : IsKept w) (is : IsMutator w.config t) (busy : is_busy (mutator w t) ≡ true)
-    (work : work_of (mutator w t) ≡ Some (works.Command cmd)) (said : IsDecided w t cmd told (stepped w t)) (cause : HasCause (mutator w t) (mutator (stepped w t) t) cmd (found_by w t) told.answer)
+    (numbers : limits ≡ limits_of w.config) (kept : IsKept w) (is : IsMutator w.config t) (here : gives_back (mutator w t).phase ≡ false) (said : IsDecided w t cmd told (stepped w t)) (cause : HasCause (mutator w t) (mutator (stepped w t) t) cmd (found_by w t) told.answer)
     (so : Stands w (after_all limits start events) n home) where
   slots_are : limits.slots ≡ w.config.slots
   slots_are = ap (λ (l : Limits). l.slots) numbers
@@ -124,7 +121,7 @@ module _ (limits : Limits) (start : Moment) (lines : List (List Line)) (events :
 
   -- the mutator's epoch is the one of its next entry
   epoch_is : epoch_at (mutator w t) ≡ (mutator w t).epoch
-  epoch_is = epoch_here (mutator w t) (commanded_here (mutator w t) cmd work)
+  epoch_is = epoch_here (mutator w t) here
 
   -- its word is stamped anew
   step_anew : ((i v : ℕ) (d : Event) → slice_get events i ≡ Some d → left_by d ≡ Some v → HasEntry w (stamp_of v)) → StampsAnew events t (cmd, told)

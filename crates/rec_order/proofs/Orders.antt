@@ -12,11 +12,12 @@ use Rattle.rec_model.specs.declared.command.Cmd.TheVariants as commands
 use Rattle.rec_model.specs.declared.answer.Answer.{Answer}
 use Rattle.rec_model.specs.declared.answer.Answer.TheVariants as answers
 use Rattle.rec_model.specs.declared.told.Told.{Told}
-use Rattle.rec_model.specs.Asking.{is_done}
+use Rattle.rec_model.specs.Asking.{is_done, plain}
 use Rattle.rec_model.specs.LegalOrder.{Line, Event, Limits, Moment, after, after_all, after_answer, bump, is_by, word_left, left_by, IsLegalOrder}
 use Rattle.rec_model.specs.LegalOrder.Event.{Answers, Frees, Marks}
 use Rattle.rec_model.specs.Sight.{IsTaken, StandsBy}
 use Rattle.rec_model.proofs.Growing.{MayCome, legal_grows, frees_may_come, marks_may_come, after_all-grow, get_cases, with_line}
+use Rattle.rec_mutator.specs.Causes.{HasCause, gives_back}
 use Rattle.rec_mutator.specs.Private.{Private, is_busy, work_of, answer_of, answer_at}
 use Rattle.rec_mutator.specs.Took.{begun_of}
 use Rattle.rec_mutator.specs.declared.made.Made.{Made}
@@ -25,14 +26,15 @@ use Rattle.rec_mutator.specs.declared.phase.Phase.{Phase}
 use Rattle.rec_mutator.specs.declared.phase.Phase.TheVariants as at
 use Rattle.rec_mutator.specs.declared.work.Work.{Work}
 use Rattle.rec_mutator.specs.declared.work.Work.TheVariants as works
+use Rattle.rec_mutator.proofs.Refusals.{leaving_cause}
 use Rattle.rec_collector.specs.Next.{next_of}
-use Rattle.rec_core.specs.RunAnswers.{told_by}
+use Rattle.rec_core.specs.RunAnswers.{answered_by, told_by}
 use Rattle.rec_core.specs.Config.{IsMutator}
 use Rattle.rec_core.specs.Core.{Core, sight, mutator, nobody, log_length}
 use Rattle.rec_core.specs.Kept.{IsKept}
-use Rattle.rec_core.specs.Moves.{Move, Fits, AllFit, after_move, after_moves, stepped, turned, begun_from, offering}
+use Rattle.rec_core.specs.Moves.{Move, Fits, AllFit, after_move, after_moves, found_by, stepped, turned, begun_from, offering}
 use Rattle.rec_core.specs.Pending.{epoch_at}
-use Rattle.rec_core.specs.StepAnswers.{IsDecided, entries_of}
+use Rattle.rec_core.specs.StepAnswers.{IsDecided, entries_after}
 use Rattle.rec_core.specs.Swept.{SweepsNothing, IsSweep}
 use Rattle.rec_core.specs.Swept.IsSweep.{rests, marks, frees}
 use Rattle.rec_core.specs.declared.config.Config.{Config}
@@ -40,14 +42,15 @@ use Rattle.rec_core.proofs.Actors.{epoch_here}
 use Rattle.rec_core.proofs.Asked.{begun_sight}
 use Rattle.rec_core.proofs.Reach.{turned_keeps, keeps_stands_by}
 use Rattle.rec_core.proofs.Runs.{move_kept, move_stays}
-use Rattle.rec_core.proofs.Showing.{Says, step_says, step_caused, mutator_other}
+use Rattle.rec_core.proofs.Leaving.{IsStayingIn, leaves_or_stays, told_as}
+use Rattle.rec_core.proofs.Showing.{IsStaying, Says, step_says, step_caused, leaving_decided, mutator_other}
 use Rattle.rec_core.proofs.Steps.{in_list}
 use Rattle.rec_core.proofs.Swept.{turned_sweeps}
 use Rattle.rec_core.proofs.Turning.{turned_mutators}
 use Rattle.rec_order.specs.Naming.{Naming, named_after, named_after_all}
 use Rattle.rec_order.specs.Events.{swept_by, events_in, events_of}
 use Rattle.rec_order.specs.Legal.{limits_of}
-use Rattle.rec_order.proofs.Stamps.{HasEntry, Advances, IsUntold, IsSilent, entry_stays, untold_same, others_same, finished_here, step_advances, going_silent, stayed_silent, holding_silent, crossed_silent, begun_untold}
+use Rattle.rec_order.proofs.Stamps.{HasEntry, Advances, IsUntold, IsSilent, entry_stays, untold_same, others_same, commanded_here, finished_here, step_advances, leaving_parts, leaving_advances, going_silent, stayed_silent, holding_silent, crossed_silent, parting_silent, begun_untold}
 use Rattle.rec_order.proofs.NextAnswer.{step_may_come}
 use Rattle.rec_order.proofs.Stands.{Stands, NamesOn, stands_unseen, stands_rested, stands_marked, stands_freed, stands_answered, marks_fit, frees_fit}
 use Rattle.rec_order.proofs.Steps.{Meets, meets_grows, meets_born, own_meets, same_names, step_names}
@@ -181,13 +184,13 @@ module _ (limits : Limits) (start : Moment) where
       so
 
   -- A step of a mutator.
-  -- one that answers no command
+  -- one that decides no command
   silent_order : (lines : List (List Line)) (events : List Event) (w : Core) (n : Naming) (home : ℕ → ℕ) (t : ℕ) → limits ≡ limits_of w.config → IsKept w → IsMutator w.config t → is_busy (mutator w t) ≡ true → IsSilent w t
       → Ordered limits start lines events w n home → HasOrder (events ++ events_in n w (Move.Steps t)) (stepped w t) (named_after n w (Move.Steps t))
   silent_order lines events w n home t numbers kept is busy done so =
       let P : List Event → Type 0 = λ es. HasOrder es (stepped w t) (named_after n w (Move.Steps t)) in
       let Q : Naming → Type 0 = λ k. HasOrder events (stepped w t) k in
-      let none : events ++ told_by t (work_of (mutator w t)) (answer_of (mutator (stepped w t) t)) ≡ events = ap (λ es. events ++ es) done.told ∙ append-nil events in
+      let none : events ++ told_by t (mutator w t).phase (work_of (mutator w t)) (answer_of (mutator (stepped w t) t)) ≡ events = ap (λ es. events ++ es) done.told ∙ append-nil events in
       subst P (sym none)
       (subst Q (sym (same_names n w t done.made)) (
         lines,
@@ -213,25 +216,32 @@ module _ (limits : Limits) (start : Moment) where
   names_meets events w v n k home homes t s from cmd told phase (NamesOn.born slot birth place seen) has = meets_born limits start events home n.next s from slot phase has
   names_meets events w v n k home homes t s from cmd told phase (NamesOn.same unborn) has = has
 
-  -- the entries that a command made are at most those counted
-  few_entries : (cmd : Cmd) (answer : Answer) → entries_of cmd answer ≤ (if is_done answer then 1 else 0)
-  few_entries (commands.New reg label) answers.Done = omega arith
-  few_entries (commands.Leaf reg label) answers.Done = omega arith
-  few_entries (commands.Put src f val) answers.Done = omega arith
-  few_entries (commands.New reg label) _ = omega arith
-  few_entries (commands.Leaf reg label) _ = omega arith
-  few_entries (commands.Put src f val) _ = omega arith
-  few_entries _ _ = omega arith
+  -- the entries that a log has after a command are at most those counted
+  few_entries : (cmd : Cmd) (answer : Answer) (before : ℕ) → entries_after cmd answer before ≤ before + (if is_done answer then 1 else 0)
+  few_entries (commands.New reg label) answers.Done before = omega arith
+  few_entries (commands.Leaf reg label) answers.Done before = omega arith
+  few_entries (commands.Put src f val) answers.Done before = omega arith
+  few_entries (commands.New reg label) _ before = omega arith
+  few_entries (commands.Leaf reg label) _ before = omega arith
+  few_entries (commands.Put src f val) _ before = omega arith
+  few_entries commands.Leave answers.Done before = omega arith
+  few_entries _ _ before = omega arith
+
+  -- and no fewer than before, unless the mutator leaves
+  more_entries : (cmd : Cmd) (answer : Answer) (before : ℕ) → IsStaying cmd answer → before ≤ entries_after cmd answer before
+  more_entries commands.Leave answers.Done before stays = absurd stays
+  more_entries commands.Leave _ before stays = omega arith
+  more_entries _ answer before stays = omega arith
 
   -- a write that leaves a word makes a log entry
-  put_entry : (src f val : ℕ) (answer : Answer) (left v : ℕ) → (if is_done answer then Some left else None) ≡ Some v → entries_of (commands.Put src f val) answer ≡ 1
-  put_entry src f val answers.Done left v leaves = refl
-  put_entry src f val _ left v leaves = cc
+  put_entry : (src f val : ℕ) (answer : Answer) (left v before : ℕ) → (if is_done answer then Some left else None) ≡ Some v → entries_after (commands.Put src f val) answer before ≡ before + 1
+  put_entry src f val answers.Done left v before leaves = refl
+  put_entry src f val _ left v before leaves = cc
 
   -- and so does any command that leaves a word
-  entry_of_word : (cmd : Cmd) (told : Told) (v : ℕ) → word_left cmd told ≡ Some v → entries_of cmd told.answer ≡ 1
-  entry_of_word (commands.Put src f val) told v leaves = put_entry src f val told.answer told.left v leaves
-  entry_of_word _ told v leaves = cc
+  entry_of_word : (cmd : Cmd) (told : Told) (v before : ℕ) → word_left cmd told ≡ Some v → entries_after cmd told.answer before ≡ before + 1
+  entry_of_word (commands.Put src f val) told v before leaves = put_entry src f val told.answer told.left v before leaves
+  entry_of_word _ told v before leaves = cc
 
   -- the entries taken as one for each command answered Done
   done_now : (ns : List ℕ) (t : ℕ) (b : Bool) → 0 < t → t ≤ length ns → slice_index_or (if b then bump ns t else ns) (t - 1) 0 ≡ slice_index_or ns (t - 1) 0 + (if b then 1 else 0)
@@ -248,25 +258,69 @@ module _ (limits : Limits) (start : Moment) where
   done_many ns t true = length-set ns (t - 1) (slice_index_or ns (t - 1) 0 + 1)
   done_many ns t false = refl
 
+  -- A step that decides a command: the one that answers it, and of a mutator that leaves, the one that takes its mailbox.
+  record Decides (w : Core) (t : ℕ) (cmd : Cmd) (told : Told) : Type 0 where
+    -- it gives no mailbox back
+    pub keeps : gives_back (mutator w t).phase ≡ false
+    pub said : IsDecided w t cmd told (stepped w t)
+    pub cause : HasCause (mutator w t) (mutator (stepped w t) t) cmd (found_by w t) told.answer
+    pub tells : told_by t (mutator w t).phase (work_of (mutator w t)) (answer_of (mutator (stepped w t) t)) ≡ Answers t (cmd, told) ∷ []
+    pub advances : (s : ℕ) → 0 < s → Advances w (stepped w t) s
+    -- no scan goes on
+    pub meets : (events : List Event) (home : ℕ → ℕ) (next : ℕ) → Meets limits start events home next t (mutator (stepped w t) t).from (mutator (stepped w t) t).phase
+    -- one that leaves a word is in its own epoch
+    pub here : (word : ℕ) → word_left cmd told ≡ Some word → epoch_at (mutator (stepped w t) t) ≡ (mutator w t).epoch
+
   -- one that answers a command
-  answered_order : (lines : List (List Line)) (events : List Event) (w : Core) (n : Naming) (home : ℕ → ℕ) (t : ℕ) (cmd : Cmd) (told : Told) → limits ≡ limits_of w.config → IsKept w → IsKept (stepped w t) → IsMutator w.config t
-      → is_busy (mutator w t) ≡ true → work_of (mutator w t) ≡ Some (works.Command cmd) → answer_of (mutator (stepped w t) t) ≡ Some (makes.Answered told) → IsDecided w t cmd told (stepped w t)
-      → Ordered limits start lines events w n home → HasOrder (events ++ events_in n w (Move.Steps t)) (stepped w t) (named_after n w (Move.Steps t))
-  answered_order lines events w n home t cmd told numbers kept kept_after is busy work answer said so =
+  answered_decides : (w : Core) (t : ℕ) (cmd : Cmd) (told : Told) → IsKept w → IsMutator w.config t → is_busy (mutator w t) ≡ true → IsStayingIn (mutator w t).phase
+      → work_of (mutator w t) ≡ Some (works.Command cmd) → answer_of (mutator (stepped w t) t) ≡ Some (makes.Answered told) → IsDecided w t cmd told (stepped w t) → IsStaying cmd told.answer → Decides w t cmd told
+  answered_decides w t cmd told kept is busy stays work answer said staying =
+      let v : Core = stepped w t in
+      let logged : log_length v t ≡ entries_after cmd told.answer (log_length w t) = said.logged in
+      let more : log_length w t ≤ entries_after cmd told.answer (log_length w t) = more_entries cmd told.answer (log_length w t) staying in
+      record {
+        keeps = commanded_here (mutator w t) cmd stays work;
+        said = said;
+        cause = step_caused w t cmd told kept is busy work answer;
+        tells = told_as t (mutator w t).phase (work_of (mutator w t)) (answer_of (mutator v t)) stays
+            ∙ ap (λ (x : Option Work). answered_by t x (answer_of (mutator v t))) work ∙ ap (answered_by t (Some (works.Command cmd))) answer;
+        advances = step_advances w t kept is busy (λ _. omega (arith, logged, more));
+        meets = λ events home next. finished_meets events home next t (mutator v t).from (mutator v t).phase (makes.Answered told) answer;
+        here = λ word leaves. epoch_here (mutator v t) (finished_here (mutator v t) (makes.Answered told) answer) ∙ said.epoch;
+      }
+
+  -- one that takes the mailbox of a mutator that leaves
+  leaving_decides : (w : Core) (t : ℕ) → IsKept w → IsMutator w.config t → is_busy (mutator w t) ≡ true → (mutator w t).phase ≡ at.Leaving → Decides w t commands.Leave (plain answers.Done)
+  leaving_decides w t kept is busy phase =
+      let v : Core = stepped w t in
+      let parting : (mutator v t).phase ≡ at.Parting = leaving_parts w t kept is phase in
+      record {
+        keeps = ap gives_back phase;
+        said = leaving_decided w t kept is phase;
+        cause = leaving_cause (mutator w t) (mutator v t) (found_by w t) phase;
+        tells = ap (λ (x : Phase). told_by t x (work_of (mutator w t)) (answer_of (mutator v t))) phase;
+        advances = leaving_advances w t kept is phase;
+        meets = λ events home next. subst (Meets limits start events home next t (mutator v t).from) (sym parting) tt;
+        here = λ word leaves. cc;
+      }
+
+  -- the order over a step that decides a command
+  decided_order : (lines : List (List Line)) (events : List Event) (w : Core) (n : Naming) (home : ℕ → ℕ) (t : ℕ) (cmd : Cmd) (told : Told) → limits ≡ limits_of w.config → IsKept w → IsKept (stepped w t) → IsMutator w.config t
+      → is_busy (mutator w t) ≡ true → Decides w t cmd told → Ordered limits start lines events w n home → HasOrder (events ++ events_in n w (Move.Steps t)) (stepped w t) (named_after n w (Move.Steps t))
+  decided_order lines events w n home t cmd told numbers kept kept_after is busy d so =
       let e : Event = Answers t (cmd, told) in
       let m : Moment = after_all limits start events in
       let v : Core = stepped w t in
+      let said : IsDecided w t cmd told v = d.said in
       let (homes, names) = step_names w t cmd told n home said in
       let k : Naming = named_after n w (Move.Steps t) in
       let P : List Event → Type 0 = λ es. HasOrder (events ++ es) v k in
-      let is_told : told_by t (work_of (mutator w t)) (answer_of (mutator v t)) ≡ e ∷ [] = ap (λ (x : Option Work). told_by t x (answer_of (mutator v t))) work ∙ ap (told_by t (Some (works.Command cmd))) answer in
       let last : after_all limits start (events ++ e ∷ []) ≡ after_answer limits m t (cmd, told) = after_all-grow limits start events e in
       let may : MayCome limits start lines events e
-      = step_may_come limits start lines events w n home t cmd told numbers kept is busy work said (step_caused w t cmd told kept is busy work answer) so.stands so.journals kept_after.sound (so.done t is) (so.meets t is) so.stamps in
-      let logged : log_length v t ≡ log_length w t + entries_of cmd told.answer = said.logged in
-      let advances : (s : ℕ) → 0 < s → Advances w v s = step_advances w t kept is busy (λ here. omega (arith, logged)) in
+      = step_may_come limits start lines events w n home t cmd told numbers kept is d.keeps said d.cause so.stands so.journals kept_after.sound (so.done t is) (so.meets t is) so.stamps in
+      let logged : log_length v t ≡ entries_after cmd told.answer (log_length w t) = said.logged in
       let many : t ≤ length m.done = subst (λ x. t ≤ x) (sym so.logs) is.1 in
-      subst P (sym is_told) (
+      subst P (sym d.tells) (
         with_line lines t (cmd, told),
         homes,
         record {
@@ -276,19 +330,19 @@ module _ (limits : Limits) (start : Moment) where
           meets = λ s s_is. elim (cases_eq s t) [
             | inl same ↦
                 let R : ℕ → Type 0 = λ x. Meets limits start (events ++ e ∷ []) homes k.next x (mutator v x).from (mutator v x).phase in
-                subst R (sym same) (finished_meets (events ++ e ∷ []) homes k.next t (mutator v t).from (mutator v t).phase (makes.Answered told) answer)
+                subst R (sym same) (d.meets (events ++ e ∷ []) homes k.next)
             | inr other ↦
                 subst (λ (p : Private). Meets limits start (events ++ e ∷ []) homes k.next s p.from p.phase) (sym (others_same w t s is.0 other s_is.0))
                 (names_meets (events ++ e ∷ []) w v n k home homes t s (mutator w s).from cmd told (mutator w s).phase names
                 (meets_grows limits start events home n.next s (mutator w s).from e (mutator w s).phase (ne_eqb t s (λ same. other (sym same))) (so.meets s s_is)))
           ];
-          stamps = λ i word d there left. elim (get_cases events e i d there) [
-            | inl old ↦ entry_stays w v (stamp_of word) refl advances (so.stamps i word d old left)
+          stamps = λ i word line there left. elim (get_cases events e i line there) [
+            | inl old ↦ entry_stays w v (stamp_of word) refl d.advances (so.stamps i word line old left)
             | inr new ↦
                 let leaves : word_left cmd told ≡ Some word = ap left_by new.1 ∙ left in
                 let mine : stamp_of word ≡ record { writer = t; epoch = (mutator w t).epoch; index = log_length w t } = subst (λ o. IfSome o (λ x. stamp_of x ≡ record { writer = t; epoch = (mutator w t).epoch; index = log_length w t })) leaves said.stamp in
-                let entry : entries_of cmd told.answer ≡ 1 = entry_of_word cmd told word leaves in
-                let now : epoch_at (mutator v t) ≡ (mutator w t).epoch = epoch_here (mutator v t) (finished_here (mutator v t) (makes.Answered told) answer) ∙ said.epoch in
+                let entry : entries_after cmd told.answer (log_length w t) ≡ log_length w t + 1 = entry_of_word cmd told word (log_length w t) leaves in
+                let now : epoch_at (mutator v t) ≡ (mutator w t).epoch = d.here word leaves in
                 let R : Stamp → Type 0 = λ s. HasEntry v s in
                 subst R (sym mine) (record { some = is.0; most = is.1; earlier = inr (sym now, omega (arith, logged, entry)) })
           ];
@@ -300,7 +354,7 @@ module _ (limits : Limits) (start : Moment) where
                     let R : ℕ → Type 0 = λ x. log_length v x ≤ slice_index_or (if is_done told.answer then bump m.done t else m.done) (x - 1) 0 in
                     let mine : log_length w t ≤ slice_index_or m.done (t - 1) 0 = so.done t is in
                     let more : slice_index_or (if is_done told.answer then bump m.done t else m.done) (t - 1) 0 ≡ slice_index_or m.done (t - 1) 0 + (if is_done told.answer then 1 else 0) = done_now m.done t (is_done told.answer) is.0 many in
-                    let few : entries_of cmd told.answer ≤ (if is_done told.answer then 1 else 0) = few_entries cmd told.answer in
+                    let few : entries_after cmd told.answer (log_length w t) ≤ log_length w t + (if is_done told.answer then 1 else 0) = few_entries cmd told.answer (log_length w t) in
                     let here : R t = omega (arith, mine, more, few, logged) in
                     subst (λ x. log_length v s ≤ x) (sym end) (subst R (sym same) here)
                 | inr other ↦
@@ -316,14 +370,19 @@ module _ (limits : Limits) (start : Moment) where
   -- one step, of whatever kind
   step_order : (lines : List (List Line)) (events : List Event) (w : Core) (n : Naming) (home : ℕ → ℕ) (t : ℕ) → limits ≡ limits_of w.config → IsKept w → IsKept (stepped w t) → IsMutator w.config t → is_busy (mutator w t) ≡ true
       → Ordered limits start lines events w n home → HasOrder (events ++ events_in n w (Move.Steps t)) (stepped w t) (named_after n w (Move.Steps t))
-  step_order lines events w n home t numbers kept kept_after is busy so = go (step_says w t kept is busy)
+  step_order lines events w n home t numbers kept kept_after is busy so = elim (leaves_or_stays (mutator w t).phase) [
+    | inl leaving ↦ decided_order lines events w n home t commands.Leave (plain answers.Done) numbers kept kept_after is busy (leaving_decides w t kept is busy leaving) so
+    | inr (inl parting) ↦ silent_order lines events w n home t numbers kept is busy (parting_silent w t kept is busy parting) so
+    | inr (inr stays) ↦ go stays (step_says w t kept is busy stays)
+  ]
     where
-      go : Says w t (mutator (stepped w t) t) (stepped w t) → HasOrder (events ++ events_in n w (Move.Steps t)) (stepped w t) (named_after n w (Move.Steps t))
-      go (Says.decided cmd told work answer said refused) = answered_order lines events w n home t cmd told numbers kept kept_after is busy work answer said so
-      go (Says.going answer only found) = silent_order lines events w n home t numbers kept is busy (going_silent w t kept is busy answer only) so
-      go (Says.holding answer phase still epoch) = silent_order lines events w n home t numbers kept is busy (holding_silent w t kept is busy answer phase still) so
-      go (Says.stayed answer work here only) = silent_order lines events w n home t numbers kept is busy (stayed_silent w t kept is busy answer only) so
-      go (Says.crossed answer work phase still epoch log) = silent_order lines events w n home t numbers kept is busy (crossed_silent w t kept is busy ((mutator w t).epoch + 1) answer still log) so
+      go : IsStayingIn (mutator w t).phase → Says w t (mutator (stepped w t) t) (stepped w t) → HasOrder (events ++ events_in n w (Move.Steps t)) (stepped w t) (named_after n w (Move.Steps t))
+      go stays (Says.decided cmd told work answer said staying refused) =
+          decided_order lines events w n home t cmd told numbers kept kept_after is busy (answered_decides w t cmd told kept is busy stays work answer said staying) so
+      go stays (Says.going answer only found) = silent_order lines events w n home t numbers kept is busy (going_silent w t kept is busy stays answer only) so
+      go stays (Says.holding answer phase still epoch) = silent_order lines events w n home t numbers kept is busy (holding_silent w t kept is busy stays answer phase still) so
+      go stays (Says.stayed answer work here only) = silent_order lines events w n home t numbers kept is busy (stayed_silent w t kept is busy stays answer only) so
+      go stays (Says.crossed answer work phase still epoch log) = silent_order lines events w n home t numbers kept is busy (crossed_silent w t kept is busy stays ((mutator w t).epoch + 1) answer still log) so
 
   -- One move more.
   move_order : (events : List Event) (w : Core) (n : Naming) (m : Move) → limits ≡ limits_of w.config → IsKept w → Fits w m → HasOrder events w n → HasOrder (events ++ events_in n w m) (after_move w m) (named_after n w m)
