@@ -3,13 +3,13 @@ use Rattle.std.proofs.Common.{◌≡◌, ℕ, ◌+◌, ◌≤◌, refl, sym, ap,
 use Rattle.rec_model.specs.Sight.{Sight}
 use Rattle.rec_collector.specs.Kept.{under_way}
 use Rattle.rec_collector.specs.Private.{Private}
-use Rattle.rec_collector.specs.declared.phase.Phase.{Phase}
 use Rattle.rec_collector.specs.declared.phase.Phase.TheVariants.{Idle}
 use Rattle.rec_core.specs.Core.{Core, sight}
 use Rattle.rec_core.specs.Kept.{IsKept}
 use Rattle.rec_core.specs.Moves.{turned, Move}
 use Rattle.rec_core.specs.Quiet.{AreQuiet}
 use Rattle.rec_core.specs.Resting.{holds, Round, RestsIn, TurnsTo, epochs_before, next_round}
+use Rattle.rec_core.proofs.Gathering.{awaited_stays}
 use Rattle.rec_core.proofs.Rest.QuietPolls.{polled_kept, quiet_polled}
 use Rattle.rec_core.proofs.Rest.QuietTurns.{quiet_turned}
 use Rattle.rec_core.proofs.Rest.RestingSeen.{rests_seen}
@@ -38,9 +38,10 @@ quiet_amid first before w kept quiet (IsAmid.turns u _ path is cause) =
     }
 quiet_amid first before w kept quiet (IsAmid.polls u _ t path awaited polled) =
     let h = quiet_amid first before u kept quiet path in
+    let stays = awaited_stays u t h.kept awaited.there awaited.waits in
     record {
-      kept = polled_kept first u w t h.kept awaited.there polled.worked h.quiet;
-      quiet = quiet_polled first u w t h.kept awaited.there polled.worked h.quiet;
+      kept = polled_kept first u w t h.kept awaited.there stays polled.worked h.quiet;
+      quiet = quiet_polled first u w t h.kept awaited.there stays polled.worked h.quiet;
       config = polled.quiet.config ∙ h.config;
       collections = ap (λ (c : Private). c.collections) polled.quiet.collector ∙ h.collections;
     }
@@ -63,21 +64,16 @@ quiet_after first before after kept quiet c =
       collections = c.complete.3 ∙ ap (λ n. n + 1) h.collections;
     }
 
--- a collection that isn't complete is under way
-pub busy_way : (phase : Phase) → (phase ≡ Idle → ⊥) → under_way phase ≡ 1
-busy_way Idle busy = absurd (busy refl)
-busy_way _ busy = refl
-
 -- A collection of a round, which began at rest, when nothing had been written or born for so many epochs.
 module _ (first : ℕ) (r : Round) (before : Core) (kept : IsKept before) (quiet : AreQuiet first before) (idle : before.collector.phase ≡ Idle) (late : first + epochs_before r ≤ before.epoch + 1) (some : r ≡ Round.Over → ⊥)
     (begun : RestsIn r before before.words before.collector before.collector.phase) where
   -- the requested epoch, while the collection is under way
-  late_amid : (w : Core) → IsQuietAmid first before w → (w.collector.phase ≡ Idle → ⊥) → first + epochs_before r ≤ w.epoch
-  late_amid w h busy =
+  late_amid : (w : Core) → IsQuietAmid first before w → first + epochs_before r + under_way w.collector.phase ≤ w.epoch + 1
+  late_amid w h =
       let first_epoch : w.config.first_epoch ≡ before.config.first_epoch = ap (λ c. c.first_epoch) h.config in
       let now : w.config.first_epoch + w.collector.collections + under_way w.collector.phase ≡ w.epoch = h.kept.collector.begun in
       let then : before.config.first_epoch + before.collector.collections + under_way before.collector.phase ≡ before.epoch = kept.collector.begun in
-      omega (arith, now, then, first_epoch, h.collections, busy_way w.collector.phase busy, ap under_way idle, late)
+      omega (arith, now, then, first_epoch, h.collections, ap under_way idle, late)
 
   -- a poll leaves what is known
   polled_rests : (w v : Core) (t : ℕ) → HasPolled w t v → RestsIn r w w.words w.collector w.collector.phase → RestsIn r v v.words v.collector v.collector.phase

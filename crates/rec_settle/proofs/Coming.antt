@@ -14,6 +14,7 @@ use Rattle.rec_core.specs.Kept.{IsKept}
 use Rattle.rec_core.specs.Moves.{offering, turned}
 use Rattle.rec_core.specs.declared.config.Config.{Config}
 use Rattle.rec_core.proofs.Rest.QuietTurns.{quiet_begun}
+use Rattle.rec_core.proofs.Rest.Rounds.{busy_way}
 use Rattle.rec_core.specs.Turn.{TurnHasCause}
 use Rattle.rec_world.specs.World.{IsWorld}
 use Rattle.rec_world.proofs.Calls.{world_kept}
@@ -22,7 +23,7 @@ use Rattle.rec_settle.specs.Left.{collections_left, left_in, left_of, most_turns
 use Rattle.rec_settle.specs.Stages.{HasCome, IsFinishing, Settles, begun, offered, stage_after, stage_turned}
 use Rattle.rec_settle.specs.declared.turns.Settling.{Settling}
 use Rattle.rec_settle.specs.declared.turns.Settling.TheVariants.{Finishing, Offering, Trying, Freeing, Settled}
-use Rattle.rec_settle.proofs.Amid.{IsQuietAfter, busy_way, quiet_after, quiet_amid}
+use Rattle.rec_settle.proofs.Amid.{IsQuietAfter, quiet_after, quiet_amid}
 use Rattle.rec_settle.proofs.Settles.{HasCollected, collection_epoch, offering_quiet, one, two, was_busy}
 use Rattle.rec_settle.proofs.Waiting.{few_waits, moved_nearer, polled_nearer}
 use Rattle.rec_core.proofs.Offering.{offering_kept}

@@ -14,8 +14,9 @@ use Rattle.rec_core.proofs.Offering.{offering_kept}
 use Rattle.rec_core.proofs.Rest.QuietCounts.{idle_count}
 use Rattle.rec_core.proofs.Rest.QuietTurns.{quiet_begun}
 use Rattle.rec_core.proofs.Rest.Rested.{settled}
+use Rattle.rec_core.proofs.Rest.Rounds.{busy_way}
 use Rattle.rec_settle.specs.Collecting.{AreIdle, IsCollection, Finishes, IsSettling}
-use Rattle.rec_settle.proofs.Amid.{busy_way, quiet_after, rests_after}
+use Rattle.rec_settle.proofs.Amid.{quiet_after, rests_after}
 use Rattle.rec_settle.proofs.Stays.{Stays, stays_after, stays_same, stays_then}
 
 -- the epoch that is requested where no collection is under way
@@ -34,7 +35,7 @@ was_busy before after kept idle c same none = omega (arith, collection_epoch bef
 
 -- to offer every slot changes nothing else
 pub offering_quiet : (first : ℕ) (w : Core) → AreQuiet first w → AreQuiet first (offering w)
-offering_quiet first w quiet t is = let own = quiet t is in record { idle = own.idle; log = own.log; box = own.box; newer = own.newer; older = own.older }
+offering_quiet first w quiet t is = let own = quiet t is in record { idle = own.idle; gone = own.gone; log = own.log; box = own.box; newer = own.newer; older = own.older }
 
 -- Where a part of settling has come to: no collection is under way, and mutators did nothing since a first epoch. So many collections
 -- were completed, and what stays stayed.

@@ -11,7 +11,7 @@ use Rattle.rec_core.specs.Kept.{IsKept}
 use Rattle.rec_core.specs.Moves.{turned}
 use Rattle.rec_core.specs.Quiet.{AreQuiet}
 use Rattle.rec_core.specs.Swept.{swept}
-use Rattle.rec_core.proofs.TurnCases.{TurnCase}
+use Rattle.rec_core.proofs.TurnCases.{Awaits, TurnCase}
 use Rattle.rec_core.proofs.Reach.{turned_keeps, keeps_stands_by}
 use Rattle.rec_core.proofs.Swept.{preparation_sweeps, test_sweeps, trial_sweeps}
 use Rattle.rec_core.proofs.Rest.TurnRules.{turn_is}
@@ -32,11 +32,12 @@ turn_stays w v turn = go turn
 
     go : TurnCase w v → TurnStays w v
     go (TurnCase.spent phase last is) = same _ is refl (omega arith)
-    go (TurnCase.requests phase is) = same _ is refl (omega arith)
+    go (TurnCase.requests next phase present is) = same _ is refl (omega arith)
     go (TurnCase.waits t there phase word is) = same _ is refl (omega arith)
     go (TurnCase.gathers t there phase word is) = same _ is refl (omega arith)
-    go (TurnCase.gives_back t there phase other is) = same _ is refl (omega arith)
-    go (TurnCase.applies t q answer there phase last on is) = same _ is refl (omega (arith, test_sweeps on))
+    go (TurnCase.gives_back t next there phase present is) = same _ is refl (omega arith)
+    go (TurnCase.applies _ q answer (Awaits.alone phase more left) on is) = same _ is refl (omega (arith, test_sweeps on))
+    go (TurnCase.applies _ q answer (Awaits.last t there phase left) on is) = same _ is refl (omega (arith, test_sweeps on))
     go (TurnCase.releases m a q answer phase at on is) = same _ is refl (omega (arith, test_sweeps on))
     go (TurnCase.frees m a q answer phase at on is) = same _ is refl (omega (arith, test_sweeps on))
     go (TurnCase.tries m place q answer phase named on is) = same _ is refl (omega (arith, trial_sweeps on))

@@ -1,13 +1,9 @@
 -- A collection ends: each turn that goes on counts, and a mutator that was waited for lets the collector turn once it has polled.
-use Rattle.std.proofs.Common.{◌≡◌, ◌≢◌, ◌↔◌, inl, inr, ℕ, ◌+◌, ◌*◌, ◌<◌, ◌≤◌, ◌==◌, nat_lt, if◌then◌else◌, Bool, true, false, Option, None, Some, length, refl, sym, ap, subst, ◌∙◌, arith}
-use Rattle.std.proofs.lemmas.Bool.Decides.{nat_tests}
+use Rattle.std.proofs.Common.{◌≡◌, ◌≢◌, ◌↔◌, inl, inr, ℕ, ◌+◌, ◌*◌, ◌<◌, ◌≤◌, ◌==◌, if◌then◌else◌, Bool, true, false, Option, None, Some, length, refl, sym, ap, subst, ◌∙◌, arith}
 use Rattle.std.proofs.lemmas.Bool.{cases_eq, cond-true, cond-false, eq-eqb, false≢true, ne_eqb}
 use Rattle.rec_word.specs.Mailbox.{crossing_word}
 use Rattle.rec_word.specs.declared.mailbox.Mailbox.TheVariants.{Retired}
-use Rattle.rec_mutator.specs.Private as mutators
 use Rattle.rec_mutator.specs.Private.{is_busy}
-use Rattle.rec_mutator.specs.declared.phase.Phase as mutator_phases
-use Rattle.rec_mutator.specs.declared.phase.Phase.TheVariants.{Giving}
 use Rattle.rec_mutator.specs.declared.work.Work.TheVariants as works
 use Rattle.rec_collector.specs.Kept.{limit_of}
 use Rattle.rec_collector.specs.Private.{Private}
@@ -17,13 +13,14 @@ use Rattle.rec_collector.specs.declared.turn.Turn.TheVariants as answers
 use Rattle.rec_collector.proofs.Always.{within_limit}
 use Rattle.rec_core.specs.Config.{IsMutator}
 use Rattle.rec_core.specs.Core.{Core, mutator, opened, box, crossing_of}
-use Rattle.rec_core.specs.Kept.{Handshake, stand_at, IsHandshake, IsKept}
+use Rattle.rec_core.specs.Kept.{Handshake, IsHandshake, IsKept}
 use Rattle.rec_core.specs.Moves.{turned}
 use Rattle.rec_core.specs.Worked.{IsWorked}
 use Rattle.rec_core.specs.declared.config.Config.{Config}
 use Rattle.rec_core.proofs.Opening.{opened_kept}
 use Rattle.rec_core.proofs.Runs.{looked_is}
-use Rattle.rec_core.proofs.Steps.{actor_of}
+use Rattle.rec_core.proofs.Actors.{idle_here}
+use Rattle.rec_core.proofs.Gathering.{looked_due}
 use Rattle.rec_core.specs.Turn.{TurnHasCause}
 use Rattle.rec_world.specs.World.{IsCrossed, IsQuiet, IsWorld}
 use Rattle.rec_world.proofs.Calls.{world_kept}
@@ -88,30 +85,18 @@ polled_behind done w u v t nothing is world cause polled =
       follows = Follows.polls t (awaited w u t kept cause) (sym is ∙ cause.2) nothing (subst (λ (x : Core). HasPolled x t v) cause.2 polled);
     }
 
--- no mutator that is idle holds its mailbox
-idle_holds : (phase : mutator_phases.Phase) → mutators.is_busy_at phase ≡ false → phase ≡ Giving → ⊥
-idle_holds phase idle is = false≢true (sym idle ∙ ap mutators.is_busy_at is)
-
 -- Once a mutator that was waited for has polled, its mailbox is handed over.
 polled_over : (w v : Core) (t : ℕ) → IsKept v → IsAwaited w t → HasPolled w t v → crossing_of v t ≡ crossing_word v.epoch Retired
 polled_over w v t kept awaits polled =
     let is : IsMutator v.config t = subst (λ (c : Config). IsMutator c t) (sym polled.quiet.config) awaits.there in
     let phase : v.collector.phase ≡ Looking t = ap (λ (c : Private). c.phase) polled.quiet.collector ∙ awaits.waits.looks in
-    let actor = actor_of v t kept is in
-    let due : stand_at v.collector.phase t ≡ Handshake.Due = ap (λ p. stand_at p t) phase ∙ stands t in
     let here : (mutator v t).epoch ≡ v.epoch = polled.epoch ∙ sym polled.quiet.requested in
-    go (subst (IsHandshake v.config v.epoch (mutator v t) (crossing_of v t) (box v t)) due actor.handshake) here
+    go (looked_due v t kept is phase) here
   where
-    stands : (t : ℕ) → stand_at (Looking t) t ≡ Handshake.Due
-    stands t = cond-false (nat_lt t t) Handshake.Done Handshake.Due (not_less t)
-      where
-        not_less : (n : ℕ) → nat_lt n n ≡ false
-        not_less n = grind (arith, nat_tests)
-
     go : IsHandshake v.config v.epoch (mutator v t) (crossing_of v t) (box v t) Handshake.Due → (mutator v t).epoch ≡ v.epoch → crossing_of v t ≡ crossing_word v.epoch Retired
     go (inl behind) here = absurd (omega (arith, behind.epoch, here))
-    go (inr (inl crossing)) here = absurd (idle_holds (mutator v t).phase polled.idle crossing.phase)
-    go (inr (inr crossed)) here = crossed.word
+    go (inr (inl crossing)) here = absurd (false≢true (sym (idle_here (mutator v t).phase polled.idle) ∙ crossing.phase))
+    go (inr (inr (crossed, last))) here = crossed.word
 
 -- so less is left
 pub polled_nearer : (w v : Core) (t : ℕ) → IsKept v → IsAwaited w t → HasPolled w t v → left_of v < left_of w

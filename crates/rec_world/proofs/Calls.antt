@@ -8,7 +8,7 @@ use Rattle.std.proofs.lemmas.List.{get_or_default, get_or-replicate, get_or-set_
 use Rattle.std.proofs.lemmas.List.Elements.{All-from_get_or}
 use Rattle.std.proofs.lemmas.List.Sums.{sum_by-le}
 use Rattle.std.proofs.Math.Nat.{mul-le-mul}
-use Rattle.rec_world.proofs.Common.{Contents, next_of, Private, is_busy, IsValid, begun_of, took_of, step_of, swapped_of, left_of, Cells, cell, with_cell, births_of, IsConfig, IsMutator, IsWork, Core, cells_of, mutator, box, nobody, opened, opened_mutators, spare_of, Move, after_move, Fits, begun, stepped, found_by, looked_at, core, IsWhole, held, IsShaped, IsWorld, IsFinished}
+use Rattle.rec_world.proofs.Common.{Contents, next_of, Private, is_busy, IsValid, begun_of, took_of, step_of, swapped_of, left_of, Cells, cell, with_cell, births_of, IsConfig, IsMutator, IsWork, Core, cells_of, mutator, box, nobody, opened, opened_mutators, spare_of, Move, after_move, Fits, begun, stepped, found_by, looked_at, core, IsWhole, held, BeginsNoLeave, IsShaped, IsWorld, IsFinished}
 use Rattle.rec_word.specs.Op.{written}
 use Rattle.rec_word.specs.declared.op.Op.{Op}
 use Rattle.rec_word.specs.declared.op.Op.TheVariants as ops
@@ -16,7 +16,7 @@ use Rattle.rec_word.specs.Mailbox.{crossing_word}
 use Rattle.rec_word.specs.declared.mailbox.Mailbox.TheVariants.{Spare}
 use Rattle.rec_model.proofs.Opened.{map-replicate}
 use Rattle.rec_model.proofs.Operands.{operands_same}
-use Rattle.rec_mutator.specs.Causes.{is_giving}
+use Rattle.rec_mutator.specs.Causes.{gives_back}
 use Rattle.rec_mutator.specs.declared.made.Made.{Made}
 use Rattle.rec_mutator.specs.declared.phase.Phase as phases
 use Rattle.rec_mutator.specs.declared.work.Work.{Work}
@@ -24,6 +24,7 @@ use Rattle.rec_mutator.specs.declared.work.Work.TheVariants as works
 use Rattle.rec_collector.specs.Private as collectors
 use Rattle.rec_core.specs.Kept.{IsKept, entries_made}
 use Rattle.rec_core.specs.Pending.{epoch_at}
+use Rattle.rec_core.specs.Staying.{AreStaying}
 use Rattle.rec_core.specs.Unfinished.{HasFound}
 use Rattle.rec_core.specs.Worked.{StepsTo, IsWorked}
 use Rattle.rec_core.specs.Config.{IsNoLeave}
@@ -31,6 +32,7 @@ use Rattle.rec_core.specs.declared.config.Config.{Config}
 use Rattle.rec_core.proofs.Opening.{opened_kept}
 use Rattle.rec_core.proofs.Runs.{looked_is, move_kept, end_kept, run_more, run_opened}
 use Rattle.rec_core.proofs.Showing.{mutator_left}
+use Rattle.rec_core.proofs.Staying.{begun_staying, opened_staying, stepped_staying, turned_staying}
 use Rattle.rec_core.proofs.Steps.{actor_of}
 use Rattle.rec_core.proofs.Turns.{numbered}
 use Rattle.rec_world.specs.declared.world.World.TheInside.{Inside}
@@ -53,9 +55,18 @@ shaped_of w kept =
       sound = kept.sound;
     }
 
--- every move leaves a world
-pub moved_world : (w : Core) (m : Move) → IsWorld w → Fits w m → IsWorld (after_move w m)
-moved_world w m world fits = record { shaped = shaped_of (after_move w m) (move_kept w m (world_kept w world) fits); run = run_more w m world.run fits }
+-- mutators that stay do so after a move that begins no leaving
+moved_staying : (w : Core) (m : Move) → IsKept w → Fits w m → BeginsNoLeave m → AreStaying w → AreStaying (after_move w m)
+moved_staying w (Move.Begins t work from) kept fits no_leave stay = begun_staying w t work from kept fits.0 no_leave stay
+moved_staying w (Move.Steps t) kept fits no_leave stay = stepped_staying w t kept fits.0 fits.1 stay
+moved_staying w Move.Turns kept fits no_leave stay = turned_staying w stay
+moved_staying w Move.Offers kept fits no_leave stay = stay
+
+-- every such move leaves a world
+pub moved_world : (w : Core) (m : Move) → IsWorld w → Fits w m → BeginsNoLeave m → IsWorld (after_move w m)
+moved_world w m world fits no_leave =
+    let kept : IsKept w = world_kept w world in
+    record { shaped = shaped_of (after_move w m) (move_kept w m kept fits); run = run_more w m world.run fits; staying = moved_staying w m kept fits no_leave world.staying }
 
 -- a mutator that was read from the list
 pub mutator_read : (w : Core) (t i : ℕ) (p : Private) → IsShaped w → IsMutator w.config t → i ≡ t → p ≡ slice_index_or w.mutators (i - 1) p → p ≡ mutator w t
@@ -116,12 +127,12 @@ few_entries w t kept is =
     let all : (epoch_at p - w.config.first_epoch) * w.config.log_entries ≤ 2 ^ 25 * 262143 = mul-le-mul {n₂ = 2 ^ 25} {m₂ = 262143} (omega (arith, epoch)) most in
     omega arith
   where
-    small : (phase : phases.Phase) → (if is_giving phase then (mutator w t).epoch + 1 else (mutator w t).epoch) < 2 ^ 25
-    small phase = let own : (mutator w t).epoch < 2 ^ 24 = (let own = (actor_of w t kept is).own in own.machine.stamped own.stays) in go (is_giving phase) own
+    small : (phase : phases.Phase) → (if gives_back phase then (mutator w t).epoch + 1 else (mutator w t).epoch) < 2 ^ 25
+    small phase = go (gives_back phase) (actor_of w t kept is).own.machine.epoch
       where
-        go : (b : Bool) → (mutator w t).epoch < 2 ^ 24 → (if b then (mutator w t).epoch + 1 else (mutator w t).epoch) < 2 ^ 25
-        go true own = omega arith
-        go false own = omega arith
+        go : (b : Bool) → (mutator w t).epoch ≤ 2 ^ 24 → (if b then (mutator w t).epoch + 1 else (mutator w t).epoch) < 2 ^ 25
+        go true few = omega arith
+        go false few = omega arith
 
 -- so a birth more is counted
 pub made_small : (w : Core) → IsKept w → w.made + 1 < 2 ^ 64
@@ -175,7 +186,7 @@ stepped_is w t i boxes op found births p q mailbox left taken new cells shaped i
 
 -- the opened heap is a world
 pub opened_world : (config : Config) → IsConfig config → IsWorld (opened config)
-opened_world config is = record { shaped = shaped_of (opened config) (opened_kept config is); run = run_opened config }
+opened_world config is = record { shaped = shaped_of (opened config) (opened_kept config is); run = run_opened config; staying = opened_staying config }
 
 -- every mailbox is home
 pub opened_home : (config : Config) (boxes : List (Option Contents)) → boxes ≡ replicate config.mutators (Some (spare_of config)) → (i : ℕ) → i < length boxes → IsSome (slice_index_or boxes i None)

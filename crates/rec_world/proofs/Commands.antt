@@ -13,22 +13,23 @@ use Rattle.rec_model.specs.declared.answer.Answer.TheVariants as answers
 use Rattle.rec_model.specs.declared.command.Cmd.{Cmd}
 use Rattle.rec_model.specs.declared.command.Cmd.TheVariants as commands
 use Rattle.rec_model.specs.declared.told.Told.{Told}
-use Rattle.rec_mutator.specs.Causes.{HasCause, LacksObject, MakesEntry, FoundNone, FoundNoneAt, is_refusal, is_giving}
+use Rattle.rec_mutator.specs.Causes.{HasCause, LacksObject, MakesEntry, FoundNone, FoundNoneAt, gives_back, is_refusal}
 use Rattle.rec_mutator.specs.Step.{IsLogFull as IsLogFullOf}
 use Rattle.rec_mutator.specs.declared.made.Made.{Made}
 use Rattle.rec_mutator.specs.declared.made.Made.TheVariants as makes
 use Rattle.rec_mutator.specs.declared.phase.Phase.{Phase}
-use Rattle.rec_mutator.specs.declared.phase.Phase.TheVariants.{Idle, Begun, Scanning, Scanned, Storing, Crossing, Swapping, Giving, Finished}
+use Rattle.rec_mutator.specs.declared.phase.Phase.TheVariants.{Begun, Scanning, Scanned, Giving}
 use Rattle.rec_mutator.specs.declared.work.Work.{Work}
 use Rattle.rec_mutator.specs.declared.work.Work.TheVariants as works
 use Rattle.rec_mutator.proofs.Polls.{poll_has_cause}
 use Rattle.rec_mutator.proofs.Refusals.{same_command, same_told}
 use Rattle.rec_core.specs.Kept.{IsKept}
-use Rattle.rec_core.specs.StepAnswers.{may_answer, sight_told, probed_at, IsBirthplace, IsDecided, entries_of}
+use Rattle.rec_core.specs.StepAnswers.{may_answer, sight_told, probed_at, IsBirthplace, IsDecided, entries_after}
 use Rattle.rec_core.specs.Unfinished.{OnlyWorks, IsQuiet, HasFound, Waits}
 use Rattle.rec_core.specs.declared.config.Config.{Config}
 use Rattle.rec_core.proofs.Crossings.{giving_of}
 use Rattle.rec_core.proofs.Showing.{Says, mutator_other, stepped_mutator, step_says, step_caused, works_sight, in_order}
+use Rattle.rec_core.proofs.Staying.{staying_in}
 use Rattle.rec_core.proofs.Steps.{actor_of}
 use Rattle.rec_core.proofs.Unfinished.{works_both, works_quiet, quiet_both, begun_works, waits_quiet, mutator_there, waits_epoch, answered_idle}
 use Rattle.rec_world.proofs.IntoLeaves.{allocates, into_leaf}
@@ -274,7 +275,7 @@ answers_all w last v t cmd told kept is only steps answer a =
           λ born. subst (λ (s : Sight). IsLowestFree s slot) same (lowest slot a (leaves.birth born)),
         );
         made = a.said.made ∙ ap (λ n. n + (if is_birth (cmd, told) then 1 else 0)) quiet.made;
-        logged = a.said.logged ∙ ap (λ n. n + entries_of cmd told.answer) entries;
+        logged = a.said.logged ∙ ap (entries_after cmd told.answer) entries;
         stamp = subst (λ n. IfSome (word_left cmd told) (λ word. stamp_of word ≡ record { writer = t; epoch = n; index = log_length w t })) epoch
             (subst (λ n. IfSome (word_left cmd told) (λ word. stamp_of word ≡ record { writer = t; epoch = (mutator last t).epoch; index = n })) entries a.said.stamp);
       };
@@ -293,7 +294,7 @@ answers_all w last v t cmd told kept is only steps answer a =
 -- what was said of the command that was answered
 decided_of : (w v : Core) (t : ℕ) (q : Private) (cmd : Cmd) (told : Told) → work_of (mutator w t) ≡ Some (works.Command cmd) → answer_of q ≡ Some (makes.Answered told) → Says w t q v
     → IsDecided w t cmd told v × (is_refusal told.answer ≡ true → OnlyWorks w v t)
-decided_of w v t q cmd told work answer (Says.decided its_cmd its_told its_work its_answer said refused) =
+decided_of w v t q cmd told work answer (Says.decided its_cmd its_told its_work its_answer said staying refused) =
     let cmds : its_cmd ≡ cmd = same_command its_cmd cmd (sym its_work ∙ work) in
     let tolds : its_told ≡ told = same_told its_told told (sym its_answer ∙ answer) in
     let P : Cmd → Told → Type 0 = λ c x. IsDecided w t c x v × (is_refusal x.answer ≡ true → OnlyWorks w v t) in
@@ -321,7 +322,8 @@ command_works before w t cmd (Waits.holds phase still epoch) work =
 -- what the last step of a work says
 end_says : (before v : Core) (t : ℕ) (made : Made) → IsMutator before.config t → (f : IsFinished before t made v) → IsKept f.last → Says f.last t (mutator v t) v
 end_says before v t made is f kept =
-    subst (λ (x : Core). Says f.last t (mutator x t) x) (sym f.steps) (step_says f.last t kept (mutator_there before f.last t f.waits is) f.busy)
+    let there : IsMutator f.last.config t = mutator_there before f.last t f.waits is in
+    subst (λ (x : Core). Says f.last t (mutator x t) x) (sym f.steps) (step_says f.last t kept there f.busy (staying_in (f.world.staying t there)))
 
 -- What a command is told whose work was begun and finished.
 pub command_said : (w b v : Core) (t : ℕ) (cmd : Cmd) (told : Told) → IsKept w → IsMutator w.config t → b ≡ begun w t (works.Command cmd) → work_of (mutator b t) ≡ Some (works.Command cmd)
@@ -347,7 +349,7 @@ command_crosses w b v t cmd crossed kept is begins its f last_kept =
     go (f.work ∙ its) f.answer (end_says b v t (makes.Crossed crossed) there f last_kept)
   where
     go : {last : Core} {q : Private} → work_of (mutator last t) ≡ Some (works.Command cmd) → answer_of q ≡ Some (makes.Crossed crossed) → Says last t q v → ⊥
-    go work answer (Says.decided its_cmd told its_work its_answer said refused) =
+    go work answer (Says.decided its_cmd told its_work its_answer said staying refused) =
         let not_so : ◌≡◌ {A = Option Made} (Some (makes.Answered told)) (Some (makes.Crossed crossed)) = sym its_answer ∙ answer in
         (cc)
     go work answer (Says.going none only found) =
@@ -371,7 +373,7 @@ poll_answers w b v t told kept is begins its f last_kept =
     go (f.work ∙ its) f.answer (end_says b v t (makes.Answered told) there f last_kept)
   where
     go : {last : Core} {q : Private} → work_of (mutator last t) ≡ Some works.Poll → answer_of q ≡ Some (makes.Answered told) → Says last t q v → ⊥
-    go work answer (Says.decided cmd its_told its_work its_answer said refused) =
+    go work answer (Says.decided cmd its_told its_work its_answer said staying refused) =
         let not_so : ◌≡◌ {A = Option Work} (Some (works.Command cmd)) (Some works.Poll) = sym its_work ∙ work in
         (cc)
     go work answer (Says.going none only found) =
@@ -443,9 +445,9 @@ polled_there w last v t quiet epoch next still its_epoch its_log idle =
     }
 
 -- a mutator that gives no mailbox back has the log with which it began
-waits_log : (before w : Core) (t : ℕ) → Waits before w t → is_giving (mutator w t).phase ≡ false → log_length w t ≡ log_length before t
+waits_log : (before w : Core) (t : ℕ) → Waits before w t → gives_back (mutator w t).phase ≡ false → log_length w t ≡ log_length before t
 waits_log before w t (Waits.works only found) here = ap (λ (p : Private). length p.log.entries) only.own
-waits_log before w t (Waits.holds phase still epoch) here = absurd (false≢true (sym here ∙ ap is_giving phase))
+waits_log before w t (Waits.holds phase still epoch) here = absurd (false≢true (sym here ∙ ap gives_back phase))
 
 -- What a poll is told whose work was begun and finished.
 pub poll_said : (w b v : Core) (t : ℕ) (crossed : Option ℕ) → IsKept w → IsMutator w.config t → b ≡ begun w t works.Poll → work_of (mutator b t) ≡ Some works.Poll
@@ -475,7 +477,7 @@ poll_said w b v t crossed kept is begins its f last_kept =
         (cc)
 
     go : work_of (mutator f.last t) ≡ Some works.Poll → Says f.last t (mutator v t) v → IsPolled w v t crossed
-    go work (Says.decided cmd its_told its_work its_answer said refused) =
+    go work (Says.decided cmd its_told its_work its_answer said staying refused) =
         let not_so : ◌≡◌ {A = Option Work} (Some (works.Command cmd)) (Some works.Poll) = sym its_work ∙ work in
         (cc)
     go work (Says.going none only found) =

@@ -1,5 +1,5 @@
 -- The shared words of a heap in one row, and the index of the slots that are free.
-use Rattle.std.specs.Prelude.{◌≡◌, ℕ, ◌+◌, ◌<◌, ◌^◌, ◌==◌, List, if◌then◌else◌, length, slice_index_or}
+use Rattle.std.specs.Prelude.{◌≡◌, ℕ, ◌<◌, ◌^◌, ◌==◌, List, if◌then◌else◌, length, slice_index_or}
 use Rattle.rec_index.specs.Sets.{bit}
 use Rattle.rec_word.specs.declared.cell.Cell.{Cell}
 use Rattle.rec_word.specs.declared.cell.Cell.TheVariants.{Header}

@@ -11,11 +11,12 @@ use Rattle.rec_model.specs.Sight.{Sight, IsSound, IsTaken}
 use Rattle.rec_mutator.specs.Causes.{is_refusal, LacksObject, MakesEntry}
 use Rattle.rec_mutator.specs.Private.{register, is_busy, work_of, answer_of}
 use Rattle.rec_mutator.specs.declared.made.Made.{Made}
-use Rattle.rec_core.specs.Config.{IsConfig, IsMutator}
+use Rattle.rec_core.specs.Config.{IsConfig, IsMutator, IsNoLeave}
 pub use Rattle.rec_core.specs.Core.{Core, cells_of, sight, mutator, with_mutator, crossing_of, log_length, opened}
-use Rattle.rec_core.specs.Moves.{stepped, EndsRun}
+use Rattle.rec_core.specs.Moves.{Move, stepped, EndsRun}
+use Rattle.rec_core.specs.Staying.{AreStaying}
 use Rattle.rec_core.specs.StepAnswers.{IsFilled, sight_told}
-pub use Rattle.rec_core.specs.StepAnswers.{entries_of}
+pub use Rattle.rec_core.specs.StepAnswers.{entries_after}
 pub use Rattle.rec_core.specs.Turn.{TurnHasCause, step_seen}
 pub use Rattle.rec_core.specs.Unfinished.{OnlyWorks, IsQuiet, HasFound, Waits}
 use Rattle.rec_core.specs.Worked.{StepsTo}
@@ -32,10 +33,16 @@ pub record IsShaped (w : Core) : Type 0 where
   pub epoch : w.epoch < 2 ^ 24
   pub sound : IsSound (sight w)
 
--- what every world is: the end of a run from its opening
+-- what every world is: the end of a run from its opening; a world begins no work of leaving yet, so nobody has left
 pub record IsWorld (w : Core) : Type 0 where
   pub shaped : IsShaped w
   pub run : EndsRun w
+  pub staying : AreStaying w
+
+-- a move that begins no work of leaving
+abbrev pub BeginsNoLeave : Move → Type 0
+BeginsNoLeave (Move.Begins t work from) = IsNoLeave work
+BeginsNoLeave _ = Unit {0}
 
 -- the label in a header: none where the slot is free
 abbrev pub label_of : ℕ → Option ℕ
@@ -85,7 +92,7 @@ pub record Refuses (before : Core) (t : ℕ) (cmd : Cmd) (told : Told) (after : 
 pub record Changes (before : Core) (t : ℕ) (cmd : Cmd) (told : Told) (after : Core) : Type 0 where
   pub seen : (slot : ℕ) × (sight after ≡ sight_told (sight before) slot t cmd told) × (is_birth (cmd, told) ≡ true → IsLowestFree (sight before) slot)
   pub stamp : IfSome (word_left cmd told) (λ word. stamp_of word ≡ record { writer = t; epoch = (mutator before t).epoch; index = log_length before t })
-  pub logged : log_length after t ≡ log_length before t + entries_of cmd told.answer
+  pub logged : log_length after t ≡ entries_after cmd told.answer (log_length before t)
   pub made : after.made ≡ before.made + (if is_birth (cmd, told) then 1 else 0)
 
 -- What stays: the collector, the epochs, the freed word, the other mutators and the heap's numbers; and the mutator works no more.

@@ -121,7 +121,8 @@ impl World {
         }
     }
 
-    /// Whether mutator `t` may ask this: its number, the registers and the field are there, and it stays.
+    /// Whether mutator `t` may ask this: its number, the registers and the field are there, and it isn't to leave, which no work of
+    /// a world is yet.
     pub fn valid(&self, t: u8, cmd: &Cmd) -> bool
         ensures { IsTrue result ↔ IsValid self.now.config t cmd.now }
     {
@@ -144,7 +145,7 @@ impl World {
         are_idle(self.machines.as_slice())
     }
 
-    /// Begins a work of mutator `t`. No step of it is made. A scan for a free slot begins with slot 0.
+    /// Begins a work of mutator `t`, which isn't to leave. No step of it is made. A scan for a free slot begins with slot 0.
     pub fn begin(&mut self, t: u8, work: Work)
         requires mutator { IsMutator self.old.config t }
         requires work { IsWork self.old.config work }

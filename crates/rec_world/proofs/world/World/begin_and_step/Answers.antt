@@ -20,7 +20,7 @@ asked c = began_read c.self.inside c.args.t c.from-own.result c.args.work c.inde
 pub begin-requires-clause-valid : goal.begin-requires-clause-valid
 begin-requires-clause-valid c =
     let may : MayBegin c.self.inside c.args.t c.args.work = may_begin c.self.inside c.args.self.now c.args.t c.args.work c.self.invariant c.self.view_is c.requires.mutator c.requires.work c.requires.idle c.see_label.ensures in
-    subst (λ (p : Private). IsValid p c.args.work) (sym (mutator_read (core c.self.inside) c.args.t c.from-own.result c.index_mut-machine.result.now c.self.invariant.world.shaped may.was.is c.from-own.ensures c.index_mut-machine.ensures.value)) may.fits.2
+    subst (λ (p : Private). IsValid p c.args.work) (sym (mutator_read (core c.self.inside) c.args.t c.from-own.result c.index_mut-machine.result.now c.self.invariant.world.shaped may.was.is c.from-own.ensures c.index_mut-machine.ensures.value)) may.fits.3
 
 pub begin-requires-clause-from : goal.begin-requires-clause-from
 begin-requires-clause-from c =
@@ -32,7 +32,7 @@ pub begin-requires-clause-stays : goal.begin-requires-clause-stays
 begin-requires-clause-stays c =
     let may : MayBegin c.self.inside c.args.t c.args.work = may_begin c.self.inside c.args.self.now c.args.t c.args.work c.self.invariant c.self.view_is c.requires.mutator c.requires.work c.requires.idle c.see_label.ensures in
     subst (λ (p : Private). p.left ≡ false) (sym (mutator_read (core c.self.inside) c.args.t c.from-own.result c.index_mut-machine.result.now c.self.invariant.world.shaped may.was.is c.from-own.ensures c.index_mut-machine.ensures.value))
-    (actor_of (core c.self.inside) c.args.t may.was.kept may.was.is).own.stays
+    (c.self.invariant.world.staying c.args.t may.was.is).present
 
 pub see_label-requires : goal.see_label-requires
 see_label-requires c = work_stays c.args.self.now.config c.args.work c.requires.work
@@ -81,7 +81,7 @@ left c =
     c.index_mut.ensures.value c.make_step.ensures.machine c.make_step.ensures.memory c.make_step.ensures.mailbox c.make_step.ensures.births
 
 world : (c : After-answer) → IsWorld (after c)
-world c = subst IsWorld (sym (left c)) (moved_world (begun (core c.self.inside) c.args.t c.args.work) (Move.Steps c.args.t) (ends c).world ((ends c).was.is, (ends c).busy))
+world c = subst IsWorld (sym (left c)) (moved_world (begun (core c.self.inside) c.args.t c.args.work) (Move.Steps c.args.t) (ends c).world ((ends c).was.is, (ends c).busy) tt)
 
 pub invariant_of-self : goal.invariant_of-self
 invariant_of-self c =
