@@ -16,28 +16,31 @@ use Rattle.rec_model.specs.LegalOrder.Event.{Answers, Frees, Marks}
 use Rattle.rec_model.specs.Numbering.{times}
 use Rattle.rec_model.specs.Sight.{Sight, IsTaken}
 use Rattle.rec_model.proofs.Operands.{operands_same}
-use Rattle.rec_mutator.specs.Private.{Private, HasOperands}
+use Rattle.rec_mutator.specs.Private.{Private, HasOperands, is_busy}
 use Rattle.rec_mutator.specs.declared.work.Work.TheVariants as works
 use Rattle.rec_collector.specs.Next.{next_of}
 use Rattle.rec_core.specs.Config.{IsMutator, HasLabel}
 use Rattle.rec_core.specs.Core.{opened, Core, sight, mutator}
 use Rattle.rec_core.specs.Kept.{IsKept}
-use Rattle.rec_core.specs.Moves.{IsStart, Move, after_move, after_moves, turned}
-use Rattle.rec_core.specs.Worked.{AreIdle}
+use Rattle.rec_core.specs.Moves.{Fits, Move, after_move, after_moves, begun as begun_in, turned}
+use Rattle.rec_core.specs.Worked.{AreIdle, IsWorked}
 use Rattle.rec_core.specs.declared.config.Config.{Config}
-use Rattle.rec_core.proofs.Runs.{move_stays, run_kept}
+use Rattle.rec_core.proofs.Gathering.{awaited_stays}
+use Rattle.rec_core.proofs.Runs.{move_stays}
 use Rattle.rec_core.proofs.Steps.{actor_of}
 use Rattle.rec_order.specs.Events.{swept_by}
 use Rattle.rec_order.specs.Naming.{Naming, NamesGoOn, first_naming}
 use Rattle.rec_order.proofs.Legal.{swept_lines}
 use Rattle.rec_order.proofs.Runs.{Runs, runs_both, runs_one, commanded_runs, polled_runs}
+use Rattle.rec_world.specs.World.{IsWorld}
+use Rattle.rec_world.proofs.Calls.{moved_world, world_kept}
+use Rattle.rec_world.proofs.Skipping.{path_world}
 use Rattle.rec_script.specs.Script.{ScriptContents, AreCommands, IsCommand, IsScript}
 use Rattle.rec_settle.specs.Collecting.{Follows}
 use Rattle.rec_play.specs.Moves.{Carries}
 use Rattle.rec_play.specs.Played.{config_of}
 use Rattle.rec_play.specs.Run.{commands_of, made_in}
 use Rattle.rec_play.proofs.Due.{HasCommand, commands_are, has_command}
-use Rattle.rec_play.proofs.Ready.{script_config}
 
 -- a command more is a line more of its mutator
 pub line_own : (events : List Event) (t : ℕ) (line : Line) → filter_map (line_by t) (events ++ Answers t line ∷ []) ≡ filter_map (line_by t) events ++ line ∷ []
@@ -86,9 +89,6 @@ moves_stay w (m ∷ ms) = moves_stay (after_move w m) ms ∙ move_stays w m
 runs_config : (script : ScriptContents) (w : Core) (events : List Event) (n : Naming) → Runs (opened (config_of script)) w events first_naming n → w.config ≡ config_of script
 runs_config script w events n run = ap (λ (x : Core). x.config) (sym run.ends) ∙ moves_stay (opened (config_of script)) run.moves
 
-pub runs_kept : (script : ScriptContents) (w : Core) (events : List Event) (n : Naming) → IsScript script → Runs (opened (config_of script)) w events first_naming n → IsKept w
-runs_kept script w events n is run = run_kept (opened (config_of script)) run.moves w (script_config script is) (record { starts = IsStart.opens refl; fit = run.fit; ends = run.ends })
-
 -- operands in range are those of a mutator
 operands : (script : ScriptContents) (p : Private) (cmd : Cmd) → length p.registers ≡ script.registers → p.fields ≡ script.fields → IsCommand script.registers script.fields cmd → HasOperands p cmd × HasLabel (works.Command cmd)
 operands script p Leave registers fields is = absurd is
@@ -135,22 +135,30 @@ names_from : (before mid after : Core) (line : Line) (n k : Naming) → sight mi
 names_from before mid after line n k seen (NamesGoOn.born slot birth free taken) = NamesGoOn.born slot birth (λ was. free (subst (λ (x : Sight). IsTaken x slot) (sym seen) was)) taken
 names_from before mid after line n k seen (NamesGoOn.same unborn) = NamesGoOn.same unborn
 
+-- a poll of a world leaves one
+polled_world : (w v : Core) (t : ℕ) → IsWorld w → IsMutator w.config t → is_busy (mutator w t) ≡ false → IsWorked w t works.Poll v → IsWorld v
+polled_world w v t world is idle done =
+    let fits : Fits w (Move.Begins t works.Poll 0) = (is, idle, (world.staying t is).present, tt, tt, world.shaped.config.some_slots) in
+    let (last, there) = path_world (begun_in w t works.Poll) t done.last (moved_world w (Move.Begins t works.Poll 0) world fits tt) is done.path in
+    subst IsWorld (sym done.steps) (moved_world done.last (Move.Steps t) last (there, done.busy) tt)
+
 -- A command more, behind a poll.
-pub went_command : (script : ScriptContents) (events : List Event) (n : Naming) (before after : Core) (t : ℕ) (cmd : Cmd) (told : Told) → AreIdle before → Carries script t (made_in events t) before cmd told after → Went script events n before
+pub went_command : (script : ScriptContents) (events : List Event) (n : Naming) (before after : Core) (t : ℕ) (cmd : Cmd) (told : Told) → IsWorld before → AreIdle before → Carries script t (made_in events t) before cmd told after → Went script events n before
     → (k : Naming) × NamesGoOn before after (cmd, told) n k × Went script (events ++ Answers t (cmd, told) ∷ []) k after
-went_command script events n before after t cmd told idle carries so =
+went_command script events n before after t cmd told world idle carries so =
     let first : Core = opened (config_of script) in
     let there : HasCommand script t (made_in events t) = has_command script t (made_in events t) cmd carries.next in
     let mid : Core = carries.polled in
     let is : IsMutator before.config t = is_mutator script before t (runs_config script before events n so.run) there.some there.most in
-    let (poll, seen) = polled_runs before mid t n (runs_kept script before events n so.valid so.run) is (idle t is) carries.poll in
+    let (poll, seen) = polled_runs before mid t n (world_kept before world) is (idle t is) (world.staying t is).present carries.poll in
     let polled : Runs first mid events first_naming n = subst (λ es. Runs first mid es first_naming n) (append-nil events) (runs_both first before mid events [] first_naming n n so.run poll) in
     let config : mid.config ≡ config_of script = runs_config script mid events n polled in
-    let kept : IsKept mid = runs_kept script mid events n so.valid polled in
+    let world_mid : IsWorld mid = polled_world before mid t world is (idle t is) carries.poll in
+    let kept : IsKept mid = world_kept mid world_mid in
     let is_mid : IsMutator mid.config t = is_mutator script mid t config there.some there.most in
     let own = (actor_of mid t kept is_mid).own in
     let (valid, label) = operands script (mutator mid t) cmd (own.registers ∙ ap (λ (c : Config). c.registers) config) (own.fields ∙ ap (λ (c : Config). c.fields) config) (next_in_range script t (made_in events t) cmd so.valid carries.next) in
-    let (k, names, run) = commanded_runs mid after t cmd told n kept is_mid carries.poll.idle valid label carries.command carries.answer in (
+    let (k, names, run) = commanded_runs mid after t cmd told n kept is_mid carries.poll.idle (world_mid.staying t is_mid).present valid label carries.command carries.answer in (
       k,
       names_from before mid after (cmd, told) n k seen names,
       record {
@@ -161,9 +169,9 @@ went_command script events n before after t cmd told idle carries so =
     )
 
 -- A turn of the collector more, and the poll that follows it.
-pub went_step : (script : ScriptContents) (done : ℕ → Type 0) (events : List Event) (n : Naming) (before after : Core) → AreIdle before → Follows done before after → Went script events n before
+pub went_step : (script : ScriptContents) (done : ℕ → Type 0) (events : List Event) (n : Naming) (before after : Core) → IsKept before → AreIdle before → Follows done before after → Went script events n before
     → Went script (events ++ swept_by n (next_of before.collector)) n after
-went_step script done events n before after idle follows so = record {
+went_step script done events n before after kept idle follows so = record {
   valid = so.valid;
   run = go follows;
   commands = λ t. ap (map (λ (line : Line). line.0)) (line_swept events n before t) ∙ so.commands t ∙ ap (λ (xs : List Line). take (length xs) (commands_of script t)) (sym (line_swept events n before t));
@@ -181,8 +189,7 @@ went_step script done events n before after idle follows so = record {
     go : Follows done before after → Runs first after (events ++ told) first_naming n
     go (Follows.rests left is) = step after is
     go (Follows.polls t awaited same spent polled) =
-        let kept : IsKept before = runs_kept script before events n so.valid so.run in
-        let (poll, seen) = polled_runs before after t n kept awaited.there (idle t awaited.there) polled.worked in
+        let (poll, seen) = polled_runs before after t n kept awaited.there (idle t awaited.there) (awaited_stays before t kept awaited.there awaited.waits) polled.worked in
         subst (λ es. Runs first after es first_naming n) (append-nil (events ++ told)) (runs_both first before after (events ++ told) [] first_naming n n (step before (sym same)) poll)
 
 -- a turn is a line of its mutator

@@ -23,7 +23,7 @@ use Rattle.rec_core.specs.Worked.{AreIdle, IsWorked, StepsTo, WaitsFor}
 use Rattle.rec_core.proofs.Offering.{offering_kept}
 use Rattle.rec_core.proofs.Rest.QuietTurns.{quiet_begun}
 use Rattle.rec_core.proofs.Rest.TurnRules.{turn_is}
-use Rattle.rec_core.proofs.TurnCases.{TurnCase}
+use Rattle.rec_core.proofs.TurnCases.{Awaits, TurnCase}
 use Rattle.rec_order.specs.Naming.{Naming}
 use Rattle.rec_core.specs.Turn.{TurnHasCause}
 use Rattle.rec_script.specs.Script.{ScriptContents}
@@ -160,13 +160,14 @@ waits_still w t kept waits = go (turn_is w kept)
     go : TurnCase w (turned w) → turned w ≡ w
     go (TurnCase.spent phase last is) = is
     go (TurnCase.waits s there phase word is) = is
-    go (TurnCase.requests phase is) = absurd (let no : ◌≡◌ {A = Phase} (Looking t) Idle = other Idle phase in cc)
+    go (TurnCase.requests next phase present is) = absurd (let no : ◌≡◌ {A = Phase} (Looking t) Idle = other Idle phase in cc)
     go (TurnCase.gathers s there phase word is) =
         let looks : ◌≡◌ {A = Phase} (Looking t) (Looking s) = other (Looking s) phase in
         let same : s ≡ t = cc in
         absurd (waits.behind (subst (λ n. crossing_of w n ≡ crossing_word w.epoch Retired) same word))
-    go (TurnCase.gives_back s there phase more is) = absurd (let no : ◌≡◌ {A = Phase} (Looking t) (Returning s) = other (Returning s) phase in cc)
-    go (TurnCase.applies s q turn there phase last on is) = absurd (let no : ◌≡◌ {A = Phase} (Looking t) (Returning s) = other (Returning s) phase in cc)
+    go (TurnCase.gives_back s next there phase present is) = absurd (let no : ◌≡◌ {A = Phase} (Looking t) (Returning s) = other (Returning s) phase in cc)
+    go (TurnCase.applies _ q turn (Awaits.alone phase more left) on is) = absurd (let no : ◌≡◌ {A = Phase} (Looking t) Idle = other Idle phase in cc)
+    go (TurnCase.applies _ q turn (Awaits.last s there phase left) on is) = absurd (let no : ◌≡◌ {A = Phase} (Looking t) (Returning s) = other (Returning s) phase in cc)
     go (TurnCase.releases m a q turn phase at on is) = absurd (let no : ◌≡◌ {A = Phase} (Looking t) (Releasing m) = other (Releasing m) phase in cc)
     go (TurnCase.frees m a q turn phase at on is) = absurd (let no : ◌≡◌ {A = Phase} (Looking t) (Freeing m) = other (Freeing m) phase in cc)
     go (TurnCase.tries m place q turn phase named on is) = absurd (let no : ◌≡◌ {A = Phase} (Looking t) (Trying m) = other (Trying m) phase in cc)

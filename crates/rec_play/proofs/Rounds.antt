@@ -24,6 +24,8 @@ use Rattle.rec_order.specs.Events.{swept_by}
 use Rattle.rec_order.specs.Naming.{Naming, NamesGoOn, first_naming}
 use Rattle.rec_world.specs.Journal.{Notes, no_notes}
 use Rattle.rec_world.specs.Order.{Turns}
+use Rattle.rec_world.specs.World.{IsWorld}
+use Rattle.rec_world.proofs.Calls.{opened_world, world_kept}
 use Rattle.rec_script.specs.Script.{ScriptContents, IsScript}
 use Rattle.rec_settle.specs.Collecting.{Follows}
 use Rattle.rec_play.specs.declared.actor.Actor.{Actor}
@@ -33,9 +35,10 @@ use Rattle.rec_play.specs.Played.{AreReady, IsPlayed, config_of, lengths_of, lin
 use Rattle.rec_play.specs.Playing.{all_turns, generator_of, mutators_of, number_of_actor, order, to_come}
 use Rattle.rec_play.specs.Run.{IsPlayedRun, EndsTurn, commands_of, made_in}
 use Rattle.rec_play.proofs.Due.{HasCommand, commands_are, has_command, is_of_script, lengths_at, none_made, order_is}
-use Rattle.rec_play.proofs.Going.{Went, actors_swept, begun, line_other, line_own, line_swept, runs_kept, turns_are_lines, went_command, went_step}
+use Rattle.rec_play.proofs.Going.{Went, actors_swept, begun, line_other, line_own, line_swept, turns_are_lines, went_command, went_step}
 use Rattle.rec_play.proofs.Opened.{IsPlayedLegally, played_legally}
 use Rattle.rec_play.proofs.Room.{no_log_full}
+use Rattle.rec_play.proofs.Ready.{script_config}
 use Rattle.rec_play.proofs.Orders.{order_names, order_length, collectors, collectors_few}
 
 -- each mutator has made as many commands as were answered
@@ -111,6 +114,7 @@ journal_is journals index t d same some there =
 -- what was played so far, what is to come, and what room is left
 pub record Between (script : ScriptContents) (seed turns : ℕ) (world : Core) (journals : List Notes) (noted : Turns) (p : Player) : Type 0 where
   pub of : p.script ≡ script
+  pub kept : IsWorld world
   pub idle : AreIdle world
   pub long : length p.made ≡ 8
   pub config : world.config ≡ config_of script
@@ -140,6 +144,7 @@ start script seed turns world journals noted p valid idle is ready none room of 
     let P : Core → Type 0 = λ w. IsPlayedRun script [] [] first_naming w in
     record {
       of = of;
+      kept = subst IsWorld (sym is) (opened_world (config_of script) (script_config script valid));
       idle = idle;
       long = ap length made;
       config = ap (λ (w : Core). w.config) is;
@@ -201,15 +206,16 @@ module _ (script : ScriptContents) (seed turns : ℕ) (before after : Core) (jou
 
   -- It was noted.
   pub command_made : (notes : Notes) (more : Turns) → notes.lines ≡ (notes_at journals (t - 1)).lines ++ (cmd, told) ∷ [] → notes.room ≡ (notes_at journals (t - 1)).room - 1
-      → more.list ≡ noted.list ++ t ∷ [] → more.room ≡ noted.room - 1 → q.script ≡ p.script → length q.made ≡ 8 → AreIdle after → after.config ≡ config_of script → Between script seed turns after (slice_set journals (t - 1) notes) more q
-  command_made notes more line room list less same long idle config =
-      let (k, names, went) = went_command script so.events so.names before after t cmd told so.idle (subst (λ m. Carries script t m before cmd told after) counted carries) so.went in
+      → more.list ≡ noted.list ++ t ∷ [] → more.room ≡ noted.room - 1 → q.script ≡ p.script → length q.made ≡ 8 → IsWorld after → AreIdle after → after.config ≡ config_of script → Between script seed turns after (slice_set journals (t - 1) notes) more q
+  command_made notes more line room list less same long kept idle config =
+      let (k, names, went) = went_command script so.events so.names before after t cmd told so.kept so.idle (subst (λ m. Carries script t m before cmd told after) counted carries) so.went in
       let index : t - 1 < length journals = omega (arith, there.some, there.most, so.one_each) in
       let mine : made_in (so.events ++ Answers t (cmd, told) ∷ []) t ≡ made_in so.events t + 1 = ap length (line_own so.events t (cmd, told)) ∙ length_push (filter_map (line_by t) so.events) (cmd, told) in
       let here : notes_at (slice_set journals (t - 1) notes) (t - 1) ≡ notes = get_or-set_same journals (t - 1) notes no_notes index in
       let room_for : HasRoom script journals noted t = has_room in
       record {
         of = same ∙ so.of;
+        kept = kept;
         idle = idle;
         long = long;
         config = config;
@@ -251,12 +257,13 @@ module _ (script : ScriptContents) (seed turns : ℕ) (before after : Core) (jou
 
 -- A turn of the collector was made.
 pub step_made : (script : ScriptContents) (seed turns : ℕ) (before after : Core) (journals : List Notes) (noted : Turns) (p q : Player) (seen : Option (Op × ℕ)) (turn : Turn) → MakesStep p q before after seen turn
-    → q.script ≡ p.script → AreIdle after → after.config ≡ config_of script → Between script seed turns before journals noted p → Between script seed turns after journals noted q
-step_made script seed turns before after journals noted p q seen turn makes same idle config so =
+    → q.script ≡ p.script → IsWorld after → AreIdle after → after.config ≡ config_of script → Between script seed turns before journals noted p → Between script seed turns after journals noted q
+step_made script seed turns before after journals noted p q seen turn makes same world idle config so =
     let follows : Follows (IsSpent script p.made) before after = subst (λ s. Follows (IsSpent s p.made) before after) so.of makes.steps.follows in
-    let kept : IsKept before = runs_kept script before so.events so.names so.went.valid so.went.run in
+    let kept : IsKept before = world_kept before so.kept in
     record {
       of = same ∙ so.of;
+      kept = world;
       idle = idle;
       long = ap length makes.made ∙ so.long;
       config = config;
@@ -265,7 +272,7 @@ step_made script seed turns before after journals noted p q seen turn makes same
       events = so.events ++ swept_by so.names (next_of before.collector);
       names = so.names;
       run = run_stepped script p.made so.acted so.events so.names before after so.config kept so.counted follows so.run;
-      went = went_step script (IsSpent script p.made) so.events so.names before after so.idle follows so.went;
+      went = went_step script (IsSpent script p.made) so.events so.names before after kept so.idle follows so.went;
       counted = λ t some most. ap (λ made. made_by made t) makes.made ∙ so.counted t some most ∙ sym (ap length (line_swept so.events so.names before t));
       one_each = so.one_each;
       lines = λ t some. line_swept so.events so.names before t ∙ so.lines t some;

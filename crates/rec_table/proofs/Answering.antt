@@ -3,7 +3,7 @@ use Rattle.std.proofs.Common.{◌≡◌, ◌↔◌, ℕ, ◌+◌, ◌<◌, ◌==
 use Rattle.std.specs.Prelude.{fold}
 use Rattle.std.proofs.lemmas.List.{length-append, map-append, nil_from_length}
 use Rattle.std.proofs.lemmas.List.Sums.{fold-append}
-use Rattle.rec_table.proofs.Common.{HasLabel, IsAt, IsMachine, Private, answer_at, answer_of, is_busy, is_busy_at, limit_of, work_at, work_of, begun_of, moved, spare, step_of, swapped_at, swapped_of, took_at, took_of, learnt, told, saw_all, Beat, Begins, Saw}
+use Rattle.rec_table.proofs.Common.{IsAt, IsNoLeave, IsMachine, Private, answer_at, answer_of, is_busy, is_busy_at, limit_of, work_at, work_of, begun_of, moved, spare, step_of, swapped_at, swapped_of, took_at, took_of, learnt, told, saw_all, Beat, Begins, Saw}
 use Rattle.rec_word.specs.Header.{header_word}
 use Rattle.rec_model.specs.Asking.{allocation}
 use Rattle.rec_model.specs.declared.command.Cmd.{Cmd}
@@ -39,22 +39,22 @@ pub record Path (start : Start) (p : Private) (log log' : List Beat) (q : Privat
   pub made : q ≡ learnt before (Saw last)
   pub counted : before.steps ≡ length words
   pub stepped : q.steps ≡ before.steps + 1
-  pub label : HasLabel start.work
+  pub stays : IsNoLeave start.work
 
 is_poll : Option Work → Bool
 is_poll (Some works.Poll) = true
 is_poll _ = false
 
 -- a step of a command takes no mailbox
-command_takes_none : (p : Private) (cmd : Cmd) → HasLabel (works.Command cmd) → work_of p ≡ Some (works.Command cmd) → TakesNone p.phase
+command_takes_none : (p : Private) (cmd : Cmd) → IsNoLeave (works.Command cmd) → work_of p ≡ Some (works.Command cmd) → TakesNone p.phase
 unfolding is_poll
-command_takes_none p cmd label work = by p.phase refl
+command_takes_none p cmd no_leave work = by p.phase refl
   where
     no : (phase : phases.Phase) → p.phase ≡ phase → work_at phase ≡ Some works.Poll → ⊥
     no phase is poll = true≢false (sym (ap is_poll (sym work ∙ ap work_at is ∙ poll)))
 
     stays : (phase : phases.Phase) → p.phase ≡ phase → work_at phase ≡ Some (works.Command commands.Leave) → ⊥
-    stays phase is leaves = subst (λ (c : Cmd). HasLabel (works.Command c)) (same_command cmd commands.Leave (sym work ∙ ap work_at is ∙ leaves)) label
+    stays phase is leaves = subst (λ (c : Cmd). IsNoLeave (works.Command c)) (same_command cmd commands.Leave (sym work ∙ ap work_at is ∙ leaves)) no_leave
 
     by : (phase : phases.Phase) → p.phase ≡ phase → TakesNone p.phase
     by at.Crossing is = absurd (no at.Crossing is refl)
@@ -94,8 +94,8 @@ unfolding begun_of
 begun_steps p work from = refl
 
 pub path_first : (start : Start) (p q : Private) (log log' : List Beat) (word : ℕ) → log' ≡ log ++ worked start (word ∷ []) → IsMachine (begun_of p start.work start.from) → is_busy (begun_of p start.work start.from) ≡ true → work_of (begun_of p start.work start.from) ≡ Some start.work
-    → (begun_of p start.work start.from).slots ≡ p.slots → q ≡ learnt (begun_of p start.work start.from) (Saw word) → q.steps ≡ (begun_of p start.work start.from).steps + 1 → HasLabel start.work → Path start p log log' q
-path_first start p q log log' word grows machine busy works_on slots made stepped label = record {
+    → (begun_of p start.work start.from).slots ≡ p.slots → q ≡ learnt (begun_of p start.work start.from) (Saw word) → q.steps ≡ (begun_of p start.work start.from).steps + 1 → IsNoLeave start.work → Path start p log log' q
+path_first start p q log log' word grows machine busy works_on slots made stepped stays = record {
   words = [];
   last = word;
   grows = grows;
@@ -109,7 +109,7 @@ path_first start p q log log' word grows machine busy works_on slots made steppe
   made = made;
   counted = begun_steps p start.work start.from;
   stepped = stepped;
-  label = label;
+  stays = stays;
 }
 
 -- failing probes that found these words, and one step more
@@ -131,7 +131,7 @@ path_on start p q m r log was on now ws word path busy works_on passed came went
           ∙ sym (told_both (begun_of p start.work start.from) (saw_all path.words ++ Saw path.last ∷ []) (saw_all ws))
           ∙ ap (told (begun_of p start.work start.from)) (ap (λ (l : List Beat). l ++ saw_all ws) (sym (map-append (λ (n : ℕ). Saw n) path.words (path.last ∷ []))) ∙ sym (map-append (λ (n : ℕ). Saw n) first ws));
       came = λ cmd is.
-          let none : TakesNone path.before.phase = command_takes_none path.before cmd (subst HasLabel is path.label) (path.works_on ∙ ap (λ (w : Work). Some w) is) in
+          let none : TakesNone path.before.phase = command_takes_none path.before cmd (subst IsNoLeave is path.stays) (path.works_on ∙ ap (λ (w : Work). Some w) is) in
           let so_far : q ≡ fold took_of (begun_of p start.work start.from) first = path.made ∙ here_same path.before path.last (spare (took_of path.before path.last)) path.busy none ∙ ap (λ (x : Private). took_of x path.last) (path.came cmd is)
           ∙ sym (fold-append took_of (begun_of p start.work start.from) path.words (path.last ∷ [])) in
           came ∙ ap (λ (x : Private). fold took_of x ws) so_far ∙ sym (fold-append took_of (begun_of p start.work start.from) first ws);
@@ -147,7 +147,7 @@ path_on start p q m r log was on now ws word path busy works_on passed came went
           let all : length (first ++ ws) ≡ length first + length ws = length-append first ws in
           omega (arith, counted, before, probed, one, all);
       stepped = stepped;
-      label = path.label;
+      stays = path.stays;
     }
 
 cmd_of : Cmd → Option Work → Cmd
@@ -231,7 +231,7 @@ no_field p q cmd from words word told machine counted came cause =
 pub answered : (p q : Private) (cmd : Cmd) (from : ℕ) (log log' : List Beat) (told : Told) → Path (record { work = works.Command cmd; from = from }) p log log' q → answer_of q ≡ Some (makes.Answered told) → IsAnswered p cmd log log' q told
 answered p q cmd from log log' told path answer =
     let pre : Private = path.before in
-    let none : TakesNone pre.phase = command_takes_none pre cmd path.label path.works_on in
+    let none : TakesNone pre.phase = command_takes_none pre cmd path.stays path.works_on in
     let took : q ≡ took_of pre path.last = path.made ∙ here_same pre path.last (spare (took_of pre path.last)) path.busy none in
     let cause : HasCause pre (took_of pre path.last) cmd path.last told.answer = took_cause pre path.last cmd told path.machine path.busy (none_between pre.phase none) path.works_on (ap answer_of (sym took) ∙ answer) in
     let came : pre ≡ fold took_of (begun_of p (works.Command cmd) from) path.words = path.came cmd refl in

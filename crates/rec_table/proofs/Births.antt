@@ -1,7 +1,7 @@
 -- The births of a run are those of the mutators' lists, added up.
 use Rattle.std.proofs.Common.{◌≡◌, ◌≢◌, inl, inr, ℕ, zero, suc, ◌+◌, ◌<◌, ◌≤◌, arith, List, [], ◌∷◌, refl, sym, ap, ◌∙◌}
 use Rattle.std.proofs.lemmas.Bool.{cases_eq}
-use Rattle.rec_table.proofs.Common.{Core, mutator, Move, AllFit, Fits, after_move, after_moves, Private, IsWorld, world_kept, moved_world, move_stays, other_gives, own_gives, beats_in, beats_of, births_told, told, Beat}
+use Rattle.rec_table.proofs.Common.{Core, mutator, Move, AllFit, Fits, after_move, after_moves, Private, IsKept, move_kept, move_stays, other_gives, own_gives, beats_in, beats_of, births_told, told, Beat}
 use Rattle.rec_core.specs.Run.{by_actor, maker}
 use Rattle.rec_core.specs.declared.config.Config.{Config}
 use Rattle.rec_order.proofs.Runs.{turned_made}
@@ -35,14 +35,14 @@ module _ (w : Core) (lists : ℕ → List Beat) (t : ℕ) (none : (x : ℕ) → 
         omega (arith, one_alone n low (omega (arith, le, ne)), here)
   ]
 
-splits_first : (w : Core) (m : Move) (ms : List Move) (n : ℕ) → IsWorld w → Fits w m → n ≤ w.config.mutators → births_all w (m ∷ ms) n ≡ all_births w (λ x. by_actor x beats_in w m) n + births_all (after_move w m) ms n
-splits_first w m ms zero world fits le = omega arith
-splits_first w m ms (suc n) world fits le =
+splits_first : (w : Core) (m : Move) (ms : List Move) (n : ℕ) → IsKept w → Fits w m → n ≤ w.config.mutators → births_all w (m ∷ ms) n ≡ all_births w (λ x. by_actor x beats_in w m) n + births_all (after_move w m) ms n
+splits_first w m ms zero kept fits le = omega arith
+splits_first w m ms (suc n) kept fits le =
     let now : List Beat = by_actor (n + 1) beats_in w m in
     let later : List Beat = beats_of (n + 1) (after_move w m) ms in
     let then_ : births_told (told (mutator w (n + 1)) now) later ≡ births_told (mutator (after_move w m) (n + 1)) later
-    = ap (λ (p : Private). births_told p later) (sym (told_in w m (n + 1) (world_kept w world) fits (omega arith, omega (arith, le)))) in
-    omega (arith, splits_first w m ms n world fits (omega (arith, le)), births_both (mutator w (n + 1)) now later, then_)
+    = ap (λ (p : Private). births_told p later) (sym (told_in w m (n + 1) kept fits (omega arith, omega (arith, le)))) in
+    omega (arith, splits_first w m ms n kept fits (omega (arith, le)), births_both (mutator w (n + 1)) now later, then_)
 
 -- a move's births are told of its mutator alone
 move_made : (w : Core) (m : Move) → Fits w m → (after_move w m).made ≡ w.made + all_births w (λ x. by_actor x beats_in w m) w.config.mutators
@@ -66,8 +66,8 @@ none_yet : (w : Core) (n : ℕ) → births_all w [] n ≡ 0
 none_yet w zero = refl
 none_yet w (suc n) = let rest = none_yet w n in omega (arith, rest)
 
-pub births_add_up : (w : Core) (ms : List Move) → IsWorld w → AllFit w ms → (after_moves w ms).made ≡ w.made + births_all w ms w.config.mutators
-births_add_up w [] world fit = let none = none_yet w w.config.mutators in omega (arith, none)
-births_add_up w (m ∷ ms) world fit =
+pub births_add_up : (w : Core) (ms : List Move) → IsKept w → AllFit w ms → (after_moves w ms).made ≡ w.made + births_all w ms w.config.mutators
+births_add_up w [] kept fit = let none = none_yet w w.config.mutators in omega (arith, none)
+births_add_up w (m ∷ ms) kept fit =
     let same : births_all (after_move w m) ms (after_move w m).config.mutators ≡ births_all (after_move w m) ms w.config.mutators = ap (λ (c : Config). births_all (after_move w m) ms c.mutators) (move_stays w m) in
-    omega (arith, births_add_up (after_move w m) ms (moved_world w m world fit.0) fit.1, same, move_made w m fit.0, splits_first w m ms w.config.mutators world fit.0 (omega arith))
+    omega (arith, births_add_up (after_move w m) ms (move_kept w m kept fit.0) fit.1, same, move_made w m fit.0, splits_first w m ms w.config.mutators kept fit.0 (omega arith))

@@ -1,5 +1,5 @@
 -- What the collector's list makes up is its record.
-use Rattle.std.proofs.Common.{◌≡◌, ◌≢◌, ℕ, ◌+◌, ◌≤◌, false, cond, eqb, eq-eqb, ne_eqb, List, [], ◌∷◌, ◌++◌, Option, Some, None, refl, sym, ap, ◌∙◌, subst, arith}
+use Rattle.std.proofs.Common.{◌≡◌, ◌≢◌, ℕ, ◌+◌, false, cond, eqb, eq-eqb, ne_eqb, List, [], ◌∷◌, ◌++◌, Option, Some, None, refl, sym, ap, ◌∙◌, subst, arith}
 use mathlib.Core.Logic.{dite}
 use native.Mathlib.Decide.{ℕ_discrete}
 use Rattle.rec_word.specs.Mailbox.{crossing_word}
@@ -13,7 +13,7 @@ use Rattle.rec_collector.specs.declared.phase.Phase.{Phase}
 use Rattle.rec_collector.specs.declared.phase.Phase.TheVariants.{Looking, Swapping}
 use Rattle.rec_core.specs.Run.{by_actor}
 use Rattle.std.proofs.lemmas.List.Sums.{fold-append}
-use Rattle.rec_table.proofs.Common.{Op, Contents, Core, cells_of, box, IsKept, Move, after_move, after_moves, AllFit, Fits, looked_at, left_by, turned_at, other_gives, cell, IsWorld, moved_world, world_kept, beats_in, beats_of, looked, turn_at, gathered, gathered_all, OffersNone, Offerless, Beat, Begins, Saw, Took}
+use Rattle.rec_table.proofs.Common.{Op, Contents, Core, cells_of, box, IsKept, Move, after_move, after_moves, AllFit, Fits, looked_at, left_by, turned_at, other_gives, cell, move_kept, beats_in, beats_of, looked, turn_at, gathered, gathered_all, OffersNone, Offerless, Beat, Saw, Took}
 use Rattle.rec_world.proofs.Mailboxes.{collector_stays}
 use Rattle.rec_world.proofs.Turnings.{gathers_so}
 
@@ -66,9 +66,9 @@ collected_in w Move.Turns kept fits none = turn_makes w (next_of w.collector) ke
 collected_in w Move.Offers kept fits none = absurd none
 
 -- and after a run of such moves
-pub collector_after : (w : Core) (ms : List Move) → IsWorld w → AllFit w ms → Offerless ms → (after_moves w ms).collector ≡ gathered_all w.collector (beats_of 0 w ms)
-collector_after w [] world fit none = refl
-collector_after w (m ∷ ms) world fit none =
-    collector_after (after_move w m) ms (moved_world w m world fit.0) fit.1 none.1
-    ∙ ap (λ c. gathered_all c (beats_of 0 (after_move w m) ms)) (collected_in w m (world_kept w world) fit.0 none.0)
+pub collector_after : (w : Core) (ms : List Move) → IsKept w → AllFit w ms → Offerless ms → (after_moves w ms).collector ≡ gathered_all w.collector (beats_of 0 w ms)
+collector_after w [] kept fit none = refl
+collector_after w (m ∷ ms) kept fit none =
+    collector_after (after_move w m) ms (move_kept w m kept fit.0) fit.1 none.1
+    ∙ ap (λ c. gathered_all c (beats_of 0 (after_move w m) ms)) (collected_in w m kept fit.0 none.0)
     ∙ sym (gathered_both w.collector (by_actor 0 beats_in w m) (beats_of 0 (after_move w m) ms))

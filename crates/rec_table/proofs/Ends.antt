@@ -7,7 +7,7 @@ use native.Mathlib.Decide.{dec_lt}
 use lib.ListN.{get_elem?, take}
 use Rattle.std.proofs.Math.Numerals.{add-one}
 use Rattle.atomic_table.specs.Table.{State, Final, Seen}
-use Rattle.rec_table.proofs.Common.{Contents, Core, mutator, told, gathered_all, Runs, Holds, Beat, CollectorSeat, View, Collects}
+use Rattle.rec_table.proofs.Common.{Contents, Core, IsKept, world_kept, mutator, told, gathered_all, Runs, Holds, Beat, CollectorSeat, View, Collects}
 use Rattle.rec_table.specs.Ends.{IsRunOf}
 use Rattle.rec_table.proofs.Beats.{mutator_after, world_after}
 use Rattle.rec_table.proofs.Collects.{collector_after}
@@ -41,12 +41,13 @@ pub ended : (key : Core) (id : ℕ) (v : View) (c : CollectorSeat) (ws : List �
 ended key id v c ws xs is made known f =
     let s : State (Option Contents) View = f.0 in
     let h : Holds key s = f.1.0.holds in
+    let kept : IsKept key = world_kept key h.world in
     let mine = h.each id (Collects c) (subst (λ (u : View). get_elem? s.views id ≡ some u) is f.1.1) in
     record {
       run = h.run;
       fit = h.fit;
       offerless = h.offerless;
-      world = world_after key h.run h.world h.fit;
+      world = world_after key h.run h.world h.fit h.none_leaves;
       words = sym f.2 ∙ h.words;
       homes = s.homes;
       homes_are = h.homes;
@@ -56,9 +57,9 @@ ended key id v c ws xs is made known f =
       theirs = λ k. dite (dec_lt k (length c.known))
           (λ lt. mine.4 k (omega (arith, mine.2)))
           (λ ge. past c.known k (omega (arith, ge)) ∙ sym (h.fresh (k + 1) (omega (arith, ge, mine.1, made, known))));
-      collector = collector_after key h.run h.world h.fit h.offerless ∙ ap (gathered_all key.collector) (sym mine.3);
+      collector = collector_after key h.run kept h.fit h.offerless ∙ ap (gathered_all key.collector) (sym mine.3);
       mutators = λ k lt.
-          mutator_after key h.run (k + 1) h.world h.fit (omega arith, omega (arith, lt)) ∙ ap (told (mutator key (k + 1))) (sym (mine.4 k (omega (arith, lt, known, mine.2))));
+          mutator_after key h.run (k + 1) kept h.fit (omega arith, omega (arith, lt)) ∙ ap (told (mutator key (k + 1))) (sym (mine.4 k (omega (arith, lt, known, mine.2))));
     }
 
 take_suc : {A : Type 0} (l : List A) (i : ℕ) (x : A) → get_elem? l i ≡ some x → take (suc i) l ≡ take i l ++ x ∷ []

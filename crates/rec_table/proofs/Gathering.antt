@@ -1,7 +1,6 @@
 -- The calls of the collector's turn.
-use Rattle.std.proofs.Common.{◌≡◌, ℕ, ◌+◌, ◌-◌, ◌==◌, ◌<◌, arith, Bool, true, false, cond, if◌then◌else◌, eq-eqb, ne_eqb, [], ◌∷◌, length, slice_set, length-set, Option, Some, None, refl, sym, ap, ◌∙◌, subst}
+use Rattle.std.proofs.Common.{◌≡◌, ℕ, ◌+◌, ◌-◌, ◌<◌, arith, Bool, true, false, cond, if◌then◌else◌, eq-eqb, ne_eqb, [], ◌∷◌, length, slice_set, length-set, Option, Some, None, refl, sym, ap, ◌∙◌, subst}
 use Rattle.std.specs.Option.{IfSome}
-use Rattle.std.proofs.lemmas.Bool.{eqb-true}
 use Rattle.atomic_table.specs.Table.{Me, Step, rest}
 use Rattle.rec_word.specs.Mailbox.{crossing_word}
 use Rattle.rec_word.specs.declared.mailbox.Mailbox.TheVariants.{Retired}
@@ -13,18 +12,19 @@ use Rattle.rec_release.specs.declared.at.At.{At}
 use Rattle.rec_walk.specs.declared.member.Member.{Member}
 use Rattle.rec_sigma.specs.Prepare.{op_at as prep_op_at, next_of as prep_next}
 use Rattle.rec_sigma.specs.declared.at.At as loads
-use Rattle.rec_collector.specs.Followed.{Next}
-use Rattle.rec_collector.specs.Given.{IsGiven, IsGivenAt, IsSized, IsSwapping}
+use Rattle.rec_collector.specs.Followed.{Next, worked}
+use Rattle.rec_collector.specs.Given.{IsGiven, IsGivenAt, IsSized, IsSwapping, IsWork}
 use Rattle.rec_world.specs.Mailbox.{held}
 use Rattle.rec_collector.specs.Kept.{IsMachine, KeepsSizes}
 use Rattle.rec_collector.specs.Next.{next_of, next_at, is_spent}
-use Rattle.rec_collector.specs.Private.{Private, spare}
+use Rattle.rec_collector.specs.Present.{next_present}
+use Rattle.rec_collector.specs.Private.{Private, parts_of, spare}
 use Rattle.rec_collector.specs.Step.{IsBetween, NamesWord}
-use Rattle.rec_collector.specs.Took.{came, ended_if, left_of, moved, took_of, took_at, step_of, swapped_of, swapped_at, swept_phase}
+use Rattle.rec_collector.specs.Took.{batch_next, behind, came, ended_if, gathering_on, left_of, moved, noted, requested, took_of, took_at, step_of, swapped_of, swapped_at, swept_phase}
 use Rattle.rec_collector.specs.declared.phase.Phase.{Phase}
 use Rattle.rec_collector.specs.declared.phase.Phase.TheVariants.{Idle, Looking, Swapping, Returning, Releasing, Freeing, Trying, Preparing, Opening, Sweeping, Closing}
 use Rattle.rec_collector.proofs.Always.{names_word}
-use Rattle.rec_collector.proofs.Landing.{IsWorking, work_of, work_phase}
+use Rattle.rec_collector.proofs.Landing.{batch_phase, worked_phase}
 use Rattle.atomic_table.specs.Seated.{TableId}
 use Rattle.rec_table.proofs.Common.{written, Op, Contents, with_parts, Core, cells_of, box, IsWorld, world_kept, collector_within, CollectorView, collector_view, collector_now, looked_at, left_by, gathered, gathered_all, looked, index_of, Operates, IsReturnOp, TurnedBy, LookedBy, Looks, GlancedBy, ReturnedBy, records, collecting_of, collecting_more, boxes_at, boxes_out, NotLooking, Beat, Saw, Took, CollectorSeat, View, Collects}
 use Rattle.rec_table.proofs.Collects.{gathered_both, leaves_spare}
@@ -125,23 +125,27 @@ came_none p n none = go n.phase none
     go (Closing m) none = tt
     go _ none = none
 
-works_none : (p : Private) (word : ℕ) (phase : Phase) → IsWorking p phase → HoldsNone (came p (work_of p word phase)).phase
-works_none p word phase at_work = came_none p (work_of p word phase) (work_phase HoldsNone (λ m. tt) (λ m. tt) (λ m. tt) (λ m. tt) tt tt p word phase at_work)
+works_none : (p : Private) (word : ℕ) (phase : Phase) → IsWork phase → HoldsNone (came p (worked (parts_of p) word phase)).phase
+works_none p word phase at_work = came_none p (worked (parts_of p) word phase) (worked_phase HoldsNone (λ m. tt) tt tt (λ m. tt) (λ m. tt) (λ m. tt) (parts_of p) word phase at_work)
+
+-- the collection goes on with another mailbox, or applies the batch
+behind_none : (p : Private) (t : ℕ) → HoldsNone (behind p t).phase
+behind_none p t = go (next_present p.left t)
+  where
+    go : (next : Option ℕ) → HoldsNone (gathering_on p next).phase
+    go None = came_none p (batch_next p) (batch_phase HoldsNone (λ m. tt) tt tt (λ m. tt) (λ m. tt) (λ m. tt) p)
+    go (Some next) = tt
 
 took_none : (p : Private) (word : ℕ) (phase : Phase) → p.phase ≡ phase → IsBetween phase → NotLooking phase → HoldsNone (took_at p word phase).phase
 unfolding took_at
 took_none p word Idle is between looks_none = go (is_spent p)
   where
-    go : (spent : Bool) → HoldsNone (if spent then p else record p { epoch = p.epoch + 1; phase = Looking 1; turns = p.turns + 1 }).phase
+    go : (spent : Bool) → HoldsNone (if spent then p else behind (requested p) 0).phase
     go true = subst HoldsNone (sym is) tt
-    go false = tt
+    go false = behind_none (requested p) 0
 took_none p word (Looking t) is between looks_none = absurd looks_none
 took_none p word (Swapping t) is between looks_none = absurd between
-took_none p word (Returning t) is between looks_none = go (t == length p.newer) refl
-  where
-    go : (last : Bool) → (t == length p.newer) ≡ last → HoldsNone (if last then came p (work_of p word (Returning t)) else record p { phase = Looking (t + 1); turns = p.turns + 1 }).phase
-    go true all = works_none p word (Returning t) (eqb-true t (length p.newer) all)
-    go false more = tt
+took_none p word (Returning t) is between looks_none = behind_none (noted p t) t
 took_none p word Opening is between looks_none = tt
 took_none p word (Sweeping due n) is between looks_none = go _
   where

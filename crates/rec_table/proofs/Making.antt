@@ -1,7 +1,7 @@
 -- The calls of a mutator's step, with or without a mailbox.
-use Rattle.std.proofs.Common.{◌≡◌, inl, inr, ℕ, ◌+◌, ◌-◌, ◌%◌, ◌^◌, arith, Bool, true, false, true≢false, List, [], ◌∷◌, ◌++◌, length, Option, Some, None, refl, sym, ap, ◌∙◌, subst, append-nil, append_assoc}
+use Rattle.std.proofs.Common.{◌≡◌, inl, inr, ℕ, ◌+◌, ◌-◌, ◌%◌, ◌^◌, arith, Bool, true, false, true≢false, List, [], ◌∷◌, ◌++◌, length, IfSome, Option, Some, None, refl, sym, ap, ◌∙◌, subst, append-nil, append_assoc}
 use Rattle.atomic_table.specs.Table.{Me, Step, rest}
-use Rattle.rec_table.proofs.Common.{written, Op, Contents, Private, is_busy, is_busy_at, work_of, KeepsSizes, begun_of, took_of, step_of, swapped_of, swapped_at, left_at, spare, left_of, IsFound, IsBetween, births_of, IsSettledIn, MutatorView, IsTold, Works, HasScanned, saw_all, Beat, Core, mutator, IsOwnOp, learns_taken, own_next, told, learnt, births_told, index_of, Kind, Operates, ready, MayGo, MadeBy, TakenBy, GivenBy, beats, adds, takes_view, seated_of, hands, hands_at, hand_after, taken_by, seated_after, me_after, Saw, Seated, View, Mutates}
+use Rattle.rec_table.proofs.Common.{written, Op, Contents, Private, is_busy, is_busy_at, work_of, KeepsSizes, begun_of, took_of, step_of, swapped_of, swapped_at, left_at, spare, left_of, IsFound, IsBetween, births_of, IsNoLeave, MutatorView, IsTold, Works, HasScanned, saw_all, Beat, Core, mutator, IsOwnOp, learns_taken, own_next, told, learnt, births_told, index_of, Kind, Operates, ready, MayGo, MadeBy, TakenBy, GivenBy, beats, adds, takes_view, seated_of, hands, hands_at, hand_after, taken_by, seated_after, me_after, Saw, Seated, View, Mutates}
 use Rattle.rec_word.specs.declared.op.Op.TheVariants as ops
 use Rattle.rec_mutator.specs.Causes.{is_giving}
 use Rattle.rec_mutator.specs.Next.{next_of, next_at}
@@ -14,8 +14,7 @@ use Rattle.rec_mutator.specs.declared.work.Work.{Work}
 use Rattle.rec_mutator.specs.declared.work.Work.TheVariants as works
 use Rattle.rec_model.specs.Asking.{allocation}
 use Rattle.rec_model.specs.declared.command.Cmd.TheVariants as commands
-use Rattle.rec_core.specs.Config.{HasLabel}
-use Rattle.rec_core.specs.Kept.{HasLabelAt}
+use Rattle.rec_core.specs.Staying.{HasStayed}
 use Rattle.rec_table.specs.Rule.{Remains, RemainsAt}
 use Rattle.rec_mutator.proofs.Steps.{TakesNone, here_same, step_between, step_made}
 use Rattle.rec_mutator.proofs.Sizes.{took_keeps, step_keeps, step_counts, step_left}
@@ -27,7 +26,7 @@ use Rattle.rec_table.specs.declared.start.Start.{Start}
 use Rattle.rec_table.proofs.Boxes.{takes_box, gives_box, crosses, takes_op}
 use Rattle.rec_table.proofs.Calls.{IsLoad}
 use Rattle.rec_table.proofs.Acting.{told_beats}
-use Rattle.rec_table.proofs.Steps.{steps, IsPlainOp, plain_next, left_plain}
+use Rattle.rec_table.proofs.Steps.{steps, IsPlain, IsPlainOp, plain_next, left_plain}
 
 abbrev pub IsTakeOp : Op → Type 0
 IsTakeOp (ops.TakeBox t e) = Unit {0}
@@ -46,11 +45,11 @@ not_give (ops.GiveBox t e) is give = is
 not_give _ is give = give
 
 -- the phase is told by the operation
-pub plain_phase : (p : Private) (op : Op) → op ≡ next_of p → Remains p → IsPlainOp op → IsSettledIn p.phase
+pub plain_phase : (p : Private) (op : Op) → op ≡ next_of p → Remains p → IsPlainOp op → IsPlain p.phase
 unfolding next_of next_at
 plain_phase p op is remains plain_op = by p.phase remains.0 (subst IsPlainOp is plain_op)
   where
-    by : (phase : phases.Phase) → RemainsAt phase → IsPlainOp (next_at p phase) → IsSettledIn phase
+    by : (phase : phases.Phase) → RemainsAt phase → IsPlainOp (next_at p phase) → IsPlain phase
     by at.Crossing b o = o
     by at.Swapping b o = b
     by at.Giving b o = o
@@ -63,7 +62,7 @@ pub crossing_phase : (p : Private) (op : Op) → op ≡ next_of p → Remains p 
 unfolding next_of next_at
 crossing_phase p op is remains take = by p.phase refl remains.0
   where
-    no : IsSettledIn p.phase → ⊥
+    no : IsPlain p.phase → ⊥
     no calm = not_take (next_of p) (plain_next p calm) (subst IsTakeOp is take)
 
     by : (phase : phases.Phase) → p.phase ≡ phase → RemainsAt phase → p.phase ≡ at.Crossing
@@ -73,13 +72,13 @@ crossing_phase p op is remains take = by p.phase refl remains.0
     by at.Leaving e b = absurd b
     by at.Retiring e b = absurd b
     by at.Parting e b = absurd b
-    by _ e b = absurd (no (subst IsSettledIn (sym e) tt))
+    by _ e b = absurd (no (subst IsPlain (sym e) tt))
 
 pub giving_phase : (p : Private) (op : Op) → op ≡ next_of p → Remains p → IsGiveOp op → p.phase ≡ at.Giving
 unfolding next_of next_at
 giving_phase p op is remains give = by p.phase refl remains.0
   where
-    no : IsSettledIn p.phase → ⊥
+    no : IsPlain p.phase → ⊥
     no calm = not_give (next_of p) (plain_next p calm) (subst IsGiveOp is give)
 
     by : (phase : phases.Phase) → p.phase ≡ phase → RemainsAt phase → p.phase ≡ at.Giving
@@ -89,23 +88,23 @@ giving_phase p op is remains give = by p.phase refl remains.0
     by at.Leaving e b = absurd b
     by at.Retiring e b = absurd b
     by at.Parting e b = absurd b
-    by _ e b = absurd (no (subst IsSettledIn (sym e) tt))
+    by _ e b = absurd (no (subst IsPlain (sym e) tt))
 
-plain_hands : (hand : Contents) (number : ℕ) (phase : phases.Phase) → IsSettledIn phase → hands_at hand number phase ≡ []
+plain_hands : (hand : Contents) (number : ℕ) (phase : phases.Phase) → IsPlain phase → hands_at hand number phase ≡ []
 plain_hands hand number at.Giving is = absurd is
 plain_hands hand number _ is = refl
 
-plain_taken : (p : Private) (word : ℕ) (phase : phases.Phase) → IsSettledIn phase → taken_by p word phase ≡ []
+plain_taken : (p : Private) (word : ℕ) (phase : phases.Phase) → IsPlain phase → taken_by p word phase ≡ []
 plain_taken p word at.Crossing is = absurd is
 plain_taken p word _ is = refl
 
-plain_hand : (hand x : Contents) (phase : phases.Phase) → IsSettledIn phase → hand_after hand x phase ≡ hand
+plain_hand : (hand x : Contents) (phase : phases.Phase) → IsPlain phase → hand_after hand x phase ≡ hand
 plain_hand hand x at.Crossing is = absurd is
 plain_hand hand x _ is = refl
 
 -- a plain step
 pub allows_plain : (key : Core) (slots id i : ℕ) (me : Me (Option Contents) View) (op : Op) (wk picked : Option Start) (p : Private) (f : ℕ → ℕ) (st : Step (Option Contents))
-    → me ≡ (Mutates (seated_of me.0), hands (seated_of me.0) (ready p wk)) → p ≡ told (mutator key (seated_of me.0).number) (seated_of me.0).log → picked ≡ wk → MayGo p wk → IsSettledIn (ready p wk).phase
+    → me ≡ (Mutates (seated_of me.0), hands (seated_of me.0) (ready p wk)) → p ≡ told (mutator key (seated_of me.0).number) (seated_of me.0).log → picked ≡ wk → MayGo p wk → IsPlain (ready p wk).phase
     → op ≡ next_of (ready p wk) → i ≡ index_of (length key.words) (length key.headers) op → ((n : ℕ) → f n ≡ written op n)
     → Operates key (Kind.Steps picked) slots id me i f (MadeBy p picked st me)
 allows_plain key slots id i me op wk picked p f st is is_p picks may calm is_op at does =
@@ -114,7 +113,7 @@ allows_plain key slots id i me op wk picked p f st is is_p picks may calm is_op 
     subst (λ (y : Me (Option Contents) View × ℕ × Option Start). Operates key (Kind.Steps y.2) slots id y.0 y.1 f (MadeBy p y.2 st y.0)) (λ k. (sym is k, sym at k, sym picks k)) all
 
 pub made_plain : (t : Seated) (p : Private) (wk picked : Option Start) (word : ℕ) (me me' : Me (Option Contents) View)
-    → me ≡ (Mutates t, hands t (ready p wk)) → picked ≡ wk → IsSettledIn (ready p wk).phase → me' ≡ (adds me.0 (beats picked word), me.1) → me' ≡ me_after t (ready p wk) wk word
+    → me ≡ (Mutates t, hands t (ready p wk)) → picked ≡ wk → IsPlain (ready p wk).phase → me' ≡ (adds me.0 (beats picked word), me.1) → me' ≡ me_after t (ready p wk) wk word
 made_plain t p wk picked word me me' is picks calm now =
     let q : Private = ready p wk in
     now
@@ -215,7 +214,7 @@ parts p word is = ap (took_at p word) is
 never_gives : (p : Private) (word : ℕ) → is_busy p ≡ true → TakesNone p.phase → (took_of p word).phase ≡ at.Giving → ⊥
 never_gives p word busy none = by p.phase refl none
   where
-    plain_case : IsSettledIn p.phase → (took_of p word).phase ≡ at.Giving → ⊥
+    plain_case : IsPlain p.phase → (took_of p word).phase ≡ at.Giving → ⊥
     plain_case calm giving = left_plain p word calm busy (ap (λ (q : Private). q.phase) (here_same p word (spare (took_of p word)) busy none) ∙ giving)
 
     by : (phase : phases.Phase) → p.phase ≡ phase → TakesNone phase → (took_of p word).phase ≡ at.Giving → ⊥
@@ -225,7 +224,7 @@ never_gives p word busy none = by p.phase refl none
     by at.Retiring e n = absurd n
     by at.Parting e n = λ giving. true≢false (ap is_giving (sym giving) ∙ ap (λ (q : Private). is_giving q.phase) (parts p word e))
     by at.Giving e n = λ giving. true≢false (ap is_giving (sym giving) ∙ ap (λ (q : Private). is_giving q.phase) (crosses p word e))
-    by _ e n = plain_case (subst IsSettledIn (sym e) tt)
+    by _ e n = plain_case (subst IsPlain (sym e) tt)
 
 -- between two steps no mailbox waits to be swapped
 pub remains_between : (phase : phases.Phase) → RemainsAt phase → IsBetween phase
@@ -256,9 +255,9 @@ same_capacity p word busy remains = by p.phase refl remains.0
 pub learnt_keeps : (p : Private) (word : ℕ) → is_busy p ≡ true → Remains p → KeepsSizes p (learnt p (Saw word)) × (work_of (learnt p (Saw word)) ≡ work_of p)
 learnt_keeps p word busy remains = step_keeps (same_capacity p word busy remains) (learnt_step p word busy remains)
 
--- a work that may begin isn't leaving
-begun_remains_at : (work : Work) → HasLabel work → RemainsAt (at.Begun work)
-begun_remains_at (works.Command commands.Leave) label = label
+-- a work of a mutator that stays
+begun_remains_at : (work : Work) → IsNoLeave work → RemainsAt (at.Begun work)
+begun_remains_at (works.Command commands.Leave) stays = stays
 begun_remains_at (works.Command (commands.New reg label)) _ = tt
 begun_remains_at (works.Command (commands.Leaf reg label)) _ = tt
 begun_remains_at (works.Command (commands.Null reg)) _ = tt
@@ -269,20 +268,23 @@ begun_remains_at (works.Command (commands.Value reg)) _ = tt
 begun_remains_at (works.Command (commands.Same a b)) _ = tt
 begun_remains_at works.Poll _ = tt
 
--- a mutator of a heap stays
-pub label_remains : (phase : phases.Phase) → HasLabelAt phase → IsBetween phase → RemainsAt phase
-label_remains at.Swapping label b = b
-label_remains at.Retiring label b = b
-label_remains at.Leaving label b = label
-label_remains at.Parting label b = label
-label_remains (at.Begun work) label b = begun_remains_at work label
-label_remains at.Idle label b = tt
-label_remains (at.Scanning reg l leaf before probed) label b = tt
-label_remains (at.Scanned reg l leaf before) label b = tt
-label_remains (at.Storing src f val slot) label b = tt
-label_remains at.Crossing label b = tt
-label_remains at.Giving label b = tt
-label_remains (at.Finished work made) label b = tt
+-- a mutator of a heap whose mutators stay is one
+pub stays_remains : (p : Private) → HasStayed p → IsBetween p.phase → Remains p
+stays_remains p stays between = (by p.phase stays.work between, stays.present)
+  where
+    by : (phase : phases.Phase) → IfSome (work_at phase) IsNoLeave → IsBetween phase → RemainsAt phase
+    by at.Swapping work b = b
+    by at.Retiring work b = b
+    by at.Leaving work b = work
+    by at.Parting work b = work
+    by (at.Begun begun) work b = begun_remains_at begun work
+    by at.Idle work b = tt
+    by (at.Scanning reg l leaf before probed) work b = tt
+    by (at.Scanned reg l leaf before) work b = tt
+    by (at.Storing src f val slot) work b = tt
+    by at.Crossing work b = tt
+    by at.Giving work b = tt
+    by (at.Finished done made) work b = tt
 
 -- a mutator that stays has another work than to leave
 no_leave : (leaf : Bool) (reg label : ℕ) → ◌≡◌ {A = Option Work} (Some (works.Command (allocation leaf reg label))) (Some (works.Command commands.Leave)) → ⊥
@@ -433,9 +435,9 @@ ready_hands t p None may = refl
 ready_hands t p (Some start) may =
     no_hands t.hand p.number p.phase (λ e. true≢false (sym (ap is_busy_at e) ∙ may.0)) ∙ sym (no_hands t.hand (begun_of p start.work start.from).number (begun_of p start.work start.from).phase (λ e. not_giving_begun (begun_of p start.work start.from).phase e (begun_phase p start.work start.from)))
 
-begun_remains : (p : Private) (work : Work) (from : ℕ) → HasLabel work → RemainsAt (begun_of p work from).phase
+begun_remains : (p : Private) (work : Work) (from : ℕ) → IsNoLeave work → RemainsAt (begun_of p work from).phase
 unfolding begun_of
-begun_remains p work from label = begun_remains_at work label
+begun_remains p work from stays = begun_remains_at work stays
 
 begun_left : (p : Private) (work : Work) (from : ℕ) → (begun_of p work from).left ≡ p.left
 unfolding begun_of
@@ -443,7 +445,7 @@ begun_left p work from = refl
 
 pub ready_remains : (p : Private) (wk : Option Start) → MayGo p wk → Remains p → Remains (ready p wk)
 ready_remains p None may remains = remains
-ready_remains p (Some start) may remains = (begun_remains p start.work start.from may.2, begun_left p start.work start.from ∙ remains.1)
+ready_remains p (Some start) may remains = (begun_remains p start.work start.from may.4, begun_left p start.work start.from ∙ remains.1)
 
 hand_twice : (hand x : Contents) (phase : phases.Phase) → hand_after hand x phase ≡ hand_after (hand_after hand x phase) x phase
 hand_twice hand x at.Idle = refl

@@ -5,14 +5,14 @@ use native.Mathlib.Decide.{ℕ_discrete}
 use Rattle.std.proofs.lemmas.List.{set-get_or}
 use Rattle.atomic_table.specs.Table.{State, Step, keeps, stepped}
 use Rattle.atomic_table.proofs.Lists.{set_again}
-use Rattle.rec_table.proofs.Common.{written, Op, Contents, Private, is_busy, Core, mutator, IsSettledIn, told, Kind, Grows, Operates, operation, index_of, Holds, PassedBy, Seated, View, Mutates}
+use Rattle.rec_table.proofs.Common.{written, Op, Contents, Private, is_busy, Core, mutator, told, Kind, Grows, Operates, operation, index_of, Holds, PassedBy, Seated, View, Mutates}
 use Rattle.rec_word.specs.declared.op.Op.TheVariants as ops
 use Rattle.rec_mutator.specs.Next.{next_of}
 use Rattle.rec_table.proofs.Operations.{passes_free, passes_taken}
-use Rattle.rec_table.proofs.Steps.{steps}
+use Rattle.rec_table.proofs.Steps.{IsPlain, steps}
 
 pub probes : (key : Core) (slots id slot header : ℕ) (t : Seated) (hs : List (ℕ × Option Contents)) (p : Private) (op : Op) (st : Step (Option Contents))
-    → p ≡ told (mutator key t.number) t.log → is_busy p ≡ true → IsSettledIn p.phase → op ≡ next_of p → op ≡ ops.ClaimHeader slot header
+    → p ≡ told (mutator key t.number) t.log → is_busy p ≡ true → IsPlain p.phase → op ≡ next_of p → op ≡ ops.ClaimHeader slot header
     → Operates key Kind.Passes slots id (Mutates t, hs) (index_of (length key.words) (length key.headers) op) (λ n. n) (PassedBy st (Mutates t, hs))
 probes key slots id slot header t hs p op st is_p busy plain is_op claims s h len at_id fit =
     let i : ℕ = index_of (length key.words) (length key.headers) op in

@@ -1,14 +1,14 @@
 -- A mailbox that the collector holds is given back by its next turn.
-use Rattle.std.proofs.Common.{◌≡◌, ℕ, ◌+◌, ◌==◌, if◌then◌else◌, Bool, true, false, [], ◌∷◌, length, Option, Some, refl, sym, ap, ◌∙◌, subst, arith}
+use Rattle.std.proofs.Common.{◌≡◌, ℕ, [], ◌∷◌, length, Option, None, Some, refl, sym, ap, ◌∙◌, subst, arith}
 use Rattle.rec_table.proofs.Common.{Op, Contents, with_parts, gathered, CollectorView, PutsBack, collector_now, IsReturnOp, NotLooking, boxes_at, boxes_out, collecting_more, Beat, Begins, Saw, Took}
-use Rattle.rec_collector.specs.Followed.{Next, followed}
+use Rattle.rec_collector.specs.Followed.{Next}
 use Rattle.rec_collector.specs.Next.{next_of}
+use Rattle.rec_collector.specs.Present.{next_present}
 use Rattle.rec_collector.specs.Private.{Private}
 use Rattle.rec_collector.specs.Step.{IsBetween}
-use Rattle.rec_collector.specs.Testing.{zeros_released}
-use Rattle.rec_collector.specs.Took.{batched, came, ended_if, moved, step_of, swapped_at, swapped_of, took_at, took_of}
+use Rattle.rec_collector.specs.Took.{batch_next, behind, ended_if, gathering_on, moved, noted, step_of, swapped_at, swapped_of, took_at, took_of}
 use Rattle.rec_collector.specs.declared.phase.Phase.{Phase}
-use Rattle.rec_collector.specs.declared.phase.Phase.TheVariants.{Closing, Looking, Returning, Swapping}
+use Rattle.rec_collector.specs.declared.phase.Phase.TheVariants.{Closing, Returning, Swapping}
 use Rattle.rec_table.proofs.Collects.{gathered_both}
 use Rattle.rec_table.proofs.Gathering.{Kind, kind, lone_boxes, looking_boxes, returns_at}
 
@@ -35,16 +35,16 @@ pub ended_epoch : (phase : Phase) (c : Private) → (ended_if phase c).epoch ≡
 ended_epoch (Closing swept) c = refl
 ended_epoch _ c = refl
 
+pub behind_epoch : (c : Private) (t : ℕ) → (behind c t).epoch ≡ c.epoch
+behind_epoch c t = go (next_present c.left t)
+  where
+    go : (next : Option ℕ) → (gathering_on c next).epoch ≡ c.epoch
+    go None = let n : Next = batch_next c in ended_epoch n.phase (moved (with_parts c n.parts) n.phase)
+    go (Some next) = refl
+
 took_returning : (c : Private) (t word : ℕ) → c.phase ≡ Returning t → (took_of c word).epoch ≡ c.epoch
 unfolding took_of took_at
-took_returning c t word is = ap (λ f. (took_at c word f).epoch) is ∙ go (t == length c.newer)
-  where
-    next : Next
-    next = followed (zeros_released false (batched c))
-
-    go : (last : Bool) → (if last then came c next else moved c (Looking (t + 1))).epoch ≡ c.epoch
-    go true = ended_epoch next.phase (moved (with_parts c next.parts) next.phase)
-    go false = refl
+took_returning c t word is = ap (λ f. (took_at c word f).epoch) is ∙ behind_epoch (noted c t) t
 
 pub swapped_epoch : (c : Private) (buffer : Contents) → (swapped_of c buffer).epoch ≡ c.epoch
 unfolding swapped_of swapped_at

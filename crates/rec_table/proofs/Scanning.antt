@@ -4,7 +4,7 @@ use Rattle.std.proofs.lemmas.List.{map-append}
 use Rattle.std.proofs.lemmas.List.Elements.{All-nil, All-cons, All-head, All-tail, All-append}
 use Rattle.atomic_table.specs.Table.{Me, Step}
 use Rattle.rec_table.specs.Rule.{Remains, RemainsAt}
-use Rattle.rec_table.proofs.Common.{Op, Contents, Private, IsAt, IsMachine, register, is_full, probe_of, slot_behind, spare, took_of, skipped_to, skipped_at, births_of, Core, mutator, IsSettledIn, told, learnt, births_told, Kind, Operates, PassedBy, adds, beats, longer, seated_of, hands, hands_at, Passed, ScansFrom, saw_all, Beat, Saw, Seated, View, Mutates}
+use Rattle.rec_table.proofs.Common.{Op, Contents, Private, IsAt, IsMachine, register, is_full, probe_of, slot_behind, spare, took_of, skipped_to, skipped_at, births_of, Core, mutator, told, learnt, births_told, Kind, Operates, PassedBy, adds, beats, longer, seated_of, hands, hands_at, Passed, ScansFrom, saw_all, Beat, Saw, Seated, View, Mutates}
 use Rattle.rec_word.specs.Header.{header_word}
 use Rattle.rec_word.specs.declared.op.Op.TheVariants as ops
 use Rattle.rec_model.specs.declared.command.Cmd.TheVariants as commands
@@ -20,6 +20,7 @@ use Rattle.rec_mutator.proofs.Steps.{TakesNone, here_same}
 use Rattle.rec_table.proofs.Beats.{told_both}
 use Rattle.rec_table.proofs.Making.{births_both}
 use Rattle.rec_table.proofs.Probes.{probes}
+use Rattle.rec_table.proofs.Steps.{IsPlain}
 
 -- Only a scan claims headers.
 abbrev IsClaimOp : Op → Type 0
@@ -238,7 +239,7 @@ module _ (key : Core) (count probed slot many : ℕ) (t : Seated) (me : Me (Opti
   allows_pass slots id i st at =
       let p : Private = told (mutator key t.number) t.log in
       let header : ℕ = header_word scan.leaf scan.label in
-      let plain : IsSettledIn q.phase = subst IsSettledIn (sym (there_phase p scan.reg scan.label scan.leaf scan.before probed scan.phase count few)) tt in
+      let plain : IsPlain q.phase = subst IsPlain (sym (there_phase p scan.reg scan.label scan.leaf scan.before probed scan.phase count few)) tt in
       let all = probes key slots id (probe_of p count) header (longer t (saw_all passed.words)) [] q (ops.ClaimHeader (probe_of p count) header) st is_q (skipped_busy p scan.reg scan.label scan.leaf scan.before probed scan.phase count) plain
       (sym (skipped_next p scan.reg scan.label scan.leaf scan.before probed scan.phase count few)) refl in
       subst (λ (y : Me (Option Contents) View × ℕ). Operates key Kind.Passes slots id y.0 y.1 (λ n. n) (PassedBy st y.0)) (λ k. (sym passed.grows k, sym at k)) all

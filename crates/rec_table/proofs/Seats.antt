@@ -8,7 +8,7 @@ use Rattle.std.proofs.Math.Seq.{get_or-append_seam}
 use Rattle.std.proofs.lemmas.List.{get_or_append_left}
 use Rattle.atomic_table.specs.Table.{opening}
 use Rattle.atomic_table.proofs.Lists.{at_set}
-use Rattle.rec_table.proofs.Common.{Contents, Private, is_busy, is_busy_at, IsMutator, Core, cells_of, mutator, Move, after_moves, IsWorld, beats_of, told, SplitsIdly, JoinsIdly, Ran, Runs, row, Holds, first_view, without, newcomer, joined, Beat, CollectorSeat, Seated, View, Collects, Mutates, Spent}
+use Rattle.rec_table.proofs.Common.{Contents, Private, is_busy, is_busy_at, IsMutator, Core, cells_of, mutator, Move, after_moves, IsWorld, world_kept, beats_of, told, SplitsIdly, JoinsIdly, Ran, Runs, row, Holds, first_view, without, newcomer, joined, Beat, CollectorSeat, Seated, View, Collects, Mutates, Spent}
 use Rattle.rec_mutator.specs.declared.phase.Phase.TheVariants as at
 use Rattle.rec_collector.specs.Private as collectors
 use Rattle.rec_table.specs.Homes.{homes_of}
@@ -34,6 +34,7 @@ opens key ws xs world words home = (
     world = world;
     fit = tt;
     offerless = tt;
+    none_leaves = tt;
     words = words;
     homes = home;
     order = omega arith;
@@ -79,7 +80,7 @@ fits_made key run made gone owner x new id j z is ne (Mutates u) f =
     (owns_else owner x new u.number (λ e. omega (arith, e, f.2)) ∙ f.0, f.1, omega (arith, f.2), f.3, f.4)
 fits_made key run made gone owner x new id j z is ne Spent f = tt
 
-pub idle_not_giving : (p : Private) → is_busy p ≡ false → p.phase ≡ at.Giving → ⊥
+idle_not_giving : (p : Private) → is_busy p ≡ false → p.phase ≡ at.Giving → ⊥
 idle_not_giving p idle giving = true≢false (sym (ap is_busy_at giving) ∙ idle)
 
 -- the first seat makes the seat of the next mutator, which was idle as the heap was started
@@ -94,7 +95,7 @@ splits key id c lt idle s h there =
     let made : c.made ≡ h.made = mine.1 in
     let none : beats_of x key h.run ≡ [] = h.fresh x (omega (arith, made)) in
     let is : IsMutator key.config x = (omega arith, omega arith) in
-    let same : mutator (after_moves key h.run) x ≡ mutator key x = mutator_after key h.run x h.world h.fit is ∙ ap (told (mutator key x)) none in (
+    let same : mutator (after_moves key h.run) x ≡ mutator key x = mutator_after key h.run x (world_kept key h.world) h.fit is ∙ ap (told (mutator key x)) none in (
       record {
         run = h.run;
         made = x;
@@ -103,6 +104,7 @@ splits key id c lt idle s h there =
         world = h.world;
         fit = h.fit;
         offerless = h.offerless;
+        none_leaves = h.none_leaves;
         words = h.words;
         homes = h.homes;
         order = omega (arith, h.order, made);
@@ -163,6 +165,7 @@ joins key id c other t next s h here apart there =
         world = h.world;
         fit = h.fit;
         offerless = h.offerless;
+        none_leaves = h.none_leaves;
         words = h.words;
         homes = h.homes;
         order = omega (arith, its.2, is);

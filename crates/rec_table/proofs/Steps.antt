@@ -26,7 +26,7 @@ use Rattle.rec_core.specs.declared.config.Config.{Config}
 use Rattle.rec_core.proofs.Crossings.{left_same}
 use Rattle.std.proofs.lemmas.List.{set-get_or}
 use Rattle.rec_mutator.specs.Took.{is_uncollected, leaving_by}
-use Rattle.rec_table.proofs.Common.{written, Op, Contents, Private, is_busy, is_full, register, probe_of, begun_of, took_of, took_at, read_by, allowed_by, written_by, answered, moved, born_in, spare, left_of, step_of, IsFound, IsMutator, Core, cells_of, mutator, nobody, box, IsKept, IsSettledIn, Move, AllFit, after_moves, found_by, stepped, begun_from, Cells, IsWithin, cell, with_cell, IsWorld, world_kept, moved_world, actor_of, in_list, fields_many, may_step, names_slots, beats_of, told, learnt, OffersNone, Offerless, Kind, Performed, Adds, Grows, Operates, moves_of, operation, performed, step_in, steps_in, row, index_of, Holds, ready, MayGo, beats, longer, MadeBy, Begins, Saw, Seated, View, Collects, Mutates, Spent, after_both, config_after, every_both, fit_both, over_both}
+use Rattle.rec_table.proofs.Common.{written, Op, Contents, Private, is_busy, is_full, register, probe_of, begun_of, took_of, took_at, read_by, allowed_by, written_by, answered, moved, born_in, spare, left_of, step_of, IsFound, IsMutator, Core, cells_of, mutator, nobody, box, IsKept, Move, AllFit, after_moves, found_by, stepped, begun_from, Cells, IsWithin, cell, with_cell, IsWorld, world_kept, moved_world, actor_of, in_list, fields_many, may_step, names_slots, beats_of, told, learnt, BeginsNoLeave, NoneLeaves, OffersNone, Offerless, Kind, Performed, Adds, Grows, Operates, moves_of, operation, performed, step_in, steps_in, row, index_of, Holds, ready, MayGo, beats, longer, MadeBy, Begins, Saw, Seated, View, Collects, Mutates, Spent, after_both, config_after, every_both, fit_both, moves_kept, over_both}
 use Rattle.rec_table.specs.Homes.{homes_of}
 use Rattle.rec_table.specs.Rule.{Fits}
 use Rattle.rec_table.specs.declared.start.Start.{Start}
@@ -52,7 +52,7 @@ starts w t from kept is there = subst (λ n. from < n) (actor_of w t kept is).ow
 
 before_world : (w : Core) (t : ℕ) (wk : Option Start) → IsWorld w → IsMutator w.config t → MayGo (mutator w t) wk → IsWorld (before w t wk)
 before_world w t None world is may = world
-before_world w t (Some start) world is may = moved_world w (Move.Begins t start.work start.from) world (is, may.0, may.1, may.2, starts w t start.from (world_kept w world) is may.3)
+before_world w t (Some start) world is may = moved_world w (Move.Begins t start.work start.from) world (is, may.0, (world.staying t is).present, may.1, may.2, starts w t start.from (world_kept w world) is may.3) may.4
 
 before_busy : (w : Core) (t : ℕ) (wk : Option Start) → IsKept w → IsMutator w.config t → MayGo (mutator w t) wk → is_busy (mutator (before w t wk) t) ≡ true
 before_busy w t None kept is may = may
@@ -70,9 +70,11 @@ before_boxes : (w : Core) (t : ℕ) (wk : Option Start) → (before w t wk).boxe
 before_boxes w t None = refl
 before_boxes w t (Some start) = refl
 
-all_fit : (w : Core) (t : ℕ) (wk : Option Start) → IsKept w → IsMutator w.config t → MayGo (mutator w t) wk → AllFit w (moves_of t wk)
-all_fit w t None kept is may = ((is, may), tt)
-all_fit w t (Some start) kept is may = ((is, may.0, may.1, may.2, starts w t start.from kept is may.3), ((is, before_busy w t (Some start) kept is may), tt))
+all_fit : (w : Core) (t : ℕ) (wk : Option Start) → IsWorld w → IsMutator w.config t → MayGo (mutator w t) wk → AllFit w (moves_of t wk)
+all_fit w t None world is may = ((is, may), tt)
+all_fit w t (Some start) world is may =
+    let kept : IsKept w = world_kept w world in
+    ((is, may.0, (world.staying t is).present, may.1, may.2, starts w t start.from kept is may.3), ((is, before_busy w t (Some start) kept is may), tt))
 
 after_is : (w : Core) (t : ℕ) (wk : Option Start) → after_moves w (moves_of t wk) ≡ stepped (before w t wk) t
 after_is w t None = refl
@@ -94,6 +96,21 @@ moves_offerless : (t : ℕ) (wk : Option Start) → Offerless (moves_of t wk)
 moves_offerless t None = (tt, tt)
 moves_offerless t (Some start) = (tt, (tt, tt))
 
+-- none of them begins to leave
+moves_stay : (p : Private) (t : ℕ) (wk : Option Start) → MayGo p wk → NoneLeaves (moves_of t wk)
+moves_stay p t None may = (tt, tt)
+moves_stay p t (Some start) may = (may.4, (tt, tt))
+
+-- a phase in which no step moves a mailbox, and none leaves
+abbrev pub IsPlain : phases.Phase → Type 0
+IsPlain at.Crossing = ⊥
+IsPlain at.Swapping = ⊥
+IsPlain at.Giving = ⊥
+IsPlain at.Leaving = ⊥
+IsPlain at.Retiring = ⊥
+IsPlain at.Parting = ⊥
+IsPlain _ = Unit {0}
+
 -- an operation that moves no mailbox
 abbrev pub IsPlainOp : Op → Type 0
 IsPlainOp (ops.TakeBox t e) = ⊥
@@ -102,7 +119,7 @@ IsPlainOp (ops.LookBox t e) = ⊥
 IsPlainOp (ops.ReturnBox t e) = ⊥
 IsPlainOp _ = Unit {0}
 
-pub plain_next : (p : Private) → IsSettledIn p.phase → IsPlainOp (next_of p)
+pub plain_next : (p : Private) → IsPlain p.phase → IsPlainOp (next_of p)
 unfolding next_of next_at
 plain_next p plain = by p.phase plain
   where
@@ -123,7 +140,7 @@ plain_next p plain = by p.phase plain
     new true = tt
     new false = tt
 
-    by : (phase : phases.Phase) → IsSettledIn phase → IsPlainOp (next_at p phase)
+    by : (phase : phases.Phase) → IsPlain phase → IsPlainOp (next_at p phase)
     by (at.Begun (works.Command (commands.New reg label))) is = new (is_full p)
     by (at.Begun (works.Command (commands.Leaf reg label))) is = new (is_full p)
     by (at.Begun (works.Command (commands.Get dst src f))) is = read f (register p src)
@@ -145,7 +162,7 @@ plain_crossing cells (ops.LookBox t e) is = absurd is
 plain_crossing cells (ops.ReturnBox t e) is = absurd is
 plain_crossing cells _ is = refl
 
-pub plain_takes_none : (phase : phases.Phase) → IsSettledIn phase → TakesNone phase
+pub plain_takes_none : (phase : phases.Phase) → IsPlain phase → TakesNone phase
 plain_takes_none at.Crossing is = absurd is
 plain_takes_none at.Swapping is = absurd is
 plain_takes_none at.Giving is = absurd is
@@ -154,7 +171,7 @@ plain_takes_none at.Retiring is = absurd is
 plain_takes_none _ is = tt
 
 -- such a step leaves every mailbox where it is
-plain_homes : (w : Core) (t : ℕ) → is_busy (mutator w t) ≡ true → IsSettledIn (mutator w t).phase → homes_of (stepped w t).crossing (stepped w t).boxes ≡ homes_of w.crossing w.boxes
+plain_homes : (w : Core) (t : ℕ) → is_busy (mutator w t) ≡ true → IsPlain (mutator w t).phase → homes_of (stepped w t).crossing (stepped w t).boxes ≡ homes_of w.crossing w.boxes
 plain_homes w t busy plain =
     let p : Private = mutator w t in
     let b : Contents = box w t in
@@ -164,18 +181,16 @@ plain_homes w t busy plain =
     λ i. homes_of (crossing i) (boxes i)
 
 -- the lengths of the rows stay
-pub places_after : (w : Core) (ms : List Move) → IsWorld w → AllFit w ms → length (after_moves w ms).words ≡ length w.words
-places_after w ms world fit =
+pub places_after : (w : Core) (ms : List Move) → IsKept w → AllFit w ms → length (after_moves w ms).words ≡ length w.words
+places_after w ms kept fit =
     let v : Core = after_moves w ms in
     let config : v.config ≡ w.config = config_after w ms in
-    sym (fields_many v v.config.slots v.config.fields (world_kept v (world_after w ms world fit)) refl refl)
+    sym (fields_many v v.config.slots v.config.fields (moves_kept w ms kept fit) refl refl)
     ∙ ap (λ (c : Config). c.slots * c.fields) config
-    ∙ fields_many w w.config.slots w.config.fields (world_kept w world) refl refl
+    ∙ fields_many w w.config.slots w.config.fields kept refl refl
 
-pub slots_after : (w : Core) (ms : List Move) → IsWorld w → AllFit w ms → length (after_moves w ms).headers ≡ length w.headers
-slots_after w ms world fit =
-    let v : Core = after_moves w ms in
-    (world_kept v (world_after w ms world fit)).headers ∙ ap (λ (c : Config). c.slots) (config_after w ms) ∙ sym (world_kept w world).headers
+pub slots_after : (w : Core) (ms : List Move) → IsKept w → AllFit w ms → length (after_moves w ms).headers ≡ length w.headers
+slots_after w ms kept fit = (moves_kept w ms kept fit).headers ∙ ap (λ (c : Config). c.slots) (config_after w ms) ∙ sym kept.headers
 
 -- the fits of all views after the view of one has changed
 pub fits_set : (key : Core) (run : List Move) (made gone : ℕ) (owner : ℕ → ℕ) (views : List View) (id : ℕ) (w : View)
@@ -254,9 +269,10 @@ here_at key s h id t wk p op fit is_p may is_op =
     let now : Core = after_moves key h.run in
     let mine = h.each id (Mutates t) fit in
     let there : IsMutator key.config x = (omega (arith, mine.1), omega (arith, mine.2, h.room)) in
-    let world : IsWorld now = world_after key h.run h.world h.fit in
+    let kept : IsKept key = world_kept key h.world in
+    let world : IsWorld now = world_after key h.run h.world h.fit h.none_leaves in
     let here : IsMutator now.config x = subst (λ (c : Config). IsMutator c x) (sym (config_after key h.run)) there in
-    let actor : mutator now x ≡ p = mutator_after key h.run x h.world h.fit there ∙ (ap (told (mutator key x)) (sym mine.3) ∙ sym is_p) in
+    let actor : mutator now x ≡ p = mutator_after key h.run x kept h.fit there ∙ (ap (told (mutator key x)) (sym mine.3) ∙ sym is_p) in
     let goes : MayGo (mutator now x) wk = subst (λ (q : Private). MayGo q wk) (sym actor) may in
     let v : Core = before now x wk in
     let v_world : IsWorld v = before_world now x wk world here goes in
@@ -270,13 +286,13 @@ here_at key s h id t wk p op fit is_p may is_op =
     let i : ℕ = index_of (length key.words) (length key.headers) op in
     let n : ℕ = get_or s.words i 0 in
     let words : s.words ≡ row (cells_of v) = h.words ∙ ap row (sym cells) in
-    let places : length (cells_of v).words ≡ length key.words = ap (λ (c : Cells). length c.words) cells ∙ places_after key h.run h.world h.fit in
-    let headers : length (cells_of v).headers ≡ length key.headers = ap (λ (c : Cells). length c.headers) cells ∙ slots_after key h.run h.world h.fit in
+    let places : length (cells_of v).words ≡ length key.words = ap (λ (c : Cells). length c.words) cells ∙ places_after key h.run kept h.fit in
+    let headers : length (cells_of v).headers ≡ length key.headers = ap (λ (c : Cells). length c.headers) cells ∙ slots_after key h.run kept h.fit in
     let at_i : index_of (length (cells_of v).words) (length (cells_of v).headers) op ≡ i = λ j. index_of (places j) (headers j) op in
     let found : n ≡ cell (cells_of v) op = (λ j. get_or (words j) (sym at_i j) 0) ∙ row_read (cells_of v) op within in
     let found' : n ≡ found_by v x = found ∙ ap (cell (cells_of v)) (sym v_op) in
     let u : Core = stepped v x in
-    let u_world : IsWorld u = moved_world v (Move.Steps x) v_world (v_here, v_busy) in
+    let u_world : IsWorld u = moved_world v (Move.Steps x) v_world (v_here, v_busy) tt in
     let u_is : mutator u x ≡ learnt (ready p wk) (Saw n) =
     get_or-set_same v.mutators (x - 1) (step_of (mutator v x) (found_by v x) (box v x)) nobody (in_list v x (world_kept v v_world) v_here)
     ∙ step_same v x (world_kept v v_world) v_here v_busy
@@ -347,8 +363,9 @@ goes_on key s h id t wk p op z homes' hand fit here does homes_are holds_it =
         gone = h.gone;
         owner = h.owner;
         world = h.world;
-        fit = fit_both key h.run ms h.fit (all_fit now x wk (world_kept now here.now_world) here.now_here here.goes);
+        fit = fit_both key h.run ms h.fit (all_fit now x wk here.now_world here.now_here here.goes);
         offerless = every_both OffersNone h.run ms h.offerless (moves_offerless x wk);
+        none_leaves = every_both BeginsNoLeave h.run ms h.none_leaves (moves_stay (mutator now x) x wk here.goes);
         words = here.words z does ∙ ap (λ (c : Core). row (cells_of c)) (sym ends);
         homes = homes_are ∙ ap (λ (c : Core). homes_of c.crossing c.boxes) (sym ends);
         order = h.order;
@@ -362,7 +379,7 @@ goes_on key s h id t wk p op z homes' hand fit here does homes_are holds_it =
     )
 
 -- what a step that takes no mailbox leads to isn't the phase in which one is given back
-not_giving : (p : Private) (word : ℕ) (phase : phases.Phase) → IsSettledIn phase → is_giving (took_at p word phase).phase ≡ false
+not_giving : (p : Private) (word : ℕ) (phase : phases.Phase) → IsPlain phase → is_giving (took_at p word phase).phase ≡ false
 unfolding took_at
 not_giving p word phase plain = by phase plain
   where
@@ -391,7 +408,7 @@ not_giving p word phase plain = by phase plain
     goes true x y a c = a
     goes false x y a c = c
 
-    by : (at_phase : phases.Phase) → IsSettledIn at_phase → is_giving (took_at p word at_phase).phase ≡ false
+    by : (at_phase : phases.Phase) → IsPlain at_phase → is_giving (took_at p word at_phase).phase ≡ false
     by (at.Begun (works.Command (commands.New reg label))) is = new (answered p (commands.New reg label) (plain_told answers.LogFull)) (moved p (at.Scanning reg label false word 0)) (is_full p) refl refl
     by (at.Begun (works.Command (commands.Leaf reg label))) is = new (answered p (commands.Leaf reg label) (plain_told answers.LogFull)) (moved p (at.Scanning reg label true word 0)) (is_full p) refl refl
     by (at.Begun (works.Command (commands.Get dst src f))) is = read (commands.Get dst src f) dst (register p src)
@@ -409,7 +426,7 @@ not_giving p word phase plain = by phase plain
     by (at.Begun (works.Command commands.Leave)) is = leaving (is_uncollected word)
     by _ is = refl
 
-pub left_plain : (p : Private) (word : ℕ) → IsSettledIn p.phase → is_busy p ≡ true → (learnt p (Saw word)).phase ≡ at.Giving → ⊥
+pub left_plain : (p : Private) (word : ℕ) → IsPlain p.phase → is_busy p ≡ true → (learnt p (Saw word)).phase ≡ at.Giving → ⊥
 unfolding took_of
 left_plain p word plain busy giving =
     let same : learnt p (Saw word) ≡ took_of p word = here_same p word (spare (took_of p word)) busy (plain_takes_none p.phase plain) in
@@ -418,14 +435,14 @@ left_plain p word plain busy giving =
     true≢false (sym yes ∙ no)
 
 pub steps : (key : Core) (slots id : ℕ) (t : Seated) (hs : List (ℕ × Option Contents)) (wk : Option Start) (p : Private) (op : Op) (f : ℕ → ℕ) (st : Step (Option Contents))
-    → p ≡ told (mutator key t.number) t.log → MayGo p wk → IsSettledIn (ready p wk).phase → op ≡ next_of (ready p wk) → ((n : ℕ) → f n ≡ written op n)
+    → p ≡ told (mutator key t.number) t.log → MayGo p wk → IsPlain (ready p wk).phase → op ≡ next_of (ready p wk) → ((n : ℕ) → f n ≡ written op n)
     → Operates key (Kind.Steps wk) slots id (Mutates t, hs) (index_of (length key.words) (length key.headers) op) f (MadeBy p wk st (Mutates t, hs))
 steps key slots id t hs wk p op f st is_p may plain is_op does s h len at_id fit =
     let x : ℕ = t.number in
     let here : Here key s h t wk p op = here_at key s h id t wk p op at_id is_p may is_op in
     let v : Core = before (after_moves key h.run) x wk in
     let n : ℕ = get_or s.words (index_of (length key.words) (length key.headers) op) 0 in
-    let plain' : IsSettledIn (mutator v x).phase = subst (λ (q : Private). IsSettledIn q.phase) (sym here.is) plain in
+    let plain' : IsPlain (mutator v x).phase = subst (λ (q : Private). IsPlain q.phase) (sym here.is) plain in
     let never : (mutator (stepped v x) x).phase ≡ at.Giving → t.hand ≡ box (stepped v x) x = λ giving. absurd (left_plain (ready p wk) n plain (ap is_busy (sym here.is) ∙ here.busy)
     (ap (λ (q : Private). q.phase) (sym here.learns) ∙ giving)) in
     let after = goes_on key s h id t wk p op (f n) s.homes t.hand at_id here (does n) (here.homes ∙ sym (plain_homes v x here.busy plain')) never in (

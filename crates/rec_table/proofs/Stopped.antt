@@ -1,16 +1,15 @@
 -- What stopping promises, from the run of all lists.
 use Rattle.std.proofs.Common.{◌≡◌, List, length, map, sym, ap, ◌∙◌, subst}
 use Rattle.std.proofs.lemmas.List.{length-map}
-use Rattle.rec_table.proofs.Common.{Core, fit_first, AllFit, after_moves, IsWorld, gathered_all, boxes_out, AreMutatorsOf, CollectorView, MutatorView, PutsBack, Started, Beat}
+use Rattle.rec_table.proofs.Common.{Core, fit_first, moves_kept, AllFit, after_moves, IsKept, gathered_all, boxes_out, AreMutatorsOf, CollectorView, MutatorView, PutsBack, Started, Beat}
 use Rattle.rec_core.specs.Worked.{AreIdle}
 use Rattle.rec_table.specs.Ends.{Interleaves, IsStopped}
-use Rattle.rec_table.proofs.Beats.{world_after}
 use Rattle.rec_table.proofs.Journals.{lists_legal}
 use Rattle.rec_table.proofs.Safe.{safe}
 
-pub stopped : (s : Started) (g h : CollectorView) (hs : List MutatorView) (w : Core) → IsWorld s.world → AreIdle s.world → g.opened ≡ s.world.collector → AreMutatorsOf s hs → PutsBack g h
+pub stopped : (s : Started) (g h : CollectorView) (hs : List MutatorView) (w : Core) → IsKept s.world → AreIdle s.world → g.opened ≡ s.world.collector → AreMutatorsOf s hs → PutsBack g h
     → Interleaves s.world h.collecting.log (map (λ (m : MutatorView). m.log) hs) w → IsStopped s.world g.collecting.log (map (λ (m : MutatorView). m.log) hs) w
-stopped s g h hs w world idle opened mutators back run =
+stopped s g h hs w kept idle opened mutators back run =
     let lists : List (List Beat) = map (λ (m : MutatorView). m.log) hs in
     let many : length lists ≡ s.world.config.mutators = length-map hs (λ (m : MutatorView). m.log) ∙ mutators.all in
     record {
@@ -25,6 +24,6 @@ stopped s g h hs w world idle opened mutators back run =
         collector = ap (λ (x : CollectorView). x.collecting.log) (sym back.grows) ∙ run.collector;
         mutators = run.mutators;
       };
-      order = λ heap number unfreed stands are. lists_legal s.world heap number unfreed run.run lists world idle stands are run.fit many run.mutators;
-      always = λ before after is. safe (after_moves s.world before) (world_after s.world before world (fit_first s.world before after (subst (AllFit s.world) (sym is) run.fit)));
+      order = λ heap number unfreed stands are. lists_legal s.world heap number unfreed run.run lists kept idle stands are run.fit many run.mutators;
+      always = λ before after is. safe (after_moves s.world before) (moves_kept s.world before kept (fit_first s.world before after (subst (AllFit s.world) (sym is) run.fit)));
     }

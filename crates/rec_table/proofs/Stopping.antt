@@ -62,7 +62,7 @@ module _ (s : Started) (c : CollectorSeat) (hs : List MutatorView) (ms : List Pr
   made_right made is =
       let w : Core = after_moves s.world r.run in
       let small = made_small w (world_kept w r.world) in
-      let total = births_add_up s.world r.run h.world r.fit in
+      let total = births_add_up s.world r.run (world_kept s.world h.world) r.fit in
       let all = births (length hs) (omega arith) in
       let whole : sum_by (λ (m : MutatorView). births_told m.opened m.log) (take (length hs) hs) ≡ sum_by (λ (m : MutatorView). births_told m.opened m.log) hs = ap (sum_by (λ (m : MutatorView). births_told m.opened m.log)) (take_all (length hs) hs (omega arith)) in
       let same : births_all s.world r.run (length hs) ≡ births_all s.world r.run s.world.config.mutators = ap (births_all s.world r.run) h.mutators.all in

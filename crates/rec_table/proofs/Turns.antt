@@ -8,7 +8,7 @@ use lib.ListN.{get_elem?}
 use Rattle.std.proofs.lemmas.List.{set-get_or}
 use Rattle.atomic_table.specs.Table.{State, Step, keeps, takes, gives, stepped}
 use Rattle.atomic_table.proofs.Lists.{set_again}
-use Rattle.rec_table.proofs.Common.{written, Op, Contents, blank, IsMutator, Core, cells_of, mutator, box, crossing_of, IsKept, IsHandshake, Handshake, stand_at, Move, after_moves, looked_at, left_by, turned_at, cell, IsWorld, world_kept, actor_of, may_turn, beats_of, looked, turn_at, gathered_all, OffersNone, Kind, Grows, Operates, operation, performed, step_in, steps_in, turned_by, row, index_of, Holds, TurnedBy, LookedBy, GlancedBy, ReturnedBy, Beat, Saw, Took, CollectorSeat, View, Collects, Mutates, Spent, after_both, config_after, every_both, fit_both, over_both}
+use Rattle.rec_table.proofs.Common.{written, Op, Contents, blank, IsMutator, Core, cells_of, mutator, box, crossing_of, IsKept, IsHandshake, Handshake, stand_at, stand_in, Move, after_moves, looked_at, left_by, turned_at, cell, IsWorld, world_kept, actor_of, may_turn, beats_of, looked, turn_at, gathered_all, BeginsNoLeave, OffersNone, Kind, Grows, Operates, operation, performed, step_in, steps_in, turned_by, row, index_of, Holds, TurnedBy, LookedBy, GlancedBy, ReturnedBy, Beat, Saw, Took, CollectorSeat, View, Collects, Mutates, Spent, after_both, config_after, every_both, fit_both, over_both}
 use Rattle.rec_word.specs.Mailbox.{crossing_word}
 use Rattle.rec_word.specs.declared.mailbox.Mailbox.TheVariants.{Retired, Spare, WithCollector, WithMutator}
 use Rattle.rec_word.specs.declared.op.Op.TheVariants as ops
@@ -18,6 +18,8 @@ use Rattle.rec_collector.specs.Next.{next_of, next_at}
 use Rattle.rec_collector.specs.Private.{Private, spare}
 use Rattle.rec_collector.specs.declared.phase.Phase.{Phase}
 use Rattle.rec_collector.specs.declared.phase.Phase.TheVariants.{Looking, Returning}
+use Rattle.rec_core.specs.Core.{spare_of}
+use Rattle.rec_core.specs.Kept.{HasCrossed, IsHeldAt}
 use Rattle.rec_core.specs.Preconditions.{MayTurn}
 use Rattle.rec_core.specs.declared.config.Config.{Config}
 use Rattle.rec_core.proofs.Crossings.{giving_of}
@@ -82,12 +84,13 @@ pub here_at : (key : Core) (s : State (Option Contents) View) (h : Holds key s) 
 here_at key s h id c p op fit is_p next =
     let now : Core = after_moves key h.run in
     let mine = h.each id (Collects c) fit in
-    let world : IsWorld now = world_after key h.run h.world h.fit in
-    let is : now.collector ≡ p = collector_after key h.run h.world h.fit h.offerless ∙ ap (gathered_all key.collector) (sym mine.3) ∙ sym is_p in
+    let kept : IsKept key = world_kept key h.world in
+    let world : IsWorld now = world_after key h.run h.world h.fit h.none_leaves in
+    let is : now.collector ≡ p = collector_after key h.run kept h.fit h.offerless ∙ ap (gathered_all key.collector) (sym mine.3) ∙ sym is_p in
     let named : ◌≡◌ {A = Option Op} (next_of now.collector) (Some op) = ap next_of is ∙ next in
     let may : MayTurn now op = subst (λ (x : Option Op). IfSome x (MayTurn now)) named (may_turn now (world_kept now world)) in
     let i : ℕ = index_of (length key.words) (length key.headers) op in
-    let at_i : index_of (length (cells_of now).words) (length (cells_of now).headers) op ≡ i = λ j. index_of (places_after key h.run h.world h.fit j) (slots_after key h.run h.world h.fit j) op in
+    let at_i : index_of (length (cells_of now).words) (length (cells_of now).headers) op ≡ i = λ j. index_of (places_after key h.run kept h.fit j) (slots_after key h.run kept h.fit j) op in
     let found : get_or s.words i 0 ≡ cell (cells_of now) op = (λ j. get_or (h.words j) (sym at_i j) 0) ∙ row_read (cells_of now) op may.within in
     record {
       world = world;
@@ -143,6 +146,7 @@ turns_on key s h id c p op z homes' b fit here does homes_are beat_is =
         world = h.world;
         fit = fit_both key h.run (Move.Turns ∷ []) h.fit (tt, tt);
         offerless = every_both OffersNone h.run (Move.Turns ∷ []) h.offerless (tt, tt);
+        none_leaves = every_both BeginsNoLeave h.run (Move.Turns ∷ []) h.none_leaves (tt, tt);
         words = here.words z does ∙ ap (λ (x : Core). row (cells_of x)) (sym ends);
         homes = homes_are ∙ ap (λ (x : Core). homes_of x.crossing x.boxes) (sym ends);
         order = h.order;
@@ -198,6 +202,17 @@ turns key slots id c hs p op f st is_p next plain sees stays does s h len at_id 
 pub returns_op : (c : Private) (t : ℕ) → c.phase ≡ Returning t → ◌≡◌ {A = Option Op} (next_of c) (Some (ops.ReturnBox t c.epoch))
 unfolding next_of next_at
 returns_op c t is = ap (next_at c) is
+
+-- the mailbox that is given back next is held, with a spare
+pub held_so : (w : Core) (t : ℕ) → IsKept w → IsMutator w.config t → w.collector.phase ≡ Returning t → HasCrossed w.epoch (mutator w t) (crossing_of w t) WithCollector × (box w t ≡ spare_of w.config)
+held_so w t kept is at_phase =
+    let held : IsHeldAt w (Returning t) = subst (IsHeldAt w) at_phase kept.held in
+    let stands : stand_at w.collector.left w.collector.phase t ≡ Handshake.Held =
+    ap (λ (g : Phase). stand_at w.collector.left g t) at_phase
+    ∙ ap (λ x. cond x Handshake.Gone (stand_in (Returning t) t)) held.0
+    ∙ ap (λ x. cond x Handshake.Done (cond (eqb t t) Handshake.Held Handshake.Due)) (le-ltb t t (omega arith))
+    ∙ ap (λ x. cond x Handshake.Held Handshake.Due) (eq-eqb t t refl) in
+    subst (IsHandshake w.config w.epoch (mutator w t) (crossing_of w t) (box w t)) stands (actor_of w t kept is).handshake
 
 -- a look at the mailbox of mutator t
 pub looks : (key : Core) (slots id t : ℕ) (c : CollectorSeat) (p : Private) (f : ℕ → ℕ) (st : Step (Option Contents))
@@ -303,9 +318,7 @@ returns_box key slots id t c p f st is_p phase does s h len at_id fit =
     let at_phase : now.collector.phase ≡ Returning t = ap (λ (q : Private). q.phase) here.is ∙ phase in
     let words_many = kept.mutators.words in
     let is : IsMutator now.config t = (here.may.within.0, omega (arith, here.may.within.1, words_many)) in
-    let held : IsHandshake now.config now.epoch (mutator now t) (crossing_of now t) (box now t) (stand_at (Returning t) t) = subst (λ (g : Phase). IsHandshake now.config now.epoch (mutator now t) (crossing_of now t) (box now t) (stand_at g t)) at_phase (actor_of now t kept is).handshake in
-    let stands : stand_at (Returning t) t ≡ Handshake.Held = ap (λ x. cond x Handshake.Done (cond (eqb t t) Handshake.Held Handshake.Due)) (le-ltb t t (omega arith)) ∙ ap (λ x. cond x Handshake.Held Handshake.Due) (eq-eqb t t refl) in
-    let b_is : box now t ≡ spare p = (subst (IsHandshake now.config now.epoch (mutator now t) (crossing_of now t) (box now t)) stands held).1 ∙ sym (its_spare kept.collector) ∙ ap spare here.is in
+    let b_is : box now t ≡ spare p = (held_so now t kept is at_phase).1 ∙ sym (its_spare kept.collector) ∙ ap spare here.is in
     let boxes : (turned_at now (Some op)).boxes ≡ set now.boxes (t - 1) (spare p) =
     ap (λ (g : Phase). set now.boxes (looked_at g - 1) (left_by now.collector word (box now (looked_at g)) g)) at_phase ∙ same_boxes now 1 ∙ sym (same_boxes now t) ∙ ap (set now.boxes (t - 1)) b_is in
     let homes' : set s.homes (t - 1) (some (Some (spare p))) ≡ homes_of (turned_at now (Some op)).crossing (turned_at now (Some op)).boxes =

@@ -1,9 +1,14 @@
 -- The lines that a mutator's list tells.
 use Rattle.std.specs.Prelude.{◌≡◌, ℕ, ◌+◌, Option, Some, List, [], ◌∷◌, ◌++◌}
+use Rattle.rec_model.specs.Asking.{plain}
 use Rattle.rec_model.specs.LegalOrder.{Line}
+use Rattle.rec_model.specs.declared.answer.Answer.TheVariants as answers
+use Rattle.rec_model.specs.declared.command.Cmd.TheVariants as commands
 use Rattle.rec_mutator.specs.Private.{Private, work_of, answer_of}
 use Rattle.rec_mutator.specs.declared.made.Made.{Made}
 use Rattle.rec_mutator.specs.declared.made.Made.TheVariants as makes
+use Rattle.rec_mutator.specs.declared.phase.Phase.{Phase}
+use Rattle.rec_mutator.specs.declared.phase.Phase.TheVariants.{Leaving, Parting}
 use Rattle.rec_mutator.specs.declared.work.Work.{Work}
 use Rattle.rec_mutator.specs.declared.work.Work.TheVariants as works
 use Rattle.rec_core.specs.Core.{Core, mutator}
@@ -16,9 +21,15 @@ abbrev pub line_of : Option Work → Option Made → List Line
 line_of (Some (works.Command cmd)) (Some (makes.Answered told)) = (cmd, told) ∷ []
 line_of _ _ = []
 
+-- what a step tells that is made in this phase: a mutator that leaves tells its line where it takes its mailbox
+abbrev pub line_at : Phase → Option Work → Option Made → List Line
+line_at Leaving work made = (commands.Leave, plain answers.Done) ∷ []
+line_at Parting work made = []
+line_at _ work made = line_of work made
+
 -- what a beat tells from this record
 abbrev pub line_in : Private → Beat → List Line
-line_in p (Saw word) = line_of (work_of p) (answer_of (learnt p (Saw word)))
+line_in p (Saw word) = line_at p.phase (work_of p) (answer_of (learnt p (Saw word)))
 line_in p _ = []
 
 -- and a list

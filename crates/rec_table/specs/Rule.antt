@@ -26,7 +26,7 @@ use Rattle.rec_collector.specs.declared.phase.Phase as turning
 use Rattle.rec_collector.specs.declared.phase.Phase.TheVariants as turn_at
 use Rattle.rec_core.specs.Moves.{Move, AllFit, after_moves}
 use Rattle.rec_world.specs.World.{IsWorld}
-use Rattle.rec_table.specs.Beats.{beats_of, learnt, Offerless}
+use Rattle.rec_table.specs.Beats.{beats_of, learnt, NoneLeaves, Offerless}
 use Rattle.rec_table.specs.Homes.{homes_of}
 use Rattle.rec_core.specs.Row.{row}
 use Rattle.rec_table.specs.declared.start.Start.{Start}
@@ -44,7 +44,8 @@ module _ (key : Core) (run : List Move) (made gone : ℕ) (owner : ℕ → ℕ) 
   Fits id (Mutates t) = (owner t.number ≡ id) × (gone < t.number) × (t.number ≤ made) × (t.log ≡ beats_of t.number key run) × ((mutator (after_moves key run) t.number).phase ≡ at.Giving → t.hand ≡ box (after_moves key run) t.number)
   Fits id Spent = Unit {0}
 
--- There is a run of the core from the started world, whose last state has the table's words and its mailboxes.
+-- There is a run of the core from the started world, whose last state has the table's words and its mailboxes. On the table no mutator
+-- leaves yet.
 pub record Holds (key : Core) (s : State (Option Contents) View) : Type 0 where
   pub run : List Move
   pub made : ℕ
@@ -53,6 +54,7 @@ pub record Holds (key : Core) (s : State (Option Contents) View) : Type 0 where
   pub world : IsWorld key
   pub fit : AllFit key run
   pub offerless : Offerless run
+  pub none_leaves : NoneLeaves run
   pub words : s.words ≡ row (cells_of (after_moves key run))
   pub homes : s.homes ≡ homes_of (after_moves key run).crossing (after_moves key run).boxes
   pub order : gone ≤ made
@@ -81,14 +83,14 @@ Remains p = RemainsAt p.phase × (p.left ≡ false)
 abbrev pub MayAsk : Private → Cmd → Type 0
 MayAsk p cmd = IsValid p (works.Command cmd) × IsNoLeave (works.Command cmd)
 
--- a work may begin where none is unfinished
+-- a work may begin where none is unfinished; and none leaves yet
 abbrev pub MayBegin : Private → Work → Type 0
-MayBegin p work = (is_busy p ≡ false) × IsValid p work × HasLabel work
+MayBegin p work = (is_busy p ≡ false) × IsValid p work × HasLabel work × IsNoLeave work
 
 -- a work begins where none is unfinished, with any slot as its scan's first one, and a step needs one that is
 abbrev pub MayGo : Private → Option Start → Type 0
 MayGo p None = is_busy p ≡ true
-MayGo p (Some start) = (is_busy p ≡ false) × IsValid p start.work × HasLabel start.work × (start.from < p.slots)
+MayGo p (Some start) = (is_busy p ≡ false) × IsValid p start.work × HasLabel start.work × (start.from < p.slots) × IsNoLeave start.work
 
 abbrev pub beats : Option Start → (word : ℕ) → List Beat
 beats None word = Saw word ∷ []

@@ -7,7 +7,7 @@ ghost use Rattle.rec_table.specs.Answered.{IsAnswered, IsPolled};
 ghost use Rattle.rec_table.specs.Rule.{MayAsk};
 ghost use Rattle.rec_table.specs.Views.{mutator_now, IsMutatorOf, Works};
 ghost use Rattle.rec_table.specs.Journals.{Tells};
-ghost use Rattle.rec_core.specs.Config.{HasLabel, IsNoLeave};
+ghost use Rattle.rec_core.specs.Config.{HasLabel};
 
 use crate::actor::Actor;
 use crate::heap::Heap;
@@ -131,7 +131,6 @@ impl Mutator {
 
 // The label of an allocation fits a header.
 fn see_label(work: Work)
-    requires { IsNoLeave work }
     ensures { HasLabel work }
 {
     if let Work::Command(Cmd::New { label, .. } | Cmd::Leaf { label, .. }) = work {

@@ -1,11 +1,10 @@
 -- A turn requests at most one epoch more.
 use Rattle.std.proofs.Common.{◌≡◌, ℕ, ◌+◌, ◌≤◌, ◌==◌, Bool, true, false, if◌then◌else◌, [], ◌∷◌, ◌++◌, Option, None, Some, inl, inr, length, refl, sym, ap, ◌∙◌, arith, append_assoc}
 use Rattle.std.proofs.lemmas.List.{append-nil, length-append}
-use Rattle.rec_collector.specs.Followed.{Next, followed, worked}
+use Rattle.rec_collector.specs.Followed.{Next, worked}
 use Rattle.rec_collector.specs.Next.{is_spent, next_of}
 use Rattle.rec_collector.specs.Private.{Private, parts_of, with_parts}
-use Rattle.rec_collector.specs.Testing.{zeros_released}
-use Rattle.rec_collector.specs.Took.{batched, came, moved, step_of, took_at, took_of}
+use Rattle.rec_collector.specs.Took.{behind, came, moved, noted, requested, step_of, took_at, took_of}
 use Rattle.rec_collector.specs.declared.turn.Turn.{Turn}
 use Rattle.rec_collector.specs.declared.phase.Phase.{Phase}
 use Rattle.rec_collector.specs.declared.phase.Phase.TheVariants.{Idle, Looking, Swapping, Returning, Opening, Sweeping, Closing}
@@ -16,7 +15,7 @@ use Rattle.rec_table.specs.Beats.{gathered}
 use Rattle.rec_table.specs.Views.{CollectorView, collector_now}
 use Rattle.rec_table.specs.Rule.{collecting_more}
 use Rattle.rec_table.specs.Turn.{MakesTurn}
-use Rattle.rec_table.proofs.PutBack.{ended_epoch, swapped_epoch}
+use Rattle.rec_table.proofs.PutBack.{behind_epoch, ended_epoch, swapped_epoch}
 use Rattle.rec_threads.specs.Done.{HasTurned, TurnsTo}
 use Rattle.rec_table.specs.declared.views.Beat.{Beat}
 use Rattle.rec_table.specs.declared.views.Beat.TheVariants.{Begins, Saw, Took}
@@ -30,10 +29,10 @@ either_rises false p q r x y = y
 
 took_rises : (p : Private) (word : ℕ) (phase : Phase) → (took_at p word phase).epoch ≤ p.epoch + 1
 unfolding took_at
-took_rises p word Idle = either_rises (is_spent p) p p (moved (record p { epoch = p.epoch + 1 }) (Looking 1)) (omega arith) (omega arith)
+took_rises p word Idle = let e : (behind (requested p) 0).epoch ≡ p.epoch + 1 = behind_epoch (requested p) 0 in either_rises (is_spent p) p p (behind (requested p) 0) (omega arith) (omega (arith, e))
 took_rises p word (Looking t) = either_rises (word == crossing_word p.epoch Retired) p (moved p (Swapping t)) p (omega arith) (omega arith)
 took_rises p word (Swapping t) = omega arith
-took_rises p word (Returning t) = either_rises (t == length p.newer) p (came p (followed (zeros_released false (batched p)))) (moved p (Looking (t + 1))) (came_epoch p (followed (zeros_released false (batched p)))) (omega arith)
+took_rises p word (Returning t) = let e : (behind (noted p t) t).epoch ≡ p.epoch = behind_epoch (noted p t) t in omega (arith, e)
 took_rises p word Opening = omega arith
 took_rises p word (Sweeping due swept) = omega arith
 took_rises p word (Closing swept) = omega arith

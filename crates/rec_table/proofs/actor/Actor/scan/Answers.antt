@@ -1,5 +1,6 @@
 -- The contract of `Actor::scan`: makes the failing probes that come next, if it makes a scan.
-use Rattle.std.proofs.Common.{◌≡◌, ◌<◌, ◌≤◌, ◌+◌, ◌-◌, ◌++◌, ◌%◌, ◌^◌, ℕ, fold, length, Option, sym, ap, subst, ◌∙◌, arith}
+use Rattle.std.proofs.Common.{◌≡◌, ◌<◌, ◌≤◌, ◌+◌, ◌-◌, ◌++◌, ◌%◌, ◌^◌, ℕ, [], fold, length, Option, refl, sym, ap, subst, ◌∙◌, append-nil, arith}
+use Rattle.std.proofs.lemmas.List.Elements.{All-nil}
 use Rattle.rec_word.specs.declared.op.Op.TheVariants as ops
 use Rattle.atomic_table.specs.Table.{Me}
 use Rattle.rec_table.proofs.Common.{Private, KeepsSizes, is_busy, work_of, took_of, skipped_to, IsAhead, Contents, IsMutator, Core, mutator, actor_of, world_kept, MutatorView, mutator_view, mutator_now, told, seated_of, hands_at, Passed, ScansFrom, saw_all, Seated, View, Mutates}
@@ -151,3 +152,15 @@ returns-else-finds_free-clause-same c =
     let a : After-from = (goal.at.returns-else-finds_free-clause-same c).After-from in
     let e = ended a c.skip_to.new.self c.first_free-count.result c.first_free-count.new.seat.me c.first_free-count.ensures.passed c.first_free-count.ensures.few c.skip_to.ensures.skipped in
     subst (λ (y : Private × Private). KeepsSizes y.0 y.1) (λ k. (was a k, e.told k)) c.skip_to.ensures.same
+
+-- where the next operation claims no header, no probe is made
+pub returns-in_default : goal.returns-in_default
+returns-in_default c =
+    let h : MutatorView = c.args.self.now in
+    record {
+      scanned = record { words = []; taken = All-nil (λ word. 0 < word); grows = λ k. record h { log = sym (append-nil h.log) k }; learns = refl; steps = omega arith };
+      steps = omega arith;
+      busy = c.requires.busy;
+      work = refl;
+      same = record { number = refl; slots = refl; fields = refl; registers = refl; capacity = refl };
+    }

@@ -1,7 +1,7 @@
 -- The contract of `Actor::work`: begins a work and makes its steps to the end.
 use Rattle.std.proofs.Common.{◌≡◌, ◌+◌, ◌++◌, ℕ, ◌∙◌, ap, sym, subst}
 use Rattle.std.proofs.Common.{Some}
-use Rattle.rec_table.proofs.Common.{Private, KeepsSizes, IsMachine, IsValid, work_of, HasLabel, Saw, beats, ready, MutatorView, told, learnt, mutator_now, HasScanned, saw_all}
+use Rattle.rec_table.proofs.Common.{Private, KeepsSizes, IsMachine, IsValid, work_of, HasLabel, IsNoLeave, Saw, beats, ready, MutatorView, told, learnt, mutator_now, HasScanned, saw_all}
 use Rattle.rec_mutator.specs.declared.made.Made.{Made}
 use Rattle.rec_mutator.specs.declared.work.Work.{Work}
 use Rattle.rec_mutator.specs.declared.work.Work.TheVariants as works
@@ -31,7 +31,7 @@ loop-made-init c =
             (subst (λ (s : Start). IsMachine (ready p (Some s))) is c.step.ensures.machine) (begun_busy p c.args.work from) (begun_work p c.args.work from) (begun_slots p c.args.work from)
             (c.step.ensures.learns ∙ ap (λ (s : Start). learnt (ready p (Some s)) (Saw c.step.result)) is)
             (c.step.ensures.steps ∙ ap (λ (s : Start). (ready p (Some s)).steps + 1) is)
-            c.requires.may.2,
+            c.requires.may.3,
       );
       same = c.step.ensures.same;
     }
@@ -39,7 +39,7 @@ loop-made-init c =
 pub step-requires-clause-may : goal.step-requires-clause-may
 step-requires-clause-may c =
     let p : Private = mutator_now c.args.self.now in
-    (c.requires.may.0, subst (IsValid p) (sym c.start-start.ensures.work) c.requires.may.1, subst HasLabel (sym c.start-start.ensures.work) c.requires.may.2, c.start-start.ensures.from)
+    (c.requires.may.0, subst (IsValid p) (sym c.start-start.ensures.work) c.requires.may.1, subst HasLabel (sym c.start-start.ensures.work) c.requires.may.2, c.start-start.ensures.from, subst IsNoLeave (sym c.start-start.ensures.work) c.requires.may.3)
 
 pub scan-requires-clause-busy : goal.scan-requires-clause-busy
 scan-requires-clause-busy c = busy_still (mutator_now c.loop-made.self) c.args.work c.loop-made.invariant.work (λ m e. c.in_default.not-Some m (c.answer.ensures.answer ∙ e))
