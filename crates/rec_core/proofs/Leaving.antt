@@ -1,5 +1,5 @@
 -- The steps of a mutator that leaves.
-use Rattle.std.proofs.Common.{◌≡◌, ◌⊎◌, inl, inr, ℕ, ◌+◌, ◌-◌, List, Option, None, map, length, replicate, slice_set, refl, sym, ap, ◌∙◌}
+use Rattle.std.proofs.Common.{◌≡◌, ◌⊎◌, inl, inr, ℕ, ◌+◌, ◌-◌, List, Option, None, Some, map, length, replicate, slice_set, refl, sym, ap, ◌∙◌}
 use Rattle.std.proofs.lemmas.Bool.{false≢true}
 use Rattle.std.proofs.lemmas.List.{map-set}
 use Rattle.rec_model.specs.Heap.{registers_of as registers_in}
@@ -13,9 +13,10 @@ use Rattle.rec_mutator.specs.declared.made.Made.{Made}
 use Rattle.rec_mutator.specs.declared.phase.Phase as phases
 use Rattle.rec_mutator.specs.declared.phase.Phase.TheVariants as at
 use Rattle.rec_mutator.specs.declared.work.Work.{Work}
+use Rattle.rec_mutator.specs.declared.work.Work.TheVariants as works
 use Rattle.rec_core.specs.RunAnswers.{answered_by, told_by}
 use Rattle.rec_core.specs.StepAnswers.{IsShownAs, IsShownAt}
-use Rattle.rec_core.proofs.Common.{crossing_word, Spare, IsSound, Sight, Contents, next_of, next_at, Private, is_busy_at, took_of, took_at, swapped_of, swapped_at, left_of, left_at, IsMutator, Core, sight, mutator, box, crossing_of, spare_of, Handshake, IsKept}
+use Rattle.rec_core.proofs.Common.{crossing_word, Spare, IsSound, Sight, Contents, next_of, next_at, Private, is_busy_at, work_at, took_of, took_at, swapped_of, swapped_at, left_of, left_at, IsMutator, Core, sight, mutator, box, crossing_of, spare_of, Handshake, IsKept}
 use Rattle.rec_core.proofs.Actors.{leaving_home}
 use Rattle.rec_core.proofs.Steps.{actor_of, own_registers, stand_of, stays_here}
 
@@ -30,6 +31,12 @@ pub leaves_or_stays : (phase : phases.Phase) → (phase ≡ at.Leaving) ⊎ ((ph
 leaves_or_stays at.Leaving = inl refl
 leaves_or_stays at.Parting = inr (inl refl)
 leaves_or_stays _ = inr (inr tt)
+
+-- a poll doesn't leave
+pub polls_stay : (phase : phases.Phase) → work_at phase ≡ Some works.Poll → IsStayingIn phase
+polls_stay at.Leaving its = cc
+polls_stay at.Parting its = cc
+polls_stay _ its = tt
 
 -- a step that isn't one of leaving tells what it answers
 pub told_as : (t : ℕ) (phase : phases.Phase) (work : Option Work) (made : Option Made) → IsStayingIn phase → told_by t phase work made ≡ answered_by t work made

@@ -41,7 +41,6 @@ pub mod Scans
 pub mod SetTests
 pub mod Shapes
 pub mod Showing
-pub mod Staying
 pub mod Step
 pub mod Steps
 pub mod Sums

@@ -18,7 +18,7 @@ use Rattle.rec_model.proofs.Answered.{null_explained, copy_explained, same_expla
 use Rattle.rec_log.specs.declared.entry.Entry.TheVariants as entries_
 use Rattle.rec_mutator.specs.Causes.{HasCause, is_refusal, gives_back}
 use Rattle.rec_mutator.specs.Private.{register as register_of}
-use Rattle.rec_mutator.specs.Took.{moved, step_of, IsBetween}
+use Rattle.rec_mutator.specs.Took.{moved, nulls_of, step_of, IsBetween}
 use Rattle.rec_mutator.specs.declared.made.Made.{Made}
 use Rattle.rec_mutator.specs.declared.made.Made.TheVariants as makes
 use Rattle.rec_mutator.specs.declared.phase.Phase as phases
@@ -27,7 +27,7 @@ use Rattle.rec_mutator.specs.declared.work.Work.TheVariants as works
 use Rattle.rec_mutator.proofs.Around.{all_round, behind_first}
 use Rattle.rec_mutator.proofs.Refusals.{answer_cause, read_made, compare_made, at_phase}
 use Rattle.rec_core.specs.StepAnswers.{IsBirthplace, IsFilled, may_answer, entries_after, sight_told, sight_with_birth, sight_after_get, sight_after_put, Leaves, IsDecided, IsShown, IsShownAs, IsShownAt, probed_at}
-use Rattle.rec_core.specs.Unfinished.{OnlyWorks, IsQuiet, HasFound}
+use Rattle.rec_core.specs.Unfinished.{OnlyWorks, IsQuiet, HasFound, HasLetGo}
 use Rattle.rec_core.proofs.Crossings.{takes, left_same}
 use Rattle.rec_core.proofs.Leaving.{IsStayingIn, leaves_or_stays, shown_as, lets_go, leaves_at_last, parting_keeps, leaving_of, registers_leave}
 use Rattle.rec_mutator.proofs.LogStamps.{word_stamp}
@@ -74,6 +74,10 @@ saw_same w t q stays = ap (λ (rss : List (List (Option ℕ))). let s : Sight = 
 -- and where one was set
 saw_set : (w : Core) (t r : ℕ) (x : Option ℕ) (q : Private) → q.registers ≡ slice_set (mutator w t).registers r x → sight (with_mutator w t q) ≡ sight_with_register (sight w) t r x
 saw_set w t r x q is = ap (λ (rss : List (List (Option ℕ))). let s : Sight = record (sight w) { registers = rss } in s) (registers_set w t r x q is)
+
+-- and where all became null
+saw_nulls : (w : Core) (t : ℕ) (q : Private) → q.registers ≡ nulls_of (mutator w t) → sight (with_mutator w t q) ≡ sight_without_registers (sight w) t
+saw_nulls w t q null = ap (λ (rss : List (List (Option ℕ))). let s : Sight = record (sight w) { registers = rss } in s) (registers_leave w t q null)
 
 -- the registers that a decision leaves
 registers_left : {p : Private} {op : Op} {q : Private} {cmd : Cmd} {phase : phases.Phase} {its_op : Op} {registers : List (Option ℕ)} {entries : List Entry} {told : Told}
@@ -414,7 +418,7 @@ leaving_decided w t kept is phase =
     let l = lets_go p word (box w t) phase in
     let after : Sight = sight_without_registers (sight w) t in
     let entries : q.log.entries ≡ [] = ap (λ (x : Private). x.log.entries) l.after ∙ ap (λ (b : Contents). b.entries) (leaving_of w t kept is phase).0 in
-    let saw : sight (with_mutator w t q) ≡ after = ap (λ (rss : List (List (Option ℕ))). let s : Sight = record (sight w) { registers = rss } in s) (registers_leave w t q (ap (λ (x : Private). x.registers) l.after)) in
+    let saw : sight (with_mutator w t q) ≡ after = saw_nulls w t q (ap (λ (x : Private). x.registers) l.after) in
     let telling : IsTelling w t commands.Leave (plain answers.Done) [] w.made 0 after
     = record {
       explained = leave_explained (sight w) t;
@@ -429,11 +433,39 @@ leaving_decided w t kept is phase =
     after_take (IsDecided w t commands.Leave (plain answers.Done)) w t p.number (p.epoch + 1) word q (left_of (took_of p word) (box w t)) (next_of p) l.operation
     (decides _ m (record { mutators = refl; entries_left = entries; epoch = ap (λ (x : Private). x.epoch) l.after; requested = refl; freed = refl }) saw telling)
 
--- What the step shows that gives it back: the answer, and nothing else.
+-- It lets the registers go, and changes nothing else that is seen.
+pub leaving_says : (w : Core) (t : ℕ) → IsKept w → IsMutator w.config t → (mutator w t).phase ≡ at.Leaving → ((mutator (stepped w t) t).phase ≡ at.Parting) × HasLetGo w (stepped w t) t
+leaving_says w t kept is phase =
+    let p : Private = mutator w t in
+    let word : ℕ = found_by w t in
+    let q : Private = step_of p word (box w t) in
+    let l = lets_go p word (box w t) phase in
+    let own = leaving_of w t kept is phase in
+    let here : slice_index_or (slice_set w.mutators (t - 1) q) (t - 1) nobody ≡ q = mutator_left w t q kept is in
+    let P : Core → Type 0 = λ v. ((mutator v t).phase ≡ at.Parting) × HasLetGo w v t in
+    after_take P w t p.number (p.epoch + 1) word q (left_of (took_of p word) (box w t)) (next_of p) l.operation (
+      ap (λ (x : Private). x.phase) (here ∙ l.after),
+      record {
+        home = own.1;
+        seen = saw_nulls w t q (ap (λ (x : Private). x.registers) l.after);
+        log = ap (λ (x : Private). x.log) (here ∙ l.after) ∙ own.0;
+        epoch = ap (λ (x : Private). x.epoch) (here ∙ l.after);
+        others = λ s other some. mutator_other w.mutators t s q is.0 other some;
+        collector = refl;
+        freed = refl;
+        requested = refl;
+        made = refl;
+        config = refl;
+      },
+    )
+
+-- What the step shows that gives it back: the answer, and nothing else. The mutator has left then, and is in the next epoch.
 pub record Parts (w : Core) (t : ℕ) (q : Private) (v : Core) : Type 0 where
   pub answer : answer_of q ≡ Some (makes.Answered (plain answers.Done))
   pub quiet : IsQuiet w v t
   pub log : q.log ≡ (mutator w t).log
+  pub epoch : q.epoch ≡ (mutator w t).epoch + 1
+  pub left : q.left ≡ true
 
 -- it does
 pub parting_says : (w : Core) (t : ℕ) → IsKept w → IsMutator w.config t → (mutator w t).phase ≡ at.Parting → Parts w t (mutator (stepped w t) t) (stepped w t)
@@ -446,7 +478,13 @@ parting_says w t kept is phase =
     subst (λ (x : Private). Parts w t x (stepped w t)) (sym (stepped_mutator w t kept is))
     (subst (λ (b : Contents). Parts w t q (performed w t (next_of p) word q b)) (sym (parting_keeps p word (box w t) phase))
     (after_give P w t p.number (p.epoch + 1) word q (next_of p) l.operation
-    (record { answer = ap answer_of l.after; quiet = quiet w t q _ _ is.0 (ap (λ (x : Private). x.registers) l.after); log = ap (λ (x : Private). x.log) l.after })))
+    (record {
+      answer = ap answer_of l.after;
+      quiet = quiet w t q _ _ is.0 (ap (λ (x : Private). x.registers) l.after);
+      log = ap (λ (x : Private). x.log) l.after;
+      epoch = ap (λ (x : Private). x.epoch) l.after;
+      left = ap (λ (x : Private). x.left) l.after;
+    })))
 
 -- why a step that answers a command refuses it, if it does
 pub step_caused : (w : Core) (t : ℕ) (cmd : Cmd) (told : Told) → IsKept w → IsMutator w.config t → is_busy (mutator w t) ≡ true → work_of (mutator w t) ≡ Some (works.Command cmd)

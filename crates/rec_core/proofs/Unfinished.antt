@@ -1,9 +1,10 @@
 -- Steps of a mutator that finish nothing: what they leave, how many they are, and that each comes nearer to the end.
-use Rattle.std.proofs.Common.{◌≡◌, ℕ, ◌+◌, ◌-◌, ◌<◌, ◌≤◌, Option, None, Some, IfSome, true, false, refl, sym, ap, subst, ◌∙◌, arith}
+use Rattle.std.proofs.Common.{◌≡◌, ◌≢◌, inl, inr, ℕ, ◌+◌, ◌-◌, ◌<◌, ◌≤◌, Option, None, Some, IfSome, true, false, refl, sym, ap, subst, ◌∙◌, arith}
 use Rattle.std.specs.Option.{is_none}
 use Rattle.std.proofs.lemmas.Bool.{false≢true}
 use Rattle.std.proofs.lemmas.List.{set-set, set-get_or}
-use Rattle.rec_core.proofs.Common.{next_of, Private, IsAt, is_busy, is_busy_at, work_of, work_at, answer_of, answer_at, limit_of, Step, begun_of, step_made, IsMutator, Core, nobody, box, mutator, with_mutator, IsKept, begun_from, stepped, found_by, Config}
+use Rattle.rec_core.proofs.Common.{crossing_word, Spare, next_of, Private, IsAt, is_busy, is_busy_at, work_of, work_at, answer_of, answer_at, limit_of, Step, begun_of, step_made, IsMutator, Core, crossing_of, nobody, spare_of, box, mutator, with_mutator, IsKept, begun_from, stepped, found_by, Config}
+use Rattle.rec_model.specs.declared.answer.Answer.TheVariants as answers
 use Rattle.rec_model.specs.declared.command.Cmd.TheVariants as commands
 use Rattle.rec_mutator.specs.Took.{step_of}
 use Rattle.rec_mutator.specs.declared.made.Made.{Made}
@@ -12,14 +13,16 @@ use Rattle.rec_mutator.specs.declared.phase.Phase.{Phase}
 use Rattle.rec_mutator.specs.declared.phase.Phase.TheVariants.{Idle, Begun, Scanning, Scanned, Storing, Crossing, Swapping, Giving, Leaving, Retiring, Parting, Finished}
 use Rattle.rec_mutator.specs.declared.work.Work.{Work}
 use Rattle.rec_mutator.specs.declared.work.Work.TheVariants as works
+use Rattle.rec_mutator.proofs.Leaving.{parts_from}
 use Rattle.rec_mutator.proofs.Machines.{allocation_limit}
 use Rattle.rec_mutator.proofs.Polls.{poll_has_cause}
 use Rattle.rec_mutator.proofs.Sizes.{step_keeps, step_counts}
-use Rattle.rec_core.specs.Unfinished.{OnlyWorks, IsQuiet, HasFound, Waits}
-use Rattle.rec_core.proofs.Leaving.{IsStayingIn}
-use Rattle.rec_core.proofs.Showing.{Says, mutator_left, mutator_other, stepped_mutator, step_says, works_sight}
+use Rattle.rec_core.specs.Unfinished.{OnlyWorks, IsQuiet, HasFound, HasLetGo, Waits}
+use Rattle.rec_core.proofs.Leaving.{IsStayingIn, leaves_or_stays}
+use Rattle.rec_core.proofs.Showing.{Says, mutator_left, mutator_other, stepped_mutator, step_says, leaving_says, parting_says, works_sight}
 use Rattle.rec_core.proofs.Steps.{actor_of, its_box}
-use Rattle.rec_model.specs.Asking.{allocation}
+use Rattle.rec_model.specs.Asking.{allocation, plain}
+use Rattle.rec_model.specs.Sight.{sight_without_registers}
 
 -- nothing changed
 works_none : (w : Core) (t : ℕ) → OnlyWorks w w t
@@ -60,6 +63,24 @@ quiet_both w v u t first second =
       config = second.config ∙ first.config;
     }
 
+-- registers are let go behind a work that went on
+pub works_let_go : (w v u : Core) (t : ℕ) → 1 ≤ t → OnlyWorks w v t → HasLetGo v u t → HasLetGo w u t
+works_let_go w v u t first only second =
+    let still : IsQuiet w v t = works_quiet w v t first only in
+    let epoch : (mutator v t).epoch ≡ (mutator w t).epoch = ap (λ (p : Private). p.epoch) only.own in
+    record {
+      home = sym (ap (λ (x : Core). crossing_of x t) only.others) ∙ second.home ∙ ap (λ n. crossing_word n Spare) epoch;
+      seen = second.seen ∙ ap (λ s. sight_without_registers s t) still.seen;
+      log = second.log ∙ ap spare_of still.config;
+      epoch = second.epoch ∙ epoch;
+      others = λ s other some. second.others s other some ∙ still.others s other some;
+      collector = second.collector ∙ still.collector;
+      freed = second.freed ∙ still.freed;
+      requested = second.requested ∙ still.requested;
+      made = second.made ∙ still.made;
+      config = second.config ∙ still.config;
+    }
+
 -- what a scan has found is said of headers and the freed word alone
 found_same : (w : Core) (t : ℕ) (q : Private) (from : ℕ) (phase : Phase) → HasFound w from phase → HasFound (with_mutator w t q) from phase
 found_same w t q from (Begun work) is = is
@@ -80,17 +101,19 @@ begun_works w t work from kept is =
 
 -- no step was made yet
 pub waits_none : (w : Core) (t : ℕ) → HasFound w (mutator w t).from (mutator w t).phase → Waits w w t
-waits_none w t found = Waits.works (works_none w t) found
+waits_none w t found = Waits.works (works_none w t) found (λ parts. parts)
 
--- steps that finished nothing are quiet
-pub waits_quiet : (before w : Core) (t : ℕ) → 1 ≤ t → Waits before w t → IsQuiet before w t
-waits_quiet before w t first (Waits.works only found) = works_quiet before w t first only
-waits_quiet before w t first (Waits.holds phase still epoch) = still
+-- steps that finished nothing are quiet, where they don't leave
+pub waits_quiet : (before w : Core) (t : ℕ) → 1 ≤ t → (mutator w t).phase ≢ Parting → Waits before w t → IsQuiet before w t
+waits_quiet before w t first other (Waits.works only found since) = works_quiet before w t first only
+waits_quiet before w t first other (Waits.holds phase still epoch) = still
+waits_quiet before w t first other (Waits.parts phase gone) = absurd (other phase)
 
 -- they leave the numbers
 waits_config : (before w : Core) (t : ℕ) → Waits before w t → w.config ≡ before.config
-waits_config before w t (Waits.works only found) = ap (λ (x : Core). x.config) only.others
+waits_config before w t (Waits.works only found since) = ap (λ (x : Core). x.config) only.others
 waits_config before w t (Waits.holds phase still epoch) = still.config
+waits_config before w t (Waits.parts phase gone) = gone.config
 
 -- so the mutator is still there
 pub mutator_there : (before w : Core) (t : ℕ) → Waits before w t → IsMutator before.config t → IsMutator w.config t
@@ -98,8 +121,9 @@ mutator_there before w t waits is = subst (λ (c : Config). IsMutator c t) (sym 
 
 -- the mutator is still in its epoch
 pub waits_epoch : (before w : Core) (t : ℕ) → Waits before w t → (mutator w t).epoch ≡ (mutator before t).epoch
-waits_epoch before w t (Waits.works only found) = ap (λ (p : Private). p.epoch) only.own
+waits_epoch before w t (Waits.works only found since) = ap (λ (p : Private). p.epoch) only.own
 waits_epoch before w t (Waits.holds phase still epoch) = epoch
+waits_epoch before w t (Waits.parts phase gone) = gone.epoch
 
 -- a machine whose work isn't finished is busy
 busy_told : (at : Phase) (work : Work) → work_at at ≡ Some work → is_busy_at at ≡ is_none (answer_at at)
@@ -194,22 +218,45 @@ giving_answers w t kept is busy phase =
     ap answer_of (stepped_mutator w t kept is)
     ∙ ((poll_has_cause (mutator w t) (found_by w t) (box w t) busy (actor_of w t kept is).own.between).some ((mutator w t).epoch + 1)).1 (phase, refl)
 
--- Steps that finished nothing, and one more that finishes nothing either, and isn't one of leaving.
-pub waited : (before w v : Core) (t : ℕ) → IsKept w → IsMutator w.config t → is_busy (mutator w t) ≡ true → IsStayingIn (mutator w t).phase → Waits before w t → v ≡ stepped w t → answer_of (mutator v t) ≡ None → Waits before v t
-waited before w v t kept is busy stays (Waits.holds phase still epoch) steps none =
-    let not_so : ◌≡◌ {A = Option Made} None (Some (makes.Crossed (Some ((mutator w t).epoch + 1)))) = sym none ∙ ap (λ (x : Core). answer_of (mutator x t)) steps ∙ giving_answers w t kept is busy phase in
-    (cc)
-waited before w v t kept is busy stays (Waits.works only found) steps none =
-    go (subst (λ (x : Core). Says w t (mutator x t) x) (sym steps) (step_says w t kept is busy stays))
+-- Steps that finished nothing, and one more that finishes nothing either.
+pub waited : (before w v : Core) (t : ℕ) → IsKept w → IsMutator w.config t → is_busy (mutator w t) ≡ true → Waits before w t → v ≡ stepped w t → answer_of (mutator v t) ≡ None → Waits before v t
+waited before w v t kept is busy waits steps none = go waits
   where
     told : (made : Made) → answer_of (mutator v t) ≡ Some made → Waits before v t
     told made answer =
         let not_so : ◌≡◌ {A = Option Made} None (Some made) = sym none ∙ answer in
         (cc)
 
-    go : Says w t (mutator v t) v → Waits before v t
-    go (Says.decided cmd its_told work answer said staying refused) = told (makes.Answered its_told) answer
-    go (Says.going answer here finds) = Waits.works (works_both before w v t only here) (works_found w v t (mutator v t).from (mutator v t).phase here (finds found))
-    go (Says.holding answer phase still epoch) = Waits.holds phase (quiet_both before w v t (works_quiet before w t is.0 only) still) (epoch ∙ ap (λ (p : Private). p.epoch) only.own)
-    go (Says.stayed answer work here its_only) = told (makes.Crossed None) answer
-    go (Says.crossed answer work phase still epoch log) = told (makes.Crossed (Some ((mutator w t).epoch + 1))) answer
+    -- the step that gives a mailbox back answers
+    gives : (made : Made) → answer_of (mutator (stepped w t) t) ≡ Some made → Waits before v t
+    gives made answer = told made (ap (λ (x : Core). answer_of (mutator x t)) steps ∙ answer)
+
+    parting : (mutator w t).phase ≡ Parting → Waits before v t
+    parting phase = gives (makes.Answered (plain answers.Done)) (parting_says w t kept is phase).answer
+
+    leaves : OnlyWorks before w t → (mutator w t).phase ≡ Leaving → Waits before v t
+    leaves only phase =
+        let (parts, gone) = leaving_says w t kept is phase in
+        subst (λ (x : Core). Waits before x t) (sym steps) (Waits.parts parts (works_let_go before w (stepped w t) t is.0 only gone))
+
+    -- no other step takes the mailbox to leave
+    stays_here : IsStayingIn (mutator w t).phase → (mutator v t).phase ≡ Parting → ⊥
+    stays_here stays parts =
+        subst IsStayingIn (parts_from (its_step w t kept is busy) (ap (λ (p : Private). p.phase) (sym (stepped_mutator w t kept is)) ∙ ap (λ (x : Core). (mutator x t).phase) (sym steps) ∙ parts)) stays
+
+    says : OnlyWorks before w t → HasFound w (mutator w t).from (mutator w t).phase → IsStayingIn (mutator w t).phase → Says w t (mutator v t) v → Waits before v t
+    says only found stays (Says.decided cmd its_told work answer said staying refused) = told (makes.Answered its_told) answer
+    says only found stays (Says.going answer here finds) =
+        Waits.works (works_both before w v t only here) (works_found w v t (mutator v t).from (mutator v t).phase here (finds found)) (λ parts. absurd (stays_here stays parts))
+    says only found stays (Says.holding answer phase still epoch) = Waits.holds phase (quiet_both before w v t (works_quiet before w t is.0 only) still) (epoch ∙ ap (λ (p : Private). p.epoch) only.own)
+    says only found stays (Says.stayed answer work here its_only) = told (makes.Crossed None) answer
+    says only found stays (Says.crossed answer work phase still epoch log) = told (makes.Crossed (Some ((mutator w t).epoch + 1))) answer
+
+    go : Waits before w t → Waits before v t
+    go (Waits.holds phase still epoch) = gives (makes.Crossed (Some ((mutator w t).epoch + 1))) (giving_answers w t kept is busy phase)
+    go (Waits.parts phase gone) = parting phase
+    go (Waits.works only found since) = elim (leaves_or_stays (mutator w t).phase) [
+      | inl leaving ↦ leaves only leaving
+      | inr (inl parts) ↦ parting parts
+      | inr (inr stays) ↦ says only found stays (subst (λ (x : Core). Says w t (mutator x t) x) (sym steps) (step_says w t kept is busy stays))
+    ]

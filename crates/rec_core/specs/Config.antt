@@ -57,18 +57,18 @@ HasOperands config cmd = operands.HasOperands config.registers config.fields cmd
 abbrev pub IsMutator : Config → ℕ → Type 0
 IsMutator config t = (1 ≤ t) × (t ≤ config.mutators)
 
--- a work of a mutator that stays: none leaves yet
+-- a work of a mutator that stays
 abbrev pub IsNoLeave : Work → Type 0
 IsNoLeave (works.Command commands.Leave) = ⊥
 IsNoLeave _ = Unit {0}
 
--- a command that this mutator may ask
+-- the mutator of a command, and the registers and the field that it names, are there
 abbrev pub IsValid : Config → ℕ → Cmd → Type 0
-IsValid config t cmd = IsMutator config t × HasOperands config cmd × IsNoLeave (works.Command cmd)
+IsValid config t cmd = IsMutator config t × HasOperands config cmd
 
 -- the registers and fields that a work names are there
 abbrev pub IsWork : Config → Work → Type 0
-IsWork config (works.Command cmd) = HasOperands config cmd × IsNoLeave (works.Command cmd)
+IsWork config (works.Command cmd) = HasOperands config cmd
 IsWork config works.Poll = Unit {0}
 
 -- the label of an allocation fits a header

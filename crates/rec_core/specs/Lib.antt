@@ -19,7 +19,6 @@ pub mod RunAnswers
 pub mod Scans
 pub mod Settled
 pub mod Settling
-pub mod Staying
 pub mod Step
 pub mod StepAnswers
 pub mod Swept

@@ -12,7 +12,7 @@ pub const MOST_REGISTERS: u32 = 64;
 /// How many mutators a heap has at most. A field's word has six bits for the number of its writer, and 0 is nobody.
 pub const MOST_MUTATORS: u8 = 63;
 
-/// How many mutators a script has at most.
+/// How many mutators a script of version 1 or 2 has at most, and one that is made.
 pub const MOST_SCRIPT_MUTATORS: u8 = 8;
 
 /// How many entries a log holds at most.

@@ -32,7 +32,7 @@ use Rattle.rec_core.specs.StepAnswers.{IsDecided}
 use Rattle.rec_core.specs.Worked.{StepsTo, IsWorked}
 use Rattle.rec_core.proofs.Asked.{begun_sight}
 use Rattle.rec_core.proofs.Runs.{after_both, fit_both, move_kept}
-use Rattle.rec_core.proofs.Leaving.{IsStayingIn, leaves_or_stays, told_as}
+use Rattle.rec_core.proofs.Leaving.{IsStayingIn, leaves_or_stays, polls_stay, told_as}
 use Rattle.rec_core.proofs.Showing.{Says, step_says, leaving_decided, parting_says, mutator_left, stepped_mutator}
 use Rattle.rec_core.proofs.Turning.{turn_case}
 use Rattle.rec_core.proofs.Unfinished.{its_step, work_stays}
@@ -222,12 +222,6 @@ works_on w v t work n kept is idle present valid label done =
       its = so.work ∙ ap work_of here;
       seen = λ parts. so.seen parts ∙ begun_sight w t work 0;
     }
-
--- a poll doesn't leave
-polls_stay : (phase : Phase) → work_at phase ≡ Some works.Poll → IsStayingIn phase
-polls_stay at.Leaving its = cc
-polls_stay at.Parting its = cc
-polls_stay _ its = tt
 
 -- A poll made to its end is a run that tells nothing, and nobody sees it.
 pub polled_runs : (w v : Core) (t : ℕ) (n : Naming) → IsKept w → IsMutator w.config t → is_busy (mutator w t) ≡ false → (mutator w t).left ≡ false → IsWorked w t works.Poll v → Runs w v [] n n × (sight v ≡ sight w)

@@ -10,10 +10,10 @@ use Rattle.rec_core.specs.Kept.{IsKept}
 use Rattle.rec_core.specs.Preconditions.{MayStep}
 use Rattle.rec_core.specs.Worked.{StepsTo}
 use Rattle.rec_core.proofs.Showing.{mutator_left}
-use Rattle.rec_core.proofs.Unfinished.{waits_none, work_stays as same_work, step_busy}
+use Rattle.rec_core.proofs.Unfinished.{waits_none, work_stays, step_busy}
 use Rattle.rec_core.proofs.Words.{may_step}
 use Rattle.rec_world.specs.declared.world.World.TheInside.{Inside}
-use Rattle.rec_world.proofs.Calls.{Ready, ready, mutator_read, moved_world, own_work, work_stays, world_kept, begun_found}
+use Rattle.rec_world.proofs.Calls.{Ready, ready, mutator_read, moved_world, own_work, world_kept, begun_found}
 use Rattle.rec_world.proofs.OneStep.{made_step_is}
 use Rattle.rec_world.proofs.Skipping.{GoesOn, goes_on, path_both, path_waits}
 
@@ -40,13 +40,13 @@ pub record MayBegin (inside : Inside) (t : ℕ) (work : Work) : Type 0 where
   pub may : MayStep (begun (core inside) t work) t
   pub fits : Fits (core inside) (Move.Begins t work 0)
 
-pub may_begin : (inside : Inside) (old : Core) (t : ℕ) (work : Work) → IsWhole inside → core inside ≡ old → IsMutator old.config t → IsWork old.config work → is_busy (mutator old t) ≡ false → HasLabel work → MayBegin inside t work
-may_begin inside old t work whole view is fits idle label =
+pub may_begin : (inside : Inside) (old : Core) (t : ℕ) (work : Work) → IsWhole inside → core inside ≡ old → IsMutator old.config t → (mutator old t).left ≡ false → IsWork old.config work → is_busy (mutator old t) ≡ false → HasLabel work → MayBegin inside t work
+may_begin inside old t work whole view is present fits idle label =
     let was : Ready inside t = ready inside old t whole view is in
     let w : Core = core inside in
     let its_work : IsWork w.config work = subst (λ (x : Core). IsWork x.config work) (sym view) fits in
-    let may : Fits w (Move.Begins t work 0) = (was.is, ap (λ (x : Core). is_busy (mutator x t)) view ∙ idle, (whole.world.staying t was.is).present, own_work w t work was.kept was.is its_work, label, was.kept.config.some_slots) in
-    let world : IsWorld (begun w t work) = moved_world w (Move.Begins t work 0) whole.world may (work_stays w.config work its_work) in
+    let may : Fits w (Move.Begins t work 0) = (was.is, ap (λ (x : Core). is_busy (mutator x t)) view ∙ idle, ap (λ (x : Core). (mutator x t).left) view ∙ present, own_work w t work was.kept was.is its_work, label, was.kept.config.some_slots) in
+    let world : IsWorld (begun w t work) = moved_world w (Move.Begins t work 0) whole.world may in
     let kept : IsKept (begun w t work) = world_kept (begun w t work) world in
     let busy : is_busy (mutator (begun w t work) t) ≡ true = began_busy w t work was.kept was.is in
     record { was = was; world = world; kept = kept; busy = busy; began = began w t work was.kept was.is; may = may_step (begun w t work) t kept was.is busy; fits = may }
@@ -106,7 +106,7 @@ finished_later w v u t work made kept is world steps on f =
       path = path_both b t v f.last (StepsTo.further b v (StepsTo.here b refl) busy steps) f.path;
       waits = path_waits b v t f.last on.world on.is on.waits f.path f.busy;
       busy = f.busy;
-      work = f.work ∙ ap (λ (x : Core). work_of (mutator x t)) steps ∙ same_work b t (world_kept b world) is busy;
+      work = f.work ∙ ap (λ (x : Core). work_of (mutator x t)) steps ∙ work_stays b t (world_kept b world) is busy;
       world = f.world;
       steps = f.steps;
       answer = f.answer;

@@ -1,5 +1,5 @@
 -- What the fields of a world become in a call is what the definitions say of the core that they make up.
-use Rattle.std.proofs.Common.{◌≡◌, inl, inr, ℕ, ◌+◌, ◌-◌, ◌*◌, ◌^◌, ◌<◌, ◌≤◌, ◌==◌, if◌then◌else◌, All, List, ◌∷◌, Option, None, Some, Bool, true, false, slice_index_or, slice_set, length, map, replicate, refl, sym, ap, subst, ◌∙◌, arith}
+use Rattle.std.proofs.Common.{◌≡◌, ◌≢◌, inl, inr, ℕ, ◌+◌, ◌-◌, ◌*◌, ◌^◌, ◌<◌, ◌≤◌, ◌==◌, if◌then◌else◌, All, List, ◌∷◌, Option, None, Some, Bool, true, false, slice_index_or, slice_set, length, map, replicate, refl, sym, ap, subst, ◌∙◌, arith}
 use Rattle.std.specs.List.{sum_by}
 use Rattle.std.specs.Option.{IsSome}
 use Rattle.std.proofs.lemmas.Bool.{cases_eq}
@@ -8,7 +8,7 @@ use Rattle.std.proofs.lemmas.List.{get_or_default, get_or-replicate, get_or-set_
 use Rattle.std.proofs.lemmas.List.Elements.{All-from_get_or}
 use Rattle.std.proofs.lemmas.List.Sums.{sum_by-le}
 use Rattle.std.proofs.Math.Nat.{mul-le-mul}
-use Rattle.rec_world.proofs.Common.{Contents, next_of, Private, is_busy, IsValid, begun_of, took_of, step_of, swapped_of, left_of, Cells, cell, with_cell, births_of, IsConfig, IsMutator, IsWork, Core, cells_of, mutator, box, nobody, opened, opened_mutators, spare_of, Move, after_move, Fits, begun, stepped, found_by, looked_at, core, IsWhole, held, BeginsNoLeave, IsShaped, IsWorld, IsFinished}
+use Rattle.rec_world.proofs.Common.{Contents, next_of, Private, is_busy, IsValid, begun_of, took_of, step_of, swapped_of, left_of, Cells, cell, with_cell, births_of, IsConfig, IsMutator, IsWork, Core, cells_of, mutator, box, nobody, opened, opened_mutators, spare_of, Move, after_move, Fits, begun, stepped, found_by, looked_at, core, IsWhole, held, IsShaped, IsWorld, IsFinished}
 use Rattle.rec_word.specs.Op.{written}
 use Rattle.rec_word.specs.declared.op.Op.{Op}
 use Rattle.rec_word.specs.declared.op.Op.TheVariants as ops
@@ -19,20 +19,18 @@ use Rattle.rec_model.proofs.Operands.{operands_same}
 use Rattle.rec_mutator.specs.Causes.{gives_back}
 use Rattle.rec_mutator.specs.declared.made.Made.{Made}
 use Rattle.rec_mutator.specs.declared.phase.Phase as phases
+use Rattle.rec_mutator.specs.declared.phase.Phase.TheVariants.{Begun, Parting}
 use Rattle.rec_mutator.specs.declared.work.Work.{Work}
 use Rattle.rec_mutator.specs.declared.work.Work.TheVariants as works
 use Rattle.rec_collector.specs.Private as collectors
 use Rattle.rec_core.specs.Kept.{IsKept, entries_made}
 use Rattle.rec_core.specs.Pending.{epoch_at}
-use Rattle.rec_core.specs.Staying.{AreStaying}
 use Rattle.rec_core.specs.Unfinished.{HasFound}
 use Rattle.rec_core.specs.Worked.{StepsTo, IsWorked}
-use Rattle.rec_core.specs.Config.{IsNoLeave}
 use Rattle.rec_core.specs.declared.config.Config.{Config}
 use Rattle.rec_core.proofs.Opening.{opened_kept}
 use Rattle.rec_core.proofs.Runs.{looked_is, move_kept, end_kept, run_more, run_opened}
 use Rattle.rec_core.proofs.Showing.{mutator_left}
-use Rattle.rec_core.proofs.Staying.{begun_staying, opened_staying, stepped_staying, turned_staying}
 use Rattle.rec_core.proofs.Steps.{actor_of}
 use Rattle.rec_core.proofs.Turns.{numbered}
 use Rattle.rec_world.specs.declared.world.World.TheInside.{Inside}
@@ -55,18 +53,9 @@ shaped_of w kept =
       sound = kept.sound;
     }
 
--- mutators that stay do so after a move that begins no leaving
-moved_staying : (w : Core) (m : Move) → IsKept w → Fits w m → BeginsNoLeave m → AreStaying w → AreStaying (after_move w m)
-moved_staying w (Move.Begins t work from) kept fits no_leave stay = begun_staying w t work from kept fits.0 no_leave stay
-moved_staying w (Move.Steps t) kept fits no_leave stay = stepped_staying w t kept fits.0 fits.1 stay
-moved_staying w Move.Turns kept fits no_leave stay = turned_staying w stay
-moved_staying w Move.Offers kept fits no_leave stay = stay
-
--- every such move leaves a world
-pub moved_world : (w : Core) (m : Move) → IsWorld w → Fits w m → BeginsNoLeave m → IsWorld (after_move w m)
-moved_world w m world fits no_leave =
-    let kept : IsKept w = world_kept w world in
-    record { shaped = shaped_of (after_move w m) (move_kept w m kept fits); run = run_more w m world.run fits; staying = moved_staying w m kept fits no_leave world.staying }
+-- every move leaves a world
+pub moved_world : (w : Core) (m : Move) → IsWorld w → Fits w m → IsWorld (after_move w m)
+moved_world w m world fits = record { shaped = shaped_of (after_move w m) (move_kept w m (world_kept w world) fits); run = run_more w m world.run fits }
 
 -- a mutator that was read from the list
 pub mutator_read : (w : Core) (t i : ℕ) (p : Private) → IsShaped w → IsMutator w.config t → i ≡ t → p ≡ slice_index_or w.mutators (i - 1) p → p ≡ mutator w t
@@ -76,13 +65,8 @@ mutator_read w t i p shaped is at read =
 
 -- a work that fits the heap fits the mutator
 pub own_work : (w : Core) (t : ℕ) (work : Work) → IsKept w → IsMutator w.config t → IsWork w.config work → IsValid (mutator w t) work
-own_work w t (works.Command cmd) kept is fits = let own = (actor_of w t kept is).own in operands_same cmd (sym own.registers) (sym own.fields) fits.0
+own_work w t (works.Command cmd) kept is fits = let own = (actor_of w t kept is).own in operands_same cmd (sym own.registers) (sym own.fields) fits
 own_work w t works.Poll kept is fits = tt
-
--- and is one of a mutator that stays
-pub work_stays : (config : Config) (work : Work) → IsWork config work → IsNoLeave work
-work_stays config (works.Command cmd) fits = fits.1
-work_stays config works.Poll fits = tt
 
 -- what the begin of a work leaves
 pub begun_is : (w : Core) (t i : ℕ) (work : Work) (p new : Private) → IsShaped w → IsMutator w.config t → i ≡ t → p ≡ slice_index_or w.mutators (i - 1) p → new ≡ begun_of p work 0
@@ -186,7 +170,7 @@ stepped_is w t i boxes op found births p q mailbox left taken new cells shaped i
 
 -- the opened heap is a world
 pub opened_world : (config : Config) → IsConfig config → IsWorld (opened config)
-opened_world config is = record { shaped = shaped_of (opened config) (opened_kept config is); run = run_opened config; staying = opened_staying config }
+opened_world config is = record { shaped = shaped_of (opened config) (opened_kept config is); run = run_opened config }
 
 -- every mailbox is home
 pub opened_home : (config : Config) (boxes : List (Option Contents)) → boxes ≡ replicate config.mutators (Some (spare_of config)) → (i : ℕ) → i < length boxes → IsSome (slice_index_or boxes i None)
@@ -214,6 +198,13 @@ opened_parts config cells boxes mutators collector is are own counts =
 pub begun_found : (w : Core) (t : ℕ) (work : Work) → IsKept w → IsMutator w.config t → HasFound (begun w t work) (mutator (begun w t work) t).from (mutator (begun w t work) t).phase
 unfolding begun_of
 begun_found w t work kept is = subst (λ (p : Private). HasFound (begun w t work) p.from p.phase) (sym (mutator_left w t (begun_of (mutator w t) work 0) kept is)) refl
+
+-- nor taken a mailbox
+pub begun_takes_none : (w : Core) (t : ℕ) (work : Work) → IsKept w → IsMutator w.config t → (mutator (begun w t work) t).phase ≢ Parting
+unfolding begun_of
+begun_takes_none w t work kept is parts =
+    let not_so : ◌≡◌ {A = phases.Phase} (Begun work) Parting = sym (ap (λ (p : Private). p.phase) (mutator_left w t (begun_of (mutator w t) work 0) kept is)) ∙ parts in
+    (cc)
 
 -- what the last state before the end of a work keeps
 pub finished_kept : (w b v : Core) (t : ℕ) (work : Work) (made : Made) → b ≡ begun w t work → (f : IsFinished b t made v) → IsKept f.last

@@ -1,10 +1,10 @@
 -- What a command and a poll are told, from what their steps say.
-use Rattle.std.proofs.Common.{◌≡◌, ◌≢◌, ◌↔◌, ℕ, ◌+◌, ◌%◌, ◌<◌, ◌≤◌, ◌&&◌, if◌then◌else◌, Bool, Option, None, Some, IfSome, true, false, List, length, slice_index_or, refl, sym, ap, subst, ◌∙◌, arith}
+use Rattle.std.proofs.Common.{◌≡◌, ◌≢◌, ◌↔◌, inl, inr, ℕ, ◌+◌, ◌%◌, ◌<◌, ◌≤◌, ◌&&◌, if◌then◌else◌, Bool, Option, None, Some, IfSome, true, false, List, length, slice_index_or, refl, sym, ap, subst, ◌∙◌, arith, add-zero}
 use Rattle.std.proofs.lemmas.Bool.{false≢true}
-use Rattle.rec_world.proofs.Common.{Contents, next_of, next_at, Private, IsAt, is_busy, work_of, work_at, answer_of, probe_of, step_of, cell, IsMutator, Core, cells_of, box, sight, mutator, log_length, begun, stepped, found_by, WritesLeaf, FindsNone, IsFull, IsBusy, IsLowestFree, Refuses, Changes, Stays, IsFinished, IsCrossed}
+use Rattle.rec_world.proofs.Common.{Contents, next_of, next_at, Private, IsAt, is_busy, work_of, work_at, answer_of, answer_at, probe_of, step_of, cell, IsMutator, Core, cells_of, box, sight, mutator, log_length, begun, stepped, found_by, WritesLeaf, AwaitsCollector, FindsNone, IsFull, IsBusy, IsLowestFree, Refuses, Changes, Stays, IsFinished, IsCrossed, epoch_after, is_leave_done}
 use Rattle.rec_word.specs.Header.{is_leaf}
 use Rattle.rec_word.specs.Word.{stamp_of}
-use Rattle.rec_model.specs.Asking.{is_done, refuses_new, allocation}
+use Rattle.rec_model.specs.Asking.{is_done, plain, refuses_new, allocation}
 use Rattle.rec_model.specs.Explained.{IsExplained}
 use Rattle.rec_model.specs.LegalOrder.{is_new, is_birth, word_left}
 use Rattle.rec_model.specs.Sight.{Sight, IsTaken}
@@ -13,35 +13,42 @@ use Rattle.rec_model.specs.declared.answer.Answer.TheVariants as answers
 use Rattle.rec_model.specs.declared.command.Cmd.{Cmd}
 use Rattle.rec_model.specs.declared.command.Cmd.TheVariants as commands
 use Rattle.rec_model.specs.declared.told.Told.{Told}
+use Rattle.rec_model.proofs.Answered.{leave_explained}
 use Rattle.rec_mutator.specs.Causes.{HasCause, LacksObject, MakesEntry, FoundNone, FoundNoneAt, gives_back, is_refusal}
-use Rattle.rec_mutator.specs.Step.{IsLogFull as IsLogFullOf}
+use Rattle.rec_mutator.specs.Step.{IsLogFull as IsLogFullOf, IsUncollected}
 use Rattle.rec_mutator.specs.declared.made.Made.{Made}
 use Rattle.rec_mutator.specs.declared.made.Made.TheVariants as makes
 use Rattle.rec_mutator.specs.declared.phase.Phase.{Phase}
-use Rattle.rec_mutator.specs.declared.phase.Phase.TheVariants.{Begun, Scanning, Scanned, Giving}
+use Rattle.rec_mutator.specs.declared.phase.Phase.TheVariants.{Begun, Scanning, Scanned, Giving, Parting}
 use Rattle.rec_mutator.specs.declared.work.Work.{Work}
 use Rattle.rec_mutator.specs.declared.work.Work.TheVariants as works
 use Rattle.rec_mutator.proofs.Polls.{poll_has_cause}
 use Rattle.rec_mutator.proofs.Refusals.{same_command, same_told}
+use Rattle.rec_mutator.proofs.Sizes.{step_left}
+use Rattle.rec_core.specs.Core.{crossing_of}
 use Rattle.rec_core.specs.Kept.{IsKept}
 use Rattle.rec_core.specs.StepAnswers.{may_answer, sight_told, probed_at, IsBirthplace, IsDecided, entries_after}
-use Rattle.rec_core.specs.Unfinished.{OnlyWorks, IsQuiet, HasFound, Waits}
+use Rattle.rec_core.specs.Unfinished.{OnlyWorks, IsQuiet, HasFound, HasLetGo, Waits}
 use Rattle.rec_core.specs.declared.config.Config.{Config}
 use Rattle.rec_core.proofs.Crossings.{giving_of}
-use Rattle.rec_core.proofs.Showing.{Says, mutator_other, stepped_mutator, step_says, step_caused, works_sight, in_order}
-use Rattle.rec_core.proofs.Staying.{staying_in}
-use Rattle.rec_core.proofs.Steps.{actor_of}
-use Rattle.rec_core.proofs.Unfinished.{works_both, works_quiet, quiet_both, begun_works, waits_quiet, mutator_there, waits_epoch, answered_idle}
+use Rattle.rec_core.proofs.Leaving.{IsStayingIn, leaves_or_stays, polls_stay}
+use Rattle.rec_core.proofs.Showing.{IsStaying, Parts, Says, mutator_other, stepped_mutator, step_says, leaving_says, parting_says, step_caused, works_sight, in_order}
+use Rattle.rec_core.proofs.Steps.{actor_of, stays_here}
+use Rattle.rec_core.proofs.Unfinished.{works_both, works_quiet, works_let_go, quiet_both, begun_works, waits_quiet, mutator_there, waits_epoch, answered_idle, its_step}
+use Rattle.rec_world.proofs.Awaiting.{awaits_collector, home_collected}
+use Rattle.rec_world.proofs.Calls.{begun_takes_none}
 use Rattle.rec_world.proofs.IntoLeaves.{allocates, into_leaf}
 
--- A step that answers a command, in a heap in which nothing else moved since its begin.
+-- A step that answers a command, and isn't one of leaving, in a heap in which nothing else moved since its begin.
 record Answering (w : Core) (t : ℕ) (cmd : Cmd) (told : Told) (v : Core) : Type 0 where
   pub kept : IsKept w
   pub is : IsMutator w.config t
   pub busy : is_busy (mutator w t) ≡ true
   pub work : work_of (mutator w t) ≡ Some (works.Command cmd)
   pub found : HasFound w (mutator w t).from (mutator w t).phase
+  pub stays : IsStayingIn (mutator w t).phase
   pub said : IsDecided w t cmd told v
+  pub staying : IsStaying cmd told.answer
   pub cause : HasCause (mutator w t) (mutator v t) cmd (found_by w t) told.answer
   pub refused : is_refusal told.answer ≡ true → OnlyWorks w v t
 
@@ -177,7 +184,27 @@ pub record IsAnswered (w v : Core) (t : ℕ) (cmd : Cmd) (told : Told) : Type 0 
   pub explained : IsExplained (sight w) t cmd told (sight v)
   pub refuses : Refuses w t cmd told v
   pub changes : Changes w t cmd told v
-  pub stays : Stays w t v
+  pub stays : Stays w t cmd told v
+
+-- a command by which the mutator doesn't leave
+epoch_stays : (cmd : Cmd) (answer : Answer) (before : ℕ) → IsStaying cmd answer → before ≡ epoch_after cmd answer before
+epoch_stays commands.Leave answers.Done before stays = absurd stays
+epoch_stays _ _ before stays = refl
+
+none_leaves : (cmd : Cmd) (answer : Answer) → IsStaying cmd answer → is_leave_done cmd answer ≡ false
+none_leaves commands.Leave answers.Done stays = absurd stays
+none_leaves _ _ stays = refl
+
+-- nor by a step that isn't one of leaving
+stays_after : (w v : Core) (t : ℕ) → IsKept w → IsMutator w.config t → is_busy (mutator w t) ≡ true → IsStayingIn (mutator w t).phase → v ≡ stepped w t → (mutator v t).left ≡ false
+stays_after w v t kept is busy stays steps =
+    ap (λ (x : Core). (mutator x t).left) steps ∙ ap (λ (p : Private). p.left) (stepped_mutator w t kept is)
+    ∙ step_left (λ parts. subst IsStayingIn parts stays) (its_step w t kept is busy) ∙ stays_here w t kept is busy
+
+-- a mutator that awaits the collector, in another heap with the same crossing word
+awaits_along : (w v : Core) (t : ℕ) (cmd : Cmd) → crossing_of v t ≡ crossing_of w t → AwaitsCollector w t cmd → AwaitsCollector v t cmd
+awaits_along w v t commands.Leave crossing awaits = subst IsUncollected (sym crossing) awaits
+awaits_along w v t _ crossing awaits = absurd awaits
 
 -- what an allocation finds, in another heap with the same headers and freed word, and as many entries of this mutator
 finds_along : (w v : Core) (t : ℕ) (cmd : Cmd) → log_length v t ≡ log_length w t → v.config ≡ w.config → v.headers ≡ w.headers → FindsNone w t cmd → FindsNone v t cmd
@@ -231,6 +258,8 @@ answers_all w last v t cmd told kept is only steps answer a =
     let config : last.config ≡ w.config = ap (λ (x : Core). x.config) only.others in
     let headers : last.headers ≡ w.headers = ap (λ (x : Core). x.headers) only.others in
     let freed : last.freed ≡ w.freed = ap (λ (x : Core). x.freed) only.others in
+    let crossing : crossing_of last t ≡ crossing_of w t = ap (λ (x : Core). crossing_of x t) only.others in
+    let awaits = awaits_collector last t cmd a.kept a.is a.busy a.stays a.work in
     let same : sight last ≡ sight w = works_sight w last t only in
     let quiet : IsQuiet w last t = works_quiet w last t is.0 only in
     let phase : Phase = (mutator last t).phase in
@@ -255,6 +284,10 @@ answers_all w last v t cmd told kept is only steps answer a =
         no_field = (
           λ refused. writes_along last w t cmd (sym registers) (sym entries) (sym config) (sym headers) ((into_leaf last t cmd a.kept a.is a.busy a.work).0 (a.cause.no_field.0 refused)),
           λ writes. a.cause.no_field.1 ((into_leaf last t cmd a.kept a.is a.busy a.work).1 (writes_along w last t cmd registers entries config headers writes)),
+        );
+        not_yet = (
+          λ refused. awaits_along last w t cmd (sym crossing) (awaits.0 (a.cause.not_yet.0 refused)),
+          λ waits. a.cause.not_yet.1 (awaits.1 (awaits_along w last t cmd crossing waits)),
         );
         full = (
           λ full. full_along last w t cmd (sym entries) (sym config) (sym headers) (sym freed) (told_full a full),
@@ -283,7 +316,8 @@ answers_all w last v t cmd told kept is only steps answer a =
         others = λ s other some.
             ap (λ (x : Core). mutator x s) steps ∙ mutator_other last.mutators t s (step_of (mutator last t) (found_by last t) (box last t)) is.0 other some ∙ quiet.others s other some;
         idle = answered_idle (mutator v t).phase (makes.Answered told) answer;
-        epoch = a.said.epoch ∙ epoch;
+        epoch = a.said.epoch ∙ epoch ∙ epoch_stays cmd told.answer p.epoch a.staying;
+        left = stays_after last v t a.kept a.is a.busy a.stays steps ∙ sym (none_leaves cmd told.answer a.staying);
         requested = a.said.requested ∙ quiet.requested;
         freed = a.said.freed ∙ freed;
         collector = ap (λ (x : Core). x.collector) steps ∙ quiet.collector;
@@ -291,14 +325,47 @@ answers_all w last v t cmd told kept is only steps answer a =
       };
     }
 
+-- what is said of one that let its registers go, and has left
+parted_all : (w last v : Core) (t : ℕ) → HasLetGo w last t → Parts last t (mutator v t) v → IsAnswered w v t commands.Leave (plain answers.Done)
+parted_all w last v t gone parts =
+    let seen : sight v ≡ sight_told (sight w) 0 t commands.Leave (plain answers.Done) = parts.quiet.seen ∙ gone.seen in
+    record {
+      explained = subst (IsExplained (sight w) t commands.Leave (plain answers.Done)) (sym seen) (leave_explained (sight w) t);
+      refuses = record {
+        log_full = (λ is. cc, λ full. absurd full.1);
+        full = (λ is. cc, λ full. absurd (false≢true full.none.new));
+        busy = λ first last. (λ is. cc, λ sweeps. absurd (false≢true sweeps.0.none.new));
+        no_object = (λ is. cc, λ none. absurd none);
+        no_field = (λ is. cc, λ writes. absurd writes);
+        not_yet = (λ is. cc, λ awaits. absurd (home_collected (crossing_of w t) (mutator w t).epoch gone.home awaits));
+        refused = λ refusal. absurd (false≢true refusal);
+      };
+      changes = record {
+        seen = (0, seen, λ born. absurd (false≢true born));
+        made = parts.quiet.made ∙ gone.made ∙ sym (add-zero w.made);
+        logged = ap (λ (b : Contents). length b.entries) (parts.log ∙ gone.log);
+        stamp = tt;
+      };
+      stays = record {
+        others = λ s other some. parts.quiet.others s other some ∙ gone.others s other some;
+        idle = answered_idle (mutator v t).phase (makes.Answered (plain answers.Done)) parts.answer;
+        epoch = parts.epoch ∙ ap (λ n. n + 1) gone.epoch;
+        left = parts.left;
+        requested = parts.quiet.requested ∙ gone.requested;
+        freed = parts.quiet.freed ∙ gone.freed;
+        collector = parts.quiet.collector ∙ gone.collector;
+        config = parts.quiet.config ∙ gone.config;
+      };
+    }
+
 -- what was said of the command that was answered
 decided_of : (w v : Core) (t : ℕ) (q : Private) (cmd : Cmd) (told : Told) → work_of (mutator w t) ≡ Some (works.Command cmd) → answer_of q ≡ Some (makes.Answered told) → Says w t q v
-    → IsDecided w t cmd told v × (is_refusal told.answer ≡ true → OnlyWorks w v t)
+    → IsDecided w t cmd told v × IsStaying cmd told.answer × (is_refusal told.answer ≡ true → OnlyWorks w v t)
 decided_of w v t q cmd told work answer (Says.decided its_cmd its_told its_work its_answer said staying refused) =
     let cmds : its_cmd ≡ cmd = same_command its_cmd cmd (sym its_work ∙ work) in
     let tolds : its_told ≡ told = same_told its_told told (sym its_answer ∙ answer) in
-    let P : Cmd → Told → Type 0 = λ c x. IsDecided w t c x v × (is_refusal x.answer ≡ true → OnlyWorks w v t) in
-    subst (λ x. P cmd x) tolds (subst (λ c. P c its_told) cmds (said, refused))
+    let P : Cmd → Told → Type 0 = λ c x. IsDecided w t c x v × IsStaying c x.answer × (is_refusal x.answer ≡ true → OnlyWorks w v t) in
+    subst (λ x. P cmd x) tolds (subst (λ c. P c its_told) cmds (said, staying, refused))
 decided_of w v t q cmd told work answer (Says.going none only found) =
     let not_so : ◌≡◌ {A = Option Made} None (Some (makes.Answered told)) = sym none ∙ answer in
     (cc)
@@ -312,56 +379,100 @@ decided_of w v t q cmd told work answer (Says.crossed crossed poll phase still e
     let not_so : ◌≡◌ {A = Option Made} (Some (makes.Crossed (Some ((mutator w t).epoch + 1)))) (Some (makes.Answered told)) = sym crossed ∙ answer in
     (cc)
 
--- a command never holds the mailbox
-command_works : (before w : Core) (t : ℕ) (cmd : Cmd) → Waits before w t → work_of (mutator w t) ≡ Some (works.Command cmd) → OnlyWorks before w t × HasFound w (mutator w t).from (mutator w t).phase
-command_works before w t cmd (Waits.works only found) work = (only, found)
-command_works before w t cmd (Waits.holds phase still epoch) work =
+-- a command that doesn't leave never holds the mailbox
+command_works : (before w : Core) (t : ℕ) (cmd : Cmd) → IsStayingIn (mutator w t).phase → Waits before w t → work_of (mutator w t) ≡ Some (works.Command cmd) → OnlyWorks before w t × HasFound w (mutator w t).from (mutator w t).phase
+command_works before w t cmd stays (Waits.works only found since) work = (only, found)
+command_works before w t cmd stays (Waits.holds phase still epoch) work =
     let not_so : ◌≡◌ {A = Option Work} (Some works.Poll) (Some (works.Command cmd)) = sym (ap work_at phase) ∙ work in
     (cc)
+command_works before w t cmd stays (Waits.parts phase gone) work = absurd (subst IsStayingIn phase stays)
 
--- what the last step of a work says
-end_says : (before v : Core) (t : ℕ) (made : Made) → IsMutator before.config t → (f : IsFinished before t made v) → IsKept f.last → Says f.last t (mutator v t) v
-end_says before v t made is f kept =
-    let there : IsMutator f.last.config t = mutator_there before f.last t f.waits is in
-    subst (λ (x : Core). Says f.last t (mutator x t) x) (sym f.steps) (step_says f.last t kept there f.busy (staying_in (f.world.staying t there)))
+-- and one that leaves has let its registers go before its last step
+has_let_go : (before w : Core) (t : ℕ) → (mutator before t).phase ≢ Parting → (mutator w t).phase ≡ Parting → Waits before w t → HasLetGo before w t
+has_let_go before w t other parts (Waits.works only found since) = absurd (other (since parts))
+has_let_go before w t other parts (Waits.holds phase still epoch) =
+    let not_so : ◌≡◌ {A = Phase} Giving Parting = sym phase ∙ parts in
+    (cc)
+has_let_go before w t other parts (Waits.parts phase gone) = gone
+
+-- what the last step of a work says that doesn't leave
+end_says : (before v : Core) (t : ℕ) (made : Made) → IsMutator before.config t → (f : IsFinished before t made v) → IsKept f.last → IsStayingIn (mutator f.last t).phase → Says f.last t (mutator v t) v
+end_says before v t made is f kept stays = subst (λ (x : Core). Says f.last t (mutator x t) x) (sym f.steps) (step_says f.last t kept (mutator_there before f.last t f.waits is) f.busy stays)
+
+-- what the last step of any work says: it isn't one of leaving, or the mutator has left by it
+data Ends (last v : Core) (t : ℕ) (q : Private) : Type 0 where
+  remains : IsStayingIn (mutator last t).phase → Says last t q v → Ends last v t q
+  departs : (mutator last t).phase ≡ Parting → Parts last t q v → Ends last v t q
+
+ends_so : (before v : Core) (t : ℕ) (made : Made) → IsMutator before.config t → (f : IsFinished before t made v) → IsKept f.last → Ends f.last v t (mutator v t)
+ends_so before v t made is f kept = elim (leaves_or_stays (mutator f.last t).phase) [
+  | inl leaving ↦
+      let not_so : ◌≡◌ {A = Option Made} None (Some made) = sym (ap answer_at (leaving_says f.last t kept there leaving).0) ∙ ap (λ (x : Core). answer_of (mutator x t)) (sym f.steps) ∙ f.answer in
+      (cc)
+  | inr (inl parting) ↦ Ends.departs parting (subst (λ (x : Core). Parts f.last t (mutator x t) x) (sym f.steps) (parting_says f.last t kept there parting))
+  | inr (inr stays) ↦ Ends.remains stays (end_says before v t made is f kept stays)
+]
+  where
+    there : IsMutator f.last.config t
+    there = mutator_there before f.last t f.waits is
 
 -- What a command is told whose work was begun and finished.
 pub command_said : (w b v : Core) (t : ℕ) (cmd : Cmd) (told : Told) → IsKept w → IsMutator w.config t → b ≡ begun w t (works.Command cmd) → work_of (mutator b t) ≡ Some (works.Command cmd)
     → (f : IsFinished b t (makes.Answered told) v) → IsKept f.last → IsAnswered w v t cmd told
-command_said w b v t cmd told kept is begins its f last_kept =
-    let here : OnlyWorks w b t = subst (λ (x : Core). OnlyWorks w x t) (sym begins) (begun_works w t (works.Command cmd) 0 kept is) in
-    let there : IsMutator b.config t = subst (λ (x : Core). IsMutator x.config t) (sym begins) is in
-    let work : work_of (mutator f.last t) ≡ Some (works.Command cmd) = f.work ∙ its in
-    let waited = command_works b f.last t cmd f.waits work in
-    let decided = decided_of f.last v t (mutator v t) cmd told work f.answer (end_says b v t (makes.Answered told) there f last_kept) in
-    let last_there : IsMutator f.last.config t = mutator_there b f.last t f.waits there in
-    let answer : answer_of (mutator (stepped f.last t) t) ≡ Some (makes.Answered told) = ap (λ (x : Core). answer_of (mutator x t)) (sym f.steps) ∙ f.answer in
-    let cause : HasCause (mutator f.last t) (mutator v t) cmd (found_by f.last t) told.answer
-    = subst (λ (x : Core). HasCause (mutator f.last t) (mutator x t) cmd (found_by f.last t) told.answer) (sym f.steps) (step_caused f.last t cmd told last_kept last_there f.busy work answer) in
-    answers_all w f.last v t cmd told kept is (works_both w b f.last t here waited.0) f.steps f.answer
-    (record { kept = last_kept; is = last_there; busy = f.busy; work = work; found = waited.1; said = decided.0; cause = cause; refused = decided.1 })
+command_said w b v t cmd told kept is begins its f last_kept = go (ends_so b v t (makes.Answered told) there f last_kept)
+  where
+    here : OnlyWorks w b t
+    here = subst (λ (x : Core). OnlyWorks w x t) (sym begins) (begun_works w t (works.Command cmd) 0 kept is)
+
+    there : IsMutator b.config t
+    there = subst (λ (x : Core). IsMutator x.config t) (sym begins) is
+
+    work : work_of (mutator f.last t) ≡ Some (works.Command cmd)
+    work = f.work ∙ its
+
+    other : (mutator b t).phase ≢ Parting
+    other = subst (λ (x : Core). (mutator x t).phase ≢ Parting) (sym begins) (begun_takes_none w t (works.Command cmd) kept is)
+
+    go : Ends f.last v t (mutator v t) → IsAnswered w v t cmd told
+    go (Ends.departs phase parts) =
+        let leaves : commands.Leave ≡ cmd = same_command commands.Leave cmd (sym (ap work_at phase) ∙ work) in
+        let done : plain answers.Done ≡ told = same_told (plain answers.Done) told (sym parts.answer ∙ f.answer) in
+        let gone : HasLetGo w f.last t = works_let_go w b f.last t is.0 here (has_let_go b f.last t other phase f.waits) in
+        subst (λ c. IsAnswered w v t c told) leaves (subst (IsAnswered w v t commands.Leave) done (parted_all w f.last v t gone parts))
+    go (Ends.remains stays says) =
+        let waited = command_works b f.last t cmd stays f.waits work in
+        let (said, staying, refused) = decided_of f.last v t (mutator v t) cmd told work f.answer says in
+        let last_there : IsMutator f.last.config t = mutator_there b f.last t f.waits there in
+        let answer : answer_of (mutator (stepped f.last t) t) ≡ Some (makes.Answered told) = ap (λ (x : Core). answer_of (mutator x t)) (sym f.steps) ∙ f.answer in
+        let cause : HasCause (mutator f.last t) (mutator v t) cmd (found_by f.last t) told.answer
+        = subst (λ (x : Core). HasCause (mutator f.last t) (mutator x t) cmd (found_by f.last t) told.answer) (sym f.steps) (step_caused f.last t cmd told last_kept last_there f.busy work answer) in
+        answers_all w f.last v t cmd told kept is (works_both w b f.last t here waited.0) f.steps f.answer
+        (record { kept = last_kept; is = last_there; busy = f.busy; work = work; found = waited.1; stays = stays; said = said; staying = staying; cause = cause; refused = refused })
 
 -- a command never ends as a poll does
 pub command_crosses : (w b v : Core) (t : ℕ) (cmd : Cmd) (crossed : Option ℕ) → IsKept w → IsMutator w.config t → b ≡ begun w t (works.Command cmd) → work_of (mutator b t) ≡ Some (works.Command cmd)
     → (f : IsFinished b t (makes.Crossed crossed) v) → IsKept f.last → ⊥
 command_crosses w b v t cmd crossed kept is begins its f last_kept =
     let there : IsMutator b.config t = subst (λ (x : Core). IsMutator x.config t) (sym begins) is in
-    go (f.work ∙ its) f.answer (end_says b v t (makes.Crossed crossed) there f last_kept)
+    go (f.work ∙ its) f.answer (ends_so b v t (makes.Crossed crossed) there f last_kept)
   where
-    go : {last : Core} {q : Private} → work_of (mutator last t) ≡ Some (works.Command cmd) → answer_of q ≡ Some (makes.Crossed crossed) → Says last t q v → ⊥
-    go work answer (Says.decided its_cmd told its_work its_answer said staying refused) =
+    go : {last : Core} {q : Private} → work_of (mutator last t) ≡ Some (works.Command cmd) → answer_of q ≡ Some (makes.Crossed crossed) → Ends last v t q → ⊥
+    go work answer (Ends.departs phase parts) =
+        let not_so : ◌≡◌ {A = Option Made} (Some (makes.Answered (plain answers.Done))) (Some (makes.Crossed crossed)) = sym parts.answer ∙ answer in
+        (cc)
+    go work answer (Ends.remains stays (Says.decided its_cmd told its_work its_answer said staying refused)) =
         let not_so : ◌≡◌ {A = Option Made} (Some (makes.Answered told)) (Some (makes.Crossed crossed)) = sym its_answer ∙ answer in
         (cc)
-    go work answer (Says.going none only found) =
+    go work answer (Ends.remains stays (Says.going none only found)) =
         let not_so : ◌≡◌ {A = Option Made} None (Some (makes.Crossed crossed)) = sym none ∙ answer in
         (cc)
-    go work answer (Says.holding none phase still epoch) =
+    go work answer (Ends.remains stays (Says.holding none phase still epoch)) =
         let not_so : ◌≡◌ {A = Option Made} None (Some (makes.Crossed crossed)) = sym none ∙ answer in
         (cc)
-    go work answer (Says.stayed its_answer poll here only) =
+    go work answer (Ends.remains stays (Says.stayed its_answer poll here only)) =
         let not_so : ◌≡◌ {A = Option Work} (Some (works.Command cmd)) (Some works.Poll) = sym work ∙ poll in
         (cc)
-    go work answer (Says.crossed its_answer poll phase still epoch log) =
+    go work answer (Ends.remains stays (Says.crossed its_answer poll phase still epoch log)) =
         let not_so : ◌≡◌ {A = Option Work} (Some (works.Command cmd)) (Some works.Poll) = sym work ∙ poll in
         (cc)
 
@@ -370,7 +481,7 @@ pub poll_answers : (w b v : Core) (t : ℕ) (told : Told) → IsKept w → IsMut
     → (f : IsFinished b t (makes.Answered told) v) → IsKept f.last → ⊥
 poll_answers w b v t told kept is begins its f last_kept =
     let there : IsMutator b.config t = subst (λ (x : Core). IsMutator x.config t) (sym begins) is in
-    go (f.work ∙ its) f.answer (end_says b v t (makes.Answered told) there f last_kept)
+    go (f.work ∙ its) f.answer (end_says b v t (makes.Answered told) there f last_kept (polls_stay (mutator f.last t).phase (f.work ∙ its)))
   where
     go : {last : Core} {q : Private} → work_of (mutator last t) ≡ Some works.Poll → answer_of q ≡ Some (makes.Answered told) → Says last t q v → ⊥
     go work answer (Says.decided cmd its_told its_work its_answer said staying refused) =
@@ -389,12 +500,13 @@ poll_answers w b v t told kept is begins its f last_kept =
         let not_so : ◌≡◌ {A = Option Made} (Some (makes.Crossed (Some ((mutator last t).epoch + 1)))) (Some (makes.Answered told)) = sym crossed ∙ answer in
         (cc)
 
--- What is said of a poll that ended so: nothing is seen of it, the mutator stays in its epoch just where that is the requested one,
+-- What is said of a poll that ended so: nothing is seen of it, the mutator hasn't left by it, and it stays in its epoch just where that is the requested one,
 -- and else is in the requested one, with an empty log.
 pub record IsPolled (w v : Core) (t : ℕ) (crossed : Option ℕ) : Type 0 where
   pub quiet : IsQuiet w v t
   pub crossed_into : IsCrossed w v t crossed
   pub idle : is_busy (mutator v t) ≡ false
+  pub left : (mutator v t).left ≡ (mutator w t).left
   pub none : (crossed ≡ None) ↔ (w.epoch ≡ (mutator w t).epoch)
   pub some : (epoch : ℕ) → crossed ≡ Some epoch → epoch ≡ w.epoch
 
@@ -417,26 +529,29 @@ holds_next w t kept is phase =
 
 -- a poll that ended in the epoch in which it began
 polled_here : (w last v : Core) (t : ℕ) → IsQuiet w last t → (mutator last t).epoch ≡ (mutator w t).epoch → log_length last t ≡ log_length w t → 1 ≤ t → OnlyWorks last v t → last.epoch ≡ (mutator last t).epoch
-    → is_busy (mutator v t) ≡ false → IsPolled w v t None
-polled_here w last v t quiet epoch log first only requested idle =
+    → is_busy (mutator v t) ≡ false → (mutator v t).left ≡ (mutator w t).left → IsPolled w v t None
+polled_here w last v t quiet epoch log first only requested idle left =
     record {
       quiet = quiet_both w last v t quiet (works_quiet last v t first only);
       crossed_into = (ap (λ (p : Private). p.epoch) only.own ∙ epoch, ap (λ (p : Private). length p.log.entries) only.own ∙ log);
       idle = idle;
+      left = left;
       none = (λ _. sym quiet.requested ∙ requested ∙ epoch, λ _. refl);
       some = λ e is. let not_so : ◌≡◌ {A = Option ℕ} None (Some e) = is in (cc);
     }
 
 -- a poll that ended in the next one
 polled_there : (w last v : Core) (t : ℕ) → IsQuiet w last t → (mutator last t).epoch ≡ (mutator w t).epoch → ((mutator last t).epoch + 1 ≡ last.epoch) × (log_length last t ≡ 0) → IsQuiet last v t
-    → (mutator v t).epoch ≡ (mutator last t).epoch + 1 → (mutator v t).log ≡ (mutator last t).log → is_busy (mutator v t) ≡ false → IsPolled w v t (Some ((mutator last t).epoch + 1))
-polled_there w last v t quiet epoch next still its_epoch its_log idle =
+    → (mutator v t).epoch ≡ (mutator last t).epoch + 1 → (mutator v t).log ≡ (mutator last t).log → is_busy (mutator v t) ≡ false → (mutator v t).left ≡ (mutator w t).left
+    → IsPolled w v t (Some ((mutator last t).epoch + 1))
+polled_there w last v t quiet epoch next still its_epoch its_log idle left =
     let requested : last.epoch ≡ w.epoch = quiet.requested in
     let last_epoch : (mutator last t).epoch + 1 ≡ last.epoch = next.0 in
     record {
       quiet = quiet_both w last v t quiet still;
       crossed_into = (ap (λ n. n + 1) epoch, its_epoch, ap (λ (b : Contents). length b.entries) its_log ∙ next.1);
       idle = idle;
+      left = left;
       none = (λ is. cc, λ same. let its : w.epoch ≡ (mutator w t).epoch = same in absurd (omega arith));
       some = λ e is.
           let same : ◌≡◌ {A = Option ℕ} (Some ((mutator last t).epoch + 1)) (Some e) = is in
@@ -446,16 +561,20 @@ polled_there w last v t quiet epoch next still its_epoch its_log idle =
 
 -- a mutator that gives no mailbox back has the log with which it began
 waits_log : (before w : Core) (t : ℕ) → Waits before w t → gives_back (mutator w t).phase ≡ false → log_length w t ≡ log_length before t
-waits_log before w t (Waits.works only found) here = ap (λ (p : Private). length p.log.entries) only.own
+waits_log before w t (Waits.works only found since) here = ap (λ (p : Private). length p.log.entries) only.own
 waits_log before w t (Waits.holds phase still epoch) here = absurd (false≢true (sym here ∙ ap gives_back phase))
+waits_log before w t (Waits.parts phase gone) here = absurd (false≢true (sym here ∙ ap gives_back phase))
 
 -- What a poll is told whose work was begun and finished.
-pub poll_said : (w b v : Core) (t : ℕ) (crossed : Option ℕ) → IsKept w → IsMutator w.config t → b ≡ begun w t works.Poll → work_of (mutator b t) ≡ Some works.Poll
+pub poll_said : (w b v : Core) (t : ℕ) (crossed : Option ℕ) → IsKept w → IsMutator w.config t → (mutator w t).left ≡ false → b ≡ begun w t works.Poll → work_of (mutator b t) ≡ Some works.Poll
     → (f : IsFinished b t (makes.Crossed crossed) v) → IsKept f.last → IsPolled w v t crossed
-poll_said w b v t crossed kept is begins its f last_kept =
+poll_said w b v t crossed kept is present begins its f last_kept =
     let there : IsMutator b.config t = subst (λ (x : Core). IsMutator x.config t) (sym begins) is in
-    go (f.work ∙ its) (end_says b v t (makes.Crossed crossed) there f last_kept)
+    go (f.work ∙ its) (end_says b v t (makes.Crossed crossed) there f last_kept staying)
   where
+    staying : IsStayingIn (mutator f.last t).phase
+    staying = polls_stay (mutator f.last t).phase (f.work ∙ its)
+
     last_there : IsMutator f.last.config t
     last_there = mutator_there b f.last t f.waits (subst (λ (x : Core). IsMutator x.config t) (sym begins) is)
 
@@ -463,13 +582,16 @@ poll_said w b v t crossed kept is begins its f last_kept =
     here = subst (λ (x : Core). OnlyWorks w x t) (sym begins) (begun_works w t works.Poll 0 kept is)
 
     quiet : IsQuiet w f.last t
-    quiet = quiet_both w b f.last t (works_quiet w b t is.0 here) (waits_quiet b f.last t is.0 f.waits)
+    quiet = quiet_both w b f.last t (works_quiet w b t is.0 here) (waits_quiet b f.last t is.0 (λ parts. subst IsStayingIn parts staying) f.waits)
 
     epoch_same : (mutator f.last t).epoch ≡ (mutator w t).epoch
     epoch_same = waits_epoch b f.last t f.waits ∙ ap (λ (p : Private). p.epoch) here.own
 
     idle : is_busy (mutator v t) ≡ false
     idle = answered_idle (mutator v t).phase (makes.Crossed crossed) f.answer
+
+    left : (mutator v t).left ≡ (mutator w t).left
+    left = stays_after f.last v t last_kept last_there f.busy staying f.steps ∙ sym present
 
     told : (x : Option ℕ) → answer_of (mutator v t) ≡ Some (makes.Crossed x) → x ≡ crossed
     told x answer =
@@ -489,7 +611,7 @@ poll_said w b v t crossed kept is begins its f last_kept =
     go work (Says.stayed answer poll stays only) =
         let log : log_length f.last t ≡ log_length w t = waits_log b f.last t f.waits stays ∙ ap (λ (p : Private). length p.log.entries) here.own in
         let requested : f.last.epoch ≡ (mutator f.last t).epoch = stayed_epoch f.last t last_kept last_there f.busy (ap (λ (x : Core). answer_of (mutator x t)) (sym f.steps) ∙ answer) in
-        subst (IsPolled w v t) (told None answer) (polled_here w f.last v t quiet epoch_same log is.0 only requested idle)
+        subst (IsPolled w v t) (told None answer) (polled_here w f.last v t quiet epoch_same log is.0 only requested idle left)
     go work (Says.crossed answer poll phase still epoch log) =
         subst (IsPolled w v t) (told (Some ((mutator f.last t).epoch + 1)) answer)
-        (polled_there w f.last v t quiet epoch_same (holds_next f.last t last_kept last_there phase) still epoch log idle)
+        (polled_there w f.last v t quiet epoch_same (holds_next f.last t last_kept last_there phase) still epoch log idle left)

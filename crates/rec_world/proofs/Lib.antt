@@ -1,5 +1,6 @@
 -- The modules of the proofs.
 pub mod Apart
+pub mod Awaiting
 pub mod Beginnings
 pub mod Calls
 pub mod Commands

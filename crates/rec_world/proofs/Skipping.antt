@@ -18,7 +18,6 @@ use Rattle.rec_core.specs.Worked.{StepsTo}
 use Rattle.rec_core.specs.declared.config.Config.{Config}
 use Rattle.rec_core.proofs.Runs.{move_stays}
 use Rattle.rec_core.proofs.Showing.{mutator_left}
-use Rattle.rec_core.proofs.Staying.{staying_in}
 use Rattle.rec_core.proofs.Steps.{actor_of}
 use Rattle.rec_core.proofs.Unfinished.{work_stays, steps_counted, waited, mutator_there}
 use Rattle.rec_world.proofs.Calls.{world_kept, moved_world, mutator_read}
@@ -138,7 +137,7 @@ path_world w t v world is (StepsTo.here _ same) = (subst IsWorld (sym same) worl
 path_world w t v world is (StepsTo.further u _ path busy steps) =
     let there = path_world w t u world is path in
     let fits : IsMutator u.config t × (is_busy (mutator u t) ≡ true) = (there.1, busy) in (
-      subst IsWorld (sym steps) (moved_world u (Move.Steps t) there.0 fits tt),
+      subst IsWorld (sym steps) (moved_world u (Move.Steps t) there.0 fits),
       subst (λ (x : Core). IsMutator x.config t) (sym steps) (subst (λ (x : Config). IsMutator x t) (sym (move_stays u (Move.Steps t))) there.1),
     )
 
@@ -166,7 +165,7 @@ pub path_waits : (before w : Core) (t : ℕ) (v : Core) → IsWorld w → IsMuta
 path_waits before w t v world is waits (StepsTo.here _ same) goes = subst (λ (x : Core). Waits before x t) (sym same) waits
 path_waits before w t v world is waits (StepsTo.further u _ path busy steps) goes =
     let there = path_world w t u world is path in
-    waited before u v t (world_kept u there.0) there.1 busy (staying_in (there.0.staying t there.1)) (path_waits before w t u world is waits path busy) steps (busy_none (mutator v t).phase goes)
+    waited before u v t (world_kept u there.0) there.1 busy (path_waits before w t u world is waits path busy) steps (busy_none (mutator v t).phase goes)
 
 -- what a skip leaves
 pub skipping_is : (w : Core) (t i slot : ℕ) (p new : Private) → IsShaped w → IsMutator w.config t → i ≡ t → p ≡ slice_index_or w.mutators (i - 1) p → new ≡ skipped_to p slot
@@ -196,17 +195,18 @@ pub record GoesOn (before v : Core) (t : ℕ) : Type 0 where
   pub waits : Waits before v t
   pub found : HasFound v (mutator v t).from (mutator v t).phase
 
--- a machine that goes on has found what its scan says, if its next step isn't a poll's last
+-- a machine that goes on has found what its scan says
 pub found_of : (before v : Core) (t : ℕ) → Waits before v t → HasFound v (mutator v t).from (mutator v t).phase
-found_of before v t (Waits.works only found) = found
+found_of before v t (Waits.works only found since) = found
 found_of before v t (Waits.holds phase still epoch) = subst (HasFound v (mutator v t).from) (sym phase) tt
+found_of before v t (Waits.parts phase gone) = subst (HasFound v (mutator v t).from) (sym phase) tt
 
 pub goes_on : (before w v : Core) (t : ℕ) → IsWorld w → IsMutator before.config t → Waits before w t → is_busy (mutator w t) ≡ true → v ≡ stepped w t → answer_of (mutator v t) ≡ None → GoesOn before v t
 goes_on before w v t world is waits busy steps none =
     let here : IsMutator w.config t = mutator_there before w t waits is in
-    let v_waits : Waits before v t = waited before w v t (world_kept w world) here busy (staying_in (world.staying t here)) waits steps none in
+    let v_waits : Waits before v t = waited before w v t (world_kept w world) here busy waits steps none in
     record {
-      world = subst IsWorld (sym steps) (moved_world w (Move.Steps t) world (here, busy) tt);
+      world = subst IsWorld (sym steps) (moved_world w (Move.Steps t) world (here, busy));
       is = mutator_there before v t v_waits is;
       waits = v_waits;
       found = found_of before v t v_waits;

@@ -1,7 +1,8 @@
 -- What every world is, and what a command and a poll leave of it.
-use Rattle.std.specs.Prelude.{◌≡◌, ◌≢◌, ◌↔◌, ◌==◌, ℕ, ◌+◌, ◌%◌, ◌^◌, ◌<◌, ◌≤◌, if◌then◌else◌, false, true, Option, None, Some, IfSome, All, length, slice_index_or}
+use Rattle.std.specs.Prelude.{◌≡◌, ◌≢◌, ◌↔◌, ◌==◌, ℕ, ◌+◌, ◌%◌, ◌^◌, ◌<◌, ◌≤◌, if◌then◌else◌, Bool, false, true, Option, None, Some, IfSome, All, length, slice_index_or}
 use Rattle.rec_word.specs.Header.{is_leaf, label_of as label_in}
 use Rattle.rec_word.specs.Word.{stamp_of}
+use Rattle.rec_model.specs.declared.answer.Answer.{Answer}
 use Rattle.rec_model.specs.declared.answer.Answer.TheVariants as answers
 use Rattle.rec_model.specs.declared.command.Cmd.{Cmd}
 use Rattle.rec_model.specs.declared.command.Cmd.TheVariants as commands
@@ -10,11 +11,11 @@ use Rattle.rec_model.specs.LegalOrder.{is_birth, is_new, word_left}
 use Rattle.rec_model.specs.Sight.{Sight, IsSound, IsTaken}
 use Rattle.rec_mutator.specs.Causes.{is_refusal, LacksObject, MakesEntry}
 use Rattle.rec_mutator.specs.Private.{register, is_busy, work_of, answer_of}
+use Rattle.rec_mutator.specs.Step.{IsUncollected}
 use Rattle.rec_mutator.specs.declared.made.Made.{Made}
-use Rattle.rec_core.specs.Config.{IsConfig, IsMutator, IsNoLeave}
+use Rattle.rec_core.specs.Config.{IsConfig, IsMutator, IsValid}
 pub use Rattle.rec_core.specs.Core.{Core, cells_of, sight, mutator, with_mutator, crossing_of, log_length, opened}
-use Rattle.rec_core.specs.Moves.{Move, stepped, EndsRun}
-use Rattle.rec_core.specs.Staying.{AreStaying}
+use Rattle.rec_core.specs.Moves.{stepped, EndsRun}
 use Rattle.rec_core.specs.StepAnswers.{IsFilled, sight_told}
 pub use Rattle.rec_core.specs.StepAnswers.{entries_after}
 pub use Rattle.rec_core.specs.Turn.{TurnHasCause, step_seen}
@@ -33,16 +34,14 @@ pub record IsShaped (w : Core) : Type 0 where
   pub epoch : w.epoch < 2 ^ 24
   pub sound : IsSound (sight w)
 
--- what every world is: the end of a run from its opening; a world begins no work of leaving yet, so nobody has left
+-- what every world is: the end of a run from its opening
 pub record IsWorld (w : Core) : Type 0 where
   pub shaped : IsShaped w
   pub run : EndsRun w
-  pub staying : AreStaying w
 
--- a move that begins no work of leaving
-abbrev pub BeginsNoLeave : Move → Type 0
-BeginsNoLeave (Move.Begins t work from) = IsNoLeave work
-BeginsNoLeave _ = Unit {0}
+-- a command that this mutator may ask: what it names is there, and the mutator hasn't left
+abbrev pub MayAsk : Core → (t : ℕ) → Cmd → Type 0
+MayAsk w t cmd = IsValid w.config t cmd × ((mutator w t).left ≡ false)
 
 -- the label in a header: none where the slot is free
 abbrev pub label_of : ℕ → Option ℕ
@@ -73,6 +72,22 @@ pub record IsBusy (w : Core) (t : ℕ) (cmd : Cmd) : Type 0 where
   pub none : FindsNone w t cmd
   pub odd : w.freed % 2 ≡ 1
 
+-- the command is to leave, and the mutator's crossing word says that its mailbox isn't home with a spare: the log of the epoch before
+-- is still to be collected
+abbrev pub AwaitsCollector : Core → (t : ℕ) → Cmd → Type 0
+AwaitsCollector w t commands.Leave = IsUncollected (crossing_of w t)
+AwaitsCollector w t _ = ⊥
+
+-- the command is to leave, and done: the mutator has left by it
+abbrev pub is_leave_done : Cmd → Answer → Bool
+is_leave_done commands.Leave answers.Done = true
+is_leave_done _ _ = false
+
+-- the epoch of a mutator after a command, where it was in this one before: one that has left is in the next one
+abbrev pub epoch_after : Cmd → Answer → (before : ℕ) → ℕ
+epoch_after commands.Leave answers.Done before = before + 1
+epoch_after cmd answer before = before
+
 -- the lowest slot that holds no object
 pub record IsLowestFree (w : Sight) (slot : ℕ) : Type 0 where
   pub there : slot < length w.headers
@@ -86,6 +101,7 @@ pub record Refuses (before : Core) (t : ℕ) (cmd : Cmd) (told : Told) (after : 
   pub busy : (first last : ℕ) → (told.answer ≡ answers.Busy first last) ↔ (IsBusy before t cmd × (first ≡ before.freed) × (last ≡ before.freed))
   pub no_object : (told.answer ≡ answers.NoObject) ↔ LacksObject (mutator before t) cmd
   pub no_field : (told.answer ≡ answers.NoField) ↔ WritesLeaf before t cmd
+  pub not_yet : (told.answer ≡ answers.NotYet) ↔ AwaitsCollector before t cmd
   pub refused : is_refusal told.answer ≡ true → OnlyWorks before after t
 
 -- What a command changes: a birth takes the lowest free slot, and a write leaves the stamp of its log entry.
@@ -95,11 +111,13 @@ pub record Changes (before : Core) (t : ℕ) (cmd : Cmd) (told : Told) (after : 
   pub logged : log_length after t ≡ entries_after cmd told.answer (log_length before t)
   pub made : after.made ≡ before.made + (if is_birth (cmd, told) then 1 else 0)
 
--- What stays: the collector, the epochs, the freed word, the other mutators and the heap's numbers; and the mutator works no more.
-pub record Stays (before : Core) (t : ℕ) (after : Core) : Type 0 where
+-- What stays: the collector, the epochs, the freed word, the other mutators and the heap's numbers; and the mutator works no more. Only
+-- one that leaves is in the next epoch then, and has left.
+pub record Stays (before : Core) (t : ℕ) (cmd : Cmd) (told : Told) (after : Core) : Type 0 where
   pub collector : after.collector ≡ before.collector
   pub requested : after.epoch ≡ before.epoch
-  pub epoch : (mutator after t).epoch ≡ (mutator before t).epoch
+  pub epoch : (mutator after t).epoch ≡ epoch_after cmd told.answer (mutator before t).epoch
+  pub left : (mutator after t).left ≡ is_leave_done cmd told.answer
   pub freed : after.freed ≡ before.freed
   pub others : (s : ℕ) → s ≢ t → 1 ≤ s → mutator after s ≡ mutator before s
   pub idle : is_busy (mutator after t) ≡ false

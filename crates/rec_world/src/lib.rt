@@ -7,7 +7,7 @@
 //! end; a journal keeps what was told, an order who was told. At any time every slot may be offered to the next trial.
 //! The rules that it keeps: a heap is the end of a run from its opening, whoever made which step when; and whatever heap that
 //! never frees stood for it before a step, the heap that asking gives stands for it afterwards, and the answer is the one asked.
-//! What the collector frees no register reaches. A world begins no work of leaving yet, so its mutators stay.
+//! What the collector frees no register reaches. A mutator may leave for good, and nothing is asked of one that has left.
 //! Between any two steps it is taken apart into `Parts`, its shared words one row among them, and put together again.
 //! A `Numbering` lists the slots that registers reach, in the order of a listing. Its list is the one list of the reached slots
 //! in that order.

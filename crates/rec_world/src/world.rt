@@ -8,7 +8,7 @@ ghost use Rattle.rec_mutator.specs.Private.{is_busy, answer_of, work_of};
 ghost use Rattle.rec_mutator.specs.declared.made.Made.TheVariants as makes;
 ghost use Rattle.rec_mutator.specs.declared.work.Work.TheVariants as works;
 ghost use Rattle.rec_collector.specs.declared.turn.Turn as turns;
-ghost use Rattle.rec_core.specs.Config.{IsConfig, IsMutator, IsValid, IsWork, HasLabel, IsNoLeave};
+ghost use Rattle.rec_core.specs.Config.{IsConfig, IsMutator, IsValid, IsWork, HasLabel};
 ghost use Rattle.rec_core.specs.Core.{Core, sight, mutator, opened, opened_mutator, opened_mutators};
 ghost use Rattle.rec_core.specs.Moves.{begun, stepped, offering, EndsRun};
 ghost use Rattle.rec_core.specs.Step.{IsStep};
@@ -23,7 +23,7 @@ ghost use Rattle.rec_core.specs.Unfinished.{HasFound, IsQuiet};
 ghost use Rattle.rec_core.specs.Worked.{AreIdle, StepsTo, IsWorked};
 ghost use Rattle.rec_world.specs.Mailbox.{held};
 ghost use Rattle.rec_world.specs.Stepping.{MakesStep};
-ghost use Rattle.rec_world.specs.World.{IsWorld, label_of, Refuses, Changes, Stays, IsFinished, IsCrossed};
+ghost use Rattle.rec_world.specs.World.{IsWorld, MayAsk, label_of, Refuses, Changes, Stays, IsFinished, IsCrossed};
 
 use crate::mailbox::{gather, open_boxes, swap_own};
 use crate::memory::Memory;
@@ -121,13 +121,22 @@ impl World {
         }
     }
 
-    /// Whether mutator `t` may ask this: its number, the registers and the field are there, and it isn't to leave, which no work of
-    /// a world is yet.
+    /// Whether mutator `t` may ask this: its number, the registers and the field are there, and it hasn't left.
     pub fn valid(&self, t: u8, cmd: &Cmd) -> bool
-        ensures { IsTrue result ↔ IsValid self.now.config t cmd.now }
+        ensures { IsTrue result ↔ MayAsk self.now t cmd.now }
     {
-        let stays = !matches!(cmd, Cmd::Leave);
-        stays && (1..=self.config.mutators).contains(&u32::from(t)) && self.config.has_operands(cmd)
+        (1..=self.config.mutators).contains(&u32::from(t))
+            && self.config.has_operands(cmd)
+            && !self.left(t)
+    }
+
+    /// Whether mutator `t` has left. Then its registers are null for good, the collector doesn't wait for it, and nothing is asked of
+    /// it: it begins no command and no poll.
+    pub fn left(&self, t: u8) -> bool
+        requires { IsMutator self.now.config t }
+        ensures { result ≡ (mutator self.now t).left }
+    {
+        self.machines[usize::from(t) - 1].has_left()
     }
 
     /// Whether mutator `t` has begun a work that isn't finished.
@@ -145,9 +154,10 @@ impl World {
         are_idle(self.machines.as_slice())
     }
 
-    /// Begins a work of mutator `t`, which isn't to leave. No step of it is made. A scan for a free slot begins with slot 0.
+    /// Begins a work of mutator `t`, which hasn't left. No step of it is made. A scan for a free slot begins with slot 0.
     pub fn begin(&mut self, t: u8, work: Work)
         requires mutator { IsMutator self.old.config t }
+        requires present { (mutator self.old t).left ≡ false }
         requires work { IsWork self.old.config work }
         requires idle { is_busy (mutator self.old t) ≡ false }
 
@@ -179,7 +189,7 @@ impl World {
     }
 
     /// Makes one turn of the collector: one step of its collection, on the word that this names. It answers `Waiting` for a mutator
-    /// that hasn't crossed into the requested epoch, and `EpochsSpent` for good where the next request would be epoch 16,777,216.
+    /// that hasn't crossed into the requested epoch and hasn't left, and `EpochsSpent` for good where the next request would be epoch 16,777,216.
     /// No slot that a register reaches is freed or changed, and whatever heap stood for the world still does.
     pub fn turn(&mut self) -> Turn
         ensures turn { IsTurn self.old self.new result }
@@ -218,9 +228,13 @@ impl World {
         self.collector.offer_all();
     }
 
-    /// Carries out a command of mutator `t`, and tells the answer with the field words that it saw and left.
+    /// Carries out a command of mutator `t`, which hasn't left, and tells the answer with the field words that it saw and left.
+    ///
+    /// By the command Leave the mutator leaves the heap for good: its registers become null, and its last log is handed over. It is
+    /// told `NotYet`, and nothing changes, while the log that it handed over last is still to be collected.
     pub fn command(&mut self, t: u8, cmd: Cmd) -> Told
         requires valid { IsValid self.old.config t cmd }
+        requires present { (mutator self.old t).left ≡ false }
         requires idle { is_busy (mutator self.old t) ≡ false }
 
         // The command is begun, its steps are made to the end, and the last one answers.
@@ -234,7 +248,7 @@ impl World {
         // When each refusal comes; what the command changes; what stays.
         ensures refuses { Refuses self.old t cmd result self.new }
         ensures changes { Changes self.old t cmd result self.new }
-        ensures stays { Stays self.old t self.new }
+        ensures stays { Stays self.old t cmd result self.new }
         ensures run { EndsRun self.new }
         ensures kept { IsWorld self.new }
     {
@@ -245,10 +259,11 @@ impl World {
         }
     }
 
-    /// Lets mutator `t` look at the epoch word, and cross into the requested epoch where it is another one. The answer is
-    /// that epoch, or `None` where the mutator is in it already.
+    /// Lets mutator `t`, which hasn't left, look at the epoch word, and cross into the requested epoch where it is another one. The
+    /// answer is that epoch, or `None` where the mutator is in it already.
     pub fn poll(&mut self, t: u8) -> Option<u32>
         requires mutator { IsMutator self.old.config t }
+        requires present { (mutator self.old t).left ≡ false }
         requires idle { is_busy (mutator self.old t) ≡ false }
 
         // The poll is begun, its steps are made to the end, and the last one answers.
@@ -261,6 +276,7 @@ impl World {
         // A mutator that crosses hands over its log; nothing that is seen changes, and nothing of the collector.
         ensures crossed { IsCrossed self.old self.new t result }
         ensures quiet { IsQuiet self.old self.new t }
+        ensures left { (mutator self.new t).left ≡ (mutator self.old t).left }
         ensures idle { is_busy (mutator self.new t) ≡ false }
         ensures run { EndsRun self.new }
         ensures kept { IsWorld self.new }
@@ -485,6 +501,7 @@ impl World {
     #[inline(always)]
     fn carry_out(&mut self, t: u8, work: Work) -> Made
         requires mutator { IsMutator self.old.config t }
+        requires present { (mutator self.old t).left ≡ false }
         requires work { IsWork self.old.config work }
         requires idle { is_busy (mutator self.old t) ≡ false }
         requires world { IsWorld self.old }
@@ -503,6 +520,7 @@ impl World {
     #[inline(always)]
     fn begin_and_step(&mut self, t: u8, work: Work) -> Option<Made>
         requires mutator { IsMutator self.old.config t }
+        requires present { (mutator self.old t).left ≡ false }
         requires work { IsWork self.old.config work }
         requires idle { is_busy (mutator self.old t) ≡ false }
 
@@ -627,7 +645,6 @@ fn open_machine(alloc: Global, config: &Config, number: u8) -> Result<Machine, N
 
 // The label of an allocation fits a header.
 fn see_label(work: Work)
-    requires { IsNoLeave work }
     ensures { HasLabel work }
 {
     if let Work::Command(Cmd::New { label, .. } | Cmd::Leaf { label, .. }) = work {

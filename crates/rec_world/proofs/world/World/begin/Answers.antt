@@ -4,7 +4,7 @@ use Rattle.rec_world.proofs.Common.{Private, is_busy, IsValid, IsMutator, IsWork
 use Rattle.rec_core.specs.Kept.{IsKept}
 use Rattle.rec_core.proofs.Asked.{begun_sight}
 use Rattle.rec_core.proofs.Steps.{actor_of}
-use Rattle.rec_world.proofs.Calls.{Ready, ready, mutator_read, begun_is, moved_world, own_work, work_stays, world_kept}
+use Rattle.rec_world.proofs.Calls.{Ready, ready, mutator_read, begun_is, moved_world, own_work, world_kept}
 use Rattle.rec_world.proofs.world.World.begin.Goals as goal
 use Rattle.rec_world.proofs.world.World.begin.Goals.{After-begin}
 
@@ -25,7 +25,7 @@ fits : (c : After-begin) → Fits (before c) (Move.Begins c.args.t c.args.work 0
 fits c = (
   mutator_is c,
   subst (λ (s : Core). is_busy (mutator s c.args.t) ≡ false) (sym c.self.view_is) c.requires.idle,
-  (c.self.invariant.world.staying c.args.t (mutator_is c)).present,
+  subst (λ (s : Core). (mutator s c.args.t).left ≡ false) (sym c.self.view_is) c.requires.present,
   own_work (before c) c.args.t c.args.work (kept c) (mutator_is c) (subst (λ (s : Core). IsWork s.config c.args.work) (sym c.self.view_is) c.requires.work),
   c.see_label.ensures,
   (kept c).config.some_slots,
@@ -47,10 +47,7 @@ pub begin-requires-clause-stays : goal.begin-requires-clause-stays
 begin-requires-clause-stays c =
     let now : Ready c.self.inside c.args.t = ready c.self.inside c.args.self.now c.args.t c.self.invariant c.self.view_is c.requires.mutator in
     subst (λ (p : Private). p.left ≡ false) (sym (mutator_read (core c.self.inside) c.args.t c.from.result c.index_mut.result.now c.self.invariant.world.shaped now.is c.from.ensures c.index_mut.ensures.value))
-    (c.self.invariant.world.staying c.args.t now.is).present
-
-pub see_label-requires : goal.see_label-requires
-see_label-requires c = work_stays c.args.self.now.config c.args.work c.requires.work
+    (subst (λ (s : Core). (mutator s c.args.t).left ≡ false) (sym c.self.view_is) c.requires.present)
 
 -- the core that is left
 left : (c : After-begin) → ◌≡◌ {A = Core} (record (before c) { mutators = slice_set (before c).mutators (c.from.result - 1) c.begin.new.self }) (begun (before c) c.args.t c.args.work)
@@ -58,7 +55,7 @@ left c = begun_is (before c) c.args.t c.from.result c.args.work c.index_mut.resu
 
 -- it is a world
 world : (c : After-begin) → IsWorld (begun (before c) c.args.t c.args.work)
-world c = moved_world (before c) (Move.Begins c.args.t c.args.work 0) c.self.invariant.world (fits c) (work_stays c.args.self.now.config c.args.work c.requires.work)
+world c = moved_world (before c) (Move.Begins c.args.t c.args.work 0) c.self.invariant.world (fits c)
 
 pub invariant_of-self : goal.invariant_of-self
 invariant_of-self c =

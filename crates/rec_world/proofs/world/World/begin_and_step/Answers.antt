@@ -3,7 +3,7 @@ use Rattle.std.proofs.Common.{refl, false, ◌≡◌, ◌-◌, ◌+◌, ◌<◌,
 use Rattle.std.specs.Option.{is_some}
 use Rattle.rec_world.proofs.Common.{next_of, Private, answer_of, IsValid, cell, births_of, Core, cells_of, mutator, Move, begun, stepped, core, held, IsWorld}
 use Rattle.rec_core.proofs.Steps.{actor_of}
-use Rattle.rec_world.proofs.Calls.{mutator_read, home_again, machine_left, moved_world, made_small, births_few, work_stays}
+use Rattle.rec_world.proofs.Calls.{mutator_read, home_again, machine_left, moved_world, made_small, births_few}
 use Rattle.rec_word.specs.declared.op.Op.{Op}
 use Rattle.rec_world.proofs.Beginnings.{MayBegin, may_begin, began_read, first_step_is}
 use Rattle.rec_world.proofs.OneStep.{makes_step}
@@ -11,7 +11,7 @@ use Rattle.rec_world.proofs.world.World.begin_and_step.Goals as goal
 use Rattle.rec_world.proofs.world.World.begin_and_step.Goals.{After-index_mut-machine, After-begin, After-answer}
 
 begins : (c : After-begin) → MayBegin c.self.inside c.args.t c.args.work
-begins c = may_begin c.self.inside c.args.self.now c.args.t c.args.work c.self.invariant c.self.view_is c.requires.mutator c.requires.work c.requires.idle c.see_label.ensures
+begins c = may_begin c.self.inside c.args.self.now c.args.t c.args.work c.self.invariant c.self.view_is c.requires.mutator c.requires.present c.requires.work c.requires.idle c.see_label.ensures
 
 -- the machine that was asked
 asked : (c : After-begin) → c.begin.new.self ≡ mutator (begun (core c.self.inside) c.args.t c.args.work) c.args.t
@@ -19,23 +19,20 @@ asked c = began_read c.self.inside c.args.t c.from-own.result c.args.work c.inde
 
 pub begin-requires-clause-valid : goal.begin-requires-clause-valid
 begin-requires-clause-valid c =
-    let may : MayBegin c.self.inside c.args.t c.args.work = may_begin c.self.inside c.args.self.now c.args.t c.args.work c.self.invariant c.self.view_is c.requires.mutator c.requires.work c.requires.idle c.see_label.ensures in
+    let may : MayBegin c.self.inside c.args.t c.args.work = may_begin c.self.inside c.args.self.now c.args.t c.args.work c.self.invariant c.self.view_is c.requires.mutator c.requires.present c.requires.work c.requires.idle c.see_label.ensures in
     subst (λ (p : Private). IsValid p c.args.work) (sym (mutator_read (core c.self.inside) c.args.t c.from-own.result c.index_mut-machine.result.now c.self.invariant.world.shaped may.was.is c.from-own.ensures c.index_mut-machine.ensures.value)) may.fits.3
 
 pub begin-requires-clause-from : goal.begin-requires-clause-from
 begin-requires-clause-from c =
-    let may : MayBegin c.self.inside c.args.t c.args.work = may_begin c.self.inside c.args.self.now c.args.t c.args.work c.self.invariant c.self.view_is c.requires.mutator c.requires.work c.requires.idle c.see_label.ensures in
+    let may : MayBegin c.self.inside c.args.t c.args.work = may_begin c.self.inside c.args.self.now c.args.t c.args.work c.self.invariant c.self.view_is c.requires.mutator c.requires.present c.requires.work c.requires.idle c.see_label.ensures in
     subst (λ (p : Private). 0 < p.slots) (sym (mutator_read (core c.self.inside) c.args.t c.from-own.result c.index_mut-machine.result.now c.self.invariant.world.shaped may.was.is c.from-own.ensures c.index_mut-machine.ensures.value))
     (actor_of (core c.self.inside) c.args.t may.was.kept may.was.is).own.machine.first_slot
 
 pub begin-requires-clause-stays : goal.begin-requires-clause-stays
 begin-requires-clause-stays c =
-    let may : MayBegin c.self.inside c.args.t c.args.work = may_begin c.self.inside c.args.self.now c.args.t c.args.work c.self.invariant c.self.view_is c.requires.mutator c.requires.work c.requires.idle c.see_label.ensures in
+    let may : MayBegin c.self.inside c.args.t c.args.work = may_begin c.self.inside c.args.self.now c.args.t c.args.work c.self.invariant c.self.view_is c.requires.mutator c.requires.present c.requires.work c.requires.idle c.see_label.ensures in
     subst (λ (p : Private). p.left ≡ false) (sym (mutator_read (core c.self.inside) c.args.t c.from-own.result c.index_mut-machine.result.now c.self.invariant.world.shaped may.was.is c.from-own.ensures c.index_mut-machine.ensures.value))
-    (c.self.invariant.world.staying c.args.t may.was.is).present
-
-pub see_label-requires : goal.see_label-requires
-see_label-requires c = work_stays c.args.self.now.config c.args.work c.requires.work
+    may.fits.2
 
 pub index_mut-requires : goal.index_mut-requires
 index_mut-requires c =
@@ -57,7 +54,7 @@ overflow_add-self c =
 
 -- what is known as the step ends
 ends : (c : After-answer) → MayBegin c.self.inside c.args.t c.args.work
-ends c = may_begin c.self.inside c.args.self.now c.args.t c.args.work c.self.invariant c.self.view_is c.requires.mutator c.requires.work c.requires.idle c.see_label.ensures
+ends c = may_begin c.self.inside c.args.self.now c.args.t c.args.work c.self.invariant c.self.view_is c.requires.mutator c.requires.present c.requires.work c.requires.idle c.see_label.ensures
 
 -- the core that is left
 abbrev after : After-answer → Core
@@ -81,7 +78,7 @@ left c =
     c.index_mut.ensures.value c.make_step.ensures.machine c.make_step.ensures.memory c.make_step.ensures.mailbox c.make_step.ensures.births
 
 world : (c : After-answer) → IsWorld (after c)
-world c = subst IsWorld (sym (left c)) (moved_world (begun (core c.self.inside) c.args.t c.args.work) (Move.Steps c.args.t) (ends c).world ((ends c).was.is, (ends c).busy) tt)
+world c = subst IsWorld (sym (left c)) (moved_world (begun (core c.self.inside) c.args.t c.args.work) (Move.Steps c.args.t) (ends c).world ((ends c).was.is, (ends c).busy))
 
 pub invariant_of-self : goal.invariant_of-self
 invariant_of-self c =

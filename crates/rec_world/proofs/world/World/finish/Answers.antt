@@ -4,7 +4,6 @@ use Rattle.std.specs.Option.{is_none}
 use Rattle.rec_world.proofs.Common.{IsMutator, Core, mutator}
 use Rattle.rec_core.specs.Unfinished.{Waits}
 use Rattle.rec_core.specs.Worked.{StepsTo}
-use Rattle.rec_core.proofs.Staying.{staying_in}
 use Rattle.rec_core.proofs.Unfinished.{waits_none, waited, nearer, mutator_there}
 use Rattle.rec_world.proofs.Calls.{world_kept}
 use Rattle.rec_world.proofs.Skipping.{found_of, path_both, path_waits, path_counts, path_world}
@@ -44,7 +43,7 @@ loop-made-preserved c =
     let waits : Waits before v c.args.t = path_waits before w c.args.t v c.loop-made.invariant.world is c.loop-made.invariant.waits c.skip_taken.ensures.path c.skip_taken.ensures.busy in
     record {
       path = StepsTo.further v u (path_both before c.args.t w v c.loop-made.invariant.path c.skip_taken.ensures.path) c.skip_taken.ensures.busy c.step.ensures.step.stepped;
-      waits = waited before v u c.args.t (world_kept v c.skip_taken.ensures.kept) v_is c.skip_taken.ensures.busy (staying_in (c.skip_taken.ensures.kept.staying c.args.t v_is)) waits c.step.ensures.step.stepped (sym c.step.ensures.step.answer ∙ c.in_default.is);
+      waits = waited before v u c.args.t (world_kept v c.skip_taken.ensures.kept) v_is c.skip_taken.ensures.busy waits c.step.ensures.step.stepped (sym c.step.ensures.step.answer ∙ c.in_default.is);
       work = c.step.ensures.step.work ∙ (path_counts w c.args.t v c.loop-made.invariant.world is c.skip_taken.ensures.path).1 ∙ c.loop-made.invariant.work;
       busy = c.step.ensures.step.busy ∙ ap is_none c.in_default.is;
       world = c.step.ensures.kept;

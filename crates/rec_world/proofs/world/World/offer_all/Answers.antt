@@ -16,7 +16,7 @@ left c = ap (λ (q : Private). record (before c) { collector = q }) c.offer_all.
 
 -- it is a world
 world : (c : After-offer_all) → IsWorld (offering (before c))
-world c = moved_world (before c) Move.Offers c.self.invariant.world tt tt
+world c = moved_world (before c) Move.Offers c.self.invariant.world tt
 
 pub invariant_of-self : goal.invariant_of-self
 invariant_of-self c =

@@ -12,7 +12,7 @@ use Rattle.rec_world.proofs.world.World.poll.Goals.{In-Crossed}
 said : (c : In-Crossed) → IsPolled c.args.self.now c.carry_out.new.self c.args.t c.in-Crossed.epoch
 said c =
     poll_said c.args.self.now (begun c.args.self.now c.args.t works.Poll) c.carry_out.new.self c.args.t c.in-Crossed.epoch (world_kept c.args.self.now c.rules.ensures)
-    c.requires.mutator refl (began_work c.args.self.now c.args.t works.Poll (world_kept c.args.self.now c.rules.ensures) c.requires.mutator) c.in-Crossed.ensures.finished
+    c.requires.mutator c.requires.present refl (began_work c.args.self.now c.args.t works.Poll (world_kept c.args.self.now c.rules.ensures) c.requires.mutator) c.in-Crossed.ensures.finished
     (finished_kept c.args.self.now (begun c.args.self.now c.args.t works.Poll) c.carry_out.new.self c.args.t _ _ refl c.in-Crossed.ensures.finished)
 
 pub unreachable-requires : goal.unreachable-requires
@@ -38,6 +38,9 @@ returns-clause-crossed c = (said c).crossed_into
 
 pub returns-clause-quiet : goal.returns-clause-quiet
 returns-clause-quiet c = (said c).quiet
+
+pub returns-clause-left : goal.returns-clause-left
+returns-clause-left c = (said c).left
 
 pub returns-clause-idle : goal.returns-clause-idle
 returns-clause-idle c = (said c).idle

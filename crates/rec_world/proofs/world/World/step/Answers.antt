@@ -69,7 +69,7 @@ left c =
     c.make_step.ensures.machine c.make_step.ensures.memory c.make_step.ensures.mailbox c.make_step.ensures.births
 
 world : (c : After-answer) → IsWorld (after c)
-world c = subst IsWorld (sym (left c)) (moved_world (core c.self.inside) (Move.Steps c.args.t) c.self.invariant.world ((ends c).is, was_busy c) tt)
+world c = subst IsWorld (sym (left c)) (moved_world (core c.self.inside) (Move.Steps c.args.t) c.self.invariant.world ((ends c).is, was_busy c))
 
 pub invariant_of-self : goal.invariant_of-self
 invariant_of-self c =

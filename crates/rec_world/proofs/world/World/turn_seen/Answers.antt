@@ -100,7 +100,7 @@ left c =
     (ends c).kept.collector.between refl (ends c).boxed c.self.invariant.home (its_op c) c.perform-found.ensures.found c.perform-found.ensures.left c.took-turn.ensures.took c.gather.ensures.collector c.gather.ensures.boxes
 
 world : (c : After-gather) → IsWorld (after c)
-world c = subst IsWorld (sym (left c)) (moved_world (core c.self.inside) Move.Turns c.self.invariant.world tt tt)
+world c = subst IsWorld (sym (left c)) (moved_world (core c.self.inside) Move.Turns c.self.invariant.world tt)
 
 pub invariant_of-self : goal.invariant_of-self
 invariant_of-self c =
