@@ -3,14 +3,14 @@ use Rattle.std.proofs.Common.{◌≡◌, ◌↔◌, ℕ, ◌+◌, ◌<◌, ◌==
 use Rattle.std.specs.Prelude.{fold}
 use Rattle.std.proofs.lemmas.List.{length-append, map-append, nil_from_length}
 use Rattle.std.proofs.lemmas.List.Sums.{fold-append}
-use Rattle.rec_table.proofs.Common.{IsAt, IsNoLeave, IsMachine, Private, answer_at, answer_of, is_busy, is_busy_at, limit_of, work_at, work_of, begun_of, moved, spare, step_of, swapped_at, swapped_of, took_at, took_of, learnt, told, saw_all, Beat, Begins, Saw}
+use Rattle.rec_table.proofs.Common.{IsAt, IsBetween, IsNoLeave, IsMachine, Private, answer_at, answer_of, is_busy, is_busy_at, limit_of, work_at, work_of, begun_of, moved, spare, step_of, swapped_at, swapped_of, took_at, took_of, learnt, told, saw_all, Beat, Begins, Saw}
 use Rattle.rec_word.specs.Header.{header_word}
 use Rattle.rec_model.specs.Asking.{allocation}
 use Rattle.rec_model.specs.declared.command.Cmd.{Cmd}
 use Rattle.rec_model.specs.declared.command.Cmd.TheVariants as commands
 use Rattle.rec_model.specs.declared.answer.Answer.TheVariants as answers
 use Rattle.rec_model.specs.declared.told.Told.{Told}
-use Rattle.rec_mutator.specs.Causes.{FindsLeaf, FoundNone, FoundNoneAt, HasCause}
+use Rattle.rec_mutator.specs.Causes.{AnswersBy, FindsLeaf, FoundNone, FoundNoneAt, HasCause, IsAwaited}
 use Rattle.rec_mutator.specs.Scans.{FailsScan, ops_along}
 use Rattle.rec_mutator.specs.declared.made.Made.{Made}
 use Rattle.rec_mutator.specs.declared.made.Made.TheVariants as makes
@@ -18,8 +18,8 @@ use Rattle.rec_mutator.specs.declared.phase.Phase as phases
 use Rattle.rec_mutator.specs.declared.phase.Phase.TheVariants as at
 use Rattle.rec_mutator.specs.declared.work.Work.{Work}
 use Rattle.rec_mutator.specs.declared.work.Work.TheVariants as works
-use Rattle.rec_mutator.proofs.Refusals.{same_command, took_cause}
-use Rattle.rec_mutator.proofs.Steps.{TakesNone, here_same, none_between}
+use Rattle.rec_mutator.proofs.Refusals.{answer_cause, same_command}
+use Rattle.rec_mutator.proofs.Steps.{TakesNone, here_same}
 use Rattle.rec_table.specs.Answered.{FailsProbes, IsAnswered, IsPolled, worked}
 use Rattle.rec_table.specs.declared.start.Start.{Start}
 use Rattle.rec_table.proofs.Beats.{told_both}
@@ -31,21 +31,22 @@ pub record Path (start : Start) (p : Private) (log log' : List Beat) (q : Privat
   pub grows : log' ≡ log ++ worked start (words ++ last ∷ [])
   pub before : Private
   pub along : before ≡ told (begun_of p start.work start.from) (saw_all words)
-  pub came : (cmd : Cmd) → start.work ≡ works.Command cmd → before ≡ fold took_of (begun_of p start.work start.from) words
+  -- a command that isn't to leave takes no mailbox
+  pub came : (cmd : Cmd) → start.work ≡ works.Command cmd → IsNoLeave (works.Command cmd) → before ≡ fold took_of (begun_of p start.work start.from) words
   pub machine : IsMachine before
+  pub between : IsBetween before.phase
   pub busy : is_busy before ≡ true
   pub works_on : work_of before ≡ Some start.work
   pub slots : before.slots ≡ p.slots
   pub made : q ≡ learnt before (Saw last)
   pub counted : before.steps ≡ length words
   pub stepped : q.steps ≡ before.steps + 1
-  pub stays : IsNoLeave start.work
 
 is_poll : Option Work → Bool
 is_poll (Some works.Poll) = true
 is_poll _ = false
 
--- a step of a command takes no mailbox
+-- so no step of it does
 command_takes_none : (p : Private) (cmd : Cmd) → IsNoLeave (works.Command cmd) → work_of p ≡ Some (works.Command cmd) → TakesNone p.phase
 unfolding is_poll
 command_takes_none p cmd no_leave work = by p.phase refl
@@ -93,29 +94,33 @@ begun_steps : (p : Private) (work : Work) (from : ℕ) → (begun_of p work from
 unfolding begun_of
 begun_steps p work from = refl
 
+begun_between : (p : Private) (work : Work) (from : ℕ) → IsBetween (begun_of p work from).phase
+unfolding begun_of
+begun_between p work from = tt
+
 pub path_first : (start : Start) (p q : Private) (log log' : List Beat) (word : ℕ) → log' ≡ log ++ worked start (word ∷ []) → IsMachine (begun_of p start.work start.from) → is_busy (begun_of p start.work start.from) ≡ true → work_of (begun_of p start.work start.from) ≡ Some start.work
-    → (begun_of p start.work start.from).slots ≡ p.slots → q ≡ learnt (begun_of p start.work start.from) (Saw word) → q.steps ≡ (begun_of p start.work start.from).steps + 1 → IsNoLeave start.work → Path start p log log' q
-path_first start p q log log' word grows machine busy works_on slots made stepped stays = record {
+    → (begun_of p start.work start.from).slots ≡ p.slots → q ≡ learnt (begun_of p start.work start.from) (Saw word) → q.steps ≡ (begun_of p start.work start.from).steps + 1 → Path start p log log' q
+path_first start p q log log' word grows machine busy works_on slots made stepped = record {
   words = [];
   last = word;
   grows = grows;
   before = begun_of p start.work start.from;
   along = refl;
-  came = λ cmd is. refl;
+  came = λ cmd is stays. refl;
   machine = machine;
+  between = begun_between p start.work start.from;
   busy = busy;
   works_on = works_on;
   slots = slots;
   made = made;
   counted = begun_steps p start.work start.from;
   stepped = stepped;
-  stays = stays;
 }
 
 -- failing probes that found these words, and one step more
 pub path_on : (start : Start) (p q m r : Private) (log was on now : List Beat) (ws : List ℕ) (word : ℕ) → Path start p log was q → is_busy m ≡ true → work_of m ≡ Some start.work → on ≡ was ++ saw_all ws → m ≡ fold took_of q ws → m ≡ told q (saw_all ws) → now ≡ on ++ Saw word ∷ []
-    → IsMachine m → m.slots ≡ p.slots → r ≡ learnt m (Saw word) → m.steps ≡ q.steps + length ws → r.steps ≡ m.steps + 1 → Path start p log now r
-path_on start p q m r log was on now ws word path busy works_on passed came went more machine slots made probed stepped =
+    → IsMachine m → IsBetween m.phase → m.slots ≡ p.slots → r ≡ learnt m (Saw word) → m.steps ≡ q.steps + length ws → r.steps ≡ m.steps + 1 → Path start p log now r
+path_on start p q m r log was on now ws word path busy works_on passed came went more machine between slots made probed stepped =
     let first : List ℕ = path.words ++ path.last ∷ [] in
     let last : List Beat = Saw word ∷ [] in
     let beats : worked start first ++ (saw_all ws ++ last) ≡ worked start ((first ++ ws) ++ word ∷ []) =
@@ -130,12 +135,13 @@ path_on start p q m r log was on now ws word path busy works_on passed came went
           went ∙ ap (λ (x : Private). told x (saw_all ws)) (path.made ∙ ap (λ (x : Private). learnt x (Saw path.last)) path.along ∙ sym (told_both (begun_of p start.work start.from) (saw_all path.words) (Saw path.last ∷ [])))
           ∙ sym (told_both (begun_of p start.work start.from) (saw_all path.words ++ Saw path.last ∷ []) (saw_all ws))
           ∙ ap (told (begun_of p start.work start.from)) (ap (λ (l : List Beat). l ++ saw_all ws) (sym (map-append (λ (n : ℕ). Saw n) path.words (path.last ∷ []))) ∙ sym (map-append (λ (n : ℕ). Saw n) first ws));
-      came = λ cmd is.
-          let none : TakesNone path.before.phase = command_takes_none path.before cmd (subst IsNoLeave is path.stays) (path.works_on ∙ ap (λ (w : Work). Some w) is) in
-          let so_far : q ≡ fold took_of (begun_of p start.work start.from) first = path.made ∙ here_same path.before path.last (spare (took_of path.before path.last)) path.busy none ∙ ap (λ (x : Private). took_of x path.last) (path.came cmd is)
+      came = λ cmd is stays.
+          let none : TakesNone path.before.phase = command_takes_none path.before cmd stays (path.works_on ∙ ap (λ (w : Work). Some w) is) in
+          let so_far : q ≡ fold took_of (begun_of p start.work start.from) first = path.made ∙ here_same path.before path.last (spare (took_of path.before path.last)) path.busy none ∙ ap (λ (x : Private). took_of x path.last) (path.came cmd is stays)
           ∙ sym (fold-append took_of (begun_of p start.work start.from) path.words (path.last ∷ [])) in
           came ∙ ap (λ (x : Private). fold took_of x ws) so_far ∙ sym (fold-append took_of (begun_of p start.work start.from) first ws);
       machine = machine;
+      between = between;
       busy = busy;
       works_on = works_on;
       slots = slots;
@@ -147,7 +153,6 @@ path_on start p q m r log was on now ws word path busy works_on passed came went
           let all : length (first ++ ws) ≡ length first + length ws = length-append first ws in
           omega (arith, counted, before, probed, one, all);
       stepped = stepped;
-      stays = path.stays;
     }
 
 cmd_of : Cmd → Option Work → Cmd
@@ -163,17 +168,23 @@ scanned_at q cmd before work found = by q.phase refl found
     by (at.Scanned reg label leaf b) e f = (reg, label, leaf, ap (cmd_of cmd) (sym work ∙ ap work_at e))
     by _ e f = absurd f
 
-fails_probes : (p q : Private) (cmd : Cmd) (from before : ℕ) (words : List ℕ) → q ≡ fold took_of (begun_of p (works.Command cmd) from) words → q.slots ≡ p.slots → work_of q ≡ Some (works.Command cmd) → FoundNone q before → FailsProbes p cmd from before words
+allocation_stays : (leaf : Bool) (reg label : ℕ) → IsNoLeave (works.Command (allocation leaf reg label))
+allocation_stays true reg label = tt
+allocation_stays false reg label = tt
+
+fails_probes : (p q : Private) (cmd : Cmd) (from before : ℕ) (words : List ℕ) → (IsNoLeave (works.Command cmd) → q ≡ fold took_of (begun_of p (works.Command cmd) from) words) → q.slots ≡ p.slots → work_of q ≡ Some (works.Command cmd) → FoundNone q before
+    → FailsProbes p cmd from before words
 unfolding begun_of
 fails_probes p q cmd from before words came slots work found =
     let (reg, label, leaf, is) = scanned_at q cmd before work found.scanned in
+    let stays : IsNoLeave (works.Command cmd) = subst (λ (c : Cmd). IsNoLeave (works.Command c)) (sym is) (allocation_stays leaf reg label) in
     record {
       reg = reg;
       label = label;
       leaf = leaf;
       is = is;
       fails = subst (λ n. FailsScan (header_word leaf label) n from before (ops_along (begun_of p (works.Command cmd) from) words) words) slots
-          (found.every (begun_of p (works.Command cmd) from) words (record { reg = reg; label = label; leaf = leaf; begun = begun_at p (works.Command cmd) from ∙ ap (λ (c : Cmd). at.Begun (works.Command c)) is; came = came }));
+          (found.every (begun_of p (works.Command cmd) from) words (record { reg = reg; label = label; leaf = leaf; begun = begun_at p (works.Command cmd) from ∙ ap (λ (c : Cmd). at.Begun (works.Command c)) is; came = came stays }));
     }
 
 -- a command that goes on has steps left
@@ -216,25 +227,27 @@ finds_first : (q : Private) (cmd : Cmd) (word : ℕ) → IsMachine q → FindsLe
 finds_first q (commands.Put src f val) word machine found = (subst (IsAt q) found.0 machine.now).1
 finds_first q _ word machine found = absurd found
 
--- so it is the only step
-no_field : (p q : Private) (cmd : Cmd) (from : ℕ) (words : List ℕ) (word : ℕ) (told : Told) → IsMachine q → q.steps ≡ length words → q ≡ fold took_of (begun_of p (works.Command cmd) from) words
-    → (told.answer ≡ answers.NoField) ↔ FindsLeaf q word cmd → (told.answer ≡ answers.NoField) ↔ ((words ≡ []) × FindsLeaf (begun_of p (works.Command cmd) from) word cmd)
-no_field p q cmd from words word told machine counted came cause =
-    let its : words ≡ [] → q ≡ begun_of p (works.Command cmd) from = λ none. came ∙ ap (fold took_of (begun_of p (works.Command cmd) from)) none in (
+-- and so is the own crossing word by which a mutator may not leave yet
+awaits_first : (q : Private) (cmd : Cmd) (word : ℕ) → IsMachine q → IsAwaited q word cmd → q.steps ≡ 0
+awaits_first q commands.Leave word machine awaited = (subst (IsAt q) awaited.0 machine.now).1
+awaits_first q _ word machine awaited = absurd awaited
+
+-- so what holds just of a record that has made no step is told by the only step
+only_first : (p q : Private) (work : Work) (from : ℕ) (words : List ℕ) (Said : Type 0) (IsSo : Private → Type 0) → q.steps ≡ length words → q ≡ told (begun_of p work from) (saw_all words) → (IsSo q → q.steps ≡ 0) → Said ↔ IsSo q → Said ↔ ((words ≡ []) × IsSo (begun_of p work from))
+only_first p q work from words Said IsSo counted along first cause =
+    let its : words ≡ [] → q ≡ begun_of p work from = λ none. along ∙ ap (λ (ws : List ℕ). told (begun_of p work from) (saw_all ws)) none in (
       (λ is.
-          let found = cause.0 is in
-          let none : words ≡ [] = nil_from_length words (sym counted ∙ finds_first q cmd word machine found) in
-          (none, subst (λ (r : Private). FindsLeaf r word cmd) (its none) found)),
-      (λ (none, found). cause.1 (subst (λ (r : Private). FindsLeaf r word cmd) (sym (its none)) found)),
+          let found : IsSo q = cause.0 is in
+          let none : words ≡ [] = nil_from_length words (sym counted ∙ first found) in
+          (none, subst IsSo (its none) found)),
+      (λ (none, found). cause.1 (subst IsSo (sym (its none)) found)),
     )
 
 pub answered : (p q : Private) (cmd : Cmd) (from : ℕ) (log log' : List Beat) (told : Told) → Path (record { work = works.Command cmd; from = from }) p log log' q → answer_of q ≡ Some (makes.Answered told) → IsAnswered p cmd log log' q told
 answered p q cmd from log log' told path answer =
     let pre : Private = path.before in
-    let none : TakesNone pre.phase = command_takes_none pre cmd path.stays path.works_on in
-    let took : q ≡ took_of pre path.last = path.made ∙ here_same pre path.last (spare (took_of pre path.last)) path.busy none in
-    let cause : HasCause pre (took_of pre path.last) cmd path.last told.answer = took_cause pre path.last cmd told path.machine path.busy (none_between pre.phase none) path.works_on (ap answer_of (sym took) ∙ answer) in
-    let came : pre ≡ fold took_of (begun_of p (works.Command cmd) from) path.words = path.came cmd refl in
+    let by : AnswersBy pre path.last (spare (took_of pre path.last)) cmd told = record { busy = path.busy; between = path.between; work = path.works_on; answer = ap answer_of (sym path.made) ∙ answer } in
+    let cause : HasCause pre (learnt pre (Saw path.last)) cmd path.last told.answer = answer_cause pre path.last (spare (took_of pre path.last)) cmd told path.machine by in
     record {
       from = from;
       words = path.words;
@@ -244,10 +257,11 @@ answered p q cmd from log log' told path answer =
           let left : pre.steps < limit_of p.slots (works.Command cmd) = subst (λ n. pre.steps < limit_of n (works.Command cmd)) path.slots (steps_left pre cmd path.machine path.busy path.works_on) in
           let counted = path.counted in
           omega (arith, left, counted);
-      cause = subst (λ (y : Private × Private). HasCause y.0 y.1 cmd path.last told.answer) (λ i. (came i, sym took i)) cause;
-      no_field = no_field p pre cmd from path.words path.last told path.machine path.counted came cause.no_field;
-      full = λ is. let (before, found, still) = cause.full.0 is in (before, fails_probes p pre cmd from before path.words came path.slots path.works_on found, still);
-      busy = λ before after is. let (found, same, still) = (cause.busy before after).0 is in (fails_probes p pre cmd from before path.words came path.slots path.works_on found, same, still);
+      cause = subst (λ (y : Private × Private). HasCause y.0 y.1 cmd path.last told.answer) (λ i. (path.along i, sym path.made i)) cause;
+      no_field = only_first p pre (works.Command cmd) from path.words (told.answer ≡ answers.NoField) (λ r. FindsLeaf r path.last cmd) path.counted path.along (finds_first pre cmd path.last path.machine) cause.no_field;
+      not_yet = only_first p pre (works.Command cmd) from path.words (told.answer ≡ answers.NotYet) (λ r. IsAwaited r path.last cmd) path.counted path.along (awaits_first pre cmd path.last path.machine) cause.not_yet;
+      full = λ is. let (before, found, still) = cause.full.0 is in (before, fails_probes p pre cmd from before path.words (path.came cmd refl) path.slots path.works_on found, still);
+      busy = λ before after is. let (found, same, still) = (cause.busy before after).0 is in (fails_probes p pre cmd from before path.words (path.came cmd refl) path.slots path.works_on found, same, still);
     }
 
 -- what a poll comes to with its first step, by whether it found the own epoch

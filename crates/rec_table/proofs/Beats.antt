@@ -2,7 +2,7 @@
 use Rattle.std.proofs.Common.{◌≡◌, ◌⊎◌, inl, inr, ⊎_elim, ℕ, ◌-◌, true, List, [], ◌∷◌, ◌++◌, refl, sym, ap, ◌∙◌, subst, arith, get_or-set_same}
 use Rattle.std.proofs.lemmas.Bool.{cases_eq}
 use Rattle.std.proofs.lemmas.List.Sums.{fold-append}
-use Rattle.rec_table.proofs.Common.{Private, is_busy, begun_of, took_of, step_of, swapped_of, spare, IsSwapping, IsMutator, Core, mutator, nobody, box, IsKept, Move, after_move, after_moves, begun_from, stepped, Fits, AllFit, found_by, IsWorld, moved_world, NoneLeaves, move_kept, move_stays, mutator_stays, over_both, own_gives, other_gives, in_list, may_step, beats_in, beats_of, learnt, told, Beat, Saw}
+use Rattle.rec_table.proofs.Common.{Private, is_busy, begun_of, took_of, step_of, swapped_of, spare, IsSwapping, IsMutator, Core, mutator, nobody, box, IsKept, Move, after_move, after_moves, begun_from, stepped, Fits, AllFit, found_by, IsWorld, moved_world, move_kept, move_stays, mutator_stays, over_both, own_gives, other_gives, in_list, may_step, beats_in, beats_of, learnt, told, Beat, Saw}
 use Rattle.rec_mutator.specs.declared.phase.Phase as phases
 use Rattle.rec_mutator.specs.declared.phase.Phase.TheVariants as at
 use Rattle.rec_core.specs.Run.{by_actor, maker}
@@ -15,10 +15,9 @@ beats_both x = over_both (by_actor x beats_in)
 pub told_both : (p : Private) (cs bs : List Beat) → told p (cs ++ bs) ≡ told (told p cs) bs
 told_both = fold-append learnt
 
--- a run in which none leaves
-pub world_after : (w : Core) (ms : List Move) → IsWorld w → AllFit w ms → NoneLeaves ms → IsWorld (after_moves w ms)
-world_after w [] world f none = world
-world_after w (m ∷ ms) world f none = world_after (after_move w m) ms (moved_world w m world f.0 none.0) f.1 none.1
+pub world_after : (w : Core) (ms : List Move) → IsWorld w → AllFit w ms → IsWorld (after_moves w ms)
+world_after w [] world f = world
+world_after w (m ∷ ms) world f = world_after (after_move w m) ms (moved_world w m world f.0) f.1
 
 swaps_or_not : (phase : phases.Phase) → IsSwapping phase ⊎ (IsSwapping phase → ⊥)
 swaps_or_not at.Swapping = inl tt

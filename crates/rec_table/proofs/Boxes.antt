@@ -1,18 +1,20 @@
 -- A mutator takes its mailbox, and gives it back.
-use Rattle.std.proofs.Common.{◌≡◌, ℕ, zero, suc, ◌+◌, ◌-◌, ◌%◌, ◌<◌, true, true≢false, cond, eq-eqb, ne_eqb, List, [], ◌∷◌, ◌++◌, length, get_or, set, Option, Some, None, refl, sym, ap, ◌∙◌, subst, arith, get_or-set_same}
+use Rattle.std.proofs.Common.{◌≡◌, ℕ, zero, suc, ◌+◌, ◌-◌, ◌%◌, ◌<◌, true, false, true≢false, cond, eq-eqb, ne_eqb, List, [], ◌∷◌, ◌++◌, length, get_or, set, Option, Some, None, refl, sym, ap, ◌∙◌, subst, arith, get_or-set_same}
 use mathlib.Core.Option.{some, none}
 use lib.ListN.{get_elem?}
 use Rattle.atomic_table.specs.Table.{Step, takes, gives}
-use Rattle.rec_table.proofs.Common.{written, Op, Contents, Private, is_busy, took_of, took_at, crossed, left_of, spare, IsFound, IsSwapping, Core, cells_of, mutator, box, crossing_of, IsKept, after_moves, found_by, stepped, with_cell, world_kept, actor_of, learns_taken, may_step, told, learnt, Kind, Operates, index_of, beats, TakenBy, GivenBy, Saw, Seated, Mutates}
+use Rattle.rec_table.proofs.Common.{written, Op, Contents, Private, is_busy, gives_back, TakesBox, took_of, took_at, left_of, spare, IsFound, IsSwapping, Core, cells_of, mutator, box, crossing_of, IsKept, after_moves, found_by, stepped, cell, with_cell, world_kept, actor_of, may_step, told, Kind, Operates, index_of, beats, TakenBy, GivenBy, Seated, Mutates}
 use Rattle.rec_word.specs.Mailbox.{crossing_word}
 use Rattle.rec_word.specs.declared.mailbox.Mailbox.TheVariants.{Retired, Spare, WithCollector, WithMutator}
 use Rattle.rec_word.specs.declared.op.Op.TheVariants as ops
-use Rattle.rec_mutator.specs.Causes.{is_giving}
 use Rattle.rec_mutator.specs.Next.{next_of, next_at}
+use Rattle.rec_mutator.specs.declared.phase.Phase as phases
 use Rattle.rec_mutator.specs.declared.phase.Phase.TheVariants as at
 use Rattle.rec_mutator.proofs.Steps.{TakesNone, learnt_made, step_between, here_same}
 use Rattle.rec_collector.specs.Private as collectors
-use Rattle.rec_core.proofs.Crossings.{behind_of, left_same}
+use Rattle.rec_core.specs.Preconditions.{MayStep}
+use Rattle.rec_core.proofs.Actors.{idle_here}
+use Rattle.rec_core.proofs.Crossings.{left_same}
 use Rattle.rec_world.proofs.Mailboxes.{left_log}
 use Rattle.rec_table.specs.Homes.{home_of, homes_of}
 use Rattle.rec_table.proofs.Steps.{before, Here, here_at, goes_on, grows_by}
@@ -48,42 +50,76 @@ odd_three e = omega arith
 pub even_two : (e : ℕ) → crossing_word e Retired % 2 ≡ 0
 even_two e = omega arith
 
-pub takes_op : (p : Private) → p.phase ≡ at.Crossing → next_of p ≡ ops.TakeBox p.number (p.epoch + 1)
+-- A step that takes the mailbox, to cross or to leave.
+pub takes_op : (p : Private) → TakesBox p.phase → next_of p ≡ ops.TakeBox p.number (p.epoch + 1)
 unfolding next_of next_at
-takes_op p is = ap (next_at p) is
+takes_op p taking = by p.phase taking
+  where
+    by : (phase : phases.Phase) → TakesBox phase → next_at p phase ≡ ops.TakeBox p.number (p.epoch + 1)
+    by at.Crossing is = refl
+    by at.Leaving is = refl
+    by _ is = absurd is
 
-gives_op : (p : Private) → p.phase ≡ at.Giving → next_of p ≡ ops.GiveBox p.number (p.epoch + 1)
-unfolding next_of next_at
-gives_op p is = ap (next_at p) is
-
-pub crosses : (p : Private) (word : ℕ) → p.phase ≡ at.Giving → took_of p word ≡ crossed p
+-- after it the mailbox waits to be swapped
+pub swaps : (p : Private) (word : ℕ) → TakesBox p.phase → IsSwapping (took_of p word).phase
 unfolding took_of took_at
-crosses p word is = ap (took_at p word) is
+swaps p word taking = by p.phase taking
+  where
+    by : (phase : phases.Phase) → TakesBox phase → IsSwapping (took_at p word phase).phase
+    by at.Crossing is = tt
+    by at.Leaving is = tt
+    by _ is = absurd is
 
-swaps : (p : Private) (word : ℕ) → p.phase ≡ at.Crossing → IsSwapping (took_of p word).phase
-swaps p word is = subst (λ (q : Private). IsSwapping q.phase) (sym (learns_taken p word is)) tt
+-- A step that gives it back.
+gives_op : (p : Private) → gives_back p.phase ≡ true → next_of p ≡ ops.GiveBox p.number (p.epoch + 1)
+unfolding next_of next_at
+gives_op p giving = by p.phase giving
+  where
+    by : (phase : phases.Phase) → gives_back phase ≡ true → next_at p phase ≡ ops.GiveBox p.number (p.epoch + 1)
+    by at.Giving is = refl
+    by at.Parting is = refl
+    by _ is = absurd (true≢false (sym is))
+
+-- it takes none
+pub gives_none : (phase : phases.Phase) → gives_back phase ≡ true → TakesNone phase
+gives_none at.Giving is = tt
+gives_none at.Parting is = tt
+gives_none _ is = absurd (true≢false (sym is))
+
+-- and ends the work
+pub back_ends : (p : Private) (word : ℕ) → gives_back p.phase ≡ true → is_busy (took_of p word) ≡ false
+unfolding took_of took_at
+back_ends p word giving = by p.phase giving
+  where
+    by : (phase : phases.Phase) → gives_back phase ≡ true → is_busy (took_at p word phase) ≡ false
+    by at.Giving is = refl
+    by at.Parting is = refl
+    by _ is = absurd (true≢false (sym is))
 
 pub takes_box : (key : Core) (slots id : ℕ) (t : Seated) (p : Private) (op : Op) (f : ℕ → ℕ) (st : Step (Option Contents))
-    → p ≡ told (mutator key t.number) t.log → is_busy p ≡ true → p.phase ≡ at.Crossing → op ≡ next_of p → ((n : ℕ) → f n ≡ written op n)
+    → p ≡ told (mutator key t.number) t.log → is_busy p ≡ true → TakesBox p.phase → op ≡ next_of p → ((n : ℕ) → f n ≡ written op n)
     → Operates key (Kind.Steps None) slots id (Mutates t, []) (index_of (length key.words) (length key.headers) op) f (TakenBy p st (Mutates t, []))
-takes_box key slots id t p op f st is_p busy crossing is_op does s h len at_id fit =
+takes_box key slots id t p op f st is_p busy taking is_op does s h len at_id fit =
     let x : ℕ = t.number in
     let here : Here key s h t None p op = here_at key s h id t None p op at_id is_p busy is_op in
     let v : Core = before (after_moves key h.run) x None in
     let kept : IsKept v = world_kept v here.world in
     let n : ℕ = get_or s.words (index_of (length key.words) (length key.headers) op) 0 in
     let m : Private = mutator v x in
-    let phase : m.phase ≡ at.Crossing = ap (λ (q : Private). q.phase) here.is ∙ crossing in
+    let phase : TakesBox m.phase = subst (λ (q : Private). TakesBox q.phase) (sym here.is) taking in
+    let may : MayStep v x = may_step v x kept here.here here.busy in
     let number : m.number ≡ x = (actor_of v x kept here.here).own.number in
     let at_x : p.number - 1 ≡ x - 1 = ap (λ (q : Private). q.number - 1) (sym here.is) ∙ ap (λ k. k - 1) number in
     let took : took_of m (found_by v x) ≡ took_of p n = λ j. took_of (here.is j) (sym here.found j) in
-    let is_spare : box v x ≡ spare (took_of p n) = (may_step v x kept here.here here.busy).spare (swaps m (found_by v x) phase) ∙ ap spare took in
+    let is_spare : box v x ≡ spare (took_of p n) = may.spare (swaps m (found_by v x) phase) ∙ ap spare took in
+    let word : crossing_of v x ≡ crossing_word m.epoch Spare =
+    sym (ap (cell (cells_of v)) (takes_op m phase) ∙ ap (crossing_of v) number) ∙ subst (λ (o : Op). IsFound m o (found_by v x)) (takes_op m phase) may.found in
     let words_many = kept.mutators.words in
     let boxes_many = kept.mutators.mailboxes in
     let home : get_elem? s.homes (p.number - 1) ≡ some (some (Some (spare (took_of p n)))) =
     (λ j. get_elem? (here.homes j) (at_x j))
     ∙ homes_at v.crossing v.boxes (x - 1) (collectors.blank 0 0) (omega (arith, words_many, here.here.0, here.here.1)) (omega (arith, boxes_many, here.here.0, here.here.1))
-    ∙ ap (λ k. some k) (home_even (crossing_of v x) (box v x) (ap (λ k. k % 2) (behind_of v x kept here.here phase).1.word ∙ even_zero m.epoch) ∙ ap (λ b. some (Some b)) is_spare) in
+    ∙ ap (λ k. some k) (home_even (crossing_of v x) (box v x) (ap (λ k. k % 2) word ∙ even_zero m.epoch) ∙ ap (λ b. some (Some b)) is_spare) in
     let left : left_of (took_of m (found_by v x)) (box v x) ≡ (took_of p n).log = left_log (took_of m (found_by v x)) (box v x) (swaps m (found_by v x) phase) ∙ ap (λ (q : Private). q.log) took in
     let crossing_after : (stepped v x).crossing ≡ set v.crossing (x - 1) (crossing_word (m.epoch + 1) WithMutator) =
     ap (λ o. (with_cell (cells_of v) o (written o (found_by v x))).crossing) (takes_op m phase) ∙ ap (λ k. set v.crossing (k - 1) (crossing_word (m.epoch + 1) WithMutator)) number in
@@ -92,7 +128,7 @@ takes_box key slots id t p op f st is_p busy crossing is_op does s h len at_id f
     ∙ ap (λ k. set (homes_of v.crossing v.boxes) (x - 1) k) (sym (home_odd (crossing_word (m.epoch + 1) WithMutator) (left_of (took_of m (found_by v x)) (box v x)) (odd_one (m.epoch + 1))))
     ∙ sym (homes_set v.crossing v.boxes (x - 1) (crossing_word (m.epoch + 1) WithMutator) (left_of (took_of m (found_by v x)) (box v x)))
     ∙ ap (λ l. homes_of l (stepped v x).boxes) (sym crossing_after) in
-    let hand : (mutator (stepped v x) x).phase ≡ at.Giving → (took_of p n).log ≡ box (stepped v x) x = λ giving.
+    let hand : gives_back (mutator (stepped v x) x).phase ≡ true → (took_of p n).log ≡ box (stepped v x) x = λ giving.
     sym left ∙ sym (get_or-set_same v.boxes (x - 1) (left_of (took_of m (found_by v x)) (box v x)) (collectors.blank 0 0) (omega (arith, boxes_many, here.here.0, here.here.1))) in
     let after = goes_on key s h id t None p op (f n) (set s.homes (p.number - 1) none) (took_of p n).log at_id here (does n) homes' hand in (
       Mutates (record t { log = t.log ++ beats None n; hand = (took_of p n).log }),
@@ -104,7 +140,7 @@ takes_box key slots id t p op f st is_p busy crossing is_op does s h len at_id f
     )
 
 pub gives_box : (key : Core) (slots id : ℕ) (t : Seated) (p : Private) (op : Op) (f : ℕ → ℕ) (st : Step (Option Contents))
-    → p ≡ told (mutator key t.number) t.log → is_busy p ≡ true → p.phase ≡ at.Giving → op ≡ next_of p → ((n : ℕ) → f n ≡ written op n)
+    → p ≡ told (mutator key t.number) t.log → is_busy p ≡ true → gives_back p.phase ≡ true → op ≡ next_of p → ((n : ℕ) → f n ≡ written op n)
     → Operates key (Kind.Steps None) slots id (Mutates t, (p.number - 1, Some t.hand) ∷ []) (index_of (length key.words) (length key.headers) op) f (GivenBy p st (Mutates t, (p.number - 1, Some t.hand) ∷ []))
 gives_box key slots id t p op f st is_p busy giving is_op does s h len at_id fit =
     let x : ℕ = t.number in
@@ -114,10 +150,10 @@ gives_box key slots id t p op f st is_p busy giving is_op does s h len at_id fit
     let kept : IsKept v = world_kept v here.world in
     let n : ℕ = get_or s.words (index_of (length key.words) (length key.headers) op) 0 in
     let m : Private = mutator v x in
-    let phase : m.phase ≡ at.Giving = ap (λ (q : Private). q.phase) here.is ∙ giving in
+    let phase : gives_back m.phase ≡ true = ap (λ (q : Private). gives_back q.phase) here.is ∙ giving in
     let number : m.number ≡ x = (actor_of v x kept here.here).own.number in
     let at_x : p.number - 1 ≡ x - 1 = ap (λ (q : Private). q.number - 1) (sym here.is) ∙ ap (λ k. k - 1) number in
-    let none_taken : TakesNone m.phase = subst TakesNone (sym phase) tt in
+    let none_taken : TakesNone m.phase = gives_none m.phase phase in
     let left : left_of (took_of m (found_by v x)) (box v x) ≡ box v x = left_same (took_of m (found_by v x)) (box v x) (step_between (learnt_made m (found_by v x) (box v x) here.busy none_taken)) in
     let mine = h.each id (Mutates t) at_id in
     let hand : t.hand ≡ box v x = mine.4 phase in
@@ -128,9 +164,8 @@ gives_box key slots id t p op f st is_p busy giving is_op does s h len at_id fit
     ∙ ap (λ k. set (homes_of v.crossing v.boxes) (x - 1) k) (sym (home_even (crossing_word (m.epoch + 1) Retired) (left_of (took_of m (found_by v x)) (box v x)) (even_two (m.epoch + 1))))
     ∙ sym (homes_set v.crossing v.boxes (x - 1) (crossing_word (m.epoch + 1) Retired) (left_of (took_of m (found_by v x)) (box v x)))
     ∙ ap (λ l. homes_of l (stepped v x).boxes) (sym crossing_after) in
-    let learnt_is : learnt p (Saw n) ≡ crossed p = here_same p n (spare (took_of p n)) busy (subst TakesNone (sym giving) tt) ∙ crosses p n giving in
-    let over : (mutator (stepped v x) x).phase ≡ at.Giving → t.hand ≡ box (stepped v x) x = λ again.
-    absurd (true≢false (ap is_giving (sym again) ∙ ap (λ (q : Private). is_giving q.phase) (here.learns ∙ learnt_is))) in
+    let over : gives_back (mutator (stepped v x) x).phase ≡ true → t.hand ≡ box (stepped v x) x = λ again.
+    absurd (true≢false (sym again ∙ ap (λ (q : Private). gives_back q.phase) (here.learns ∙ here_same p n (spare (took_of p n)) busy (gives_none p.phase giving)) ∙ idle_here (took_of p n).phase (back_ends p n giving))) in
     let after = goes_on key s h id t None p op (f n) (set s.homes (p.number - 1) (some (Some t.hand))) t.hand at_id here (does n) homes' over in (
       Mutates (record t { log = t.log ++ beats None n }),
       gives,

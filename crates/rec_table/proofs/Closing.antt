@@ -6,16 +6,14 @@ use Rattle.rec_collector.specs.Step.{IsBetween}
 use Rattle.rec_collector.specs.declared.phase.Phase.{Phase}
 use Rattle.rec_collector.specs.declared.phase.Phase.TheVariants.{Looking, Swapping, Returning}
 use Rattle.std.specs.Option.{IfSome}
-use Rattle.rec_table.proofs.Common.{Contents, Private, is_busy, is_busy_at, IsMutator, Op, may_turn, Core, cells_of, mutator, nobody, IsKept, IsHandshake, Handshake, stand_at, stand_in, after_moves, IsWorld, world_kept, told, gathered_all, cells_of_row, boxes_at, boxes_out, CollectorSeat, config_after}
+use Rattle.rec_table.proofs.Common.{Contents, Private, is_busy, IsMutator, Op, may_turn, Core, cells_of, mutator, nobody, IsKept, IsHandshake, Handshake, stand_at, stand_in, after_moves, IsWorld, world_kept, told, gathered_all, cells_of_row, boxes_at, boxes_out, CollectorSeat, config_after}
 use Rattle.rec_word.specs.declared.op.Op.TheVariants as ops
-use Rattle.rec_mutator.specs.Causes.{gives_back}
-use Rattle.rec_mutator.specs.declared.phase.Phase as phases
-use Rattle.rec_mutator.specs.declared.phase.Phase.TheVariants as at
 use Rattle.rec_core.specs.Preconditions.{MayTurn}
 use Rattle.rec_table.proofs.Turns.{held_so, returns_op}
 use Rattle.rec_core.specs.declared.config.Config.{Config}
 use Rattle.rec_table.specs.Ends.{IsRunOf}
 use Rattle.rec_table.proofs.Ends.{same_boxes}
+use Rattle.rec_core.proofs.Actors.{idle_here}
 use Rattle.rec_core.proofs.Row.{cells_row}
 use Rattle.rec_table.proofs.Seats.{all_home}
 use Rattle.rec_table.proofs.Steps.{places_after, slots_after}
@@ -47,27 +45,18 @@ not_held c t phase between none = go (has_left c.left t)
     go true = refl
     go false = present phase between none
 
--- an idle mutator gives no mailbox back
-idle_gives_none : (p : Private) → is_busy p ≡ false → gives_back p.phase ≡ true → ⊥
-idle_gives_none p idle gives = by p.phase idle gives
-  where
-    by : (phase : phases.Phase) → is_busy_at phase ≡ false → gives_back phase ≡ true → ⊥
-    by at.Giving idle gives = true≢false idle
-    by at.Parting idle gives = true≢false idle
-    by _ idle gives = true≢false (sym gives)
-
 even_at : (config : Config) (requested : ℕ) (p : Private) (x : ℕ) (b : Contents) (st : Handshake) → is_held st ≡ false → is_busy p ≡ false → IsHandshake config requested p x b st → x % 2 ≡ 0
 unfolding is_held
 even_at config requested p x b Handshake.Done free idle h =
     ⊎_elim
     (λ done. let e = done.0.word in omega (arith, e))
-    (λ ahead. ⊎_elim (λ leaving. absurd (idle_gives_none p idle leaving.0.phase)) (λ retired. let e = retired.word in omega (arith, e)) ahead)
+    (λ ahead. ⊎_elim (λ leaving. absurd (true≢false (sym leaving.0.phase ∙ idle_here p.phase idle))) (λ retired. let e = retired.word in omega (arith, e)) ahead)
     h
 even_at config requested p x b Handshake.Held free idle h = absurd (true≢false free)
 even_at config requested p x b Handshake.Due free idle h =
     ⊎_elim
     (λ behind. let e = behind.word in omega (arith, e))
-    (λ other. ⊎_elim (λ crossing. absurd (idle_gives_none p idle crossing.phase)) (λ crossed. let e = crossed.0.word in omega (arith, e)) other)
+    (λ other. ⊎_elim (λ crossing. absurd (true≢false (sym crossing.phase ∙ idle_here p.phase idle))) (λ crossed. let e = crossed.0.word in omega (arith, e)) other)
     h
 even_at config requested p x b Handshake.Gone free idle h = let e = h.word in omega (arith, e)
 

@@ -11,6 +11,7 @@ pub mod Common
 pub mod Ends
 pub mod Gathering
 pub mod Journals
+pub mod Leaving
 pub mod Lines
 pub mod Lists
 pub mod Making

@@ -9,12 +9,13 @@ use Rattle.rec_mutator.specs.declared.phase.Phase.TheVariants as at
 use Rattle.rec_mutator.specs.declared.work.Work.{Work}
 use Rattle.rec_mutator.specs.declared.work.Work.TheVariants as works
 use Rattle.rec_mutator.proofs.Leaving.{parts_from}
-use Rattle.rec_mutator.proofs.Steps.{step_between, step_made}
+use Rattle.rec_mutator.proofs.Steps.{step_made}
 use Rattle.rec_core.proofs.Leaving.{leaves_at_last, lets_go}
 use Rattle.rec_table.specs.Journals.{Tells, journal, line_at, line_in, line_of}
 use Rattle.rec_table.specs.declared.start.Start.{Start}
 use Rattle.rec_table.proofs.Answering.{Path}
 use Rattle.rec_table.proofs.Journals.{journal_both}
+use Rattle.rec_table.proofs.Making.{learnt_between}
 use Rattle.rec_model.specs.Asking.{plain}
 use Rattle.rec_model.specs.LegalOrder.{Line}
 use Rattle.rec_model.specs.declared.answer.Answer.TheVariants as answers
@@ -36,7 +37,7 @@ still_busy p word busy = by (is_busy p) refl
     by false e = absurd (true≢false (sym busy ∙ step_stays p word (spare (took_of p word)) p.phase refl e))
 
 -- and before any number of steps
-busy_before : (p : Private) (words : List ℕ) → is_busy (told p (saw_all words)) ≡ true → is_busy p ≡ true
+pub busy_before : (p : Private) (words : List ℕ) → is_busy (told p (saw_all words)) ≡ true → is_busy p ≡ true
 busy_before p [] busy = busy
 busy_before p (word ∷ words) busy = still_busy p word (busy_before (learnt p (Saw word)) words busy)
 
@@ -83,10 +84,6 @@ step_tells p word between busy goes = by p.phase refl
     by at.Parting e = absurd (true≢false (sym goes ∙ ap is_busy (leaves_at_last p word (spare (took_of p word)) e).after))
     by _ e = tells_in _ e ∙ untold _ e (λ is. cc)
 
--- after it no mailbox waits to be swapped
-still_between : (p : Private) (word : ℕ) → IsBetween p.phase → is_busy p ≡ true → IsBetween (learnt p (Saw word)).phase
-still_between p word between busy = step_between (step_made p word (spare (took_of p word)) busy between)
-
 -- so do all steps of a work that goes on
 steps_tell : (p : Private) (words : List ℕ) → IsBetween p.phase → is_busy (told p (saw_all words)) ≡ true → told_at p.phase ++ journal p (saw_all words) ≡ told_at (told p (saw_all words)).phase
 steps_tell p [] between busy = append-nil (told_at p.phase)
@@ -95,7 +92,7 @@ steps_tell p (word ∷ words) between busy =
     let goes : is_busy q ≡ true = busy_before q words busy in
     sym (append_assoc (told_at p.phase) (line_in p (Saw word)) (journal q (saw_all words)))
     ∙ ap (λ (l : List Line). l ++ journal q (saw_all words)) (step_tells p word between (busy_before p (word ∷ words) busy) goes)
-    ∙ steps_tell q words (still_between p word between (busy_before p (word ∷ words) busy)) busy
+    ∙ steps_tell q words (learnt_between p word (busy_before p (word ∷ words) busy) between) busy
 
 -- and the step that ends it tells what is left of its line
 last_tells : (p : Private) (word : ℕ) (work : Work) (made : Made) → work_of p ≡ Some work → answer_of (learnt p (Saw word)) ≡ Some made → told_at p.phase ++ line_in p (Saw word) ≡ line_of (Some work) (Some made)

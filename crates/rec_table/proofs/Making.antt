@@ -1,29 +1,24 @@
 -- The calls of a mutator's step, with or without a mailbox.
-use Rattle.std.proofs.Common.{◌≡◌, inl, inr, ℕ, ◌+◌, ◌-◌, ◌%◌, ◌^◌, arith, Bool, true, false, true≢false, List, [], ◌∷◌, ◌++◌, length, IfSome, Option, Some, None, refl, sym, ap, ◌∙◌, subst, append-nil, append_assoc}
+use Rattle.std.proofs.Common.{◌≡◌, inl, inr, ℕ, ◌+◌, ◌-◌, ◌%◌, ◌^◌, arith, true, false, true≢false, List, [], ◌∷◌, ◌++◌, length, Option, Some, None, refl, sym, ap, ◌∙◌, subst, append-nil, append_assoc}
 use Rattle.atomic_table.specs.Table.{Me, Step, rest}
-use Rattle.rec_table.proofs.Common.{written, Op, Contents, Private, is_busy, is_busy_at, work_of, KeepsSizes, begun_of, took_of, step_of, swapped_of, swapped_at, left_at, spare, left_of, IsFound, IsBetween, births_of, IsNoLeave, MutatorView, IsTold, Works, HasScanned, saw_all, Beat, Core, mutator, IsOwnOp, learns_taken, own_next, told, learnt, births_told, index_of, Kind, Operates, ready, MayGo, MadeBy, TakenBy, GivenBy, beats, adds, takes_view, seated_of, hands, hands_at, hand_after, taken_by, seated_after, me_after, Saw, Seated, View, Mutates}
+use Rattle.rec_table.proofs.Common.{written, Op, Contents, Private, is_busy, work_of, KeepsSizes, begun_of, took_of, step_of, swapped_of, swapped_at, spare, left_of, gives_back, TakesBox, IsFound, IsBetween, IsSwapping, births_of, MutatorView, IsTold, Works, HasScanned, saw_all, Beat, Core, mutator, IsOwnOp, own_next, told, learnt, births_told, index_of, Kind, Operates, ready, MayGo, MadeBy, TakenBy, GivenBy, beats, adds, takes_view, seated_of, hands, hands_at, hand_after, taken_by, seated_after, me_after, Saw, Seated, View, Mutates}
 use Rattle.rec_word.specs.declared.op.Op.TheVariants as ops
-use Rattle.rec_mutator.specs.Causes.{is_giving}
 use Rattle.rec_mutator.specs.Next.{next_of, next_at}
 use Rattle.rec_mutator.specs.Step.{NamesSlots}
 use Rattle.rec_mutator.specs.declared.phase.Phase as phases
 use Rattle.rec_mutator.specs.declared.phase.Phase.TheVariants as at
-use Rattle.rec_mutator.specs.Took.{parted, took_at}
-use Rattle.rec_mutator.specs.Private.{work_at}
+use Rattle.rec_mutator.specs.Took.{took_at}
 use Rattle.rec_mutator.specs.declared.work.Work.{Work}
-use Rattle.rec_mutator.specs.declared.work.Work.TheVariants as works
-use Rattle.rec_model.specs.Asking.{allocation}
-use Rattle.rec_model.specs.declared.command.Cmd.TheVariants as commands
-use Rattle.rec_core.specs.Staying.{HasStayed}
-use Rattle.rec_table.specs.Rule.{Remains, RemainsAt}
 use Rattle.rec_mutator.proofs.Steps.{TakesNone, here_same, step_between, step_made}
-use Rattle.rec_mutator.proofs.Sizes.{took_keeps, step_keeps, step_counts, step_left}
+use Rattle.rec_mutator.proofs.Sizes.{took_keeps, step_keeps, step_counts}
 use Rattle.rec_mutator.specs.Step.{Decides, GoesOn, Crosses, Step as MutatorStep}
 use Rattle.rec_model.specs.declared.command.Cmd.{Cmd}
 use Rattle.rec_model.specs.declared.told.Told.{Told}
 use Rattle.rec_log.specs.declared.entry.Entry.{Entry}
 use Rattle.rec_table.specs.declared.start.Start.{Start}
-use Rattle.rec_table.proofs.Boxes.{takes_box, gives_box, crosses, takes_op}
+use Rattle.rec_core.proofs.Actors.{idle_here}
+use Rattle.rec_world.proofs.Mailboxes.{left_log}
+use Rattle.rec_table.proofs.Boxes.{takes_box, back_ends, gives_box, swaps, takes_op}
 use Rattle.rec_table.proofs.Calls.{IsLoad}
 use Rattle.rec_table.proofs.Acting.{told_beats}
 use Rattle.rec_table.proofs.Steps.{steps, IsPlain, IsPlainOp, plain_next, left_plain}
@@ -45,61 +40,64 @@ not_give (ops.GiveBox t e) is give = is
 not_give _ is give = give
 
 -- the phase is told by the operation
-pub plain_phase : (p : Private) (op : Op) → op ≡ next_of p → Remains p → IsPlainOp op → IsPlain p.phase
+pub plain_phase : (p : Private) (op : Op) → op ≡ next_of p → IsBetween p.phase → IsPlainOp op → IsPlain p.phase
 unfolding next_of next_at
-plain_phase p op is remains plain_op = by p.phase remains.0 (subst IsPlainOp is plain_op)
+plain_phase p op is between plain_op = by p.phase between (subst IsPlainOp is plain_op)
   where
-    by : (phase : phases.Phase) → RemainsAt phase → IsPlainOp (next_at p phase) → IsPlain phase
+    by : (phase : phases.Phase) → IsBetween phase → IsPlainOp (next_at p phase) → IsPlain phase
     by at.Crossing b o = o
     by at.Swapping b o = b
     by at.Giving b o = o
-    by at.Leaving b o = b
+    by at.Leaving b o = o
     by at.Retiring b o = b
-    by at.Parting b o = b
+    by at.Parting b o = o
     by _ b o = tt
 
-pub crossing_phase : (p : Private) (op : Op) → op ≡ next_of p → Remains p → IsTakeOp op → p.phase ≡ at.Crossing
+pub taking_phase : (p : Private) (op : Op) → op ≡ next_of p → IsBetween p.phase → IsTakeOp op → TakesBox p.phase
 unfolding next_of next_at
-crossing_phase p op is remains take = by p.phase refl remains.0
+taking_phase p op is between take = by p.phase refl between
   where
     no : IsPlain p.phase → ⊥
     no calm = not_take (next_of p) (plain_next p calm) (subst IsTakeOp is take)
 
-    by : (phase : phases.Phase) → p.phase ≡ phase → RemainsAt phase → p.phase ≡ at.Crossing
-    by at.Crossing e b = e
+    by : (phase : phases.Phase) → p.phase ≡ phase → IsBetween phase → TakesBox phase
+    by at.Crossing e b = tt
     by at.Swapping e b = absurd b
     by at.Giving e b = absurd (subst IsTakeOp (is ∙ ap (next_at p) e) take)
-    by at.Leaving e b = absurd b
+    by at.Leaving e b = tt
     by at.Retiring e b = absurd b
-    by at.Parting e b = absurd b
+    by at.Parting e b = absurd (subst IsTakeOp (is ∙ ap (next_at p) e) take)
     by _ e b = absurd (no (subst IsPlain (sym e) tt))
 
-pub giving_phase : (p : Private) (op : Op) → op ≡ next_of p → Remains p → IsGiveOp op → p.phase ≡ at.Giving
+pub giving_phase : (p : Private) (op : Op) → op ≡ next_of p → IsBetween p.phase → IsGiveOp op → gives_back p.phase ≡ true
 unfolding next_of next_at
-giving_phase p op is remains give = by p.phase refl remains.0
+giving_phase p op is between give = by p.phase refl between
   where
     no : IsPlain p.phase → ⊥
     no calm = not_give (next_of p) (plain_next p calm) (subst IsGiveOp is give)
 
-    by : (phase : phases.Phase) → p.phase ≡ phase → RemainsAt phase → p.phase ≡ at.Giving
+    by : (phase : phases.Phase) → p.phase ≡ phase → IsBetween phase → gives_back phase ≡ true
     by at.Crossing e b = absurd (subst IsGiveOp (is ∙ ap (next_at p) e) give)
     by at.Swapping e b = absurd b
-    by at.Giving e b = e
-    by at.Leaving e b = absurd b
+    by at.Giving e b = refl
+    by at.Leaving e b = absurd (subst IsGiveOp (is ∙ ap (next_at p) e) give)
     by at.Retiring e b = absurd b
-    by at.Parting e b = absurd b
+    by at.Parting e b = refl
     by _ e b = absurd (no (subst IsPlain (sym e) tt))
 
 plain_hands : (hand : Contents) (number : ℕ) (phase : phases.Phase) → IsPlain phase → hands_at hand number phase ≡ []
 plain_hands hand number at.Giving is = absurd is
+plain_hands hand number at.Parting is = absurd is
 plain_hands hand number _ is = refl
 
 plain_taken : (p : Private) (word : ℕ) (phase : phases.Phase) → IsPlain phase → taken_by p word phase ≡ []
 plain_taken p word at.Crossing is = absurd is
+plain_taken p word at.Leaving is = absurd is
 plain_taken p word _ is = refl
 
 plain_hand : (hand x : Contents) (phase : phases.Phase) → IsPlain phase → hand_after hand x phase ≡ hand
 plain_hand hand x at.Crossing is = absurd is
+plain_hand hand x at.Leaving is = absurd is
 plain_hand hand x _ is = refl
 
 -- a plain step
@@ -120,69 +118,94 @@ made_plain t p wk picked word me me' is picks calm now =
     ∙ (λ k. (adds (is k).0 (beats (picks k) word), (is k).1))
     ∙ (λ k. (Mutates (record t { log = t.log ++ beats wk word; hand = sym (plain_hand t.hand (took_of q word).log q.phase calm) k }), (plain_hands t.hand q.number q.phase calm ∙ sym (plain_taken q word q.phase calm)) k))
 
-is_begun : phases.Phase → Bool
-is_begun (at.Begun work) = true
-is_begun _ = false
+-- the first step of a work neither takes the mailbox nor gives it back
+begun_takes_none : (p : Private) (work : Work) (from : ℕ) → TakesBox (begun_of p work from).phase → ⊥
+unfolding begun_of
+begun_takes_none p work from takes = takes
 
-begun_phase : (p : Private) (work : Work) (from : ℕ) → is_begun (begun_of p work from).phase ≡ true
-unfolding begun_of is_begun
-begun_phase p work from = refl
+begun_gives_none : (p : Private) (work : Work) (from : ℕ) → gives_back (begun_of p work from).phase ≡ false
+unfolding begun_of
+begun_gives_none p work from = refl
 
-not_crossing : (phase : phases.Phase) → phase ≡ at.Crossing → is_begun phase ≡ true → ⊥
-unfolding is_begun
-not_crossing phase e b = true≢false (sym b ∙ ap is_begun e)
+-- what a seat has of a mailbox that it is to take
+taking_hands : (hand : Contents) (number : ℕ) (phase : phases.Phase) → TakesBox phase → hands_at hand number phase ≡ []
+taking_hands hand number at.Crossing is = refl
+taking_hands hand number at.Leaving is = refl
+taking_hands hand number _ is = absurd is
 
-not_giving_begun : (phase : phases.Phase) → phase ≡ at.Giving → is_begun phase ≡ true → ⊥
-unfolding is_begun
-not_giving_begun phase e b = true≢false (sym b ∙ ap is_begun e)
+taking_hand : (hand retired : Contents) (phase : phases.Phase) → TakesBox phase → hand_after hand retired phase ≡ retired
+taking_hand hand retired at.Crossing is = refl
+taking_hand hand retired at.Leaving is = refl
+taking_hand hand retired _ is = absurd is
+
+taking_taken : (p : Private) (word : ℕ) (phase : phases.Phase) → TakesBox phase → taken_by p word phase ≡ (p.number - 1, Some (spare (took_of p word))) ∷ []
+taking_taken p word at.Crossing is = refl
+taking_taken p word at.Leaving is = refl
+taking_taken p word _ is = absurd is
+
+-- and of one that it is to give back
+giving_hands : (hand : Contents) (number : ℕ) (phase : phases.Phase) → gives_back phase ≡ true → hands_at hand number phase ≡ (number - 1, Some hand) ∷ []
+giving_hands hand number at.Giving is = refl
+giving_hands hand number at.Parting is = refl
+giving_hands hand number _ is = absurd (true≢false (sym is))
+
+giving_hand : (hand x : Contents) (phase : phases.Phase) → gives_back phase ≡ true → hand_after hand x phase ≡ hand
+giving_hand hand x at.Giving is = refl
+giving_hand hand x at.Parting is = refl
+giving_hand hand x _ is = absurd (true≢false (sym is))
+
+giving_taken : (p : Private) (word : ℕ) (phase : phases.Phase) → gives_back phase ≡ true → taken_by p word phase ≡ []
+giving_taken p word at.Giving is = refl
+giving_taken p word at.Parting is = refl
+giving_taken p word _ is = absurd (true≢false (sym is))
 
 -- a step that takes the mailbox
 pub allows_taking : (key : Core) (slots id i : ℕ) (me : Me (Option Contents) View) (op : Op) (wk : Option Start) (p : Private) (f : ℕ → ℕ) (st : Step (Option Contents))
-    → me ≡ (Mutates (seated_of me.0), hands (seated_of me.0) (ready p wk)) → p ≡ told (mutator key (seated_of me.0).number) (seated_of me.0).log → MayGo p wk → (ready p wk).phase ≡ at.Crossing
+    → me ≡ (Mutates (seated_of me.0), hands (seated_of me.0) (ready p wk)) → p ≡ told (mutator key (seated_of me.0).number) (seated_of me.0).log → MayGo p wk → TakesBox (ready p wk).phase
     → op ≡ next_of (ready p wk) → i ≡ index_of (length key.words) (length key.headers) op → ((n : ℕ) → f n ≡ written op n)
     → Operates key (Kind.Steps None) slots id me i f (TakenBy p st me)
-allows_taking key slots id i me op None p f st is is_p may crossing is_op at does =
+allows_taking key slots id i me op None p f st is is_p may takes is_op at does =
     let t : Seated = seated_of me.0 in
-    let all = takes_box key slots id t p op f st is_p may crossing is_op does in
-    subst (λ (y : Me (Option Contents) View × ℕ). Operates key (Kind.Steps None) slots id y.0 y.1 f (TakenBy p st y.0)) (λ k. (sym (is ∙ (λ j. (Mutates t, hands_at t.hand p.number (crossing j)))) k, sym at k)) all
-allows_taking key slots id i me op (Some start) p f st is is_p may crossing is_op at does = absurd (not_crossing (begun_of p start.work start.from).phase crossing (begun_phase p start.work start.from))
+    let all = takes_box key slots id t p op f st is_p may takes is_op does in
+    subst (λ (y : Me (Option Contents) View × ℕ). Operates key (Kind.Steps None) slots id y.0 y.1 f (TakenBy p st y.0)) (λ k. (sym (is ∙ (λ j. (Mutates t, taking_hands t.hand p.number p.phase takes j))) k, sym at k)) all
+allows_taking key slots id i me op (Some start) p f st is is_p may takes is_op at does = absurd (begun_takes_none p start.work start.from takes)
 
 pub made_taking : (t : Seated) (p : Private) (op : Op) (wk : Option Start) (st : Step (Option Contents)) (word : ℕ) (me me' : Me (Option Contents) View)
-    → me ≡ (Mutates t, hands t (ready p wk)) → (ready p wk).phase ≡ at.Crossing → op ≡ next_of (ready p wk) → TakenBy p st me word me'
+    → me ≡ (Mutates t, hands t (ready p wk)) → TakesBox (ready p wk).phase → op ≡ next_of (ready p wk) → TakenBy p st me word me'
     → (me' ≡ me_after t (ready p wk) wk word) × IsFound (ready p wk) op word × NamesSlots (learnt (ready p wk) (Saw word))
-made_taking t p op None st word me me' is crossing is_op (now, found, names) = (
+made_taking t p op None st word me me' is takes is_op (now, found, names) = (
   now
       ∙ (λ k. (takes_view (is k).0 (took_of p word).log (beats None word), (p.number - 1, Some (spare (took_of p word))) ∷ (is k).1))
-      ∙ (λ k. (Mutates (record t { log = t.log ++ beats None word; hand = hand_after t.hand (took_of p word).log (sym crossing k) }), (p.number - 1, Some (spare (took_of p word))) ∷ hands_at t.hand p.number (crossing k)))
-      ∙ (λ k. (Mutates (seated_after t p None word), taken_by p word (sym crossing k))),
+      ∙ (λ k. (Mutates (record t { log = t.log ++ beats None word; hand = sym (taking_hand t.hand (took_of p word).log p.phase takes) k }), (p.number - 1, Some (spare (took_of p word))) ∷ taking_hands t.hand p.number p.phase takes k))
+      ∙ (λ k. (Mutates (seated_after t p None word), sym (taking_taken p word p.phase takes) k)),
   subst (λ (o : Op). IsFound p o word) (sym is_op) found,
   names,
 )
-made_taking t p op (Some start) st word me me' is crossing is_op by = absurd (not_crossing (begun_of p start.work start.from).phase crossing (begun_phase p start.work start.from))
+made_taking t p op (Some start) st word me me' is takes is_op by = absurd (begun_takes_none p start.work start.from takes)
 
 -- a step that gives it back
 pub allows_giving : (key : Core) (slots id i : ℕ) (me : Me (Option Contents) View) (op : Op) (wk : Option Start) (p : Private) (f : ℕ → ℕ) (st : Step (Option Contents))
-    → me ≡ (Mutates (seated_of me.0), hands (seated_of me.0) (ready p wk)) → p ≡ told (mutator key (seated_of me.0).number) (seated_of me.0).log → MayGo p wk → (ready p wk).phase ≡ at.Giving
+    → me ≡ (Mutates (seated_of me.0), hands (seated_of me.0) (ready p wk)) → p ≡ told (mutator key (seated_of me.0).number) (seated_of me.0).log → MayGo p wk → gives_back (ready p wk).phase ≡ true
     → op ≡ next_of (ready p wk) → i ≡ index_of (length key.words) (length key.headers) op → ((n : ℕ) → f n ≡ written op n)
     → Operates key (Kind.Steps None) slots id me i f (GivenBy p st me)
 allows_giving key slots id i me op None p f st is is_p may giving is_op at does =
     let t : Seated = seated_of me.0 in
     let all = gives_box key slots id t p op f st is_p may giving is_op does in
-    subst (λ (y : Me (Option Contents) View × ℕ). Operates key (Kind.Steps None) slots id y.0 y.1 f (GivenBy p st y.0)) (λ k. (sym (is ∙ (λ j. (Mutates t, hands_at t.hand p.number (giving j)))) k, sym at k)) all
-allows_giving key slots id i me op (Some start) p f st is is_p may giving is_op at does = absurd (not_giving_begun (begun_of p start.work start.from).phase giving (begun_phase p start.work start.from))
+    subst (λ (y : Me (Option Contents) View × ℕ). Operates key (Kind.Steps None) slots id y.0 y.1 f (GivenBy p st y.0)) (λ k. (sym (is ∙ (λ j. (Mutates t, giving_hands t.hand p.number p.phase giving j))) k, sym at k)) all
+allows_giving key slots id i me op (Some start) p f st is is_p may giving is_op at does = absurd (true≢false (sym giving ∙ begun_gives_none p start.work start.from))
 
 pub made_giving : (t : Seated) (p : Private) (op : Op) (wk : Option Start) (st : Step (Option Contents)) (word : ℕ) (me me' : Me (Option Contents) View)
-    → me ≡ (Mutates t, hands t (ready p wk)) → (ready p wk).phase ≡ at.Giving → op ≡ next_of (ready p wk) → GivenBy p st me word me'
+    → me ≡ (Mutates t, hands t (ready p wk)) → gives_back (ready p wk).phase ≡ true → op ≡ next_of (ready p wk) → GivenBy p st me word me'
     → (me' ≡ me_after t (ready p wk) wk word) × IsFound (ready p wk) op word × NamesSlots (learnt (ready p wk) (Saw word))
 made_giving t p op None st word me me' is giving is_op (now, found, names) = (
   now
       ∙ (λ k. (adds (is k).0 (beats None word), rest (is k).1))
-      ∙ (λ k. (Mutates (record t { log = t.log ++ beats None word; hand = hand_after t.hand (took_of p word).log (sym giving k) }), rest (hands_at t.hand p.number (giving k))))
-      ∙ (λ k. (Mutates (seated_after t p None word), taken_by p word (sym giving k))),
+      ∙ (λ k. (Mutates (record t { log = t.log ++ beats None word; hand = sym (giving_hand t.hand (took_of p word).log p.phase giving) k }), rest (giving_hands t.hand p.number p.phase giving k)))
+      ∙ (λ k. (Mutates (seated_after t p None word), sym (giving_taken p word p.phase giving) k)),
   subst (λ (o : Op). IsFound p o word) (sym is_op) found,
   names,
 )
-made_giving t p op (Some start) st word me me' is giving is_op by = absurd (not_giving_begun (begun_of p start.work start.from).phase giving (begun_phase p start.work start.from))
+made_giving t p op (Some start) st word me me' is giving is_op by = absurd (true≢false (sym giving ∙ begun_gives_none p start.work start.from))
 
 pub is_plain_load : (op : Op) → IsLoad op → IsPlainOp op
 is_plain_load op (inl (x, e)) = subst IsPlainOp (sym e) tt
@@ -192,190 +215,109 @@ is_plain_load op (inr (inr (inr (inl (x, e))))) = subst IsPlainOp (sym e) tt
 is_plain_load op (inr (inr (inr (inr e)))) = subst IsPlainOp (sym e) tt
 
 -- What is learnt by a step that takes no mailbox.
-pub takes_none : (phase : phases.Phase) → RemainsAt phase → (phase ≡ at.Crossing → ⊥) → TakesNone phase
-takes_none at.Crossing b ne = absurd (ne refl)
-takes_none at.Swapping b ne = b
-takes_none at.Leaving b ne = b
-takes_none at.Retiring b ne = b
-takes_none _ b ne = tt
+pub takes_none : (phase : phases.Phase) → IsBetween phase → (TakesBox phase → ⊥) → TakesNone phase
+takes_none at.Crossing b never = absurd (never tt)
+takes_none at.Swapping b never = b
+takes_none at.Leaving b never = absurd (never tt)
+takes_none at.Retiring b never = b
+takes_none _ b never = tt
 
 none_taken : (p : Private) (word : ℕ) (phase : phases.Phase) → TakesNone phase → taken_by p word phase ≡ []
 none_taken p word at.Crossing is = absurd is
+none_taken p word at.Leaving is = absurd is
 none_taken p word _ is = refl
 
-no_hands : (hand : Contents) (number : ℕ) (phase : phases.Phase) → (phase ≡ at.Giving → ⊥) → hands_at hand number phase ≡ []
-no_hands hand number at.Giving ne = absurd (ne refl)
-no_hands hand number _ ne = refl
+no_hands : (hand : Contents) (number : ℕ) (phase : phases.Phase) → gives_back phase ≡ false → hands_at hand number phase ≡ []
+no_hands hand number at.Giving not = absurd (true≢false not)
+no_hands hand number at.Parting not = absurd (true≢false not)
+no_hands hand number _ not = refl
 
-parts : (p : Private) (word : ℕ) → p.phase ≡ at.Parting → took_of p word ≡ parted p
-unfolding took_of took_at
-parts p word is = ap (took_at p word) is
-
-never_gives : (p : Private) (word : ℕ) → is_busy p ≡ true → TakesNone p.phase → (took_of p word).phase ≡ at.Giving → ⊥
+never_gives : (p : Private) (word : ℕ) → is_busy p ≡ true → TakesNone p.phase → gives_back (took_of p word).phase ≡ false
 never_gives p word busy none = by p.phase refl none
   where
-    plain_case : IsPlain p.phase → (took_of p word).phase ≡ at.Giving → ⊥
-    plain_case calm giving = left_plain p word calm busy (ap (λ (q : Private). q.phase) (here_same p word (spare (took_of p word)) busy none) ∙ giving)
+    plain_case : IsPlain p.phase → gives_back (took_of p word).phase ≡ false
+    plain_case calm = ap (λ (q : Private). gives_back q.phase) (sym (here_same p word (spare (took_of p word)) busy none)) ∙ left_plain p word calm busy
 
-    by : (phase : phases.Phase) → p.phase ≡ phase → TakesNone phase → (took_of p word).phase ≡ at.Giving → ⊥
+    by : (phase : phases.Phase) → p.phase ≡ phase → TakesNone phase → gives_back (took_of p word).phase ≡ false
     by at.Crossing e n = absurd n
     by at.Swapping e n = absurd n
     by at.Leaving e n = absurd n
     by at.Retiring e n = absurd n
-    by at.Parting e n = λ giving. true≢false (ap is_giving (sym giving) ∙ ap (λ (q : Private). is_giving q.phase) (parts p word e))
-    by at.Giving e n = λ giving. true≢false (ap is_giving (sym giving) ∙ ap (λ (q : Private). is_giving q.phase) (crosses p word e))
+    by at.Giving e n = idle_here (took_of p word).phase (back_ends p word (ap gives_back e))
+    by at.Parting e n = idle_here (took_of p word).phase (back_ends p word (ap gives_back e))
     by _ e n = plain_case (subst IsPlain (sym e) tt)
 
--- between two steps no mailbox waits to be swapped
-pub remains_between : (phase : phases.Phase) → RemainsAt phase → IsBetween phase
-remains_between at.Swapping r = r
-remains_between at.Retiring r = r
-remains_between _ r = tt
-
 -- What each step counts and keeps.
-learnt_step : (p : Private) (word : ℕ) → is_busy p ≡ true → Remains p → MutatorStep p word (spare (took_of p word)) (next_of p) (learnt p (Saw word))
-learnt_step p word busy remains = step_made p word (spare (took_of p word)) busy (remains_between p.phase remains.0)
+learnt_step : (p : Private) (word : ℕ) → is_busy p ≡ true → IsBetween p.phase → MutatorStep p word (spare (took_of p word)) (next_of p) (learnt p (Saw word))
+learnt_step p word busy between = step_made p word (spare (took_of p word)) busy between
 
-pub learnt_counts : (p : Private) (word : ℕ) → is_busy p ≡ true → Remains p → (learnt p (Saw word)).steps ≡ p.steps + 1
-learnt_counts p word busy remains = step_counts (learnt_step p word busy remains)
+pub learnt_counts : (p : Private) (word : ℕ) → is_busy p ≡ true → IsBetween p.phase → (learnt p (Saw word)).steps ≡ p.steps + 1
+learnt_counts p word busy between = step_counts (learnt_step p word busy between)
 
-same_capacity : (p : Private) (word : ℕ) → is_busy p ≡ true → Remains p → (took_of p word).log.capacity ≡ p.log.capacity
-same_capacity p word busy remains = by p.phase refl remains.0
+same_capacity : (p : Private) (word : ℕ) → is_busy p ≡ true → IsBetween p.phase → (took_of p word).log.capacity ≡ p.log.capacity
+unfolding took_of took_at
+same_capacity p word busy between = by p.phase refl between
   where
-    none : TakesNone p.phase → (took_of p word).log.capacity ≡ p.log.capacity
-    none n = (took_keeps p word busy n).0.capacity
-
-    by : (phase : phases.Phase) → p.phase ≡ phase → RemainsAt phase → (took_of p word).log.capacity ≡ p.log.capacity
-    by at.Crossing e b = ap (λ (q : Private). q.log.capacity) (learns_taken p word e)
+    by : (phase : phases.Phase) → p.phase ≡ phase → IsBetween phase → (took_of p word).log.capacity ≡ p.log.capacity
+    by at.Crossing e b = ap (λ (f : phases.Phase). (took_at p word f).log.capacity) e
     by at.Swapping e b = absurd b
-    by at.Leaving e b = absurd b
+    by at.Leaving e b = ap (λ (f : phases.Phase). (took_at p word f).log.capacity) e
     by at.Retiring e b = absurd b
-    by _ e b = none (subst TakesNone (sym e) tt)
+    by _ e b = (took_keeps p word busy (subst TakesNone (sym e) tt)).0.capacity
 
-pub learnt_keeps : (p : Private) (word : ℕ) → is_busy p ≡ true → Remains p → KeepsSizes p (learnt p (Saw word)) × (work_of (learnt p (Saw word)) ≡ work_of p)
-learnt_keeps p word busy remains = step_keeps (same_capacity p word busy remains) (learnt_step p word busy remains)
+pub learnt_keeps : (p : Private) (word : ℕ) → is_busy p ≡ true → IsBetween p.phase → KeepsSizes p (learnt p (Saw word)) × (work_of (learnt p (Saw word)) ≡ work_of p)
+learnt_keeps p word busy between = step_keeps (same_capacity p word busy between) (learnt_step p word busy between)
 
--- a work of a mutator that stays
-begun_remains_at : (work : Work) → IsNoLeave work → RemainsAt (at.Begun work)
-begun_remains_at (works.Command commands.Leave) stays = stays
-begun_remains_at (works.Command (commands.New reg label)) _ = tt
-begun_remains_at (works.Command (commands.Leaf reg label)) _ = tt
-begun_remains_at (works.Command (commands.Null reg)) _ = tt
-begun_remains_at (works.Command (commands.Copy dst src)) _ = tt
-begun_remains_at (works.Command (commands.Get dst src f)) _ = tt
-begun_remains_at (works.Command (commands.Put src f val)) _ = tt
-begun_remains_at (works.Command (commands.Value reg)) _ = tt
-begun_remains_at (works.Command (commands.Same a b)) _ = tt
-begun_remains_at works.Poll _ = tt
-
--- a mutator of a heap whose mutators stay is one
-pub stays_remains : (p : Private) → HasStayed p → IsBetween p.phase → Remains p
-stays_remains p stays between = (by p.phase stays.work between, stays.present)
-  where
-    by : (phase : phases.Phase) → IfSome (work_at phase) IsNoLeave → IsBetween phase → RemainsAt phase
-    by at.Swapping work b = b
-    by at.Retiring work b = b
-    by at.Leaving work b = work
-    by at.Parting work b = work
-    by (at.Begun begun) work b = begun_remains_at begun work
-    by at.Idle work b = tt
-    by (at.Scanning reg l leaf before probed) work b = tt
-    by (at.Scanned reg l leaf before) work b = tt
-    by (at.Storing src f val slot) work b = tt
-    by at.Crossing work b = tt
-    by at.Giving work b = tt
-    by (at.Finished done made) work b = tt
-
--- a mutator that stays has another work than to leave
-no_leave : (leaf : Bool) (reg label : ℕ) → ◌≡◌ {A = Option Work} (Some (works.Command (allocation leaf reg label))) (Some (works.Command commands.Leave)) → ⊥
-no_leave true reg label e = cc
-no_leave false reg label e = cc
-
-leaves_not : (phase : phases.Phase) → is_busy_at phase ≡ true → RemainsAt phase → work_at phase ≡ Some (works.Command commands.Leave) → ⊥
-leaves_not at.Idle busy r e = true≢false (sym busy)
-leaves_not (at.Begun work) busy r e = let is : work ≡ works.Command commands.Leave = cc in subst (λ w. RemainsAt (at.Begun w)) is r
-leaves_not (at.Scanning reg label leaf before probed) busy r e = no_leave leaf reg label e
-leaves_not (at.Scanned reg label leaf before) busy r e = no_leave leaf reg label e
-leaves_not (at.Storing src f val slot) busy r e = cc
-leaves_not at.Crossing busy r e = cc
-leaves_not at.Giving busy r e = cc
-leaves_not at.Swapping busy r e = r
-leaves_not at.Leaving busy r e = r
-leaves_not at.Retiring busy r e = r
-leaves_not at.Parting busy r e = r
-leaves_not (at.Finished work made) busy r e = true≢false (sym busy)
-
--- so it stays
-pub learnt_remains : (p : Private) (word : ℕ) → is_busy p ≡ true → Remains p → Remains (learnt p (Saw word))
-learnt_remains p word busy remains = (
-  by (learnt p (Saw word)).phase refl (step_between (learnt_step p word busy remains)),
-  step_left (λ e. subst RemainsAt e remains.0) (learnt_step p word busy remains) ∙ remains.1,
-)
-  where
-    no : (phase : phases.Phase) → (learnt p (Saw word)).phase ≡ phase → work_at phase ≡ Some (works.Command commands.Leave) → ⊥
-    no phase e leaves = leaves_not p.phase busy remains.0 (sym (learnt_keeps p word busy remains).1 ∙ ap work_at e ∙ leaves)
-
-    by : (phase : phases.Phase) → (learnt p (Saw word)).phase ≡ phase → IsBetween phase → RemainsAt phase
-    by at.Swapping e b = b
-    by at.Retiring e b = b
-    by at.Leaving e b = no at.Leaving e refl
-    by at.Parting e b = no at.Parting e refl
-    by (at.Begun (works.Command commands.Leave)) e b = no (at.Begun (works.Command commands.Leave)) e refl
-    by (at.Begun (works.Command (commands.New reg label))) e b = tt
-    by (at.Begun (works.Command (commands.Leaf reg label))) e b = tt
-    by (at.Begun (works.Command (commands.Null reg))) e b = tt
-    by (at.Begun (works.Command (commands.Copy dst src))) e b = tt
-    by (at.Begun (works.Command (commands.Get dst src f))) e b = tt
-    by (at.Begun (works.Command (commands.Put src f val))) e b = tt
-    by (at.Begun (works.Command (commands.Value reg))) e b = tt
-    by (at.Begun (works.Command (commands.Same x y))) e b = tt
-    by (at.Begun works.Poll) e b = tt
-    by at.Idle e b = tt
-    by (at.Scanning reg label leaf before probed) e b = tt
-    by (at.Scanned reg label leaf before) e b = tt
-    by (at.Storing src f val slot) e b = tt
-    by at.Crossing e b = tt
-    by at.Giving e b = tt
-    by (at.Finished work made) e b = tt
+-- after it no mailbox waits to be swapped
+pub learnt_between : (p : Private) (word : ℕ) → is_busy p ≡ true → IsBetween p.phase → IsBetween (learnt p (Saw word)).phase
+learnt_between p word busy between = step_between (learnt_step p word busy between)
 
 -- what the machine and the seat are then
-pub learns_word : (p q : Private) (t : Seated) (word : ℕ) (me : Me (Option Contents) View) → is_busy p ≡ true → Remains p → TakesNone p.phase → q ≡ took_of p word → me.1 ≡ taken_by p word p.phase
-    → (q ≡ learnt p (Saw word)) × Remains q × (me ≡ (me.0, hands t q))
-learns_word p q t word me busy remains none took out = (
+pub learns_word : (p q : Private) (t : Seated) (word : ℕ) (me : Me (Option Contents) View) → is_busy p ≡ true → IsBetween p.phase → TakesNone p.phase → q ≡ took_of p word → me.1 ≡ taken_by p word p.phase
+    → (q ≡ learnt p (Saw word)) × IsBetween q.phase × (me ≡ (me.0, hands t q))
+learns_word p q t word me busy between none took out = (
   took ∙ sym (here_same p word (spare (took_of p word)) busy none),
-  subst Remains (here_same p word (spare (took_of p word)) busy none ∙ sym took) (learnt_remains p word busy remains),
+  subst (λ (r : Private). IsBetween r.phase) (here_same p word (spare (took_of p word)) busy none ∙ sym took) (learnt_between p word busy between),
   λ k. (me.0, (out ∙ none_taken p word p.phase none ∙ sym (no_hands t.hand (took_of p word).number (took_of p word).phase (never_gives p word busy none)) ∙ ap (hands t) (sym took)) k),
 )
 
--- What is learnt by the step that takes it.
-swapped_is : (q : Private) (b : Contents) → q.phase ≡ at.Swapping → swapped_of q b ≡ record q { phase = at.Giving; log = b }
-unfolding swapped_of swapped_at
-swapped_is q b is = ap (swapped_at q b) is
+-- What is learnt by the step that takes it: the phase in which it is given back then,
+abbrev given_phase : phases.Phase → phases.Phase
+given_phase at.Swapping = at.Giving
+given_phase _ = at.Parting
 
-left_is : (q : Private) (b : Contents) → q.phase ≡ at.Swapping → left_of q b ≡ q.log
-unfolding left_of left_at
-left_is q b is = ap (left_at q b) is
+given_back : (phase : phases.Phase) → gives_back (given_phase phase) ≡ true
+given_back at.Swapping = refl
+given_back _ = refl
+
+given_between : (phase : phases.Phase) → IsBetween (given_phase phase)
+given_between at.Swapping = tt
+given_between _ = tt
+
+-- and the log
+swapped_is : (q : Private) (b : Contents) → IsSwapping q.phase → swapped_of q b ≡ record q { phase = given_phase q.phase; log = b }
+unfolding swapped_of swapped_at
+swapped_is q b swaps_it = by q.phase swaps_it
+  where
+    by : (phase : phases.Phase) → IsSwapping phase → swapped_at q b phase ≡ record q { phase = given_phase phase; log = b }
+    by at.Swapping is = refl
+    by at.Retiring is = refl
+    by _ is = absurd is
 
 step_is : (p : Private) (word : ℕ) (b : Contents) → step_of p word b ≡ swapped_of (took_of p word) b
 unfolding step_of
 step_is p word b = refl
 
-pub swapping : (p : Private) (word : ℕ) → p.phase ≡ at.Crossing → (took_of p word).phase ≡ at.Swapping
-swapping p word is = ap (λ (q : Private). q.phase) (learns_taken p word is)
-
-pub taken_home : (p : Private) (word : ℕ) → p.phase ≡ at.Crossing → taken_by p word p.phase ≡ (p.number - 1, Some (spare (took_of p word))) ∷ []
-taken_home p word is = ap (taken_by p word) is
-
 abbrev pub Boxed : (p r : Private) (mailbox : Option Contents) (t : Seated) (word : ℕ) → Type 0
-Boxed p r mailbox t word = (r ≡ learnt p (Saw word)) × KeepsSizes p r × Remains r × ((p.number - 1, mailbox) ∷ [] ≡ hands t r)
+Boxed p r mailbox t word = (r ≡ learnt p (Saw word)) × KeepsSizes p r × IsBetween r.phase × ((p.number - 1, mailbox) ∷ [] ≡ hands t r)
 
-pub learns_box : (p q r : Private) (b : Contents) (mailbox : Option Contents) (t : Seated) (word : ℕ) → p.phase ≡ at.Crossing → q ≡ took_of p word → b ≡ spare (took_of p word) → r ≡ swapped_of q b → mailbox ≡ Some (left_of q b)
-    → t.hand ≡ hand_after t.hand (took_of p word).log p.phase → KeepsSizes p q → Remains p
-    → Boxed p r mailbox t word
-learns_box p q r b mailbox t word crossing took is_b swapped left hand same remains =
-    let at_swap : q.phase ≡ at.Swapping = ap (λ (x : Private). x.phase) took ∙ swapping p word crossing in
-    let r_is : r ≡ record q { phase = at.Giving; log = b } = swapped ∙ swapped_is q b at_swap in
-    let hand_is : t.hand ≡ (took_of p word).log = hand ∙ ap (hand_after t.hand (took_of p word).log) crossing in
+pub learns_box : (p q r : Private) (b : Contents) (mailbox : Option Contents) (t : Seated) (word : ℕ) → TakesBox p.phase → q ≡ took_of p word → b ≡ spare (took_of p word) → r ≡ swapped_of q b → mailbox ≡ Some (left_of q b)
+    → t.hand ≡ hand_after t.hand (took_of p word).log p.phase → KeepsSizes p q → Boxed p r mailbox t word
+learns_box p q r b mailbox t word takes took is_b swapped left hand same =
+    let at_swap : IsSwapping q.phase = subst (λ (x : Private). IsSwapping x.phase) (sym took) (swaps p word takes) in
+    let r_is : r ≡ record q { phase = given_phase q.phase; log = b } = swapped ∙ swapped_is q b at_swap in
+    let gives : gives_back r.phase ≡ true = ap (λ (x : Private). gives_back x.phase) r_is ∙ given_back q.phase in
+    let hand_is : t.hand ≡ (took_of p word).log = hand ∙ taking_hand t.hand (took_of p word).log p.phase takes in
     let number : r.number ≡ p.number = ap (λ (x : Private). x.number) r_is ∙ same.number in (
       swapped ∙ (λ k. swapped_of (took k) (is_b k)) ∙ sym (step_is p word (spare (took_of p word))),
       record {
@@ -385,9 +327,9 @@ learns_box p q r b mailbox t word crossing took is_b swapped left hand same rema
         registers = ap (λ (x : Private). length x.registers) r_is ∙ same.registers;
         capacity = ap (λ (x : Private). x.log.capacity) r_is ∙ ap (λ (x : Contents). x.capacity) is_b ∙ ap (λ (x : Private). x.log.capacity) (sym took) ∙ same.capacity;
       },
-      (subst (λ (x : Private). RemainsAt x.phase) (sym r_is) tt, ap (λ (x : Private). x.left) (r_is ∙ (λ k. record ((took ∙ learns_taken p word crossing) k) { phase = at.Giving; log = b })) ∙ remains.1),
-      (λ k. (sym number k - 1, (left ∙ ap (λ x. Some x) (left_is q b at_swap ∙ ap (λ (x : Private). x.log) took ∙ sym hand_is)) k) ∷ [])
-          ∙ (λ k. hands_at t.hand r.number (ap (λ (x : Private). x.phase) (sym r_is) k)),
+      subst (λ (x : Private). IsBetween x.phase) (sym r_is) (given_between q.phase),
+      (λ k. (sym number k - 1, (left ∙ ap (λ x. Some x) (left_log q b at_swap ∙ ap (λ (x : Private). x.log) took ∙ sym hand_is)) k) ∷ [])
+          ∙ sym (giving_hands t.hand r.number r.phase gives),
     )
 
 -- every operation of a mutator is a load, an exchange, a claim, or one that takes its mailbox or gives it back
@@ -411,12 +353,12 @@ box_of : Op → ℕ
 box_of (ops.TakeBox t e) = t
 box_of _ = 0
 
-pub takes_own : (p : Private) (op : Op) (t e : ℕ) → op ≡ next_of p → Remains p → op ≡ ops.TakeBox t e → t ≡ p.number
+pub takes_own : (p : Private) (op : Op) (t e : ℕ) → op ≡ next_of p → IsBetween p.phase → op ≡ ops.TakeBox t e → t ≡ p.number
 unfolding box_of
-takes_own p op t e is remains takes = ap box_of (sym takes ∙ is ∙ takes_op p (crossing_phase p op is remains (subst IsTakeOp (sym takes) tt)))
+takes_own p op t e is between takes = ap box_of (sym takes ∙ is ∙ takes_op p (taking_phase p op is between (subst IsTakeOp (sym takes) tt)))
 
-pub out_at : (p : Private) (word slot : ℕ) (l : List (ℕ × Option Contents)) → p.phase ≡ at.Crossing → slot ≡ p.number - 1 → l ≡ taken_by p word p.phase → l ≡ (slot, Some (spare (took_of p word))) ∷ []
-out_at p word slot l crossing is out = out ∙ taken_home p word crossing ∙ (λ k. (sym is k, Some (spare (took_of p word))) ∷ [])
+pub out_at : (p : Private) (word slot : ℕ) (l : List (ℕ × Option Contents)) → TakesBox p.phase → slot ≡ p.number - 1 → l ≡ taken_by p word p.phase → l ≡ (slot, Some (spare (took_of p word))) ∷ []
+out_at p word slot l takes is out = out ∙ taking_taken p word p.phase takes ∙ (λ k. (sym is k, Some (spare (took_of p word))) ∷ [])
 
 first_of : List (ℕ × Option Contents) → Option Contents
 first_of [] = None
@@ -426,26 +368,19 @@ pub first_is : (slot slot' : ℕ) (y z : Option Contents) (l r s : List (ℕ × 
 unfolding first_of
 first_is slot slot' y z l r s a b = ap first_of (sym a ∙ b)
 
-pub crossing_takes : (p : Private) (op : Op) → p.phase ≡ at.Crossing → op ≡ next_of p → ((x y : ℕ) → op ≡ ops.TakeBox x y → ⊥) → ⊥
-crossing_takes p op is is_op no_take = no_take p.number (p.epoch + 1) (is_op ∙ takes_op p is)
+pub taking_takes : (p : Private) (op : Op) → TakesBox p.phase → op ≡ next_of p → ((x y : ℕ) → op ≡ ops.TakeBox x y → ⊥) → ⊥
+taking_takes p op takes is_op no_take = no_take p.number (p.epoch + 1) (is_op ∙ takes_op p takes)
 
 -- At the calls of a step.
 pub ready_hands : (t : Seated) (p : Private) (wk : Option Start) → MayGo p wk → hands t p ≡ hands t (ready p wk)
 ready_hands t p None may = refl
 ready_hands t p (Some start) may =
-    no_hands t.hand p.number p.phase (λ e. true≢false (sym (ap is_busy_at e) ∙ may.0)) ∙ sym (no_hands t.hand (begun_of p start.work start.from).number (begun_of p start.work start.from).phase (λ e. not_giving_begun (begun_of p start.work start.from).phase e (begun_phase p start.work start.from)))
+    no_hands t.hand p.number p.phase (idle_here p.phase may.0) ∙ sym (no_hands t.hand (begun_of p start.work start.from).number (begun_of p start.work start.from).phase (begun_gives_none p start.work start.from))
 
-begun_remains : (p : Private) (work : Work) (from : ℕ) → IsNoLeave work → RemainsAt (begun_of p work from).phase
+pub ready_between : (p : Private) (wk : Option Start) → IsBetween p.phase → IsBetween (ready p wk).phase
 unfolding begun_of
-begun_remains p work from stays = begun_remains_at work stays
-
-begun_left : (p : Private) (work : Work) (from : ℕ) → (begun_of p work from).left ≡ p.left
-unfolding begun_of
-begun_left p work from = refl
-
-pub ready_remains : (p : Private) (wk : Option Start) → MayGo p wk → Remains p → Remains (ready p wk)
-ready_remains p None may remains = remains
-ready_remains p (Some start) may remains = (begun_remains p start.work start.from may.4, begun_left p start.work start.from ∙ remains.1)
+ready_between p None between = between
+ready_between p (Some start) between = tt
 
 hand_twice : (hand x : Contents) (phase : phases.Phase) → hand_after hand x phase ≡ hand_after (hand_after hand x phase) x phase
 hand_twice hand x at.Idle = refl
@@ -511,8 +446,8 @@ step_told (MutatorStep.poll_crosses other g) = going_told tt g
 step_told (MutatorStep.take_box c) = crossing_told tt c
 step_told (MutatorStep.give_box c) = crossing_told tt c
 
-pub learnt_told : (p : Private) (word : ℕ) → is_busy p ≡ true → Remains p → IsTold (learnt p (Saw word)).phase
-learnt_told p word busy remains = step_told (learnt_step p word busy remains)
+pub learnt_told : (p : Private) (word : ℕ) → is_busy p ≡ true → IsBetween p.phase → IsTold (learnt p (Saw word)).phase
+learnt_told p word busy between = step_told (learnt_step p word busy between)
 
 ready_busy : (p : Private) (wk : Option Start) → MayGo p wk → is_busy (ready p wk) ≡ true
 unfolding begun_of
@@ -531,11 +466,11 @@ pub record Counted (p : Private) (wk : Option Start) (word : ℕ) : Type 0 where
   pub same : KeepsSizes p (learnt (ready p wk) (Saw word))
   pub told : IsTold (learnt (ready p wk) (Saw word)).phase
 
-pub counted : (p : Private) (wk : Option Start) (word : ℕ) → MayGo p wk → Remains p → Counted p wk word
-counted p wk word may remains =
+pub counted : (p : Private) (wk : Option Start) (word : ℕ) → MayGo p wk → IsBetween p.phase → Counted p wk word
+counted p wk word may between =
     let q : Private = ready p wk in
     let busy : is_busy q ≡ true = ready_busy p wk may in
-    let b : Remains q = ready_remains p wk may remains in
+    let b : IsBetween q.phase = ready_between p wk between in
     let k = learnt_keeps q word busy b in
     let r = ready_keeps p wk in
     record {

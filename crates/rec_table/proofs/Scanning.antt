@@ -3,8 +3,7 @@ use Rattle.std.proofs.Common.{◌≡◌, ◌≢◌, ℕ, ◌+◌, ◌-◌, ◌<�
 use Rattle.std.proofs.lemmas.List.{map-append}
 use Rattle.std.proofs.lemmas.List.Elements.{All-nil, All-cons, All-head, All-tail, All-append}
 use Rattle.atomic_table.specs.Table.{Me, Step}
-use Rattle.rec_table.specs.Rule.{Remains, RemainsAt}
-use Rattle.rec_table.proofs.Common.{Op, Contents, Private, IsAt, IsMachine, register, is_full, probe_of, slot_behind, spare, took_of, skipped_to, skipped_at, births_of, Core, mutator, told, learnt, births_told, Kind, Operates, PassedBy, adds, beats, longer, seated_of, hands, hands_at, Passed, ScansFrom, saw_all, Beat, Saw, Seated, View, Mutates}
+use Rattle.rec_table.proofs.Common.{Op, Contents, Private, IsAt, IsBetween, IsMachine, register, is_full, probe_of, slot_behind, spare, took_of, skipped_to, skipped_at, births_of, Core, mutator, told, learnt, births_told, Kind, Operates, PassedBy, adds, beats, longer, seated_of, hands, hands_at, Passed, ScansFrom, saw_all, Beat, Saw, Seated, View, Mutates}
 use Rattle.rec_word.specs.Header.{header_word}
 use Rattle.rec_word.specs.declared.op.Op.TheVariants as ops
 use Rattle.rec_model.specs.declared.command.Cmd.TheVariants as commands
@@ -142,14 +141,11 @@ module _ (p : Private) (reg label : ℕ) (leaf : Bool) (before from : ℕ) (scan
   pub skipped_steps : (slot : ℕ) → (skipped_to p slot).steps ≡ p.steps + (slot - from)
   skipped_steps slot = ap (λ (q : Private). q.steps) (came_to slot)
 
-  pub skipped_left : (slot : ℕ) → (skipped_to p slot).left ≡ p.left
-  skipped_left slot = ap (λ (q : Private). q.left) (came_to slot)
+  goes_on : (b : Bool) (slot number : ℕ) (hand : Contents) (phase : phases.Phase) → phase ≡ (if b then at.Scanned reg label leaf before else at.Scanning reg label leaf before slot) → IsBetween phase × (hands_at hand number phase ≡ [])
+  goes_on true slot number hand phase is = (subst IsBetween (sym is) tt, ap (hands_at hand number) is)
+  goes_on false slot number hand phase is = (subst IsBetween (sym is) tt, ap (hands_at hand number) is)
 
-  goes_on : (b : Bool) (slot number : ℕ) (hand : Contents) (phase : phases.Phase) → phase ≡ (if b then at.Scanned reg label leaf before else at.Scanning reg label leaf before slot) → RemainsAt phase × (hands_at hand number phase ≡ [])
-  goes_on true slot number hand phase is = (subst RemainsAt (sym is) tt, ap (hands_at hand number) is)
-  goes_on false slot number hand phase is = (subst RemainsAt (sym is) tt, ap (hands_at hand number) is)
-
-  pub skipped_rests : (slot : ℕ) (t : Seated) → RemainsAt (skipped_to p slot).phase × (hands t (skipped_to p slot) ≡ [])
+  pub skipped_rests : (slot : ℕ) (t : Seated) → IsBetween (skipped_to p slot).phase × (hands t (skipped_to p slot) ≡ [])
   skipped_rests slot t = goes_on (slot == p.slots) slot (skipped_to p slot).number t.hand (skipped_to p slot).phase (ap (λ (q : Private). q.phase) (came_to slot))
 
 pub passed_one : (t : Seated) (from slot word : ℕ) (me me' : Me (Option Contents) View) → Passed t from slot me → word ≢ 0 → me' ≡ (adds me.0 (beats None word), me.1) → Passed t from (slot + 1) me'
@@ -249,14 +245,13 @@ pub record Ends (o p r : Private) (t : Seated) (me : Me (Option Contents) View) 
   pub seat : me ≡ (Mutates (seated_of me.0), hands (seated_of me.0) r)
   pub told : r ≡ told o (seated_of me.0).log
   pub names : NamesSlots r
-  pub between : Remains r
+  pub between : IsBetween r.phase
   pub births : births_told o (seated_of me.0).log ≡ births_told o t.log
   pub learns : r ≡ fold took_of p words
   pub steps : r.steps ≡ p.steps + length words
 
-pub ends : (o p r : Private) (t : Seated) (slot count : ℕ) (me : Me (Option Contents) View) → p ≡ told o t.log → (k : Claims p slot) → (passed : Passed t k.probed count me) → k.probed < p.slots → count ≤ p.slots → r ≡ skipped_to p count → NamesSlots p → p.left ≡ false
-    → Ends o p r t me passed.words
-ends o p r t slot count me is k passed first few skips names stays =
+pub ends : (o p r : Private) (t : Seated) (slot count : ℕ) (me : Me (Option Contents) View) → p ≡ told o t.log → (k : Claims p slot) → (passed : Passed t k.probed count me) → k.probed < p.slots → count ≤ p.slots → r ≡ skipped_to p count → NamesSlots p → Ends o p r t me passed.words
+ends o p r t slot count me is k passed first few skips names =
     let bs : List Beat = saw_all passed.words in
     let w : Walks p passed.words (skipped_to p count) = walked p k.reg k.label k.leaf k.before k.probed k.phase passed.words count first passed.every few passed.taken in
     let log : (seated_of me.0).log ≡ t.log ++ bs = λ j. (seated_of (passed.grows j).0).log in
@@ -268,7 +263,7 @@ ends o p r t slot count me is k passed first few skips names stays =
       seat = passed.grows ∙ (λ j. (Mutates (seated_of (sym passed.grows j).0), none j));
       told = skips ∙ sym w.told ∙ ap (λ (q : Private). told q bs) is ∙ sym (told_both o t.log bs) ∙ ap (told o) (sym log);
       names = subst NamesSlots (sym skips) (skipped_names p k.reg k.label k.leaf k.before k.probed k.phase count names);
-      between = subst Remains (sym skips) (rests.0, skipped_left p k.reg k.label k.leaf k.before k.probed k.phase count ∙ stays);
+      between = subst (λ (q : Private). IsBetween q.phase) (sym skips) rests.0;
       births = ap (births_told o) log ∙ (let e : births_told o (t.log ++ bs) ≡ births_told o t.log = omega (arith, all, born) in e);
       learns = skips ∙ w.learns;
       steps =

@@ -8,8 +8,8 @@ use Rattle.std.proofs.Math.Seq.{get_or-append_seam}
 use Rattle.std.proofs.lemmas.List.{get_or_append_left}
 use Rattle.atomic_table.specs.Table.{opening}
 use Rattle.atomic_table.proofs.Lists.{at_set}
-use Rattle.rec_table.proofs.Common.{Contents, Private, is_busy, is_busy_at, IsMutator, Core, cells_of, mutator, Move, after_moves, IsWorld, world_kept, beats_of, told, SplitsIdly, JoinsIdly, Ran, Runs, row, Holds, first_view, without, newcomer, joined, Beat, CollectorSeat, Seated, View, Collects, Mutates, Spent}
-use Rattle.rec_mutator.specs.declared.phase.Phase.TheVariants as at
+use Rattle.rec_table.proofs.Common.{Contents, Private, is_busy, gives_back, IsMutator, Core, cells_of, mutator, Move, after_moves, IsWorld, world_kept, beats_of, told, SplitsIdly, JoinsIdly, Ran, Runs, row, Holds, first_view, without, newcomer, joined, Beat, CollectorSeat, Seated, View, Collects, Mutates, Spent}
+use Rattle.rec_core.proofs.Actors.{idle_here}
 use Rattle.rec_collector.specs.Private as collectors
 use Rattle.rec_table.specs.Homes.{homes_of}
 use Rattle.rec_table.specs.Rule.{Fits}
@@ -34,7 +34,6 @@ opens key ws xs world words home = (
     world = world;
     fit = tt;
     offerless = tt;
-    none_leaves = tt;
     words = words;
     homes = home;
     order = omega arith;
@@ -80,9 +79,6 @@ fits_made key run made gone owner x new id j z is ne (Mutates u) f =
     (owns_else owner x new u.number (λ e. omega (arith, e, f.2)) ∙ f.0, f.1, omega (arith, f.2), f.3, f.4)
 fits_made key run made gone owner x new id j z is ne Spent f = tt
 
-idle_not_giving : (p : Private) → is_busy p ≡ false → p.phase ≡ at.Giving → ⊥
-idle_not_giving p idle giving = true≢false (sym (ap is_busy_at giving) ∙ idle)
-
 -- the first seat makes the seat of the next mutator, which was idle as the heap was started
 pub splits : (key : Core) (id : ℕ) (c : CollectorSeat) → c.made < key.config.mutators → is_busy (mutator key (c.made + 1)) ≡ false → SplitsIdly key id (Collects c) (without (Collects c)) (newcomer (Collects c))
 splits key id c lt idle s h there =
@@ -104,7 +100,6 @@ splits key id c lt idle s h there =
         world = h.world;
         fit = h.fit;
         offerless = h.offerless;
-        none_leaves = h.none_leaves;
         words = h.words;
         homes = h.homes;
         order = omega (arith, h.order, made);
@@ -118,7 +113,7 @@ splits key id c lt idle s h there =
             j v old)
             (λ (last : (j ≡ new) × (Mutates t ≡ v)).
             subst (λ (y : ℕ × View). Fits key h.run x h.gone owner' y.0 y.1) (λ i. (sym last.0 i, last.1 i))
-            (owns_here h.owner x new, omega (arith, h.order, made), omega arith, sym none, λ giving. absurd (idle_not_giving (mutator key x) idle (ap (λ (p : Private). p.phase) (sym same) ∙ giving))))
+            (owns_here h.owner x new, omega (arith, h.order, made), omega arith, sym none, λ giving. absurd (true≢false (sym giving ∙ ap (λ (p : Private). gives_back p.phase) same ∙ idle_here (mutator key x).phase idle))))
             (at_snoc_at views' (Mutates t) v j e);
       },
       refl,
@@ -165,7 +160,6 @@ joins key id c other t next s h here apart there =
         world = h.world;
         fit = h.fit;
         offerless = h.offerless;
-        none_leaves = h.none_leaves;
         words = h.words;
         homes = h.homes;
         order = omega (arith, its.2, is);

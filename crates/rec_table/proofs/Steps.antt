@@ -18,7 +18,6 @@ use Rattle.rec_mutator.specs.declared.work.Work.{Work}
 use Rattle.rec_mutator.specs.declared.work.Work.TheVariants as works
 use Rattle.rec_model.specs.declared.answer.Answer.TheVariants as answers
 use Rattle.rec_mutator.specs.declared.made.Made.TheVariants as makes
-use Rattle.rec_mutator.specs.Causes.{is_giving}
 use Rattle.rec_mutator.proofs.Steps.{TakesNone, here_same, learnt_made, step_between}
 use Rattle.rec_collector.specs.Private as collectors
 use Rattle.rec_core.specs.Preconditions.{MayStep}
@@ -26,7 +25,7 @@ use Rattle.rec_core.specs.declared.config.Config.{Config}
 use Rattle.rec_core.proofs.Crossings.{left_same}
 use Rattle.std.proofs.lemmas.List.{set-get_or}
 use Rattle.rec_mutator.specs.Took.{is_uncollected, leaving_by}
-use Rattle.rec_table.proofs.Common.{written, Op, Contents, Private, is_busy, is_full, register, probe_of, begun_of, took_of, took_at, read_by, allowed_by, written_by, answered, moved, born_in, spare, left_of, step_of, IsFound, IsMutator, Core, cells_of, mutator, nobody, box, IsKept, Move, AllFit, after_moves, found_by, stepped, begun_from, Cells, IsWithin, cell, with_cell, IsWorld, world_kept, moved_world, actor_of, in_list, fields_many, may_step, names_slots, beats_of, told, learnt, BeginsNoLeave, NoneLeaves, OffersNone, Offerless, Kind, Performed, Adds, Grows, Operates, moves_of, operation, performed, step_in, steps_in, row, index_of, Holds, ready, MayGo, beats, longer, MadeBy, Begins, Saw, Seated, View, Collects, Mutates, Spent, after_both, config_after, every_both, fit_both, moves_kept, over_both}
+use Rattle.rec_table.proofs.Common.{written, Op, Contents, Private, is_busy, is_full, register, probe_of, begun_of, took_of, took_at, read_by, allowed_by, written_by, answered, moved, born_in, spare, left_of, step_of, IsFound, IsMutator, Core, cells_of, mutator, nobody, box, IsKept, Move, AllFit, after_moves, found_by, stepped, begun_from, Cells, IsWithin, cell, with_cell, IsWorld, world_kept, moved_world, actor_of, in_list, fields_many, may_step, names_slots, beats_of, told, learnt, gives_back, OffersNone, Offerless, Kind, Performed, Adds, Grows, Operates, moves_of, operation, performed, step_in, steps_in, row, index_of, Holds, ready, MayGo, beats, longer, MadeBy, Begins, Saw, Seated, View, Collects, Mutates, Spent, after_both, config_after, every_both, fit_both, moves_kept, over_both}
 use Rattle.rec_table.specs.Homes.{homes_of}
 use Rattle.rec_table.specs.Rule.{Fits}
 use Rattle.rec_table.specs.declared.start.Start.{Start}
@@ -52,7 +51,7 @@ starts w t from kept is there = subst (λ n. from < n) (actor_of w t kept is).ow
 
 before_world : (w : Core) (t : ℕ) (wk : Option Start) → IsWorld w → IsMutator w.config t → MayGo (mutator w t) wk → IsWorld (before w t wk)
 before_world w t None world is may = world
-before_world w t (Some start) world is may = moved_world w (Move.Begins t start.work start.from) world (is, may.0, (world.staying t is).present, may.1, may.2, starts w t start.from (world_kept w world) is may.3) may.4
+before_world w t (Some start) world is may = moved_world w (Move.Begins t start.work start.from) world (is, may.0, may.1, may.2, may.3, starts w t start.from (world_kept w world) is may.4)
 
 before_busy : (w : Core) (t : ℕ) (wk : Option Start) → IsKept w → IsMutator w.config t → MayGo (mutator w t) wk → is_busy (mutator (before w t wk) t) ≡ true
 before_busy w t None kept is may = may
@@ -74,7 +73,7 @@ all_fit : (w : Core) (t : ℕ) (wk : Option Start) → IsWorld w → IsMutator w
 all_fit w t None world is may = ((is, may), tt)
 all_fit w t (Some start) world is may =
     let kept : IsKept w = world_kept w world in
-    ((is, may.0, (world.staying t is).present, may.1, may.2, starts w t start.from kept is may.3), ((is, before_busy w t (Some start) kept is may), tt))
+    ((is, may.0, may.1, may.2, may.3, starts w t start.from kept is may.4), ((is, before_busy w t (Some start) kept is may), tt))
 
 after_is : (w : Core) (t : ℕ) (wk : Option Start) → after_moves w (moves_of t wk) ≡ stepped (before w t wk) t
 after_is w t None = refl
@@ -96,12 +95,7 @@ moves_offerless : (t : ℕ) (wk : Option Start) → Offerless (moves_of t wk)
 moves_offerless t None = (tt, tt)
 moves_offerless t (Some start) = (tt, (tt, tt))
 
--- none of them begins to leave
-moves_stay : (p : Private) (t : ℕ) (wk : Option Start) → MayGo p wk → NoneLeaves (moves_of t wk)
-moves_stay p t None may = (tt, tt)
-moves_stay p t (Some start) may = (may.4, (tt, tt))
-
--- a phase in which no step moves a mailbox, and none leaves
+-- a phase in which no step moves a mailbox
 abbrev pub IsPlain : phases.Phase → Type 0
 IsPlain at.Crossing = ⊥
 IsPlain at.Swapping = ⊥
@@ -219,12 +213,12 @@ before_else w t x None ne a b = refl
 before_else w t x (Some start) ne a b = else_private w.mutators t x (begun_of (mutator w t) start.work start.from) nobody ne a b
 
 -- the hand of another
-hand_stays : (now : Core) (t x : ℕ) (wk : Option Start) (hand : Contents) → t ≢ x → 1 ≤ t → 1 ≤ x → ((mutator now x).phase ≡ at.Giving → hand ≡ box now x)
-    → (mutator (stepped (before now t wk) t) x).phase ≡ at.Giving → hand ≡ box (stepped (before now t wk) t) x
+hand_stays : (now : Core) (t x : ℕ) (wk : Option Start) (hand : Contents) → t ≢ x → 1 ≤ t → 1 ≤ x → (gives_back (mutator now x).phase ≡ true → hand ≡ box now x)
+    → gives_back (mutator (stepped (before now t wk) t) x).phase ≡ true → hand ≡ box (stepped (before now t wk) t) x
 hand_stays now t x wk hand ne a b f giving =
     let v : Core = before now t wk in
     let same : mutator (stepped v t) x ≡ mutator now x = else_private v.mutators t x (step_of (mutator v t) (found_by v t) (box v t)) nobody ne a b ∙ before_else now t x wk ne a b in
-    f (ap (λ (p : Private). p.phase) (sym same) ∙ giving)
+    f (ap (λ (p : Private). gives_back p.phase) (sym same) ∙ giving)
     ∙ ap (λ l. get_or l (x - 1) (collectors.blank 0 0)) (sym (before_boxes now t wk))
     ∙ sym (else_box v.boxes t x (left_of (took_of (mutator v t) (found_by v t)) (box v t)) (collectors.blank 0 0) ne a b)
 
@@ -240,7 +234,7 @@ fits_on key run made gone owner t wk id j own low ne (Mutates u) f =
       f.1,
       f.2,
       f.3 ∙ other_beats key run t u.number wk apart,
-      subst (λ (c : Core). (mutator c u.number).phase ≡ at.Giving → u.hand ≡ box c u.number) (sym ends)
+      subst (λ (c : Core). gives_back (mutator c u.number).phase ≡ true → u.hand ≡ box c u.number) (sym ends)
           (hand_stays (after_moves key run) t u.number wk u.hand apart (omega arith) (omega (arith, f.1)) f.4),
     )
 fits_on key run made gone owner t wk id j own low ne Spent f = tt
@@ -270,7 +264,7 @@ here_at key s h id t wk p op fit is_p may is_op =
     let mine = h.each id (Mutates t) fit in
     let there : IsMutator key.config x = (omega (arith, mine.1), omega (arith, mine.2, h.room)) in
     let kept : IsKept key = world_kept key h.world in
-    let world : IsWorld now = world_after key h.run h.world h.fit h.none_leaves in
+    let world : IsWorld now = world_after key h.run h.world h.fit in
     let here : IsMutator now.config x = subst (λ (c : Config). IsMutator c x) (sym (config_after key h.run)) there in
     let actor : mutator now x ≡ p = mutator_after key h.run x kept h.fit there ∙ (ap (told (mutator key x)) (sym mine.3) ∙ sym is_p) in
     let goes : MayGo (mutator now x) wk = subst (λ (q : Private). MayGo q wk) (sym actor) may in
@@ -292,7 +286,7 @@ here_at key s h id t wk p op fit is_p may is_op =
     let found : n ≡ cell (cells_of v) op = (λ j. get_or (words j) (sym at_i j) 0) ∙ row_read (cells_of v) op within in
     let found' : n ≡ found_by v x = found ∙ ap (cell (cells_of v)) (sym v_op) in
     let u : Core = stepped v x in
-    let u_world : IsWorld u = moved_world v (Move.Steps x) v_world (v_here, v_busy) tt in
+    let u_world : IsWorld u = moved_world v (Move.Steps x) v_world (v_here, v_busy) in
     let u_is : mutator u x ≡ learnt (ready p wk) (Saw n) =
     get_or-set_same v.mutators (x - 1) (step_of (mutator v x) (found_by v x) (box v x)) nobody (in_list v x (world_kept v v_world) v_here)
     ∙ step_same v x (world_kept v v_world) v_here v_busy
@@ -342,7 +336,7 @@ pub goes_on : (key : Core) (s : State (Option Contents) View) (h : Holds key s) 
     → get_elem? s.views id ≡ some (Mutates t) → (here : Here key s h t wk p op)
     → z ≡ written op (get_or s.words (index_of (length key.words) (length key.headers) op) 0)
     → homes' ≡ homes_of (stepped (before (after_moves key h.run) t.number wk) t.number).crossing (stepped (before (after_moves key h.run) t.number wk) t.number).boxes
-    → ((mutator (stepped (before (after_moves key h.run) t.number wk) t.number) t.number).phase ≡ at.Giving → hand ≡ box (stepped (before (after_moves key h.run) t.number wk) t.number) t.number)
+    → (gives_back (mutator (stepped (before (after_moves key h.run) t.number wk) t.number) t.number).phase ≡ true → hand ≡ box (stepped (before (after_moves key h.run) t.number wk) t.number) t.number)
     → (h' : Holds key (record { words = set s.words (index_of (length key.words) (length key.headers) op) z; homes = homes'; views = set s.views id (Mutates (record t { log = t.log ++ beats wk (get_or s.words (index_of (length key.words) (length key.headers) op) 0); hand = hand })) }))
     × (h'.run ≡ h.run ++ moves_of t.number wk)
 goes_on key s h id t wk p op z homes' hand fit here does homes_are holds_it =
@@ -365,7 +359,6 @@ goes_on key s h id t wk p op z homes' hand fit here does homes_are holds_it =
         world = h.world;
         fit = fit_both key h.run ms h.fit (all_fit now x wk here.now_world here.now_here here.goes);
         offerless = every_both OffersNone h.run ms h.offerless (moves_offerless x wk);
-        none_leaves = every_both BeginsNoLeave h.run ms h.none_leaves (moves_stay (mutator now x) x wk here.goes);
         words = here.words z does ∙ ap (λ (c : Core). row (cells_of c)) (sym ends);
         homes = homes_are ∙ ap (λ (c : Core). homes_of c.crossing c.boxes) (sym ends);
         order = h.order;
@@ -373,42 +366,42 @@ goes_on key s h id t wk p op z homes' hand fit here does homes_are holds_it =
         fresh = λ k le. sym (other_beats key h.run x k wk (λ e. omega (arith, e, mine.2))) ∙ h.fresh k le;
         each = fits_set key run' h.made h.gone h.owner s.views id (Mutates t')
             (λ j u ne e. fits_on key h.run h.made h.gone h.owner x wk id j mine.0 mine.1 ne u (h.each j u e))
-            (mine.0, mine.1, mine.2, longer_, subst (λ (c : Core). (mutator c x).phase ≡ at.Giving → hand ≡ box c x) (sym ends) holds_it);
+            (mine.0, mine.1, mine.2, longer_, subst (λ (c : Core). gives_back (mutator c x).phase ≡ true → hand ≡ box c x) (sym ends) holds_it);
       },
       refl,
     )
 
--- what a step that takes no mailbox leads to isn't the phase in which one is given back
-not_giving : (p : Private) (word : ℕ) (phase : phases.Phase) → IsPlain phase → is_giving (took_at p word phase).phase ≡ false
+-- what a step that moves no mailbox leads to isn't a phase in which one is given back
+not_giving : (p : Private) (word : ℕ) (phase : phases.Phase) → IsPlain phase → gives_back (took_at p word phase).phase ≡ false
 unfolding took_at
 not_giving p word phase plain = by phase plain
   where
-    new : (q r : Private) (b : Bool) → is_giving q.phase ≡ false → is_giving r.phase ≡ false → is_giving (cond b q r).phase ≡ false
+    new : (q r : Private) (b : Bool) → gives_back q.phase ≡ false → gives_back r.phase ≡ false → gives_back (cond b q r).phase ≡ false
     new q r true a b = a
     new q r false a b = b
 
-    read : (cmd : Cmd) (dst : ℕ) (x : Option ℕ) → is_giving (read_by p cmd dst word x).phase ≡ false
+    read : (cmd : Cmd) (dst : ℕ) (x : Option ℕ) → gives_back (read_by p cmd dst word x).phase ≡ false
     read cmd dst None = refl
     read cmd dst (Some slot) = refl
 
-    allowed : (src f val slot : ℕ) (leaf : Bool) → is_giving (allowed_by p src f val slot leaf).phase ≡ false
+    allowed : (src f val slot : ℕ) (leaf : Bool) → gives_back (allowed_by p src f val slot leaf).phase ≡ false
     allowed src f val slot true = refl
     allowed src f val slot false = refl
 
-    wrote : (src f val : ℕ) (x : Option ℕ) (full : Bool) → is_giving (written_by p src f val word x full).phase ≡ false
+    wrote : (src f val : ℕ) (x : Option ℕ) (full : Bool) → gives_back (written_by p src f val word x full).phase ≡ false
     wrote src f val None full = refl
     wrote src f val (Some slot) true = refl
     wrote src f val (Some slot) false = allowed src f val slot (is_leaf word)
 
-    leaving : (b : Bool) → is_giving (leaving_by p b).phase ≡ false
+    leaving : (b : Bool) → gives_back (leaving_by p b).phase ≡ false
     leaving true = refl
     leaving false = refl
 
-    goes : (b : Bool) (x y : phases.Phase) → is_giving x ≡ false → is_giving y ≡ false → is_giving (cond b x y) ≡ false
+    goes : (b : Bool) (x y : phases.Phase) → gives_back x ≡ false → gives_back y ≡ false → gives_back (cond b x y) ≡ false
     goes true x y a c = a
     goes false x y a c = c
 
-    by : (at_phase : phases.Phase) → IsPlain at_phase → is_giving (took_at p word at_phase).phase ≡ false
+    by : (at_phase : phases.Phase) → IsPlain at_phase → gives_back (took_at p word at_phase).phase ≡ false
     by (at.Begun (works.Command (commands.New reg label))) is = new (answered p (commands.New reg label) (plain_told answers.LogFull)) (moved p (at.Scanning reg label false word 0)) (is_full p) refl refl
     by (at.Begun (works.Command (commands.Leaf reg label))) is = new (answered p (commands.Leaf reg label) (plain_told answers.LogFull)) (moved p (at.Scanning reg label true word 0)) (is_full p) refl refl
     by (at.Begun (works.Command (commands.Get dst src f))) is = read (commands.Get dst src f) dst (register p src)
@@ -426,13 +419,9 @@ not_giving p word phase plain = by phase plain
     by (at.Begun (works.Command commands.Leave)) is = leaving (is_uncollected word)
     by _ is = refl
 
-pub left_plain : (p : Private) (word : ℕ) → IsPlain p.phase → is_busy p ≡ true → (learnt p (Saw word)).phase ≡ at.Giving → ⊥
+pub left_plain : (p : Private) (word : ℕ) → IsPlain p.phase → is_busy p ≡ true → gives_back (learnt p (Saw word)).phase ≡ false
 unfolding took_of
-left_plain p word plain busy giving =
-    let same : learnt p (Saw word) ≡ took_of p word = here_same p word (spare (took_of p word)) busy (plain_takes_none p.phase plain) in
-    let no : is_giving (took_of p word).phase ≡ false = not_giving p word p.phase plain in
-    let yes : is_giving (took_of p word).phase ≡ true = ap is_giving (ap (λ (q : Private). q.phase) (sym same) ∙ giving) in
-    true≢false (sym yes ∙ no)
+left_plain p word plain busy = ap (λ (q : Private). gives_back q.phase) (here_same p word (spare (took_of p word)) busy (plain_takes_none p.phase plain)) ∙ not_giving p word p.phase plain
 
 pub steps : (key : Core) (slots id : ℕ) (t : Seated) (hs : List (ℕ × Option Contents)) (wk : Option Start) (p : Private) (op : Op) (f : ℕ → ℕ) (st : Step (Option Contents))
     → p ≡ told (mutator key t.number) t.log → MayGo p wk → IsPlain (ready p wk).phase → op ≡ next_of (ready p wk) → ((n : ℕ) → f n ≡ written op n)
@@ -443,8 +432,8 @@ steps key slots id t hs wk p op f st is_p may plain is_op does s h len at_id fit
     let v : Core = before (after_moves key h.run) x wk in
     let n : ℕ = get_or s.words (index_of (length key.words) (length key.headers) op) 0 in
     let plain' : IsPlain (mutator v x).phase = subst (λ (q : Private). IsPlain q.phase) (sym here.is) plain in
-    let never : (mutator (stepped v x) x).phase ≡ at.Giving → t.hand ≡ box (stepped v x) x = λ giving. absurd (left_plain (ready p wk) n plain (ap is_busy (sym here.is) ∙ here.busy)
-    (ap (λ (q : Private). q.phase) (sym here.learns) ∙ giving)) in
+    let never : gives_back (mutator (stepped v x) x).phase ≡ true → t.hand ≡ box (stepped v x) x = λ giving.
+    absurd (true≢false (sym giving ∙ ap (λ (q : Private). gives_back q.phase) here.learns ∙ left_plain (ready p wk) n plain (ap is_busy (sym here.is) ∙ here.busy))) in
     let after = goes_on key s h id t wk p op (f n) s.homes t.hand at_id here (does n) (here.homes ∙ sym (plain_homes v x here.busy plain')) never in (
       Mutates (longer t (beats wk n)),
       keeps,

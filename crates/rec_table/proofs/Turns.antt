@@ -1,5 +1,5 @@
 -- A turn of the collector keeps the rule.
-use Rattle.std.proofs.Common.{◌≡◌, ◌≢◌, ℕ, ◌+◌, ◌-◌, ◌%◌, ◌<◌, ◌≤◌, true, false, cond, eqb, eq-eqb, ne_eqb, le-ltb, List, [], ◌∷◌, ◌++◌, length, get_or, set, Option, Some, IfSome, refl, sym, ap, ◌∙◌, subst, arith, append-nil, get_or-set_other}
+use Rattle.std.proofs.Common.{◌≡◌, ◌≢◌, ⊎_elim, ℕ, ◌+◌, ◌-◌, ◌%◌, ◌<◌, ◌≤◌, true, false, true≢false, cond, eqb, eq-eqb, ne_eqb, le-ltb, List, [], ◌∷◌, ◌++◌, length, get_or, set, Option, Some, IfSome, refl, sym, ap, ◌∙◌, subst, arith, append-nil, get_or-set_other}
 use mathlib.Core.Logic.{dite}
 use native.Mathlib.Decide.{ℕ_discrete}
 use mathlib.Core.Option as maybe
@@ -8,10 +8,11 @@ use lib.ListN.{get_elem?}
 use Rattle.std.proofs.lemmas.List.{set-get_or}
 use Rattle.atomic_table.specs.Table.{State, Step, keeps, takes, gives, stepped}
 use Rattle.atomic_table.proofs.Lists.{set_again}
-use Rattle.rec_table.proofs.Common.{written, Op, Contents, blank, IsMutator, Core, cells_of, mutator, box, crossing_of, IsKept, IsHandshake, Handshake, stand_at, stand_in, Move, after_moves, looked_at, left_by, turned_at, cell, IsWorld, world_kept, actor_of, may_turn, beats_of, looked, turn_at, gathered_all, BeginsNoLeave, OffersNone, Kind, Grows, Operates, operation, performed, step_in, steps_in, turned_by, row, index_of, Holds, TurnedBy, LookedBy, GlancedBy, ReturnedBy, Beat, Saw, Took, CollectorSeat, View, Collects, Mutates, Spent, after_both, config_after, every_both, fit_both, over_both}
+use Rattle.rec_table.proofs.Common.{written, Op, Contents, blank, IsMutator, Core, cells_of, mutator, box, crossing_of, IsKept, IsHandshake, Handshake, stand_at, stand_in, Move, after_moves, looked_at, left_by, turned_at, cell, IsWorld, world_kept, actor_of, may_turn, gives_back, is_busy_at, beats_of, looked, turn_at, gathered_all, OffersNone, Kind, Grows, Operates, operation, performed, step_in, steps_in, turned_by, row, index_of, Holds, TurnedBy, LookedBy, GlancedBy, ReturnedBy, Beat, Saw, Took, CollectorSeat, View, Collects, Mutates, Spent, after_both, config_after, every_both, fit_both, over_both}
 use Rattle.rec_word.specs.Mailbox.{crossing_word}
 use Rattle.rec_word.specs.declared.mailbox.Mailbox.TheVariants.{Retired, Spare, WithCollector, WithMutator}
 use Rattle.rec_word.specs.declared.op.Op.TheVariants as ops
+use Rattle.rec_mutator.specs.declared.phase.Phase as phases
 use Rattle.rec_mutator.specs.declared.phase.Phase.TheVariants as at
 use Rattle.rec_collector.specs.Given.{IsGiven, IsSized}
 use Rattle.rec_collector.specs.Next.{next_of, next_at}
@@ -22,7 +23,8 @@ use Rattle.rec_core.specs.Core.{spare_of}
 use Rattle.rec_core.specs.Kept.{HasCrossed, IsHeldAt}
 use Rattle.rec_core.specs.Preconditions.{MayTurn}
 use Rattle.rec_core.specs.declared.config.Config.{Config}
-use Rattle.rec_core.proofs.Crossings.{giving_of}
+use Rattle.rec_core.proofs.Actors.{giving_crosses}
+use Rattle.rec_core.proofs.Steps.{stand_of, stays_here}
 use Rattle.rec_core.proofs.Turning.{some_op}
 use Rattle.rec_core.proofs.Turns.{its_spare}
 use Rattle.rec_core.proofs.Shapes.{same_boxes}
@@ -39,8 +41,20 @@ looks_op : (c : Private) (t : ℕ) → c.phase ≡ Looking t → ◌≡◌ {A = 
 unfolding next_of next_at
 looks_op c t is = ap (next_at c) is
 
+-- who gives a mailbox back is at work
+gives_busy : (phase : phases.Phase) → gives_back phase ≡ true → is_busy_at phase ≡ true
+gives_busy at.Giving is = refl
+gives_busy at.Parting is = refl
+gives_busy _ is = absurd (true≢false (sym is))
+
+-- the crossing word of a mutator that has its mailbox out says so
+out_word : (w : Core) (x : ℕ) → IsKept w → IsMutator w.config x → gives_back (mutator w x).phase ≡ true → (into : ℕ) × (crossing_of w x ≡ crossing_word into WithMutator)
+out_word w x kept is giving =
+    ⊎_elim (λ due. (w.epoch, due.1.word)) (λ ahead. (w.epoch + 1, ahead.1.word))
+    (giving_crosses w.config w.epoch (mutator w x) (crossing_of w x) (box w x) (stand_of w x) (stays_here w x kept is (gives_busy (mutator w x).phase giving)) giving (actor_of w x kept is).handshake)
+
 -- a turn changes no mailbox of a mutator that has it out
-hand_kept : (w : Core) (op : Op) (x : ℕ) → IsKept w → IsMutator w.config x → ◌≡◌ {A = Option Op} (next_of w.collector) (Some op) → (mutator w x).phase ≡ at.Giving → box (turned_at w (Some op)) x ≡ box w x
+hand_kept : (w : Core) (op : Op) (x : ℕ) → IsKept w → IsMutator w.config x → ◌≡◌ {A = Option Op} (next_of w.collector) (Some op) → gives_back (mutator w x).phase ≡ true → box (turned_at w (Some op)) x ≡ box w x
 hand_kept w op x kept is named giving = by w.collector.phase refl
   where
     still : (phase : Phase) → w.collector.phase ≡ phase → left_by w.collector (cell (cells_of w) op) (box w (looked_at phase)) phase ≡ box w (looked_at phase) → box (turned_at w (Some op)) x ≡ box w x
@@ -53,9 +67,9 @@ hand_kept w op x kept is named giving = by w.collector.phase refl
     by (Looking t) at_phase = dite (ℕ_discrete (x - 1) (t - 1))
         (λ (e : x - 1 ≡ t - 1).
         let its : op ≡ ops.LookBox t w.collector.epoch = some_op op (ops.LookBox t w.collector.epoch) (sym named ∙ looks_op w.collector t at_phase) in
-        let found : cell (cells_of w) op ≡ crossing_word w.epoch WithMutator = ap (cell (cells_of w)) its ∙ ap (λ i. get_or w.crossing i 0) (sym e) ∙ (giving_of w x kept is giving).1.word in
-        let epoch : w.collector.epoch ≡ w.epoch = kept.collector.epoch in
-        let miss : cell (cells_of w) op ≢ crossing_word w.collector.epoch Retired = λ hit. omega (arith, hit, found, epoch) in
+        let (into, out) = out_word w x kept is giving in
+        let found : cell (cells_of w) op ≡ crossing_word into WithMutator = ap (cell (cells_of w)) its ∙ ap (λ i. get_or w.crossing i 0) (sym e) ∙ out in
+        let miss : cell (cells_of w) op ≢ crossing_word w.collector.epoch Retired = λ hit. omega (arith, hit, found) in
         still (Looking t) at_phase (ap (λ b. cond b (spare w.collector) (box w t)) (ne_eqb (cell (cells_of w) op) (crossing_word w.collector.epoch Retired) miss)))
         (λ (ne : x - 1 ≢ t - 1).
         ap (λ (f : Phase). get_or (set w.boxes (looked_at f - 1) (left_by w.collector (cell (cells_of w) op) (box w (looked_at f)) f)) (x - 1) (blank 0 0)) at_phase
@@ -85,7 +99,7 @@ here_at key s h id c p op fit is_p next =
     let now : Core = after_moves key h.run in
     let mine = h.each id (Collects c) fit in
     let kept : IsKept key = world_kept key h.world in
-    let world : IsWorld now = world_after key h.run h.world h.fit h.none_leaves in
+    let world : IsWorld now = world_after key h.run h.world h.fit in
     let is : now.collector ≡ p = collector_after key h.run kept h.fit h.offerless ∙ ap (gathered_all key.collector) (sym mine.3) ∙ sym is_p in
     let named : ◌≡◌ {A = Option Op} (next_of now.collector) (Some op) = ap next_of is ∙ next in
     let may : MayTurn now op = subst (λ (x : Option Op). IfSome x (MayTurn now)) named (may_turn now (world_kept now world)) in
@@ -146,7 +160,6 @@ turns_on key s h id c p op z homes' b fit here does homes_are beat_is =
         world = h.world;
         fit = fit_both key h.run (Move.Turns ∷ []) h.fit (tt, tt);
         offerless = every_both OffersNone h.run (Move.Turns ∷ []) h.offerless (tt, tt);
-        none_leaves = every_both BeginsNoLeave h.run (Move.Turns ∷ []) h.none_leaves (tt, tt);
         words = here.words z does ∙ ap (λ (x : Core). row (cells_of x)) (sym ends);
         homes = homes_are ∙ ap (λ (x : Core). homes_of x.crossing x.boxes) (sym ends);
         order = h.order;
@@ -169,7 +182,7 @@ turns_on key s h id c p op z homes' b fit here does homes_are beat_is =
           f.1,
           f.2,
           f.3 ∙ mutator_beats key h.run u.number (omega (arith, f.1)),
-          subst (λ (x : Core). (mutator x u.number).phase ≡ at.Giving → u.hand ≡ box x u.number) (sym ends)
+          subst (λ (x : Core). gives_back (mutator x u.number).phase ≡ true → u.hand ≡ box x u.number) (sym ends)
               (λ giving. f.4 giving ∙ sym (hand_kept now op u.number kept is named giving)),
         )
     other j Spent ne first ends kept named f = tt

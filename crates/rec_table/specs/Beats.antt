@@ -15,7 +15,6 @@ use Rattle.rec_core.specs.Core.{Core, cells_of, box}
 use Rattle.rec_core.specs.Moves.{Move, found_by}
 use Rattle.rec_core.specs.Run.{by_actor, Every, over}
 use Rattle.rec_core.specs.Cells.{cell, births_of}
-use Rattle.rec_world.specs.World.{BeginsNoLeave}
 use Rattle.rec_table.specs.declared.views.Beat.{Beat}
 use Rattle.rec_table.specs.declared.views.Beat.TheVariants.{Begins, Saw, Took}
 
@@ -66,10 +65,6 @@ OffersNone m = Unit {0}
 -- a run in which the slots are never offered
 abbrev pub Offerless : List Move → Type 0
 Offerless ms = Every OffersNone ms
-
--- a run in which no mutator begins to leave
-abbrev pub NoneLeaves : List Move → Type 0
-NoneLeaves ms = Every BeginsNoLeave ms
 
 -- the births of a list
 abbrev pub births_in : Private → Beat → ℕ

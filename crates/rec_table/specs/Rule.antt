@@ -7,7 +7,7 @@ use Rattle.rec_word.specs.declared.op.Op.{Op}
 use Rattle.rec_word.specs.declared.op.Op.TheVariants as ops
 use Rattle.rec_log.specs.declared.contents.Contents.{Contents}
 use Rattle.rec_model.specs.declared.command.Cmd.{Cmd}
-use Rattle.rec_model.specs.declared.command.Cmd.TheVariants as commands
+use Rattle.rec_mutator.specs.Causes.{gives_back}
 use Rattle.rec_mutator.specs.Next.{next_of}
 use Rattle.rec_mutator.specs.Private.{Private, is_busy, IsValid}
 use Rattle.rec_mutator.specs.Step.{NamesSlots}
@@ -16,7 +16,7 @@ use Rattle.rec_mutator.specs.declared.phase.Phase as phases
 use Rattle.rec_mutator.specs.declared.phase.Phase.TheVariants as at
 use Rattle.rec_mutator.specs.declared.work.Work.{Work}
 use Rattle.rec_mutator.specs.declared.work.Work.TheVariants as works
-use Rattle.rec_core.specs.Config.{HasLabel, IsNoLeave}
+use Rattle.rec_core.specs.Config.{HasLabel}
 use Rattle.rec_core.specs.Core.{Core, cells_of, mutator, box}
 use Rattle.rec_collector.specs.Private as collectors
 use Rattle.rec_collector.specs.Given.{IsGiven, IsSized}
@@ -26,7 +26,7 @@ use Rattle.rec_collector.specs.declared.phase.Phase as turning
 use Rattle.rec_collector.specs.declared.phase.Phase.TheVariants as turn_at
 use Rattle.rec_core.specs.Moves.{Move, AllFit, after_moves}
 use Rattle.rec_world.specs.World.{IsWorld}
-use Rattle.rec_table.specs.Beats.{beats_of, learnt, NoneLeaves, Offerless}
+use Rattle.rec_table.specs.Beats.{beats_of, learnt, Offerless}
 use Rattle.rec_table.specs.Homes.{homes_of}
 use Rattle.rec_core.specs.Row.{row}
 use Rattle.rec_table.specs.declared.start.Start.{Start}
@@ -38,14 +38,14 @@ use Rattle.rec_table.specs.declared.views.View.{View}
 use Rattle.rec_table.specs.declared.views.View.TheVariants.{Collects, Mutates, Spent}
 
 module _ (key : Core) (run : List Move) (made gone : ℕ) (owner : ℕ → ℕ) where
-  -- each seat's list is its actor's list in the run, and no two seats are one mutator's
+  -- Each seat's list is its actor's list in the run, and no two seats are one mutator's. What a mutator has in hand that holds its
+  -- mailbox is what lies in that.
   abbrev pub Fits : ℕ → View → Type 0
   Fits id (Collects c) = (id ≡ 0) × (c.made ≡ made) × (length c.known ≡ gone) × (c.log ≡ beats_of 0 key run) × ((k : ℕ) → k < gone → slice_index_or c.known k [] ≡ beats_of (k + 1) key run)
-  Fits id (Mutates t) = (owner t.number ≡ id) × (gone < t.number) × (t.number ≤ made) × (t.log ≡ beats_of t.number key run) × ((mutator (after_moves key run) t.number).phase ≡ at.Giving → t.hand ≡ box (after_moves key run) t.number)
+  Fits id (Mutates t) = (owner t.number ≡ id) × (gone < t.number) × (t.number ≤ made) × (t.log ≡ beats_of t.number key run) × (gives_back (mutator (after_moves key run) t.number).phase ≡ true → t.hand ≡ box (after_moves key run) t.number)
   Fits id Spent = Unit {0}
 
--- There is a run of the core from the started world, whose last state has the table's words and its mailboxes. On the table no mutator
--- leaves yet.
+-- There is a run of the core from the started world, whose last state has the table's words and its mailboxes.
 pub record Holds (key : Core) (s : State (Option Contents) View) : Type 0 where
   pub run : List Move
   pub made : ℕ
@@ -54,7 +54,6 @@ pub record Holds (key : Core) (s : State (Option Contents) View) : Type 0 where
   pub world : IsWorld key
   pub fit : AllFit key run
   pub offerless : Offerless run
-  pub none_leaves : NoneLeaves run
   pub words : s.words ≡ row (cells_of (after_moves key run))
   pub homes : s.homes ≡ homes_of (after_moves key run).crossing (after_moves key run).boxes
   pub order : gone ≤ made
@@ -67,30 +66,18 @@ abbrev pub ready : Private → Option Start → Private
 ready p None = p
 ready p (Some start) = begun_of p start.work start.from
 
--- between two steps of a mutator that stays, by phase: none leaves yet
-abbrev pub RemainsAt : phases.Phase → Type 0
-RemainsAt at.Swapping = ⊥
-RemainsAt at.Leaving = ⊥
-RemainsAt at.Retiring = ⊥
-RemainsAt at.Parting = ⊥
-RemainsAt (at.Begun (works.Command commands.Leave)) = ⊥
-RemainsAt _ = Unit {0}
-
-abbrev pub Remains : Private → Type 0
-Remains p = RemainsAt p.phase × (p.left ≡ false)
-
--- a mutator may be asked this: the registers and the field are there; and none leaves yet
+-- a mutator may be asked this: the registers and the field are there, and it hasn't left
 abbrev pub MayAsk : Private → Cmd → Type 0
-MayAsk p cmd = IsValid p (works.Command cmd) × IsNoLeave (works.Command cmd)
+MayAsk p cmd = IsValid p (works.Command cmd) × (p.left ≡ false)
 
--- a work may begin where none is unfinished; and none leaves yet
+-- a mutator that hasn't left may begin a work where none is unfinished
 abbrev pub MayBegin : Private → Work → Type 0
-MayBegin p work = (is_busy p ≡ false) × IsValid p work × HasLabel work × IsNoLeave work
+MayBegin p work = (is_busy p ≡ false) × (p.left ≡ false) × IsValid p work × HasLabel work
 
--- a work begins where none is unfinished, with any slot as its scan's first one, and a step needs one that is
+-- so a work begins, with any slot as its scan's first one; and a step needs a work that is unfinished
 abbrev pub MayGo : Private → Option Start → Type 0
 MayGo p None = is_busy p ≡ true
-MayGo p (Some start) = (is_busy p ≡ false) × IsValid p start.work × HasLabel start.work × (start.from < p.slots) × IsNoLeave start.work
+MayGo p (Some start) = (is_busy p ≡ false) × (p.left ≡ false) × IsValid p start.work × HasLabel start.work × (start.from < p.slots)
 
 abbrev pub beats : Option Start → (word : ℕ) → List Beat
 beats None word = Saw word ∷ []
@@ -164,6 +151,7 @@ ReturnedBy c st me word me' = (me' ≡ (records me.0 (Saw word), rest me.1)) × 
 -- the mailbox that a mutator has out between two steps, by phase, with what it leaves there
 abbrev pub hands_at : (hand : Contents) (number : ℕ) → phases.Phase → List (ℕ × Option Contents)
 hands_at hand number at.Giving = (number - 1, Some hand) ∷ []
+hands_at hand number at.Parting = (number - 1, Some hand) ∷ []
 hands_at hand number _ = []
 
 abbrev pub hands : Seated → Private → List (ℕ × Option Contents)
@@ -172,10 +160,12 @@ hands t p = hands_at t.hand p.number p.phase
 -- what its seat has once the step by p is made, and before the buffer in a mailbox that it takes is swapped
 abbrev pub hand_after : (hand retired : Contents) → phases.Phase → Contents
 hand_after hand retired at.Crossing = retired
+hand_after hand retired at.Leaving = retired
 hand_after hand retired _ = hand
 
 abbrev pub taken_by : Private → (word : ℕ) → phases.Phase → List (ℕ × Option Contents)
 taken_by p word at.Crossing = (p.number - 1, Some (spare (took_of p word))) ∷ []
+taken_by p word at.Leaving = (p.number - 1, Some (spare (took_of p word))) ∷ []
 taken_by p word _ = []
 
 abbrev pub seated_after : Seated → Private → Option Start → (word : ℕ) → Seated

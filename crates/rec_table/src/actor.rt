@@ -3,11 +3,11 @@ ghost use Rattle.std.specs.Prelude.{◌≡◌, ◌<◌, ◌≤◌, ◌↔◌, []
 ghost use Rattle.rec_mutator.specs.Next.{next_of};
 ghost use Rattle.rec_mutator.specs.Private.{is_busy, register, HasOperands, IsMachine, KeepsSizes};
 ghost use Rattle.rec_mutator.specs.Step.{NamesSlots};
-ghost use Rattle.rec_mutator.specs.Took.{IsFound, spare, took_of};
+ghost use Rattle.rec_mutator.specs.Took.{IsBetween, IsFound, spare, took_of};
 ghost use Rattle.rec_table.specs.Views.{mutator_view, mutator_now, IsOf};
 ghost use Rattle.rec_table.specs.Beats.{told, learnt};
 ghost use Rattle.rec_core.specs.Row.{index_of};
-ghost use Rattle.rec_table.specs.Rule.{ready, MayBegin, MayGo, Remains, beats, longer, seated_of, hands, me_after, taken_by, hand_after};
+ghost use Rattle.rec_table.specs.Rule.{ready, MayBegin, MayGo, beats, longer, seated_of, hands, me_after, taken_by, hand_after};
 ghost use Rattle.rec_table.specs.declared.views.Beat.TheVariants.{Saw};
 ghost use Rattle.rec_table.specs.declared.views.View.TheVariants.{Mutates};
 ghost use Rattle.rec_core.specs.Core.{mutator};
@@ -44,16 +44,17 @@ impl Model for Actor {
     ghost use Rattle.std.specs.Prelude.{◌≡◌, ◌%◌, ◌^◌, []};
     ghost use Rattle.rec_mutator.specs.Private.{KeepsSizes};
     ghost use Rattle.rec_mutator.specs.Step.{NamesSlots};
+    ghost use Rattle.rec_mutator.specs.Took.{IsBetween};
     ghost use Rattle.rec_table.specs.declared.views.View.TheVariants.{Mutates};
     ghost use Rattle.rec_table.specs.Beats.{told, births_told};
     ghost use Rattle.rec_table.specs.Views.{MutatorView, mutator_view};
-    ghost use Rattle.rec_table.specs.Rule.{seated_of, hands, Remains};
+    ghost use Rattle.rec_table.specs.Rule.{seated_of, hands};
 
     ghost Value = { MutatorView };
 
     ghost view = { λ m. mutator_view m.seat.table_id m.opened.value (seated_of m.seat.me.0) };
 
-    ghost invariant = { λ m. (m.seat.me ≡ (Mutates (seated_of m.seat.me.0), hands (seated_of m.seat.me.0) m.machine)) × (m.machine ≡ told m.opened.value (seated_of m.seat.me.0).log) × NamesSlots m.machine × KeepsSizes m.opened.value m.machine × Remains m.machine × (m.births ≡ births_told m.opened.value (seated_of m.seat.me.0).log % 2 ^ 64) };
+    ghost invariant = { λ m. (m.seat.me ≡ (Mutates (seated_of m.seat.me.0), hands (seated_of m.seat.me.0) m.machine)) × (m.machine ≡ told m.opened.value (seated_of m.seat.me.0).log) × NamesSlots m.machine × KeepsSizes m.opened.value m.machine × IsBetween m.machine.phase × (m.births ≡ births_told m.opened.value (seated_of m.seat.me.0).log % 2 ^ 64) };
 }
 
 // Makes the atomic operation of a step, and no more.
@@ -67,7 +68,7 @@ fn make<W: Doing>(
     requires seat { seat.old.me ≡ (Mutates (seated_of seat.old.me.0), hands (seated_of seat.old.me.0) (ready W.actor work)) }
     requires actor { W.actor ≡ told (mutator board.now.table.shared.key.value (seated_of seat.old.me.0).number) (seated_of seat.old.me.0).log }
     requires work { (W.work ≡ work) × MayGo W.actor work }
-    requires between { Remains (ready W.actor work) }
+    requires between { IsBetween (ready W.actor work).phase }
     requires op { op ≡ next_of (ready W.actor work) }
     requires there { index_of (length board.now.table.shared.key.value.words) (length board.now.table.shared.key.value.headers) op < board.now.table.shared.table_id.words }
     ensures seat { (seat.new.table_id ≡ seat.old.table_id) × (seat.new.id ≡ seat.old.id) }
@@ -109,7 +110,7 @@ fn learn(
 )
     requires table { seat.old.table_id ≡ board.now.table.shared.table_id }
     requires busy { is_busy machine.old ≡ true }
-    requires between { Remains machine.old }
+    requires between { IsBetween machine.old.phase }
     requires number { 1 ≤ machine.old.number }
     requires op { op ≡ next_of machine.old }
     requires found { IsFound machine.old op word }
@@ -118,7 +119,7 @@ fn learn(
     ensures seat { (seat.new.table_id ≡ seat.old.table_id) × (seat.new.id ≡ seat.old.id) }
     ensures machine { machine.new ≡ learnt machine.old (Saw word) }
     ensures same { KeepsSizes machine.old machine.new }
-    ensures between { Remains machine.new }
+    ensures between { IsBetween machine.new.phase }
     ensures me { seat.new.me ≡ (seat.old.me.0, hands (seated_of seat.old.me.0) machine.new) }
 {
     match op {
@@ -133,7 +134,6 @@ fn learn(
 
 fn prepare(machine: &mut Machine, work: Option<Start>)
     requires may { MayGo machine.old work }
-    requires stays { machine.old.left ≡ false }
     ensures ready { machine.new ≡ ready machine.old work }
     ensures busy { is_busy machine.new ≡ true }
     ensures same { KeepsSizes machine.old machine.new }
@@ -171,7 +171,7 @@ impl Actor {
     ghost use Rattle.rec_model.specs.declared.told.Told.{Told as Answers};
     ghost use Rattle.rec_mutator.specs.declared.made.Made.TheVariants as makes;
     ghost use Rattle.rec_mutator.specs.declared.work.Work.TheVariants as works;
-    ghost use Rattle.rec_table.specs.Answered.{IsAnswered, IsPolled};
+    ghost use Rattle.rec_table.specs.Answered.{IsAnswered, IsPolled, Leaves};
     ghost use Rattle.rec_table.specs.Views.{IsTold, Works};
     ghost use Rattle.rec_table.specs.Journals.{Tells, line_of};
     ghost use Rattle.rec_table.specs.Scan.{HasScanned};
@@ -184,7 +184,7 @@ impl Actor {
         cursor: u16,
     ) -> Actor
         requires seat { (seat.me ≡ (Mutates (seated_of seat.me.0), [])) × ((seated_of seat.me.0).log ≡ []) }
-        requires machine { (machine ≡ opened.value) × (is_busy machine ≡ false) × NamesSlots machine × Remains machine }
+        requires machine { (machine ≡ opened.value) × (is_busy machine ≡ false) × NamesSlots machine × IsBetween machine.phase }
         ensures { result ≡ mutator_view seat.table_id opened.value (seated_of seat.me.0) }
     {
         Actor {
@@ -228,6 +228,7 @@ impl Actor {
         ensures same { KeepsSizes (mutator_now self.old) (mutator_now self.new) }
         ensures told { IsTold (mutator_now self.new).phase }
         ensures machine { IsMachine (ready (mutator_now self.old) work) }
+        ensures between { IsBetween (ready (mutator_now self.old) work).phase }
     {
         prepare(&mut self.machine, work);
         let op = self.machine.next();
@@ -289,11 +290,18 @@ impl Actor {
         self.machine.answer()
     }
 
-    // Whether it may be asked this.
+    // Whether the registers and the field are there that it would be asked of.
     pub(crate) fn valid(&self, cmd: &Cmd) -> bool
         ensures { IsTrue result ↔ HasOperands (mutator_now self.now) cmd.now }
     {
         self.machine.valid(cmd)
+    }
+
+    // Whether it has left.
+    pub(crate) fn left(&self) -> bool
+        ensures { result ≡ (mutator_now self.now).left }
+    {
+        self.machine.has_left()
     }
 
     // What register `r` names.
@@ -333,7 +341,10 @@ impl Actor {
         ensures same { KeepsSizes (mutator_now self.old) (mutator_now self.new) }
         // A command's refusals have their causes in the list.
         ensures causes { (cmd : Command) (told : Answers) → work ≡ works.Command cmd → result ≡ makes.Answered told → IsAnswered (mutator_now self.old) cmd self.old.log self.new.log (mutator_now self.new) told }
+        // It has left where that was the work, and is done.
+        ensures leaves { (cmd : Command) (told : Answers) → work ≡ works.Command cmd → result ≡ makes.Answered told → Leaves (mutator_now self.old) cmd told (mutator_now self.new) }
         ensures polled { (epoch : Option ℕ) → work ≡ works.Poll → result ≡ makes.Crossed epoch → IsPolled (mutator_now self.old) self.old.log self.new.log epoch }
+        ensures stays { work ≡ works.Poll → (mutator_now self.new).left ≡ (mutator_now self.old).left }
     {
         let start = self.start(board, work);
         self.step(board, Some(start));

@@ -207,7 +207,8 @@ impl Collector {
     }
 
     /// Makes one turn of the collector: one step of its collection, on the word that this names. It answers `Waiting` for a mutator
-    /// that hasn't crossed into the requested epoch, and `EpochsSpent` for good where the next request would be epoch 16,777,216.
+    /// that hasn't crossed into the requested epoch and hasn't left, and `EpochsSpent` for good where the next request would be epoch
+    /// 16,777,216.
     pub fn turn(&mut self, heap: &Heap) -> Turn
         requires own { IsCollectorOf heap.now self.old }
 

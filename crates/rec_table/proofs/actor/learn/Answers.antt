@@ -1,27 +1,26 @@
 -- The contract of `learn`: the machine learns the word that the step found; where it has just taken its mailbox, the retired log goes there for the buffer.
 use Rattle.std.proofs.Common.{◌≡◌, ◌-◌, Option, Some, ◌∷◌, [], refl, sym, ap, ◌∙◌, subst, arith}
 use Rattle.atomic_table.specs.Table.{rest}
-use Rattle.rec_table.proofs.Common.{Contents, Private, KeepsSizes, spare, took_of, swapped_of, left_of, seated_of}
-use Rattle.rec_mutator.specs.declared.phase.Phase.TheVariants as at
+use Rattle.rec_table.proofs.Common.{Contents, Private, KeepsSizes, TakesBox, spare, took_of, swapped_of, left_of, seated_of}
 use Rattle.rec_world.specs.Mailbox.{held}
-use Rattle.rec_table.proofs.Making.{IsTakeOp, crossing_phase, takes_own, out_at, first_is, learns_box, learns_word, takes_none, crossing_takes, Boxed}
+use Rattle.rec_table.proofs.Making.{IsTakeOp, taking_phase, takes_own, out_at, first_is, learns_box, learns_word, takes_none, taking_takes, Boxed}
 use Rattle.rec_table.proofs.actor.learn.Goals as goal
 use Rattle.rec_table.proofs.actor.learn.Goals.{After-from}
 
-crossing : (c : After-from) → c.args.machine.now.phase ≡ at.Crossing
-crossing c = crossing_phase c.args.machine.now c.args.op c.requires.op c.requires.between (subst IsTakeOp (sym c.in-TakeBox.is) tt)
+taking : (c : After-from) → TakesBox c.args.machine.now.phase
+taking c = taking_phase c.args.machine.now c.args.op c.requires.op c.requires.between (subst IsTakeOp (sym c.in-TakeBox.is) tt)
 
 own : (c : After-from) → c.from.result ≡ c.args.machine.now.number
 own c = c.from.ensures ∙ takes_own c.args.machine.now c.args.op c.in-TakeBox.t c.in-TakeBox.field-1 c.requires.op c.requires.between c.in-TakeBox.is
 
 out : (c : After-from) → c.args.seat.now.me.1 ≡ (c.from.result - 1, Some (spare (took_of c.args.machine.now c.args.word))) ∷ []
-out c = out_at c.args.machine.now c.args.word (c.from.result - 1) c.args.seat.now.me.1 (crossing c) (ap (λ n. n - 1) (own c)) c.requires.out
+out c = out_at c.args.machine.now c.args.word (c.from.result - 1) c.args.seat.now.me.1 (taking c) (ap (λ n. n - 1) (own c)) c.requires.out
 
 boxed : (c : After-from) (q r : Private) (m m' : Option Contents) → q ≡ took_of c.args.machine.now c.args.word → KeepsSizes c.args.machine.now q
     → c.args.seat.now.me.1 ≡ (c.from.result - 1, m) ∷ rest c.args.seat.now.me.1 → r ≡ swapped_of q (held m) → m' ≡ Some (left_of q (held m)) → Boxed c.args.machine.now r m' (seated_of c.args.seat.now.me.0) c.args.word
 boxed c q r m m' took same value swapped left =
     let is : m ≡ Some (spare (took_of c.args.machine.now c.args.word)) = first_is (c.from.result - 1) (c.from.result - 1) m (Some (spare (took_of c.args.machine.now c.args.word))) c.args.seat.now.me.1 (rest c.args.seat.now.me.1) [] value (out c) in
-    learns_box c.args.machine.now q r (held m) m' (seated_of c.args.seat.now.me.0) c.args.word (crossing c) took (ap held is) swapped left c.requires.hand same c.requires.between
+    learns_box c.args.machine.now q r (held m) m' (seated_of c.args.seat.now.me.0) c.args.word (taking c) took (ap held is) swapped left c.requires.hand same
 
 pub overflow_sub-from : goal.overflow_sub-from
 overflow_sub-from c = omega (arith, own c, c.requires.number)
@@ -52,7 +51,7 @@ pub returns-in_default : goal.returns-in_default
 returns-in_default c =
     let p : Private = c.args.machine.now in
     let all = learns_word p c.took-in_default.new.self (seated_of c.args.seat.now.me.0) c.args.word c.args.seat.now.me c.requires.busy c.requires.between
-    (takes_none p.phase c.requires.between.0 (λ e. crossing_takes p c.args.op e c.requires.op c.in_default.not-TakeBox)) c.took-in_default.ensures.took c.requires.out in
+    (takes_none p.phase c.requires.between (λ takes. taking_takes p c.args.op takes c.requires.op c.in_default.not-TakeBox)) c.took-in_default.ensures.took c.requires.out in
     record {
       seat = (refl, refl);
       machine = all.0;

@@ -5,7 +5,7 @@ use Rattle.atomic_table.specs.Table.{step}
 use Rattle.rec_table.proofs.Common.{written, Op, ready, seated_of}
 use Rattle.rec_table.proofs.Calls.{load_leaves, IsLoad}
 use Rattle.rec_table.proofs.Steps.{IsPlainOp}
-use Rattle.rec_table.proofs.Making.{IsTakeOp, IsGiveOp, allows_plain, allows_taking, allows_giving, made_plain, made_taking, made_giving, plain_phase, crossing_phase, giving_phase, is_plain_load, no_else}
+use Rattle.rec_table.proofs.Making.{IsTakeOp, IsGiveOp, allows_plain, allows_taking, allows_giving, made_plain, made_taking, made_giving, plain_phase, taking_phase, giving_phase, is_plain_load, no_else}
 use Rattle.rec_table.proofs.actor.make.Goals as goal
 
 pub load-requires : goal.load-requires
@@ -32,7 +32,7 @@ swap-requires-in-TakeBox g c =
       c.requires.table,
       subst (λ (i : ℕ). i < c.args.board.now.table.shared.table_id.words) (sym c.index-word.ensures) c.requires.there,
       allows_taking key _ _ c.index-word.result c.args.seat.now.me c.args.op c.args.work g.W.Doing.actor (λ _. c.crossing.result) (step c.args.board.now.table.shared.table_id.slots c.index-word.result c.crossing.result 0 none)
-          c.requires.seat c.requires.actor c.requires.work.1 (crossing_phase (ready g.W.Doing.actor c.args.work) c.args.op c.requires.op c.requires.between (subst IsTakeOp (sym c.in-TakeBox.is) tt)) c.requires.op c.index-word.ensures (λ n. c.crossing.ensures ∙ ap (λ (o : Op). written o n) (sym c.in-TakeBox.is)),
+          c.requires.seat c.requires.actor c.requires.work.1 (taking_phase (ready g.W.Doing.actor c.args.work) c.args.op c.requires.op c.requires.between (subst IsTakeOp (sym c.in-TakeBox.is) tt)) c.requires.op c.index-word.ensures (λ n. c.crossing.ensures ∙ ap (λ (o : Op). written o n) (sym c.in-TakeBox.is)),
     )
 
 pub swap-requires-in-GiveBox : goal.swap-requires-in-GiveBox
@@ -64,17 +64,17 @@ returns-in-SwapField-clause-view g c =
 pub returns-in-TakeBox-clause-view : goal.returns-in-TakeBox-clause-view
 returns-in-TakeBox-clause-view g c =
     (made_taking (seated_of c.args.seat.now.me.0) g.W.Doing.actor c.args.op c.args.work (step c.args.board.now.table.shared.table_id.slots c.index-word.result c.crossing.result 0 none) c.swap-in-TakeBox.result c.args.seat.now.me c.swap-in-TakeBox.new.seat.me c.requires.seat
-    (crossing_phase (ready g.W.Doing.actor c.args.work) c.args.op c.requires.op c.requires.between (subst IsTakeOp (sym c.in-TakeBox.is) tt)) c.requires.op c.swap-in-TakeBox.ensures.2).0
+    (taking_phase (ready g.W.Doing.actor c.args.work) c.args.op c.requires.op c.requires.between (subst IsTakeOp (sym c.in-TakeBox.is) tt)) c.requires.op c.swap-in-TakeBox.ensures.2).0
 
 pub returns-in-TakeBox-clause-found : goal.returns-in-TakeBox-clause-found
 returns-in-TakeBox-clause-found g c =
     (made_taking (seated_of c.args.seat.now.me.0) g.W.Doing.actor c.args.op c.args.work (step c.args.board.now.table.shared.table_id.slots c.index-word.result c.crossing.result 0 none) c.swap-in-TakeBox.result c.args.seat.now.me c.swap-in-TakeBox.new.seat.me c.requires.seat
-    (crossing_phase (ready g.W.Doing.actor c.args.work) c.args.op c.requires.op c.requires.between (subst IsTakeOp (sym c.in-TakeBox.is) tt)) c.requires.op c.swap-in-TakeBox.ensures.2).1
+    (taking_phase (ready g.W.Doing.actor c.args.work) c.args.op c.requires.op c.requires.between (subst IsTakeOp (sym c.in-TakeBox.is) tt)) c.requires.op c.swap-in-TakeBox.ensures.2).1
 
 pub returns-in-TakeBox-clause-names : goal.returns-in-TakeBox-clause-names
 returns-in-TakeBox-clause-names g c =
     (made_taking (seated_of c.args.seat.now.me.0) g.W.Doing.actor c.args.op c.args.work (step c.args.board.now.table.shared.table_id.slots c.index-word.result c.crossing.result 0 none) c.swap-in-TakeBox.result c.args.seat.now.me c.swap-in-TakeBox.new.seat.me c.requires.seat
-    (crossing_phase (ready g.W.Doing.actor c.args.work) c.args.op c.requires.op c.requires.between (subst IsTakeOp (sym c.in-TakeBox.is) tt)) c.requires.op c.swap-in-TakeBox.ensures.2).2
+    (taking_phase (ready g.W.Doing.actor c.args.work) c.args.op c.requires.op c.requires.between (subst IsTakeOp (sym c.in-TakeBox.is) tt)) c.requires.op c.swap-in-TakeBox.ensures.2).2
 
 pub returns-in-GiveBox-clause-view : goal.returns-in-GiveBox-clause-view
 returns-in-GiveBox-clause-view g c =

@@ -100,7 +100,7 @@ ended c r count me passed few skips =
     let all = many c in
     let every = passed.every in
     let its : Passed (seated c) (claiming c).probed count me = record { words = passed.words; taken = passed.taken; every = omega (arith, every, probed_is c); grows = passed.grows } in
-    ends c.self.inside.opened.value c.self.inside.machine r (seated c) c.from.result count me c.self.invariant.1 (claiming c) its (first c).0 (omega (arith, all, few)) skips c.self.invariant.2 c.self.invariant.4.1
+    ends c.self.inside.opened.value c.self.inside.machine r (seated c) c.from.result count me c.self.invariant.1 (claiming c) its (first c).0 (omega (arith, all, few)) skips c.self.invariant.2
 
 pub invariant_of-self : goal.invariant_of-self
 invariant_of-self c =

@@ -4,10 +4,9 @@ use Rattle.rec_mutator.specs.Next.{next_of}
 use Rattle.std.specs.Option.{IfSome}
 use Rattle.rec_mutator.specs.Step.{NamesSlots}
 use Rattle.atomic_table.specs.Table.{Me}
-use Rattle.rec_table.proofs.Common.{Op, Private, IsMachine, KeepsSizes, work_of, limit_of, IsTold, IsFound, IsMutator, Core, mutator, world_kept, actor_of, Contents, births_of, View, told, learnt, births_told, MutatorView, mutator_now, index_of, me_after, ready, MayGo, seated_of, hands, Saw, Mutates}
-use Rattle.rec_table.specs.Rule.{Remains}
+use Rattle.rec_table.proofs.Common.{Op, Private, IsMachine, KeepsSizes, work_of, limit_of, IsTold, IsBetween, IsFound, IsMutator, Core, mutator, world_kept, actor_of, Contents, births_of, View, told, learnt, births_told, MutatorView, mutator_now, index_of, me_after, ready, MayGo, seated_of, hands, Saw, Mutates}
 use Rattle.rec_table.proofs.Acting.{own_record, opened_is, seen_record, ready_names}
-use Rattle.rec_table.proofs.Making.{births_more, keeps_on, Counted, counted, ready_hands, ready_remains, made_out, made_hand, made_me, made_told}
+use Rattle.rec_table.proofs.Making.{births_more, keeps_on, Counted, counted, ready_between, ready_hands, made_out, made_hand, made_me, made_told}
 use Rattle.rec_table.proofs.Within.{there}
 use Rattle.rec_table.proofs.actor.Actor.step.Goals as goal
 use Rattle.rec_table.proofs.actor.Actor.step.Goals.{After-next-op}
@@ -31,8 +30,8 @@ may c = subst (λ (p : Private). MayGo p c.args.work) (picked c) c.requires.may
 prepared : (c : After-next-op) → c.prepare.new.machine ≡ ready (now c) c.args.work
 prepared c = c.prepare.ensures.ready ∙ ap (λ (p : Private). ready p c.args.work) (machine_is c)
 
-between : (c : After-next-op) → Remains (ready (now c) c.args.work)
-between c = ready_remains (now c) c.args.work (may c) (subst Remains (machine_is c) c.self.invariant.4)
+between : (c : After-next-op) → IsBetween (ready (now c) c.args.work).phase
+between c = ready_between (now c) c.args.work (subst (λ (p : Private). IsBetween p.phase) (machine_is c) c.self.invariant.4)
 
 is_mutator : (c : After-next-op) → IsMutator (key c).config (seated_of c.self.inside.seat.me.0).number
 is_mutator c = subst (λ (n : ℕ). IsMutator (key c).config n) (sym (ap (λ (x : MutatorView). x.number) c.self.view_is)) c.requires.own.1
@@ -63,7 +62,7 @@ learns_now c word me me' m is at learns =
     sym (told_now c word me me' m is at learns) ∙ learns ∙ ap (λ (p : Private). learnt p (Saw word)) (prepared c) ∙ ap (λ (p : Private). learnt (ready p c.args.work) (Saw word)) (sym (picked c))
 
 counts : (c : After-next-op) (word : ℕ) → Counted (mutator_now c.args.self.now) c.args.work word
-counts c word = counted (mutator_now c.args.self.now) c.args.work word c.requires.may (subst Remains (machine_is c ∙ sym (picked c)) c.self.invariant.4)
+counts c word = counted (mutator_now c.args.self.now) c.args.work word c.requires.may (subst (λ (p : Private). IsBetween p.phase) (machine_is c ∙ sym (picked c)) c.self.invariant.4)
 
 pub make-word-requires-clause-seat : goal.make-word-requires-clause-seat
 make-word-requires-clause-seat c =
@@ -103,7 +102,7 @@ make-word-requires-clause-there c =
 pub learn-requires-clause-between : goal.learn-requires-clause-between
 learn-requires-clause-between c =
     let a : After-next-op = (goal.at.learn-requires-clause-between c).After-next-op in
-    subst Remains (sym (prepared a)) (between a)
+    subst (λ (p : Private). IsBetween p.phase) (sym (prepared a)) (between a)
 
 pub learn-requires-clause-number : goal.learn-requires-clause-number
 learn-requires-clause-number c =
@@ -178,3 +177,8 @@ pub returns-clause-machine : goal.returns-clause-machine
 returns-clause-machine c =
     let a : After-next-op = (goal.at.returns-clause-machine c).After-next-op in
     subst IsMachine (prepared a ∙ ap (λ (p : Private). ready p c.args.work) (sym (picked a))) c.prepare.ensures.kept
+
+pub returns-clause-between : goal.returns-clause-between
+returns-clause-between c =
+    let a : After-next-op = (goal.at.returns-clause-between c).After-next-op in
+    subst (λ (p : Private). IsBetween (ready p c.args.work).phase) (sym (picked a)) (between a)

@@ -1,9 +1,7 @@
 -- The contract of `Collector::seat_next`: makes the seat of the next mutator.
 use Rattle.std.proofs.Common.{◌≡◌, ◌<◌, ◌+◌, ℕ, refl, sym, ap, ◌∙◌, subst, arith}
-use Rattle.rec_table.proofs.Common.{is_busy, IsMutator, actor_of, mutator, world_kept, names_slots, CollectorView, collecting_of, CollectorSeat}
+use Rattle.rec_table.proofs.Common.{Private, is_busy, IsBetween, IsMutator, actor_of, mutator, world_kept, names_slots, CollectorView, collecting_of, CollectorSeat}
 use Rattle.rec_mutator.specs.Step.{NamesSlots}
-use Rattle.rec_table.specs.Rule.{Remains}
-use Rattle.rec_table.proofs.Making.{stays_remains}
 use Rattle.rec_table.proofs.Seats.{splits_as}
 use Rattle.rec_table.proofs.collector.Collector.seat_next.Goals as goal
 
@@ -27,4 +25,4 @@ sat-requires-clause-machine c =
     let is : IsMutator key.config x = (omega arith, omega (arith, c.requires.room)) in
     let kept = world_kept key c.requires.world in
     let machine = sym (c.requires.machine.0 ∙ c.requires.machine.1) in
-    (c.requires.machine.0, c.requires.idle, subst NamesSlots machine (names_slots key x kept is), subst Remains machine (stays_remains (mutator key x) (c.requires.world.staying x is) (actor_of key x kept is).own.between))
+    (c.requires.machine.0, c.requires.idle, subst NamesSlots machine (names_slots key x kept is), subst (λ (p : Private). IsBetween p.phase) machine (actor_of key x kept is).own.between)
