@@ -2,16 +2,18 @@
 use Rattle.std.proofs.Common.{◌≡◌, inl, inr, ℕ, ◌+◌, ◌-◌, ◌<◌, ◌≤◌, ◌==◌, zero, suc, Some, List, [], ◌∷◌, ◌++◌, if◌then◌else◌, slice_index_or, slice_set, length, replicate, refl, sym, ap, subst, ◌∙◌, arith}
 use Rattle.std.specs.List.{slice_get}
 use Rattle.std.proofs.lemmas.Bool.{cases_eq, cases_lt, eq-eqb, ne_eqb}
+use Rattle.std.proofs.lemmas.Bool.Decides.{nat_tests}
 use Rattle.std.proofs.lemmas.List.{length-map, length-set, get_or-map, get_or-replicate, get_or-set_same, get_or-set_other, get_or_past}
 use Rattle.std.proofs.lemmas.List.Elements.{filter_map-append}
 use Rattle.std.proofs.lemmas.Option.{slice_get_within}
 use Rattle.rec_model.specs.declared.command.Cmd.{Cmd}
+use Rattle.rec_model.specs.declared.limits.TheConstants.{MOST_MUTATORS}
 use Rattle.rec_model.specs.Numbering.{times}
 use Rattle.rec_model.proofs.Counted.{times-cons}
 use Rattle.rec_core.specs.Config.{IsMutator}
 use Rattle.rec_core.specs.Core.{Core}
 use Rattle.rec_core.specs.declared.config.Config.{Config}
-use Rattle.rec_script.specs.Script.{ScriptContents, IsScript}
+use Rattle.rec_script.specs.Script.{ScriptContents, IsScript, most_mutators}
 use Rattle.rec_play.specs.declared.actor.Actor.{Actor}
 use Rattle.rec_play.specs.declared.actor.Actor.TheVariants.{Mutator, Collector}
 use Rattle.rec_play.specs.Moves.{AreDue, IsSpent, Player, made_by}
@@ -21,9 +23,12 @@ use Rattle.rec_play.specs.Playing.{IsOrderFor, Rest, generator_of, mutators_of, 
 use Rattle.rec_play.specs.Run.{commands_of}
 use Rattle.rec_play.proofs.Orders.{order_comes, order_names}
 
--- a script has few mutators
-pub few_mutators : (script : ScriptContents) → IsScript script → length script.commands ≤ 8
-few_mutators script is = is.most_mutators
+-- a script has no more mutators than a heap can have
+pub few_mutators : (script : ScriptContents) → IsScript script → length script.commands ≤ MOST_MUTATORS
+few_mutators script is = omega (arith, is.most_mutators, most_allowed)
+  where
+    most_allowed : most_mutators script.version ≤ MOST_MUTATORS
+    most_allowed = grind (arith, nat_tests)
 
 -- a mutator of the heap is one of the script
 pub is_of_script : (script : ScriptContents) (w : Core) (t : ℕ) → w.config ≡ config_of script → IsMutator w.config t → (1 ≤ t) × (t ≤ length script.commands)
@@ -40,18 +45,19 @@ pub record HasCommand (script : ScriptContents) (t m : ℕ) : Type 0 where
   pub most : t ≤ length script.commands
   pub next : m < length (commands_of script t)
 
+pub has_next : (script : ScriptContents) (t m : ℕ) → m < length (commands_of script t) → HasCommand script t m
+has_next script zero m within = absurd (omega (arith, within))
+has_next script (suc i) m within = record {
+  some = omega arith;
+  most = elim (cases_lt i (length script.commands)) [
+    | inl there ↦ omega (arith, there)
+    | inr past ↦ absurd (omega (arith, within, ap (length {A = Cmd}) (get_or_past script.commands i [] past)))
+  ];
+  next = within;
+}
+
 pub has_command : (script : ScriptContents) (t m : ℕ) (cmd : Cmd) → slice_get (commands_of script t) m ≡ Some cmd → HasCommand script t m
-has_command script zero m cmd is = absurd (omega (arith, slice_get_within [] m cmd is))
-has_command script (suc i) m cmd is =
-    let within : m < length (slice_index_or script.commands i []) = slice_get_within (slice_index_or script.commands i []) m cmd is in
-    record {
-      some = omega arith;
-      most = elim (cases_lt i (length script.commands)) [
-        | inl there ↦ omega (arith, there)
-        | inr past ↦ absurd (omega (arith, within, ap (length {A = Cmd}) (get_or_past script.commands i [] past)))
-      ];
-      next = within;
-    }
+has_command script t m cmd is = has_next script t m (slice_get_within (commands_of script t) m cmd is)
 
 -- how many commands a mutator has
 pub lengths_at : (script : ScriptContents) (t : ℕ) → 1 ≤ t → t ≤ length script.commands → slice_index_or (lengths_of script) (t - 1) 0 ≡ length (commands_of script t)
@@ -62,11 +68,11 @@ times_first : (t s : ℕ) (comes later : List Actor) → comes ≡ Mutator s ∷
 times_first t s comes later is = ap (λ actors. times t (mutators_of actors)) is ∙ times-cons t s (mutators_of later)
 
 -- none is made at the start
-pub none_made : (t : ℕ) → made_by (replicate 8 0) t ≡ 0
-none_made t = elim (cases_lt (t - 1) 8) [ inl there ↦ get_or-replicate 8 (t - 1) 0 0 there | inr past ↦ get_or_past (replicate 8 0) (t - 1) 0 past ]
+pub none_made : (t : ℕ) → made_by (replicate MOST_MUTATORS 0) t ≡ 0
+none_made t = elim (cases_lt (t - 1) MOST_MUTATORS) [ inl there ↦ get_or-replicate MOST_MUTATORS (t - 1) 0 0 there | inr past ↦ get_or_past (replicate MOST_MUTATORS 0) (t - 1) 0 past ]
 
 -- Before the first turn all are to come.
-pub due_first : (script : ScriptContents) (seed turns : ℕ) (p : Player) → IsScript script → p.script ≡ script → p.rest ≡ record { left = lengths_of script; generator = generator_of seed; turns = turns } → p.made ≡ replicate 8 0 → AreDue p
+pub due_first : (script : ScriptContents) (seed turns : ℕ) (p : Player) → IsScript script → p.script ≡ script → p.rest ≡ record { left = lengths_of script; generator = generator_of seed; turns = turns } → p.made ≡ replicate MOST_MUTATORS 0 → AreDue p
 due_first script seed turns p valid same rest none =
     let names : IsOrderFor (lengths_of script) (order (lengths_of script) seed turns) = order_names (lengths_of script) seed turns in
     let comes : mutators_of (to_come p.rest) ≡ order (lengths_of script) seed turns = ap (λ r. mutators_of (to_come r)) rest ∙ order_comes (lengths_of script) seed turns in
@@ -106,7 +112,7 @@ module _ (p : Player) (due : AreDue p) (rest : Rest) where
         each = λ s some. elim (cases_eq t s) [
           | inl same ↦
               let P : ℕ → Type 0 = λ x. made_by made x + times x (mutators_of (to_come rest)) ≡ slice_index_or (lengths_of p.script) (x - 1) 0 in
-              let mine : made_by made t ≡ made_by p.made t + 1 = get_or-set_same p.made (t - 1) (made_by p.made t + 1) 0 (omega (arith, next.some, next.most, due.valid.most_mutators, due.long)) in
+              let mine : made_by made t ≡ made_by p.made t + 1 = get_or-set_same p.made (t - 1) (made_by p.made t + 1) 0 (omega (arith, next.some, next.most, few_mutators p.script due.valid, due.long)) in
               subst P same (omega (arith, mine, due.each t next.some, times_first t t (to_come p.rest) (to_come rest) comes, ap {B = ℕ} (λ b. if b then 1 else 0) (eq-eqb t t refl)))
           | inr other ↦
               let stays : made_by made s ≡ made_by p.made s = get_or-set_other p.made (t - 1) (s - 1) (made_by p.made t + 1) 0 (λ at. other (omega (arith, at, next.some, some))) in

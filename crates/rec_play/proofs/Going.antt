@@ -1,5 +1,5 @@
 -- The run so far, as moves of the heap that tell the same, and a turn more.
-use Rattle.std.proofs.Common.{◌≡◌, inl, inr, ℕ, ◌+◌, ◌-◌, ◌<◌, ◌≤◌, ◌==◌, List, [], ◌∷◌, ◌++◌, Option, None, Some, Bool, true, false, if◌then◌else◌, slice_index_or, length, map, take, refl, sym, ap, subst, ◌∙◌, arith}
+use Rattle.std.proofs.Common.{◌≡◌, ◌↔◌, inl, inr, ℕ, ◌+◌, ◌-◌, ◌<◌, ◌≤◌, ◌==◌, List, [], ◌∷◌, ◌++◌, Option, None, Some, Bool, true, false, if◌then◌else◌, slice_index_or, length, map, take, refl, sym, ap, subst, ◌∙◌, arith}
 use Rattle.std.specs.List.{slice_get, filter_map, cons_option}
 use Rattle.std.proofs.lemmas.Bool.{cases_eq, eq-eqb, ne_eqb}
 use Rattle.std.proofs.lemmas.List.{append-nil, length_push, map_push, take_more}
@@ -8,33 +8,40 @@ use Rattle.std.proofs.lemmas.List.Sums.{sum_by-cons}
 use Rattle.std.proofs.lemmas.Option.{get_or_from_slice_get, slice_get_within}
 use Rattle.rec_word.specs.declared.op.Op.{Op}
 use Rattle.rec_word.specs.declared.op.Op.TheVariants as ops
+use Rattle.rec_model.specs.declared.answer.Answer.TheVariants as answers
 use Rattle.rec_model.specs.declared.command.Cmd.{Cmd}
-use Rattle.rec_model.specs.declared.command.Cmd.TheVariants.{Leave}
 use Rattle.rec_model.specs.declared.told.Told.{Told}
 use Rattle.rec_model.specs.LegalOrder.{actor, actors, Line, Event, line_by}
 use Rattle.rec_model.specs.LegalOrder.Event.{Answers, Frees, Marks}
 use Rattle.rec_model.specs.Numbering.{times}
 use Rattle.rec_model.specs.Sight.{Sight, IsTaken}
 use Rattle.rec_model.proofs.Operands.{operands_same}
-use Rattle.rec_mutator.specs.Private.{Private, HasOperands, is_busy}
+use Rattle.rec_mutator.specs.Causes.{IsAwaited}
+use Rattle.rec_mutator.specs.Private.{Private, HasOperands, answer_of, is_busy, work_of}
+use Rattle.rec_mutator.specs.declared.made.Made.TheVariants as makes
 use Rattle.rec_mutator.specs.declared.work.Work.TheVariants as works
+use Rattle.rec_mutator.proofs.Sizes.{step_left}
 use Rattle.rec_collector.specs.Next.{next_of}
 use Rattle.rec_core.specs.Config.{IsMutator, HasLabel}
 use Rattle.rec_core.specs.Core.{opened, Core, sight, mutator}
 use Rattle.rec_core.specs.Kept.{IsKept}
-use Rattle.rec_core.specs.Moves.{Fits, Move, after_move, after_moves, begun as begun_in, turned}
+use Rattle.rec_core.specs.Moves.{Move, after_move, after_moves, begun as begun_in, found_by, turned}
 use Rattle.rec_core.specs.Worked.{AreIdle, IsWorked}
 use Rattle.rec_core.specs.declared.config.Config.{Config}
 use Rattle.rec_core.proofs.Gathering.{awaited_stays}
+use Rattle.rec_core.proofs.Leaving.{IsStayingIn, polls_stay}
 use Rattle.rec_core.proofs.Runs.{move_stays}
-use Rattle.rec_core.proofs.Steps.{actor_of}
+use Rattle.rec_core.proofs.Showing.{step_caused, stepped_mutator}
+use Rattle.rec_core.proofs.Steps.{actor_of, stays_here}
+use Rattle.rec_core.proofs.Unfinished.{its_step}
 use Rattle.rec_order.specs.Events.{swept_by}
 use Rattle.rec_order.specs.Naming.{Naming, NamesGoOn, first_naming}
 use Rattle.rec_order.proofs.Legal.{swept_lines}
 use Rattle.rec_order.proofs.Runs.{Runs, runs_both, runs_one, commanded_runs, polled_runs}
 use Rattle.rec_world.specs.World.{IsWorld}
+use Rattle.rec_world.proofs.Beginnings.{began_work}
 use Rattle.rec_world.proofs.Calls.{moved_world, world_kept}
-use Rattle.rec_world.proofs.Skipping.{path_world}
+use Rattle.rec_world.proofs.Skipping.{path_counts, path_world}
 use Rattle.rec_script.specs.Script.{ScriptContents, AreCommands, IsCommand, IsScript}
 use Rattle.rec_settle.specs.Collecting.{Follows}
 use Rattle.rec_play.specs.Moves.{Carries}
@@ -91,7 +98,6 @@ runs_config script w events n run = ap (λ (x : Core). x.config) (sym run.ends) 
 
 -- operands in range are those of a mutator
 operands : (script : ScriptContents) (p : Private) (cmd : Cmd) → length p.registers ≡ script.registers → p.fields ≡ script.fields → IsCommand script.registers script.fields cmd → HasOperands p cmd × HasLabel (works.Command cmd)
-operands script p Leave registers fields is = absurd is
 operands script p cmd registers fields is = (operands_same cmd (sym registers) (sym fields) is.0, is.1)
 
 -- a mutator's next command has operands in range
@@ -135,30 +141,53 @@ names_from : (before mid after : Core) (line : Line) (n k : Naming) → sight mi
 names_from before mid after line n k seen (NamesGoOn.born slot birth free taken) = NamesGoOn.born slot birth (λ was. free (subst (λ (x : Sight). IsTaken x slot) (sym seen) was)) taken
 names_from before mid after line n k seen (NamesGoOn.same unborn) = NamesGoOn.same unborn
 
--- a poll of a world leaves one
-polled_world : (w v : Core) (t : ℕ) → IsWorld w → IsMutator w.config t → is_busy (mutator w t) ≡ false → IsWorked w t works.Poll v → IsWorld v
-polled_world w v t world is idle done =
-    let fits : Fits w (Move.Begins t works.Poll 0) = (is, idle, (world.staying t is).present, tt, tt, world.shaped.config.some_slots) in
-    let (last, there) = path_world (begun_in w t works.Poll) t done.last (moved_world w (Move.Begins t works.Poll 0) world fits tt) is done.path in
-    subst IsWorld (sym done.steps) (moved_world done.last (Move.Steps t) last (there, done.busy) tt)
+-- a poll of a world leaves one, and by it the mutator doesn't leave
+polled_world : (w v : Core) (t : ℕ) → IsWorld w → IsMutator w.config t → is_busy (mutator w t) ≡ false → (mutator w t).left ≡ false → IsWorked w t works.Poll v → IsWorld v × ((mutator v t).left ≡ false)
+polled_world w v t world is idle present done =
+    let b : Core = begun_in w t works.Poll in
+    let u : Core = done.last in
+    let begins : IsWorld b = moved_world w (Move.Begins t works.Poll 0) world (is, idle, present, tt, tt, world.shaped.config.some_slots) in
+    let (last, there) = path_world b t u begins is done.path in
+    let kept : IsKept u = world_kept u last in
+    let work : work_of (mutator u t) ≡ Some works.Poll = (path_counts b t u begins is done.path).1 ∙ began_work w t works.Poll (world_kept w world) is in
+    let stays : IsStayingIn (mutator u t).phase = polls_stay (mutator u t).phase work in (
+      subst IsWorld (sym done.steps) (moved_world u (Move.Steps t) last (there, done.busy)),
+      ap (λ (x : Core). (mutator x t).left) done.steps ∙ ap (λ (p : Private). p.left) (stepped_mutator u t kept there)
+          ∙ step_left (λ parts. subst IsStayingIn parts stays) (its_step u t kept there done.busy) ∙ stays_here u t kept there done.busy,
+    )
+
+-- A command of a world is told NotYet just where its last step is the first one of leaving and finds a log that is still to be collected.
+pub told_not_yet : (script : ScriptContents) (w v : Core) (t : ℕ) (cmd : Cmd) (told : Told) → IsWorld w → w.config ≡ config_of script → 0 < t → t ≤ length script.commands → is_busy (mutator w t) ≡ false → (mutator w t).left ≡ false
+    → IsCommand script.registers script.fields cmd → (done : IsWorked w t (works.Command cmd) v) → answer_of (mutator v t) ≡ Some (makes.Answered told) → (told.answer ≡ answers.NotYet) ↔ IsAwaited (mutator done.last t) (found_by done.last t) cmd
+told_not_yet script w v t cmd told world config some most idle present command done answered =
+    let is : IsMutator w.config t = is_mutator script w t config some most in
+    let kept : IsKept w = world_kept w world in
+    let own = (actor_of w t kept is).own in
+    let (valid, label) = operands script (mutator w t) cmd (own.registers ∙ ap (λ (c : Config). c.registers) config) (own.fields ∙ ap (λ (c : Config). c.fields) config) command in
+    let b : Core = begun_in w t (works.Command cmd) in
+    let u : Core = done.last in
+    let begins : IsWorld b = moved_world w (Move.Begins t (works.Command cmd) 0) world (is, idle, present, valid, label, world.shaped.config.some_slots) in
+    let (last, there) = path_world b t u begins is done.path in
+    let work : work_of (mutator u t) ≡ Some (works.Command cmd) = (path_counts b t u begins is done.path).1 ∙ began_work w t (works.Command cmd) kept is in
+    (step_caused u t cmd told (world_kept u last) there done.busy work (ap (λ (x : Core). answer_of (mutator x t)) (sym done.steps) ∙ answered)).not_yet
 
 -- A command more, behind a poll.
-pub went_command : (script : ScriptContents) (events : List Event) (n : Naming) (before after : Core) (t : ℕ) (cmd : Cmd) (told : Told) → IsWorld before → AreIdle before → Carries script t (made_in events t) before cmd told after → Went script events n before
+pub went_command : (script : ScriptContents) (events : List Event) (n : Naming) (before after : Core) (t : ℕ) (cmd : Cmd) (told : Told) → IsWorld before → AreIdle before → (mutator before t).left ≡ false → Carries script t (made_in events t) before cmd told after → Went script events n before
     → (k : Naming) × NamesGoOn before after (cmd, told) n k × Went script (events ++ Answers t (cmd, told) ∷ []) k after
-went_command script events n before after t cmd told world idle carries so =
+went_command script events n before after t cmd told world idle present carries so =
     let first : Core = opened (config_of script) in
     let there : HasCommand script t (made_in events t) = has_command script t (made_in events t) cmd carries.next in
     let mid : Core = carries.polled in
     let is : IsMutator before.config t = is_mutator script before t (runs_config script before events n so.run) there.some there.most in
-    let (poll, seen) = polled_runs before mid t n (world_kept before world) is (idle t is) (world.staying t is).present carries.poll in
+    let (poll, seen) = polled_runs before mid t n (world_kept before world) is (idle t is) present carries.poll in
     let polled : Runs first mid events first_naming n = subst (λ es. Runs first mid es first_naming n) (append-nil events) (runs_both first before mid events [] first_naming n n so.run poll) in
     let config : mid.config ≡ config_of script = runs_config script mid events n polled in
-    let world_mid : IsWorld mid = polled_world before mid t world is (idle t is) carries.poll in
+    let (world_mid, present_mid) = polled_world before mid t world is (idle t is) present carries.poll in
     let kept : IsKept mid = world_kept mid world_mid in
     let is_mid : IsMutator mid.config t = is_mutator script mid t config there.some there.most in
     let own = (actor_of mid t kept is_mid).own in
     let (valid, label) = operands script (mutator mid t) cmd (own.registers ∙ ap (λ (c : Config). c.registers) config) (own.fields ∙ ap (λ (c : Config). c.fields) config) (next_in_range script t (made_in events t) cmd so.valid carries.next) in
-    let (k, names, run) = commanded_runs mid after t cmd told n kept is_mid carries.poll.idle (world_mid.staying t is_mid).present valid label carries.command carries.answer in (
+    let (k, names, run) = commanded_runs mid after t cmd told n kept is_mid carries.poll.idle present_mid valid label carries.command carries.answer in (
       k,
       names_from before mid after (cmd, told) n k seen names,
       record {

@@ -12,6 +12,7 @@ use Rattle.rec_core.specs.declared.config.Config.{Config}
 use Rattle.rec_world.specs.Journal.{Notes, no_notes}
 use Rattle.rec_script.specs.Script.{ScriptContents, IsScript}
 use Rattle.rec_play.specs.Played.{AreReady, config_of, longest, log_room}
+use Rattle.rec_play.proofs.Due.{few_mutators}
 
 -- a mutator's commands fit its log
 pub fits_longest : (all : List (List Cmd)) (i : ℕ) → length (slice_index_or all i []) ≤ longest all
@@ -90,7 +91,7 @@ script_config script is =
       some_registers = is.heap.some_registers;
       few_registers = is.heap.most_registers;
       some_mutators = is.some_mutators;
-      few_mutators = omega (arith, is.most_mutators);
+      few_mutators = few_mutators script is;
       some_log_entries = omega arith;
       few_log_entries = omega arith;
       some_epoch = omega arith;

@@ -1,5 +1,5 @@
 -- The played run between two turns: what was played, what is to come, and what room is left.
-use Rattle.std.proofs.Common.{◌≡◌, inl, inr, ℕ, ◌+◌, ◌-◌, ◌<◌, ◌≤◌, zero, suc, Option, List, [], ◌∷◌, ◌++◌, Some, slice_index_or, slice_set, length, map, replicate, refl, sym, ap, subst, ◌∙◌, arith}
+use Rattle.std.proofs.Common.{◌≡◌, inl, inr, ℕ, ◌+◌, ◌-◌, ◌<◌, ◌≤◌, zero, suc, false, Option, List, [], ◌∷◌, ◌++◌, Some, slice_index_or, slice_set, length, map, replicate, refl, sym, ap, subst, ◌∙◌, arith}
 use Rattle.std.specs.List.{slice_get, filter_map, sum}
 use Rattle.std.proofs.lemmas.Bool.{cases_eq, cases_lt}
 use Rattle.std.proofs.lemmas.List.{append-nil, append_assoc, length_push, length-map, length-append, length-set, take_all, get_or-set_same, get_or-set_other, get_or-map, get_or_past, ext_get_or}
@@ -7,6 +7,7 @@ use Rattle.std.proofs.lemmas.List.Elements.{All-get_or, filter_map-append}
 use Rattle.std.proofs.lemmas.Option.{slice_get-get_or, get_or_from_slice_get}
 use Rattle.rec_word.specs.declared.op.Op.{Op}
 use Rattle.rec_model.specs.declared.command.Cmd.{Cmd}
+use Rattle.rec_model.specs.declared.limits.TheConstants.{MOST_MUTATORS}
 use Rattle.rec_model.specs.declared.told.Told.{Told}
 use Rattle.rec_model.specs.LegalOrder.{actor, actors, Line, Event, line_by}
 use Rattle.rec_model.specs.LegalOrder.Event.{Answers}
@@ -15,7 +16,7 @@ use Rattle.rec_mutator.specs.declared.work.Work.TheVariants as works
 use Rattle.rec_collector.specs.Next.{next_of}
 use Rattle.rec_collector.specs.declared.phase.Phase.TheVariants.{Looking}
 use Rattle.rec_collector.specs.declared.turn.Turn.{Turn}
-use Rattle.rec_core.specs.Core.{opened, Core}
+use Rattle.rec_core.specs.Core.{opened, Core, mutator}
 use Rattle.rec_core.specs.Kept.{IsKept}
 use Rattle.rec_core.specs.Moves.{turned}
 use Rattle.rec_core.specs.Worked.{AreIdle, IsWorked}
@@ -30,16 +31,17 @@ use Rattle.rec_script.specs.Script.{ScriptContents, IsScript}
 use Rattle.rec_settle.specs.Collecting.{Follows}
 use Rattle.rec_play.specs.declared.actor.Actor.{Actor}
 use Rattle.rec_play.specs.declared.actor.Actor.TheVariants.{Mutator, Collector}
-use Rattle.rec_play.specs.Moves.{Carries, IsSpent, MakesCommand, MakesStep, Player, made_by}
+use Rattle.rec_play.specs.Moves.{AreThere, Carries, IsSpent, MakesCommand, MakesStep, Player, made_by}
 use Rattle.rec_play.specs.Played.{AreReady, IsPlayed, config_of, lengths_of, lines_of}
 use Rattle.rec_play.specs.Playing.{all_turns, generator_of, mutators_of, number_of_actor, order, to_come}
 use Rattle.rec_play.specs.Run.{IsPlayedRun, EndsTurn, commands_of, made_in}
-use Rattle.rec_play.proofs.Due.{HasCommand, commands_are, has_command, is_of_script, lengths_at, none_made, order_is}
+use Rattle.rec_play.proofs.Due.{HasCommand, commands_are, few_mutators, has_command, is_of_script, lengths_at, none_made, order_is}
 use Rattle.rec_play.proofs.Going.{Went, actors_swept, begun, line_other, line_own, line_swept, turns_are_lines, went_command, went_step}
 use Rattle.rec_play.proofs.Opened.{IsPlayedLegally, played_legally}
 use Rattle.rec_play.proofs.Room.{no_log_full}
 use Rattle.rec_play.proofs.Ready.{script_config}
 use Rattle.rec_play.proofs.Orders.{order_names, order_length, collectors, collectors_few}
+use Rattle.rec_play.proofs.There.{opened_there}
 
 -- each mutator has made as many commands as were answered
 abbrev pub AreCounted : ScriptContents → (made : List ℕ) → List Event → Type 0
@@ -72,6 +74,7 @@ run_made script made acted events n k before after t cmd told counted carries na
       poll = carries.poll;
       command = carries.command;
       answer = carries.answer;
+      not_yet = carries.not_yet;
     })
     names
 
@@ -116,7 +119,8 @@ pub record Between (script : ScriptContents) (seed turns : ℕ) (world : Core) (
   pub of : p.script ≡ script
   pub kept : IsWorld world
   pub idle : AreIdle world
-  pub long : length p.made ≡ 8
+  pub present : AreThere p.script p.made world
+  pub long : length p.made ≡ MOST_MUTATORS
   pub config : world.config ≡ config_of script
   -- the turns so far, and the run that they make up
   pub acted : List Actor
@@ -138,7 +142,7 @@ pub record Between (script : ScriptContents) (seed turns : ℕ) (world : Core) (
 -- Before the first turn.
 pub start : (script : ScriptContents) (seed turns : ℕ) (world : Core) (journals : List Notes) (noted : Turns) (p : Player) → IsScript script → AreIdle world
     → world ≡ opened (config_of script) → AreReady script.commands journals → noted.list ≡ [] → sum (lengths_of script) ≤ noted.room
-    → p.script ≡ script → p.rest ≡ record { left = lengths_of script; generator = generator_of seed; turns = turns } → p.made ≡ replicate 8 0
+    → p.script ≡ script → p.rest ≡ record { left = lengths_of script; generator = generator_of seed; turns = turns } → p.made ≡ replicate MOST_MUTATORS 0
     → Between script seed turns world journals noted p
 start script seed turns world journals noted p valid idle is ready none room of begins made =
     let P : Core → Type 0 = λ w. IsPlayedRun script [] [] first_naming w in
@@ -146,6 +150,7 @@ start script seed turns world journals noted p valid idle is ready none room of 
       of = of;
       kept = subst IsWorld (sym is) (opened_world (config_of script) (script_config script valid));
       idle = idle;
+      present = subst (λ (s : ScriptContents). AreThere s p.made world) (sym of) (subst (AreThere script p.made) (sym is) (opened_there script p.made));
       long = ap length made;
       config = ap (λ (w : Core). w.config) is;
       acted = [];
@@ -206,9 +211,10 @@ module _ (script : ScriptContents) (seed turns : ℕ) (before after : Core) (jou
 
   -- It was noted.
   pub command_made : (notes : Notes) (more : Turns) → notes.lines ≡ (notes_at journals (t - 1)).lines ++ (cmd, told) ∷ [] → notes.room ≡ (notes_at journals (t - 1)).room - 1
-      → more.list ≡ noted.list ++ t ∷ [] → more.room ≡ noted.room - 1 → q.script ≡ p.script → length q.made ≡ 8 → IsWorld after → AreIdle after → after.config ≡ config_of script → Between script seed turns after (slice_set journals (t - 1) notes) more q
-  command_made notes more line room list less same long kept idle config =
-      let (k, names, went) = went_command script so.events so.names before after t cmd told so.kept so.idle (subst (λ m. Carries script t m before cmd told after) counted carries) so.went in
+      → more.list ≡ noted.list ++ t ∷ [] → more.room ≡ noted.room - 1 → q.script ≡ p.script → length q.made ≡ MOST_MUTATORS → IsWorld after → AreIdle after → AreThere q.script q.made after → after.config ≡ config_of script → Between script seed turns after (slice_set journals (t - 1) notes) more q
+  command_made notes more line room list less same long kept idle present config =
+      let stays : (mutator before t).left ≡ false = subst (λ (s : ScriptContents). AreThere s p.made before) so.of so.present t there.next in
+      let (k, names, went) = went_command script so.events so.names before after t cmd told so.kept so.idle stays (subst (λ m. Carries script t m before cmd told after) counted carries) so.went in
       let index : t - 1 < length journals = omega (arith, there.some, there.most, so.one_each) in
       let mine : made_in (so.events ++ Answers t (cmd, told) ∷ []) t ≡ made_in so.events t + 1 = ap length (line_own so.events t (cmd, told)) ∙ length_push (filter_map (line_by t) so.events) (cmd, told) in
       let here : notes_at (slice_set journals (t - 1) notes) (t - 1) ≡ notes = get_or-set_same journals (t - 1) notes no_notes index in
@@ -217,6 +223,7 @@ module _ (script : ScriptContents) (seed turns : ℕ) (before after : Core) (jou
         of = same ∙ so.of;
         kept = kept;
         idle = idle;
+        present = present;
         long = long;
         config = config;
         acted = so.acted ++ Mutator t ∷ [];
@@ -225,7 +232,7 @@ module _ (script : ScriptContents) (seed turns : ℕ) (before after : Core) (jou
         names = k;
         run = run_made script p.made so.acted so.events so.names k before after t cmd told so.counted carries names so.run;
         went = went;
-        counted = subst (λ made. AreCounted script made (so.events ++ Answers t (cmd, told) ∷ [])) (sym makes.made) (counted_more script p.made so.events t (cmd, told) there.some (omega (arith, there.some, there.most, so.went.valid.most_mutators, so.long)) so.counted);
+        counted = subst (λ made. AreCounted script made (so.events ++ Answers t (cmd, told) ∷ [])) (sym makes.made) (counted_more script p.made so.events t (cmd, told) there.some (omega (arith, there.some, there.most, few_mutators script so.went.valid, so.long)) so.counted);
         one_each = length-set journals (t - 1) notes ∙ so.one_each;
         lines = λ s some. elim (cases_eq t s) [
           | inl at ↦
@@ -257,14 +264,15 @@ module _ (script : ScriptContents) (seed turns : ℕ) (before after : Core) (jou
 
 -- A turn of the collector was made.
 pub step_made : (script : ScriptContents) (seed turns : ℕ) (before after : Core) (journals : List Notes) (noted : Turns) (p q : Player) (seen : Option (Op × ℕ)) (turn : Turn) → MakesStep p q before after seen turn
-    → q.script ≡ p.script → IsWorld after → AreIdle after → after.config ≡ config_of script → Between script seed turns before journals noted p → Between script seed turns after journals noted q
-step_made script seed turns before after journals noted p q seen turn makes same world idle config so =
+    → q.script ≡ p.script → IsWorld after → AreIdle after → AreThere q.script q.made after → after.config ≡ config_of script → Between script seed turns before journals noted p → Between script seed turns after journals noted q
+step_made script seed turns before after journals noted p q seen turn makes same world idle present config so =
     let follows : Follows (IsSpent script p.made) before after = subst (λ s. Follows (IsSpent s p.made) before after) so.of makes.steps.follows in
     let kept : IsKept before = world_kept before so.kept in
     record {
       of = same ∙ so.of;
       kept = world;
       idle = idle;
+      present = present;
       long = ap length makes.made ∙ so.long;
       config = config;
       acted = so.acted ++ Collector ∷ [];

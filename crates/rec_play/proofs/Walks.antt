@@ -3,6 +3,7 @@ use Rattle.std.proofs.Common.{◌≡◌, inl, inr, ℕ, ◌+◌, ◌<◌, ◌≤
 use Rattle.std.proofs.lemmas.List.{append-nil, append_assoc}
 use Rattle.rec_word.specs.declared.word.TheConstants.{LAST_EPOCH}
 use Rattle.rec_word.specs.declared.op.Op.{Op}
+use Rattle.rec_model.specs.declared.limits.TheConstants.{MOST_MUTATORS}
 use Rattle.rec_model.specs.LegalOrder.Event.{Answers}
 use Rattle.rec_collector.specs.Next.{next_of}
 use Rattle.rec_collector.specs.declared.turn.Turn.{Turn}
@@ -22,7 +23,7 @@ use Rattle.rec_settle.specs.declared.turns.Settling as to_settle
 use Rattle.rec_settle.specs.declared.turns.Settling.TheVariants.{Finishing}
 use Rattle.rec_settle.proofs.Coming.{first_left, offered_config}
 use Rattle.rec_play.specs.Left.{left_at, moves_left}
-use Rattle.rec_play.specs.Moves.{AreDue, IsSpent, Makes, Player, made_by}
+use Rattle.rec_play.specs.Moves.{AreDue, AreThere, IsSpent, Makes, Player, made_by}
 use Rattle.rec_play.specs.Numbers.{config_of}
 use Rattle.rec_play.specs.Played.{lengths_of}
 use Rattle.rec_play.specs.Playing.{Rest, generator_of, to_come}
@@ -32,16 +33,17 @@ use Rattle.rec_play.specs.declared.actor.Actor.TheVariants.{Mutator, Collector}
 use Rattle.rec_play.specs.declared.moves.Move.{Move}
 use Rattle.rec_play.specs.declared.moves.Move.TheVariants.{Command, Step}
 use Rattle.rec_play.specs.declared.stage.Stage.TheVariants.{Playing, Settling, EpochsSpent}
-use Rattle.rec_play.proofs.Due.{HasCommand, all_made, has_command, is_of_script, none_made}
+use Rattle.rec_play.proofs.Due.{HasCommand, all_made, few_mutators, has_command, is_of_script, none_made}
 use Rattle.rec_play.proofs.Going.{line_swept}
 use Rattle.rec_play.proofs.Rounds.{counted_more, run_made, run_stepped}
+use Rattle.rec_play.proofs.There.{opened_there, spent_there}
 
 -- while the rule gives turns
 pub playing_of : (w : Watched) → w.stage ≡ Playing → IsWatched w → IsPlaying w
 playing_of w playing is = subst (λ s. IsAt s w) playing is.at
 
 -- A turn of the rule was made.
-module _ (w : Watched) (q : Player) (world : Core) (playing : w.stage ≡ Playing) (is : IsWatched w) (same : q.script ≡ w.script) (due : AreDue q) (idle : AreIdle world) (config : world.config ≡ config_of q.script) (kept : IsWorld world) where
+module _ (w : Watched) (q : Player) (world : Core) (playing : w.stage ≡ Playing) (is : IsWatched w) (same : q.script ≡ w.script) (due : AreDue q) (idle : AreIdle world) (present : AreThere q.script q.made world) (config : world.config ≡ config_of q.script) (kept : IsWorld world) where
   abbrev next : Watched
   next = record w { script = q.script; rest = q.rest; made = q.made; world = world }
 
@@ -60,7 +62,7 @@ module _ (w : Watched) (q : Player) (world : Core) (playing : w.stage ≡ Playin
         names = k;
         run = run_made w.script w.made so.acted so.events so.names k w.world world t cmd told so.counted makes.carries names so.run;
         counted = subst (λ made. (s : ℕ) → 1 ≤ s → s ≤ length w.script.commands → made_by made s ≡ made_in (so.events ++ Answers t (cmd, told) ∷ []) s) (sym makes.made)
-            (counted_more w.script w.made so.events t (cmd, told) there.some (omega (arith, there.some, there.most, is.due.valid.most_mutators, is.due.long)) so.counted);
+            (counted_more w.script w.made so.events t (cmd, told) there.some (omega (arith, there.some, there.most, few_mutators w.script is.due.valid, is.due.long)) so.counted);
       }
   played_on (Step seen turn) makes = record {
     acted = so.acted ++ Collector ∷ [];
@@ -74,15 +76,16 @@ module _ (w : Watched) (q : Player) (world : Core) (playing : w.stage ≡ Playin
   pub turn_made : (move : Move) → Makes (player_of w) q w.world world move → IsWatched next
   turn_made move makes =
       let now : IsPlaying (record w { rest = q.rest; made = q.made; world = world }) = played_on move makes in
-      subst (λ s. AreDue (record { script = s; rest = q.rest; made = q.made }) → world.config ≡ config_of s → IsWatched (record w { script = s; rest = q.rest; made = q.made; world = world })) (sym same)
-      (λ due config. record {
+      subst (λ s. AreDue (record { script = s; rest = q.rest; made = q.made }) → AreThere s q.made world → world.config ≡ config_of s → IsWatched (record w { script = s; rest = q.rest; made = q.made; world = world })) (sym same)
+      (λ due present config. record {
         at = subst (λ s. IsAt s (record w { rest = q.rest; made = q.made; world = world })) (sym playing) now;
         rule = is.rule;
         due = due;
         idle = idle;
+        present = present;
         config = config;
         kept = kept;
-      }) due config
+      }) due present config
 
   -- and it is told
   pub turn_tells : (move : Move) → Makes (player_of w) q w.world world move → Tells w next move
@@ -114,6 +117,7 @@ module _ (w : Watched) (playing : w.stage ≡ Playing) (is : IsWatched w) (none 
     rule = is.rule;
     due = is.due;
     idle = is.idle;
+    present = is.present;
     config = is.config;
     kept = is.kept;
   }
@@ -139,6 +143,7 @@ module _ (w : Watched) (playing : w.stage ≡ Playing) (is : IsWatched w) (none 
     rule = is.rule;
     due = is.due;
     idle = is.idle;
+    present = is.present;
     config = is.config;
     kept = is.kept;
   }
@@ -154,6 +159,7 @@ module _ (w : Watched) (to next : to_settle.Settling) (world : Core) (stage : w.
     rule = is.rule;
     due = is.due;
     idle = idle;
+    present = spent_there w.script w.made world came.so.all;
     config = config ∙ is.config;
     kept = kept;
   }
@@ -178,12 +184,13 @@ module _ (w : Watched) (to next : to_settle.Settling) (world : Core) (stage : w.
 
 -- A walk is opened.
 pub opens : (script : ScriptContents) (seed turns : ℕ) (w : Watched) → w.script ≡ script → w.stage ≡ Playing → w.rule ≡ record { left = lengths_of script; generator = generator_of seed; turns = turns }
-    → w.rest ≡ record { left = lengths_of script; generator = generator_of seed; turns = turns } → w.made ≡ replicate 8 0 → w.world ≡ opened (config_of script) → AreDue (player_of w) → AreIdle w.world → IsWorld w.world → IsWatched w
+    → w.rest ≡ record { left = lengths_of script; generator = generator_of seed; turns = turns } → w.made ≡ replicate MOST_MUTATORS 0 → w.world ≡ opened (config_of script) → AreDue (player_of w) → AreIdle w.world → IsWorld w.world → IsWatched w
 opens script seed turns w of stage rule rest made world due idle kept = record {
   at = subst (λ s. IsAt s w) (sym stage) first;
   rule = record { seed = seed; turns = turns; is = rule ∙ ap (λ s. let r : Rest = record { left = lengths_of s; generator = generator_of seed; turns = turns } in r) (sym of) };
   due = due;
   idle = idle;
+  present = subst (λ (s : ScriptContents). AreThere s w.made w.world) (sym of) (subst (AreThere script w.made) (sym world) (opened_there script w.made));
   config = ap (λ (x : Core). x.config) world ∙ ap config_of (sym of);
   kept = kept;
 }

@@ -1,4 +1,5 @@
 -- The modules of the definitions.
+pub mod Awaited
 pub mod Inside
 pub mod InsidePlaying
 pub mod InsideWalk

@@ -1,15 +1,19 @@
 -- What the turns of a run make of the heap, and what is told of them.
-use Rattle.std.specs.Prelude.{◌≡◌, ℕ, ◌+◌, ◌-◌, ◌≤◌, Option, Some, List, ◌∷◌, length, slice_index_or, slice_set}
+use Rattle.std.specs.Prelude.{◌≡◌, ◌↔◌, ℕ, ◌+◌, ◌-◌, ◌<◌, ◌≤◌, false, Option, Some, List, ◌∷◌, length, slice_index_or, slice_set}
 use Rattle.std.specs.List.{slice_get}
 use Rattle.rec_word.specs.declared.op.Op.{Op}
+use Rattle.rec_model.specs.declared.answer.Answer.TheVariants as answers
 use Rattle.rec_model.specs.declared.command.Cmd.{Cmd}
+use Rattle.rec_model.specs.declared.limits.TheConstants.{MOST_MUTATORS}
 use Rattle.rec_model.specs.declared.told.Told.{Told}
 use Rattle.rec_model.specs.Numbering.{times}
+use Rattle.rec_mutator.specs.Causes.{IsAwaited}
 use Rattle.rec_mutator.specs.Private.{answer_of}
 use Rattle.rec_mutator.specs.declared.made.Made.TheVariants as makes
 use Rattle.rec_mutator.specs.declared.work.Work.TheVariants as works
 use Rattle.rec_collector.specs.declared.turn.Turn.{Turn}
 use Rattle.rec_core.specs.Core.{Core, mutator}
+use Rattle.rec_core.specs.Moves.{found_by}
 use Rattle.rec_core.specs.Worked.{IsWorked}
 use Rattle.rec_order.specs.Naming.{Naming, NamesGoOn}
 use Rattle.rec_core.specs.Turn.{step_seen}
@@ -30,6 +34,10 @@ made_by made t = slice_index_or made (t - 1) 0
 abbrev pub IsSpent : ScriptContents → (made : List ℕ) → ℕ → Type 0
 IsSpent script made t = length (commands_of script t) ≤ made_by made t
 
+-- whoever has a command left hasn't left the heap
+abbrev pub AreThere : ScriptContents → (made : List ℕ) → Core → Type 0
+AreThere script made w = (t : ℕ) → made_by made t < length (commands_of script t) → (mutator w t).left ≡ false
+
 -- a run in the middle: its script, what the rule still has, and how many commands each mutator has made
 pub record Player : Type 0 where
   pub script : ScriptContents
@@ -39,18 +47,20 @@ pub record Player : Type 0 where
 -- The commands that a mutator has made and its turns to come are all its commands, and nobody else has a turn.
 pub record AreDue (p : Player) : Type 0 where
   pub valid : IsScript p.script
-  pub long : length p.made ≡ 8
+  pub long : length p.made ≡ MOST_MUTATORS
   pub each : (t : ℕ) → 1 ≤ t → made_by p.made t + times t (mutators_of (to_come p.rest)) ≡ slice_index_or (lengths_of p.script) (t - 1) 0
   pub nobody : times 0 (mutators_of (to_come p.rest)) ≡ 0
 
--- A mutator that had made so many commands polled, made its next one, and was told this. Whichever object each slot held, each that
--- is named now is the same, or was born by this.
+-- A mutator that had made so many commands polled, made its next one, and was told this: NotYet just where the step that answers is the
+-- first one of leaving, and found by the own crossing word that the log that was handed over last is still to be collected. Whichever
+-- object each slot held, each that is named now is the same, or was born by this.
 pub record Carries (script : ScriptContents) (t made : ℕ) (before : Core) (cmd : Cmd) (told : Told) (after : Core) : Type 0 where
   pub next : slice_get (commands_of script t) made ≡ Some cmd
   pub polled : Core
   pub poll : IsWorked before t works.Poll polled
   pub command : IsWorked polled t (works.Command cmd) after
   pub answer : answer_of (mutator after t) ≡ Some (makes.Answered told)
+  pub not_yet : (told.answer ≡ answers.NotYet) ↔ IsAwaited (mutator command.last t) (found_by command.last t) cmd
   pub names : (n : Naming) → (k : Naming) × NamesGoOn before after (cmd, told) n k
 
 -- A command was made that was the mutator's turn of the rule. It requests no epoch.

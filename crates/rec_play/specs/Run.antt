@@ -1,16 +1,18 @@
 -- The played run: what each turn makes of the world, and what it tells.
-use Rattle.std.specs.Prelude.{◌≡◌, ℕ, zero, suc, ◌<◌, ◌≤◌, Some, List, [], ◌∷◌, ◌++◌, length, slice_index_or}
+use Rattle.std.specs.Prelude.{◌≡◌, ◌↔◌, ℕ, zero, suc, ◌<◌, ◌≤◌, Some, List, [], ◌∷◌, ◌++◌, length, slice_index_or}
 use Rattle.std.specs.List.{slice_get, filter_map}
+use Rattle.rec_model.specs.declared.answer.Answer.TheVariants as answers
 use Rattle.rec_model.specs.declared.command.Cmd.{Cmd}
 use Rattle.rec_model.specs.declared.told.Told.{Told}
 use Rattle.rec_model.specs.LegalOrder.{Event, line_by}
 use Rattle.rec_model.specs.LegalOrder.Event.{Answers}
+use Rattle.rec_mutator.specs.Causes.{IsAwaited}
 use Rattle.rec_mutator.specs.Private.{answer_of}
 use Rattle.rec_mutator.specs.declared.made.Made.TheVariants as makes
 use Rattle.rec_mutator.specs.declared.work.Work.TheVariants as works
 use Rattle.rec_collector.specs.Next.{next_of}
 use Rattle.rec_core.specs.Core.{Core, mutator, opened}
-use Rattle.rec_core.specs.Moves.{turned}
+use Rattle.rec_core.specs.Moves.{found_by, turned}
 use Rattle.rec_core.specs.Worked.{IsWorked, WaitsFor}
 use Rattle.rec_order.specs.Events.{swept_by}
 use Rattle.rec_order.specs.Naming.{Naming, NamesGoOn, first_naming}
@@ -35,6 +37,9 @@ pub record IsTurnOf (script : ScriptContents) (events : List Event) (t : ℕ) (c
   pub poll : IsWorked before t works.Poll polled
   pub command : IsWorked polled t (works.Command cmd) after
   pub answer : answer_of (mutator after t) ≡ Some (makes.Answered told)
+  -- that is NotYet just where the step that answers is the first one of leaving, and found by the own crossing word that the log that was
+  -- handed over last is still to be collected
+  pub not_yet : (told.answer ≡ answers.NotYet) ↔ IsAwaited (mutator command.last t) (found_by command.last t) cmd
 
 -- How a turn of the collector ends, after its step, where each mutator has made so many commands. One for which it waited, and
 -- that has no command left, polls: no turn of its own comes in which it could cross. Else nothing follows.

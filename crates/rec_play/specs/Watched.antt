@@ -17,7 +17,7 @@ use Rattle.rec_settle.specs.Stages as settling
 use Rattle.rec_settle.specs.Stages.{HasCome}
 use Rattle.rec_settle.specs.declared.turns.Settling as to_settle
 use Rattle.rec_settle.specs.declared.turns.Settling.TheVariants.{Settled}
-use Rattle.rec_play.specs.Moves.{AreDue, IsSpent, MakesCommand, Player, made_by}
+use Rattle.rec_play.specs.Moves.{AreDue, AreThere, IsSpent, MakesCommand, Player, made_by}
 use Rattle.rec_play.specs.Numbers.{config_of}
 use Rattle.rec_play.specs.Played.{lengths_of}
 use Rattle.rec_play.specs.Playing.{Rest, generator_of, to_come}
@@ -89,6 +89,7 @@ pub record IsWatched (w : Watched) : Type 0 where
   pub rule : IsRuleOf w.script w.rule
   pub due : AreDue (player_of w)
   pub idle : AreIdle w.world
+  pub present : AreThere w.script w.made w.world
   pub config : w.world.config ≡ config_of w.script
   pub kept : IsWorld w.world
 

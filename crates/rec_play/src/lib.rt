@@ -3,6 +3,8 @@
 //! Where several mutators' commands run one at a time, a rule says who comes next. While a mutator has commands left, and
 //! no more turns were drawn than told, a random word names one of those mutators or the collector; a mutator's turn is its
 //! next command, and the collector's one step of its collection. Afterwards the remaining commands run mutator by mutator.
+//! A mutator may leave the heap by its last command. Then the collector no longer waits for it, and it never polls again. Where that
+//! command is told `NotYet` the mutator stays, and polls like any other that has no command left.
 //! The rule that this crate keeps: who has which turn follows from the numbers of commands, the seed and the number of
 //! drawn turns alone, and never from the heap; each mutator's own commands keep their order; and what is told is what the
 //! heap that never frees tells in that order, with frees and sweeps among the answers.

@@ -1,11 +1,13 @@
 //! The run of a script by the playing rule, turn by turn.
 
-ghost use Rattle.std.specs.Prelude.{◌≡◌, ◌+◌, ◌<◌, ◌≤◌, [], IfSome, IsNone, length, replicate};
+ghost use Rattle.std.specs.Prelude.{◌≡◌, ◌≢◌, ℕ, ◌+◌, ◌<◌, ◌≤◌, false, [], IfSome, IsNone, length, replicate};
+ghost use Rattle.rec_model.specs.declared.limits.TheConstants.{MOST_MUTATORS};
+ghost use Rattle.rec_core.specs.Core.{mutator};
 ghost use Rattle.rec_core.specs.Worked.{AreIdle};
 ghost use Rattle.rec_settle.specs.Collecting.{HasStepped};
 ghost use Rattle.rec_core.specs.Turn.{step_seen};
 ghost use Rattle.rec_world.specs.World.{IsWorld};
-ghost use Rattle.rec_play.specs.Moves.{AreDue, Carries, IsSpent, Makes};
+ghost use Rattle.rec_play.specs.Moves.{AreDue, AreThere, Carries, IsSpent, Makes};
 ghost use Rattle.rec_play.specs.Numbers.{config_of};
 ghost use Rattle.rec_play.specs.Played.{lengths_of};
 ghost use Rattle.rec_play.specs.Playing.{generator_of, to_come};
@@ -45,7 +47,7 @@ impl<'a> Playing<'a> {
     pub fn start(script: &'a Script, seed: u64, turns: u32) -> Playing<'a>
         ensures script { result.script ≡ script.now }
         ensures rest { result.rest ≡ record { left = lengths_of script.now; generator = generator_of seed; turns = turns } }
-        ensures made { result.made ≡ replicate 8 0 }
+        ensures made { result.made ≡ replicate MOST_MUTATORS 0 }
         ensures due { AreDue result }
     {
         Playing {
@@ -61,6 +63,7 @@ impl<'a> Playing<'a> {
     pub fn next(&mut self, world: &mut World) -> Option<Move>
         requires config { world.old.config ≡ config_of self.old.script }
         requires idle { AreIdle world.old }
+        requires present { AreThere self.old.script self.old.made world.old }
 
         // What is told is what was done.
         ensures told { IfSome result (Makes self.old self.new world.old world.new) }
@@ -69,6 +72,7 @@ impl<'a> Playing<'a> {
         ensures script { self.new.script ≡ self.old.script }
         ensures due { AreDue self.old × AreDue self.new }
         ensures idle { AreIdle world.new }
+        ensures present { AreThere self.new.script self.new.made world.new }
         ensures config { world.new.config ≡ config_of self.new.script }
         ensures kept { IsWorld world.new }
     {
@@ -84,6 +88,7 @@ impl<'a> Playing<'a> {
     fn turn(&mut self, world: &mut World) -> Option<Move>
         requires config { world.old.config ≡ config_of self.old.script }
         requires idle { AreIdle world.old }
+        requires present { AreThere self.old.script self.old.made world.old }
 
         ensures told { IfSome result (Makes self.old self.new world.old world.new) }
         ensures ended { IsNone result → to_come self.old.rest ≡ [] }
@@ -91,6 +96,7 @@ impl<'a> Playing<'a> {
         ensures script { self.new.script ≡ self.old.script }
         ensures due { AreDue self.old }
         ensures idle { AreIdle world.new }
+        ensures present { AreThere self.new.script self.new.made world.new }
         ensures config { world.new.config ≡ config_of self.new.script }
     {
         match self.schedule.next_turn() {
@@ -124,7 +130,8 @@ impl<'a> Playing<'a> {
     }
 }
 
-// Mutator `t`, which has made so many commands, polls and makes its next one.
+// Mutator `t`, which has made so many commands, polls and makes its next one. It is there until its last one, and no other mutator
+// changes.
 #[inline(always)]
 fn give_turn(script: &Script, t: u8, made: usize, world: &mut World) -> (Cmd, Told)
     requires some { 1 ≤ t }
@@ -132,9 +139,12 @@ fn give_turn(script: &Script, t: u8, made: usize, world: &mut World) -> (Cmd, To
     requires next { made < length (commands_of script.now t) }
     requires config { world.old.config ≡ config_of script.now }
     requires idle { AreIdle world.old }
+    requires present { (mutator world.old t).left ≡ false }
 
     ensures carried { Carries script.now t made world.old result.0 result.1 world.new }
     ensures requested { world.new.epoch ≡ world.old.epoch }
+    ensures present { made + 1 < length (commands_of script.now t) → (mutator world.new t).left ≡ false }
+    ensures others { (s : ℕ) → s ≢ t → 1 ≤ s → mutator world.new s ≡ mutator world.old s }
     ensures idle { AreIdle world.new }
     ensures config { world.new.config ≡ config_of script.now }
     ensures kept { IsWorld world.new }
@@ -146,21 +156,24 @@ fn give_turn(script: &Script, t: u8, made: usize, world: &mut World) -> (Cmd, To
 }
 
 // The collector makes a step. Where it waits for a mutator that has no command left, that mutator polls: no turn of its own comes in
-// which it could cross. The answer is that of the step, with its operation and the word that this found.
+// which it could cross. Whoever has left isn't waited for. The answer is that of the step, with its operation and the word that this
+// found.
 #[inline(always)]
 fn turn_collector(
     script: &Script,
     made: &[usize; MOST_MUTATORS],
     world: &mut World,
 ) -> (Turn, Option<(Op, u64)>)
-    requires few { length script.now.commands ≤ 8 }
+    requires few { length script.now.commands ≤ MOST_MUTATORS }
     requires config { world.old.config ≡ config_of script.now }
     requires idle { AreIdle world.old }
+    requires present { AreThere script.now made.now world.old }
 
     ensures seen { result.1 ≡ step_seen world.old }
     ensures stepped { HasStepped (IsSpent script.now made.now) world.old result.0 world.new }
     ensures requested { world.new.epoch ≤ world.old.epoch + 1 }
     ensures idle { AreIdle world.new }
+    ensures present { AreThere script.now made.now world.new }
     ensures config { world.new.config ≡ config_of script.now }
     ensures kept { IsWorld world.new }
 {

@@ -1,5 +1,6 @@
 ghost use Rattle.std.specs.Prelude.{◌≡◌, ◌+◌, ◌-◌, ◌%◌, ◌∷◌, [], ◌<◌, ◌≤◌, length, IsNone, IfSome, slice_index, slice_set};
 ghost use Rattle.rand_pcg.specs.Pcg.{pcg32};
+ghost use Rattle.rec_model.specs.declared.limits.TheConstants.{MOST_MUTATORS};
 ghost use Rattle.rec_play.specs.Playing.{generator_of, unfinished, to_come};
 
 use crate::Actor;
@@ -9,7 +10,7 @@ use rand_pcg::Pcg32;
 use std::marker::Model;
 
 /// How many mutators there are at most.
-pub const MOST_MUTATORS: usize = rec_model::limits::MOST_SCRIPT_MUTATORS as usize;
+pub const MOST_MUTATORS: usize = rec_model::limits::MOST_MUTATORS as usize;
 
 // The stream of the generator whose words name the actors.
 const STREAM: u64 = 1;
@@ -98,7 +99,7 @@ impl Schedule {
 
 // The mutators with commands left.
 fn unfinished_of(left: &[u32]) -> ArrayVec<u8, MOST_MUTATORS>
-    requires { length left.now ≤ 8 }
+    requires { length left.now ≤ MOST_MUTATORS }
     ensures { result.items ≡ unfinished left.now }
 {
     let mut unfinished = ArrayVec::new();

@@ -8,12 +8,14 @@ use Rattle.rec_model.specs.LegalOrder.{Line, Event}
 use Rattle.rec_model.specs.Sight.{StandsBy}
 use Rattle.rec_model.specs.Unfreed.{AreUnfreed}
 use Rattle.rec_model.proofs.Opened.{opening_number}
+use Rattle.rec_core.specs.Config.{IsConfig}
 use Rattle.rec_core.specs.Core.{Core, mutator, opened, sight}
 use Rattle.rec_core.specs.Moves.{Move, AllFit, after_moves}
 use Rattle.rec_order.specs.Events.{events_of}
 use Rattle.rec_order.specs.Legal.{HasLegalOrder}
 use Rattle.rec_order.specs.Naming.{Naming, first_naming, named_after_all}
 use Rattle.rec_world.specs.Journal.{Notes, no_notes}
+use Rattle.rec_world.proofs.Calls.{opened_world, world_kept}
 use Rattle.rec_table.specs.Beats.{beats_of}
 use Rattle.rec_table.specs.Ends.{Interleaves, IsStopped}
 use Rattle.rec_table.specs.Views.{MutatorView, Started, fresh, mutator_now}
@@ -22,6 +24,7 @@ use Rattle.rec_table.specs.declared.views.Beat.{Beat}
 use Rattle.rec_threads.specs.Done.{HasDone, HaveDone, begun, commands_at, worker_at}
 use Rattle.rec_script.specs.Script.{ScriptContents}
 use Rattle.rec_play.specs.Played.{config_of, last_moment, lines_of}
+use Rattle.rec_play.proofs.NotYet.{step_told}
 use Rattle.rec_play.proofs.Opened.{IsPlayedLegally, heap_of, ordered_legally, stands_opened, unfreed_opened}
 use Rattle.rec_play.proofs.Room.{no_log_full}
 use Rattle.rec_run.specs.Headline.{HasRun, KeepsRule}
@@ -58,7 +61,7 @@ commands_are (c ∷ cs) (j ∷ js) long each =
 -- A heap that was started as a script's opening, with fresh mutators and empty journals: what its mutators did and what stopping left.
 pub record WasDriven (script : ScriptContents) (s : Started) (ms ms' : List MutatorView) (js js' : List Notes) (collected : List Beat) (world : Core) : Type 0 where
   pub opens : s.world ≡ opened (config_of script)
-  pub some_slots : 0 < script.slots
+  pub config : IsConfig (config_of script)
   pub all : length ms ≡ length script.commands
   pub one_each : length js ≡ length ms
   pub fresh_all : (k : ℕ) (d : MutatorView) → k < length ms → slice_index_or ms k d ≡ fresh s (k + 1)
@@ -143,7 +146,7 @@ module _ (script : ScriptContents) (s : Started) (ms ms' : List MutatorView) (js
   legally =
       let heap : Heap = heap_of script in
       let order : HasLegalOrder s.world heap opening_number (0 ∷ []) moves (journals_from s.world 0 (map (λ (m : MutatorView). m.log) ms'))
-      = was.stopped.order heap opening_number (0 ∷ []) (subst (λ w. StandsBy heap (sight w) opening_number) (sym was.opens) (stands_opened script was.some_slots))
+      = was.stopped.order heap opening_number (0 ∷ []) (subst (λ w. StandsBy heap (sight w) opening_number) (sym was.opens) (stands_opened script was.config.some_slots))
       (subst (λ w. AreUnfreed (sight w) opening_number (0 ∷ [])) (sym was.opens) (unfreed_opened script)) in
       ordered_legally script world moves (lines_of js') (subst (λ w. HasLegalOrder w heap opening_number (0 ∷ []) moves (lines_of js')) was.opens
       (subst (HasLegalOrder s.world heap opening_number (0 ∷ []) moves) lines_are order)) ends
@@ -173,6 +176,7 @@ module _ (script : ScriptContents) (s : Started) (ms ms' : List MutatorView) (js
         told = ap (λ w. journals_from w 0 lists) (sym was.opens) ∙ lines_are;
         tells = refl;
         named = refl;
+        not_yet = step_told first_naming (opened (config_of script)) moves (world_kept (opened (config_of script)) (opened_world (config_of script) was.config)) interleaved.fit;
       };
       no_log_full = no_log_full script (lines_of js') events commands_kept legally.legal;
     },

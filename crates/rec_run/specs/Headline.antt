@@ -1,6 +1,6 @@
 -- What the program's answer to a request is. Each word of the headline has its meaning here, or in a definition that is cited here.
 -- Some fields say in the headline's words what others imply: `reached` and `counts` what `settled` and `listing` do, `given` and `full`
--- what `legal` does. So the headline is read here, and each of them is proved.
+-- what `legal` does, `not_yet` what the run does. So the headline is read here, and each of them is proved.
 use Rattle.std.specs.Prelude.{◌≡◌, ◌⊎◌, ℕ, ◌+◌, ◌<◌, ◌≤◌, ◌↔◌, Bool, true, false, Option, None, Some, List, [], ◌++◌, length, map, slice_index_or}
 use Rattle.std.specs.List.{slice_get}
 use Rattle.std.specs.Option.{ForSome}
@@ -24,6 +24,7 @@ use Rattle.rec_table.specs.Ends.{Interleaves}
 use Rattle.rec_table.specs.Journals.{journals_from}
 use Rattle.rec_table.specs.declared.views.Beat.{Beat}
 use Rattle.rec_threads.specs.Done.{begun, commands_at, driving_rule}
+use Rattle.rec_play.specs.Awaited.{IsAwaitedStep, IsAwaitedTurn}
 use Rattle.rec_play.specs.Played.{config_of, last_moment, lengths_of, limits_of, opening_moment}
 use Rattle.rec_play.specs.Playing.{all_turns, order}
 use Rattle.rec_play.specs.Run.{IsPlayedRun}
@@ -76,12 +77,16 @@ pub record IsDriven (script : ScriptContents) (journals : List (List Line)) (eve
   pub told : journals_from (opened (config_of script)) 0 lists ≡ journals
   pub tells : events ≡ events_of first_naming (opened (config_of script)) interleaved.run
   pub named : names ≡ named_after_all first_naming (opened (config_of script)) interleaved.run
+  -- each NotYet was decided by a step of this run that found a log which was still to be collected
+  pub not_yet : (i t : ℕ) (line : Line) → slice_get events i ≡ Some (Event.Answers t line) → line.1.answer ≡ answers.NotYet → IsAwaitedStep first_naming (opened (config_of script)) interleaved.run i t line
 
 -- The run that is played: its turns are those that the playing rule draws, and its answers stand in their order. The events are what
 -- these turns tell, with the frees and the sweeps of the collector's.
 pub record IsDrawn (script : ScriptContents) (play : Play) (events : List Event) (names : Naming) (world : Core) : Type 0 where
   pub in_order : actors events ≡ order (lengths_of script) play.seed play.turns
   pub run : IsPlayedRun script (all_turns (lengths_of script) play.seed play.turns) events names world
+  -- each NotYet was decided by a step of this run that found a log which was still to be collected
+  pub not_yet : (i t : ℕ) (line : Line) → slice_get events i ≡ Some (Event.Answers t line) → line.1.answer ≡ answers.NotYet → IsAwaitedTurn script (all_turns (lengths_of script) play.seed play.turns) events i t line
 
 -- the steps of the run, by the way it was made
 abbrev pub MakesSteps : ScriptContents → How → List (List Line) → List Event → Naming → Core → Type 0

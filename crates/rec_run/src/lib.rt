@@ -4,7 +4,8 @@
 //! the settled heap and the totals, or a summary of them. Asked to make a script, it writes one that is drawn from a seed.
 //! The rule that it keeps: each printed answer is the one that a heap that never frees gives to the same commands in one
 //! order; an allocation is answered full only where no slot was free; and after settling just the objects that registers
-//! reach hold slots, listed with true counts. A run that is done left nothing behind in the sink.
+//! reach hold slots, listed with true counts. Leaving is answered `NotYet` only by a step that found the log that the
+//! mutator handed over last still to be collected. A run that is done left nothing behind in the sink.
 //! The layer above may use the contract of `run`, the number of a `Status` and its line, and the definitions of `specs/`.
 //! The form of a script and of its answer is this project's profile (`docs/PROFILE.md`).
 #![tactic(auto)]

@@ -5,7 +5,7 @@ use Rattle.std.specs.Fmt.{decimal}
 use Rattle.rec_model.specs.declared.command.Cmd.{Cmd}
 use Rattle.rec_model.specs.declared.command.Cmd.TheVariants.{New, Leaf, Null, Copy, Get, Put, Value, Same, Leave}
 use Rattle.rec_script.specs.declared.error.Kind.{Kind}
-use Rattle.rec_script.specs.Script.{word_of, operands_of, limits_of, since, Allows, IsBadCommand}
+use Rattle.rec_script.specs.Script.{word_of, operands_of, limits_of, since, Allows, HasLeft, IsBadCommand}
 use Rattle.rec_script.specs.Operands.{AreMisread}
 
 -- the first two letters, which tell most words apart
@@ -50,16 +50,17 @@ limits_length registers fields _ = refl
 suc_injective : (m n : ℕ) → suc m ≡ suc n → m ≡ n
 suc_injective m n e = omega arith
 
--- what is wrong with the operands behind the word of a command is wrong with the line
-pub bad_operands : (version registers fields count : ℕ) (cmd : Cmd) (word : List ℕ) (operands : List (List ℕ)) (kind : Kind) → Allows version cmd → word ≡ word_of cmd → AreMisread count (limits_of registers fields cmd) operands kind → IsBadCommand version registers fields count (word ∷ operands) kind
-bad_operands version registers fields count cmd word operands _ allowed e (AreMisread.number other) =
+-- what is wrong with the operands behind the word of a command is wrong with the line, behind commands of a mutator that hasn't left
+pub bad_operands : (version registers fields : ℕ) (cmds : List Cmd) (cmd : Cmd) (word : List ℕ) (operands : List (List ℕ)) (kind : Kind) → ¬ HasLeft cmds → Allows version cmd → word ≡ word_of cmd → AreMisread (length cmds) (limits_of registers fields cmd) operands kind
+    → IsBadCommand version registers fields cmds (word ∷ operands) kind
+bad_operands version registers fields cmds cmd word operands _ stays allowed e (AreMisread.number other) =
     IsBadCommand.unknown (λ any its shape. other (
     suc_injective (length operands) (length (map decimal (operands_of any))) shape.1
     ∙ sym (limits_length registers fields any)
     ∙ ap length (same_limits registers fields any cmd (sym shape.0 ∙ e))
     ))
-bad_operands version registers fields count cmd word operands _ allowed e (AreMisread.too_many same full) = IsBadCommand.too_many cmd allowed (e, ap suc (same ∙ limits_length registers fields cmd)) full
-bad_operands version registers fields count cmd word operands kind allowed e (AreMisread.operand _ same room wrong) = IsBadCommand.operand cmd kind allowed (e, ap suc (same ∙ limits_length registers fields cmd)) room wrong
+bad_operands version registers fields cmds cmd word operands _ stays allowed e (AreMisread.too_many same full) = IsBadCommand.too_many cmd stays allowed (e, ap suc (same ∙ limits_length registers fields cmd)) full
+bad_operands version registers fields cmds cmd word operands kind stays allowed e (AreMisread.operand _ same room wrong) = IsBadCommand.operand cmd kind stays allowed (e, ap suc (same ∙ limits_length registers fields cmd)) room wrong
 
 -- a test that gave false
 pub is_not : (b : Bool) (P : Type 0) → (IsTrue b ↔ P) → b ≡ false → P → ⊥

@@ -11,6 +11,7 @@ use Rattle.rec_script.specs.declared.draft.Draft.TheVariants.{Nothing, Header, S
 use Rattle.rec_script.specs.Lines.{words, counted, AreUtf8}
 use Rattle.rec_script.specs.Script.{ScriptContents, IsHeap, IsVersion, AreCommands, IsScript, Spells, Continues, header, heap_line, spelled}
 use Rattle.rec_script.specs.Drafts.{so_far, IsDraft}
+use Rattle.rec_script.proofs.Mutators.{many_mutators, no_commands}
 use Rattle.rec_script.proofs.Stopping.{counted-append}
 use Rattle.rec_script.proofs.Plainness.{ascii}
 
@@ -39,8 +40,8 @@ sized before v s f r version heap utf8 e =
       version = version;
       heap = heap;
       some_mutators = omega arith;
-      most_mutators = omega arith;
-      commands = All-push (AreCommands v r f) [] [] (λ k d lt. absurd (omega arith)) (record { few = omega arith; allowed = λ k d lt. absurd (omega arith); in_range = λ k d lt. absurd (omega arith) });
+      most_mutators = omega (arith, many_mutators v);
+      commands = All-push (AreCommands v r f) [] [] (λ k d lt. absurd (omega arith)) (no_commands v r f);
     } in
     continues_before before (codes "mutator")
     (whole (before ++ codes "mutator" ∷ []) (record { version = v; slots = s; fields = f; registers = r; commands = [] ∷ [] }) script (All-push IsUtf8 before (codes "mutator") utf8 (ascii (codes "mutator") (omega arith, (omega arith, (omega arith, (omega arith, (omega arith, (omega arith, (omega arith, tt)))))))))

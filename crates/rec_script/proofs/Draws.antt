@@ -18,6 +18,7 @@ use Rattle.rec_model.specs.declared.command.Cmd.TheVariants.{New, Null, Copy, Ge
 use Rattle.rec_script.specs.Lines.{lines, spaced}
 use Rattle.rec_script.specs.Made.{generator_of, after_words, word_after, written, read, field, label, command_in, drawn, after_drawn, after_commands, commands_from, made_commands, made_script, text_of, made_text}
 use Rattle.rec_script.specs.Script.{Allows, IsCommand, AreCommands, IsScript, Spells, operands_of, header, heap_line, mutator_line, mutator_lines, command_line}
+use Rattle.rec_script.proofs.Leaving.{all_stay}
 use Rattle.rec_script.proofs.Written.{spells_its_text}
 
 -- ---- one command
@@ -166,6 +167,7 @@ commands_are : (g : Lcg) (count : ℕ) → count ≤ 200000 → AreCommands 1 8 
 commands_are g count few =
     record {
       few = subst (λ (n : ℕ). n ≤ 200000) (sym (length-map-range_with_len (λ i. drawn (after_commands i g)) 0 count)) few;
+      leaves_last = all_stay 1 (commands_from g count) (omega arith) (λ k d lt. (all_made g count k d lt).0);
       allowed = λ k d lt. (all_made g count k d lt).0;
       in_range = λ k d lt. (all_made g count k d lt).1;
     }

@@ -1,8 +1,9 @@
 -- What is told of a line is what is wrong with it behind the lines so far.
-use Rattle.std.proofs.Common.{◌≡◌, ◌≢◌, ℕ, List, ◌∷◌, get_or, Result, Err, refl, sym, ap, subst, ◌∙◌}
+use Rattle.std.proofs.Common.{◌≡◌, ◌≢◌, ℕ, List, ◌∷◌, length, get_or, Result, Err, refl, sym, ap, subst, ◌∙◌}
 use Rattle.std.specs.Prelude.{not}
 use Rattle.std.specs.Str.{IsUtf8}
 use Rattle.std.proofs.lemmas.Bool.{ne_eqb}
+use Rattle.rec_model.specs.declared.command.Cmd.{Cmd}
 use Rattle.rec_script.specs.declared.error.Kind.{Kind}
 use Rattle.rec_script.specs.declared.error.Kind.TheVariants.{NoHeader, BadHeap, NoMutator}
 use Rattle.rec_script.specs.declared.error.ScriptError.{ScriptError}
@@ -11,7 +12,7 @@ use Rattle.rec_script.specs.declared.heap.Heap.{Heap}
 use Rattle.rec_script.specs.declared.draft.Draft.{Draft}
 use Rattle.rec_script.specs.declared.draft.Draft.TheVariants.{Nothing, Header, Sized, Whole}
 use Rattle.rec_script.specs.Lines.{words, is_counted}
-use Rattle.rec_script.specs.Script.{ScriptContents, IsHeap, IsVersion, IsScript, header, heap_line, mutator_line, spelled, last_length, IsBadCommand, Fits, IsFault, IsNeed}
+use Rattle.rec_script.specs.Script.{ScriptContents, IsHeap, IsVersion, IsScript, header, heap_line, mutator_line, spelled, HasLeft, last_commands, IsBadCommand, Fits, IsFault, IsNeed}
 use Rattle.rec_script.specs.Drafts.{so_far, IsDraft}
 
 -- an error that is told is the one that was made
@@ -50,14 +51,14 @@ fits_sized d version heap line e is other =
 pub fits_whole : (d : Draft) (script : ScriptContents) (line : List (List ℕ)) (kind : Kind) → d ≡ Whole script → Fits (spelled script) line kind → Fits (so_far d) line kind
 fits_whole d script line kind e h = subst (λ (v : Draft). Fits (so_far v) line kind) (sym e) h
 
-pub fits_command : (contents : ScriptContents) (version registers fields count : ℕ) (line : List (List ℕ)) (kind : Kind) → IsScript contents → version ≡ contents.version → registers ≡ contents.registers → fields ≡ contents.fields → count ≡ last_length contents.commands
-    → line ≢ mutator_line → IsBadCommand version registers fields count line kind → Fits (spelled contents) line kind
-fits_command contents version registers fields count line kind script v-is r-is f-is count-is other h =
+pub fits_command : (contents : ScriptContents) (version registers fields count : ℕ) (line : List (List ℕ)) (kind : Kind) → IsScript contents → version ≡ contents.version → registers ≡ contents.registers → fields ≡ contents.fields → count ≡ length (last_commands contents.commands)
+    → line ≢ mutator_line → ¬ HasLeft (last_commands contents.commands) → ((cmds : List Cmd) → length cmds ≡ count → ¬ HasLeft cmds → IsBadCommand version registers fields cmds line kind) → Fits (spelled contents) line kind
+fits_command contents version registers fields count line kind script v-is r-is f-is count-is other stays h =
+    let cmds : List Cmd = last_commands contents.commands in
     Fits.bad_command contents kind script refl other
-    (subst (λ (n : ℕ). IsBadCommand contents.version contents.registers contents.fields n line kind) count-is
-    (subst (λ (n : ℕ). IsBadCommand contents.version contents.registers n count line kind) f-is
-    (subst (λ (n : ℕ). IsBadCommand contents.version n fields count line kind) r-is
-    (subst (λ (n : ℕ). IsBadCommand n registers fields count line kind) v-is h))))
+    (subst (λ (n : ℕ). IsBadCommand contents.version contents.registers n cmds line kind) f-is
+    (subst (λ (n : ℕ). IsBadCommand contents.version n fields cmds line kind) r-is
+    (subst (λ (n : ℕ). IsBadCommand n registers fields cmds line kind) v-is (h cmds (sym count-is) stays))))
 
 -- ---- a line
 

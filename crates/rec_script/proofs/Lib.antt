@@ -3,6 +3,7 @@ pub mod Cuts
 pub mod Numerals
 pub mod Misreadings
 pub mod Commands
+pub mod Leaving
 pub mod Mutators
 pub mod Faults
 pub mod Regrouping

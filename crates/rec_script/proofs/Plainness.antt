@@ -85,7 +85,7 @@ plain_command registers fields (Get dst src field) h is = ((omega arith, (omega 
 plain_command registers fields (Put src field val) h is = ((omega arith, (omega arith, (omega arith, tt))), (plain_decimal src (omega (arith, h.registers_fit, is.0.0)), (plain_decimal field (omega (arith, h.fields_fit, is.0.1)), (plain_decimal val (omega (arith, h.registers_fit, is.0.2)), tt))))
 plain_command registers fields (Value reg) h is = ((omega arith, (omega arith, (omega arith, (omega arith, (omega arith, tt))))), (plain_decimal reg (omega (arith, h.registers_fit, is.0)), tt))
 plain_command registers fields (Same a b) h is = ((omega arith, (omega arith, (omega arith, (omega arith, tt)))), (plain_decimal a (omega (arith, h.registers_fit, is.0.0)), (plain_decimal b (omega (arith, h.registers_fit, is.0.1)), tt)))
-plain_command registers fields Leave h is = absurd is
+plain_command registers fields Leave h is = ((omega arith, (omega arith, (omega arith, (omega arith, (omega arith, tt))))), tt)
 
 plain_body : (version registers fields : ℕ) → AreSmall registers fields → (line : List (List ℕ)) → IsBodyLine version registers fields line → ArePlain line
 plain_body version registers fields h line (inl e) = subst ArePlain (sym e) plain_mutator

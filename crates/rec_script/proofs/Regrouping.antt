@@ -7,10 +7,12 @@ use Rattle.std.specs.Str.Parse.{digits_value}
 use Rattle.std.proofs.lemmas.Fmt.{decimal_is_IsNumeral}
 use Rattle.std.proofs.lemmas.List.{append-nil}
 use Rattle.std.proofs.lemmas.List.Elements.{All-head, All-tail}
+use Rattle.std.proofs.lemmas.Option.{none-some}
 use Rattle.rec_model.specs.declared.command.Cmd.{Cmd}
 use Rattle.rec_model.specs.declared.command.Cmd.TheVariants.{New, Leaf, Null, Copy, Get, Put, Value, Same, Leave}
-use Rattle.rec_script.specs.Script.{ScriptContents, IsCommand, IsHeap, IsVersion, AreCommands, IsScript, header, heap_line, mutator_lines, command_line, word_of, last_length, spelled, IsShaped}
+use Rattle.rec_script.specs.Script.{ScriptContents, IsCommand, IsHeap, IsVersion, AreCommands, IsScript, header, heap_line, mutator_lines, command_line, word_of, HasLeft, LeavesLast, last_commands, spelled, IsShaped}
 use Rattle.rec_script.proofs.Commands.{letters, choose}
+use Rattle.rec_script.proofs.Leaving.{none_behind}
 
 -- numbers of registers and fields that numerals can name
 pub record AreSmall (registers fields : ℕ) : Type 0 where
@@ -118,10 +120,16 @@ glue_length [] g = omega arith
 glue_length (cmds ∷ css) g = omega (arith, glue_length css g)
 
 -- commands behind the last mutator are its own
-pub glue_last : (css : List (List Cmd)) (g : Groups) → 1 ≤ length css → All (λ c. length c ≤ 200000) (glue css g).behind → last_length css + length g.front ≤ 200000
+pub glue_last : (css : List (List Cmd)) (g : Groups) → 1 ≤ length css → All (λ c. length c ≤ 200000) (glue css g).behind → length (last_commands css) + length g.front ≤ 200000
 glue_last [] g some few = absurd (omega arith)
 glue_last (cmds ∷ []) g some few = omega (arith, length-append cmds g.front, All-head (λ c. length c ≤ 200000) (cmds ++ g.front) g.behind few)
 glue_last (cmds ∷ more ∷ css) g some few = glue_last (more ∷ css) g (omega arith) (All-tail (λ c. length c ≤ 200000) (cmds ++ (glue (more ∷ css) g).front) (glue (more ∷ css) g).behind few)
+
+-- and there are none where it has left
+pub glue_gone : (css : List (List Cmd)) (g : Groups) → All LeavesLast (glue css g).behind → HasLeft (last_commands css) → length g.front ≡ 0
+glue_gone [] g are gone = absurd (none-some Leave gone)
+glue_gone (cmds ∷ []) g are gone = none_behind cmds g.front (All-head LeavesLast (cmds ++ g.front) g.behind are) gone
+glue_gone (cmds ∷ more ∷ css) g are gone = glue_gone (more ∷ css) g (All-tail LeavesLast (cmds ++ (glue (more ∷ css) g).front) (glue (more ∷ css) g).behind are) gone
 
 -- the lines of mutators are grouped as they were
 pub regrouped : (v r f : ℕ) (css : List (List Cmd)) → AreSmall r f → All (AreCommands v r f) css → regroup (flat_map mutator_lines css) ≡ grouped [] css

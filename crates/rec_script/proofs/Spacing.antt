@@ -155,7 +155,7 @@ command_words registers fields (Get dst src field) h is = ((omega arith, (omega 
 command_words registers fields (Put src field val) h is = ((omega arith, (omega arith, (omega arith, (omega arith, tt)))), (numeral_word src (omega (arith, h.registers_fit, is.0.0)), (numeral_word field (omega (arith, h.fields_fit, is.0.1)), (numeral_word val (omega (arith, h.registers_fit, is.0.2)), tt))))
 command_words registers fields (Value reg) h is = ((omega arith, (omega arith, (omega arith, (omega arith, (omega arith, (omega arith, tt)))))), (numeral_word reg (omega (arith, h.registers_fit, is.0)), tt))
 command_words registers fields (Same a b) h is = ((omega arith, (omega arith, (omega arith, (omega arith, (omega arith, tt))))), (numeral_word a (omega (arith, h.registers_fit, is.0.0)), (numeral_word b (omega (arith, h.registers_fit, is.0.1)), tt)))
-command_words registers fields Leave h is = absurd is
+command_words registers fields Leave h is = ((omega arith, (omega arith, (omega arith, (omega arith, (omega arith, (omega arith, tt)))))), tt)
 
 -- the line of a command counts
 counts : (cmd : Cmd) → cond (is_counted (command_line cmd)) (command_line cmd ∷ []) [] ≡ command_line cmd ∷ []

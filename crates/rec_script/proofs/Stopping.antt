@@ -10,10 +10,10 @@ use Rattle.rec_model.specs.declared.command.Cmd.{Cmd}
 use Rattle.rec_model.specs.declared.command.Cmd.TheVariants.{New, Leaf, Null, Copy, Get, Put, Value, Same, Leave}
 use Rattle.rec_script.specs.declared.error.Kind.{Kind}
 use Rattle.rec_script.specs.Lines.{words, is_counted, counted, AreUtf8}
-use Rattle.rec_script.specs.Script.{ScriptContents, IsCommand, Allows, AreCommands, IsScript, Continues, mutator_line, mutator_lines, command_line, word_of, operands_of, limits_of, last_length, spelled, IsShaped, IsWrong, AreWrong, IsBadCommand, Fits, IsFault}
+use Rattle.rec_script.specs.Script.{ScriptContents, IsCommand, Allows, AreCommands, IsScript, Continues, mutator_line, mutator_lines, command_line, word_of, operands_of, limits_of, HasLeft, LeavesLast, most_mutators, last_commands, spelled, IsShaped, IsWrong, AreWrong, IsBadCommand, Fits, IsFault}
 use Rattle.rec_script.proofs.Numerals.{same_number}
 use Rattle.rec_script.proofs.Commands.{same_limits}
-use Rattle.rec_script.proofs.Regrouping.{Groups, grouped, command_of, no_mutator_shape, regroup, glue, regroup_mutators, regrouped, glue_length, glue_last, small, same_version, same_heap, SameHeap, behind_heap}
+use Rattle.rec_script.proofs.Regrouping.{Groups, grouped, command_of, no_mutator_shape, regroup, glue, regroup_mutators, regrouped, glue_length, glue_last, glue_gone, small, same_version, same_heap, SameHeap, behind_heap}
 
 -- ---- lines that count
 
@@ -72,7 +72,7 @@ right_operands r f (Get dst src field) most-r most-f is = ((is.0.0, omega (arith
 right_operands r f (Put src field val) most-r most-f is = ((is.0.0, omega (arith, is.0.0)), ((is.0.1, omega (arith, is.0.1)), ((is.0.2, omega (arith, is.0.2)), tt)))
 right_operands r f (Value reg) most-r most-f is = ((is.0, omega (arith, is.0)), tt)
 right_operands r f (Same a b) most-r most-f is = ((is.0.0, omega (arith, is.0.0)), ((is.0.1, omega (arith, is.0.1)), tt))
-right_operands r f Leave most-r most-f is = absurd is
+right_operands r f Leave most-r most-f is = tt
 
 -- ---- a script's text has no such line
 
@@ -104,19 +104,30 @@ body_line mine line rest other is-other b =
     subst (λ (v : ℕ). IsBodyLine v mine.registers mine.fields line) (sym b.version)
     (subst (λ (r : ℕ). IsBodyLine other.version r mine.fields line) (sym b.heaps.registers) (subst (λ (f : ℕ). IsBodyLine other.version other.registers f line) (sym b.heaps.fields) here))
 
-no_ninth : (mine : ScriptContents) (line : List (List ℕ)) (rest : List (List (List ℕ))) (other : ScriptContents) → IsScript other → Behind mine line rest other → line ≡ mutator_line → length mine.commands ≡ 8 → ⊥
-no_ninth mine line rest other is-other b is full =
+-- no mutator follows as many as the version allows
+no_further : (mine : ScriptContents) (line : List (List ℕ)) (rest : List (List (List ℕ))) (other : ScriptContents) → IsScript other → Behind mine line rest other → line ≡ mutator_line → length mine.commands ≡ most_mutators mine.version → ⊥
+no_further mine line rest other is-other b is full =
     let count : length (glue mine.commands (regroup (line ∷ rest))).behind ≡ length other.commands = ap (λ (g : Groups). length g.behind) b.groups in
     let one : length (regroup (line ∷ rest)).behind ≡ suc (length (regroup rest).behind) = ap (λ (t : List (List ℕ)). length (regroup (t ∷ rest)).behind) is in
-    omega (arith, glue_length mine.commands (regroup (line ∷ rest)), is-other.most_mutators)
+    omega (arith, glue_length mine.commands (regroup (line ∷ rest)), is-other.most_mutators, ap most_mutators b.version)
 
-no_more_commands : (mine : ScriptContents) (line : List (List ℕ)) (rest : List (List (List ℕ))) (other : ScriptContents) (cmd : Cmd) → IsScript mine → IsScript other → Behind mine line rest other → IsShaped line cmd → last_length mine.commands ≡ 200000 → ⊥
+-- a line of a command's shape is one command
+one_command : (line : List (List ℕ)) (rest : List (List (List ℕ))) (cmd : Cmd) → IsShaped line cmd → length (regroup (line ∷ rest)).front ≡ suc (length (regroup rest).front)
+one_command line rest cmd shape =
+    ap (λ (t : Bool). length (cond t (grouped [] ((regroup rest).front ∷ (regroup rest).behind)) (grouped (command_of line ∷ (regroup rest).front) (regroup rest).behind)).front) (no_mutator_shape line cmd shape)
+
+no_more_commands : (mine : ScriptContents) (line : List (List ℕ)) (rest : List (List (List ℕ))) (other : ScriptContents) (cmd : Cmd) → IsScript mine → IsScript other → Behind mine line rest other → IsShaped line cmd → length (last_commands mine.commands) ≡ 200000 → ⊥
 no_more_commands mine line rest other cmd is-mine is-other b shape full =
     let few : All (λ c. length c ≤ 200000) other.commands = λ k d lt. (is-other.commands k d lt).few in
     let all : All (λ c. length c ≤ 200000) (glue mine.commands (regroup (line ∷ rest))).behind = subst (λ (g : Groups). All (λ c. length c ≤ 200000) g.behind) (sym b.groups) few in
-    let one : length (regroup (line ∷ rest)).front ≡ suc (length (regroup rest).front) =
-    ap (λ (t : Bool). length (cond t (grouped [] ((regroup rest).front ∷ (regroup rest).behind)) (grouped (command_of line ∷ (regroup rest).front) (regroup rest).behind)).front) (no_mutator_shape line cmd shape) in
-    omega (arith, glue_last mine.commands (regroup (line ∷ rest)) is-mine.some_mutators all)
+    omega (arith, glue_last mine.commands (regroup (line ∷ rest)) is-mine.some_mutators all, one_command line rest cmd shape)
+
+-- nobody has left who has a command behind
+no_command_behind : (mine : ScriptContents) (line : List (List ℕ)) (rest : List (List (List ℕ))) (other : ScriptContents) (cmd : Cmd) → IsScript mine → IsScript other → Behind mine line rest other → IsShaped line cmd → HasLeft (last_commands mine.commands) → ⊥
+no_command_behind mine line rest other cmd is-mine is-other b shape gone =
+    let last : All LeavesLast other.commands = λ k d lt. (is-other.commands k d lt).leaves_last in
+    let all : All LeavesLast (glue mine.commands (regroup (line ∷ rest))).behind = subst (λ (g : Groups). All LeavesLast g.behind) (sym b.groups) last in
+    omega (arith, glue_gone mine.commands (regroup (line ∷ rest)) all gone, one_command line rest cmd shape)
 
 no_bad_operand : (mine : ScriptContents) (line : List (List ℕ)) (cmd : Cmd) (kind : Kind) → IsScript mine → IsShaped line cmd → AreWrong (limits_of mine.registers mine.fields cmd) (drop 1 line) kind
     → (other : Cmd) → IsCommand mine.registers mine.fields other → line ≡ command_line other → ⊥
@@ -126,13 +137,17 @@ no_bad_operand mine line cmd kind is-mine shape wrong other is e =
     (subst (λ (t : List (List ℕ)). AreWrong (limits_of mine.registers mine.fields other) (drop 1 t) kind) e
     (subst (λ (ls : List (ℕ × Kind)). AreWrong ls (drop 1 line) kind) (same_limits mine.registers mine.fields cmd other same) wrong))
 
-no_bad_command : (mine : ScriptContents) (line : List (List ℕ)) (rest : List (List (List ℕ))) (other : ScriptContents) (kind : Kind) → IsScript mine → IsScript other → Behind mine line rest other → line ≢ mutator_line → IsBadCommand mine.version mine.registers mine.fields (last_length mine.commands) line kind → ⊥
+no_bad_command : (mine : ScriptContents) (line : List (List ℕ)) (rest : List (List (List ℕ))) (other : ScriptContents) (kind : Kind) → IsScript mine → IsScript other → Behind mine line rest other → line ≢ mutator_line → IsBadCommand mine.version mine.registers mine.fields (last_commands mine.commands) line kind → ⊥
+no_bad_command mine line rest other _ is-mine is-other b no-mutator (IsBadCommand.gone gone) = elim (body_line mine line rest other is-other b) [
+  | inl is ↦ no-mutator is
+  | inr is ↦ no_command_behind mine line rest other is.0 is-mine is-other b (ap (λ (t : List (List ℕ)). get_or t 0 []) is.3, ap length is.3) gone
+]
 no_bad_command mine line rest other _ is-mine is-other b no-mutator (IsBadCommand.unknown none) = elim (body_line mine line rest other is-other b) [
   | inl is ↦ no-mutator is
   | inr is ↦ none is.0 is.1 (ap (λ (t : List (List ℕ)). get_or t 0 []) is.3, ap length is.3)
 ]
-no_bad_command mine line rest other _ is-mine is-other b no-mutator (IsBadCommand.too_many cmd allowed shape full) = no_more_commands mine line rest other cmd is-mine is-other b shape full
-no_bad_command mine line rest other kind is-mine is-other b no-mutator (IsBadCommand.operand cmd _ allowed shape room wrong) = elim (body_line mine line rest other is-other b) [
+no_bad_command mine line rest other _ is-mine is-other b no-mutator (IsBadCommand.too_many cmd stays allowed shape full) = no_more_commands mine line rest other cmd is-mine is-other b shape full
+no_bad_command mine line rest other kind is-mine is-other b no-mutator (IsBadCommand.operand cmd _ stays allowed shape room wrong) = elim (body_line mine line rest other is-other b) [
   | inl is ↦ no-mutator is
   | inr is ↦ no_bad_operand mine line cmd kind is-mine shape wrong is.0 is.2 is.3
 ]
@@ -149,7 +164,7 @@ nothing_fits before line rest _ other is-other e (Fits.bad_heap v is-version one
 nothing_fits before line rest _ other is-other e (Fits.no_mutator v s f r is-version heap two wrong) =
     wrong (first_mutator line rest other.commands is-other.some_mutators (ap behind_heap (sym (ap (λ (b : List (List (List ℕ))). b ++ line ∷ rest) two) ∙ e)))
 nothing_fits before line rest _ other is-other e (Fits.too_many_mutators mine is-mine spelt is full) =
-    no_ninth mine line rest other is-other (behind mine line rest other is-mine is-other (sym (ap (λ (b : List (List (List ℕ))). b ++ line ∷ rest) spelt) ∙ e)) is full
+    no_further mine line rest other is-other (behind mine line rest other is-mine is-other (sym (ap (λ (b : List (List (List ℕ))). b ++ line ∷ rest) spelt) ∙ e)) is full
 nothing_fits before line rest kind other is-other e (Fits.bad_command mine _ is-mine spelt no-mutator bad) =
     no_bad_command mine line rest other kind is-mine is-other (behind mine line rest other is-mine is-other (sym (ap (λ (b : List (List (List ℕ))). b ++ line ∷ rest) spelt) ∙ e)) no-mutator bad
 

@@ -6,7 +6,7 @@ use Rattle.std.proofs.lemmas.List.{append-nil, take-append-drop, take-take}
 use Rattle.rec_model.specs.declared.command.Cmd.{Cmd}
 use Rattle.rec_script.specs.declared.error.Kind.{Kind}
 use Rattle.rec_script.specs.Lines.{lines, words, counted}
-use Rattle.rec_script.specs.Script.{ScriptContents, IsScript, IsRefused, Spells, Continues, StopsAt, StaysOpen, IsFault, IsNeed, Fits, IsBadCommand, IsRight, IsWrong, AreWrong, limits_of, last_length, header, heap_line, mutator_lines, spelled}
+use Rattle.rec_script.specs.Script.{ScriptContents, IsScript, IsRefused, Spells, Continues, StopsAt, StaysOpen, IsFault, IsNeed, Fits, IsBadCommand, IsRight, IsWrong, AreWrong, limits_of, last_commands, header, heap_line, mutator_lines, spelled}
 use Rattle.rec_script.proofs.Numerals.{same_number}
 use Rattle.rec_script.proofs.Commands.{same_limits}
 use Rattle.rec_script.proofs.Regrouping.{same_script}
@@ -34,16 +34,23 @@ are_wrong_once (limit ∷ limits) (word ∷ operands) a b (inr x) (inr y) = are_
 
 -- ---- commands
 
-bad_command_once : (v r f count : ℕ) (line : List (List ℕ)) (a b : Kind) → IsBadCommand v r f count line a → IsBadCommand v r f count line b → a ≡ b
-bad_command_once v r f count line _ _ (IsBadCommand.unknown none) (IsBadCommand.unknown none') = refl
-bad_command_once v r f count line _ _ (IsBadCommand.unknown none) (IsBadCommand.too_many cmd its shape full) = absurd (none cmd its shape)
-bad_command_once v r f count line _ b (IsBadCommand.unknown none) (IsBadCommand.operand cmd _ its shape room wrong) = absurd (none cmd its shape)
-bad_command_once v r f count line _ _ (IsBadCommand.too_many cmd its shape full) (IsBadCommand.unknown none) = absurd (none cmd its shape)
-bad_command_once v r f count line _ _ (IsBadCommand.too_many cmd its shape full) (IsBadCommand.too_many cmd' its' shape' full') = refl
-bad_command_once v r f count line _ b (IsBadCommand.too_many cmd its shape full) (IsBadCommand.operand cmd' _ its' shape' room wrong) = absurd (omega arith)
-bad_command_once v r f count line a _ (IsBadCommand.operand cmd _ its shape room wrong) (IsBadCommand.unknown none) = absurd (none cmd its shape)
-bad_command_once v r f count line a _ (IsBadCommand.operand cmd _ its shape room wrong) (IsBadCommand.too_many cmd' its' shape' full) = absurd (omega arith)
-bad_command_once v r f count line a b (IsBadCommand.operand cmd _ its shape room wrong) (IsBadCommand.operand cmd' _ its' shape' room' wrong') =
+bad_command_once : (v r f : ℕ) (cmds : List Cmd) (line : List (List ℕ)) (a b : Kind) → IsBadCommand v r f cmds line a → IsBadCommand v r f cmds line b → a ≡ b
+bad_command_once v r f cmds line _ _ (IsBadCommand.gone gone) (IsBadCommand.gone gone') = refl
+bad_command_once v r f cmds line _ _ (IsBadCommand.gone gone) (IsBadCommand.unknown none) = refl
+bad_command_once v r f cmds line _ _ (IsBadCommand.gone gone) (IsBadCommand.too_many cmd stays its shape full) = absurd (stays gone)
+bad_command_once v r f cmds line _ b (IsBadCommand.gone gone) (IsBadCommand.operand cmd _ stays its shape room wrong) = absurd (stays gone)
+bad_command_once v r f cmds line _ _ (IsBadCommand.unknown none) (IsBadCommand.gone gone) = refl
+bad_command_once v r f cmds line _ _ (IsBadCommand.unknown none) (IsBadCommand.unknown none') = refl
+bad_command_once v r f cmds line _ _ (IsBadCommand.unknown none) (IsBadCommand.too_many cmd stays its shape full) = absurd (none cmd its shape)
+bad_command_once v r f cmds line _ b (IsBadCommand.unknown none) (IsBadCommand.operand cmd _ stays its shape room wrong) = absurd (none cmd its shape)
+bad_command_once v r f cmds line _ _ (IsBadCommand.too_many cmd stays its shape full) (IsBadCommand.gone gone) = absurd (stays gone)
+bad_command_once v r f cmds line _ _ (IsBadCommand.too_many cmd stays its shape full) (IsBadCommand.unknown none) = absurd (none cmd its shape)
+bad_command_once v r f cmds line _ _ (IsBadCommand.too_many cmd stays its shape full) (IsBadCommand.too_many cmd' stays' its' shape' full') = refl
+bad_command_once v r f cmds line _ b (IsBadCommand.too_many cmd stays its shape full) (IsBadCommand.operand cmd' _ stays' its' shape' room wrong) = absurd (omega arith)
+bad_command_once v r f cmds line a _ (IsBadCommand.operand cmd _ stays its shape room wrong) (IsBadCommand.gone gone) = absurd (stays gone)
+bad_command_once v r f cmds line a _ (IsBadCommand.operand cmd _ stays its shape room wrong) (IsBadCommand.unknown none) = absurd (none cmd its shape)
+bad_command_once v r f cmds line a _ (IsBadCommand.operand cmd _ stays its shape room wrong) (IsBadCommand.too_many cmd' stays' its' shape' full) = absurd (omega arith)
+bad_command_once v r f cmds line a b (IsBadCommand.operand cmd _ stays its shape room wrong) (IsBadCommand.operand cmd' _ stays' its' shape' room' wrong') =
     are_wrong_once (limits_of r f cmd) (drop 1 line) a b wrong (subst (λ (ls : List (ℕ × Kind)). AreWrong ls (drop 1 line) b) (same_limits r f cmd' cmd (sym shape'.0 ∙ shape.0)) wrong')
 
 -- ---- lines
@@ -86,7 +93,7 @@ fits_once before line a _ (Fits.bad_command mine _ is-mine spelt no-mutator bad)
 fits_once before line a _ (Fits.bad_command mine _ is-mine spelt no-mutator bad) (Fits.too_many_mutators mine' is-mine' spelt' is' full') = absurd (no-mutator is')
 fits_once before line a b (Fits.bad_command mine _ is-mine spelt no-mutator bad) (Fits.bad_command mine' _ is-mine' spelt' no-mutator' bad') =
     let same : mine' ≡ mine = same_script mine' mine is-mine' is-mine (sym spelt' ∙ spelt) in
-    bad_command_once mine.version mine.registers mine.fields (last_length mine.commands) line a b bad (subst (λ (c : ScriptContents). IsBadCommand c.version c.registers c.fields (last_length c.commands) line b) same bad')
+    bad_command_once mine.version mine.registers mine.fields (last_commands mine.commands) line a b bad (subst (λ (c : ScriptContents). IsBadCommand c.version c.registers c.fields (last_commands c.commands) line b) same bad')
 
 fault_once : (before : List (List (List ℕ))) (line : List ℕ) (a b : Kind) → IsFault before line a → IsFault before line b → a ≡ b
 fault_once before line _ _ (IsFault.not_utf8 none) (IsFault.not_utf8 none') = refl

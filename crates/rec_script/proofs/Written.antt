@@ -5,7 +5,7 @@ use Rattle.std.specs.List.{flat_map}
 use Rattle.std.specs.Str.{IsUtf8}
 use Rattle.std.proofs.lemmas.List.Elements.{All-cons, All-head, All-tail, All-weaker}
 use Rattle.rec_model.specs.declared.command.Cmd.{Cmd}
-use Rattle.rec_model.specs.declared.command.Cmd.TheVariants.{New, Leaf, Null, Copy, Get, Put, Value, Same, Leave}
+use Rattle.rec_model.specs.declared.command.Cmd.TheVariants.{New}
 use Rattle.rec_script.specs.Lines.{lines, words, is_counted, counted, spaced, AreUtf8}
 use Rattle.rec_script.specs.Made.{text_of}
 use Rattle.rec_script.specs.Script.{ScriptContents, IsHeap, IsVersion, IsScript, Spells, header, heap_line, mutator_line, mutator_lines, command_line, spelled}

@@ -1,11 +1,11 @@
 -- A script: what it holds, within which limits, and how its lines spell it; and of a text that spells none, the first line
 -- that no script continues, with what is wrong with it.
-use Rattle.std.specs.Prelude.{◌≡◌, ◌≢◌, ◌⊎◌, ℕ, ◌+◌, ◌<◌, ◌≤◌, ◌^◌, true, List, [], ◌∷◌, ◌++◌, length, get_or, take, drop, All, map, codes}
+use Rattle.std.specs.Prelude.{◌≡◌, ◌≢◌, ◌⊎◌, ℕ, ◌+◌, ◌-◌, ◌<◌, ◌≤◌, ◌^◌, nat_le, if◌then◌else◌, true, Some, List, [], ◌∷◌, ◌++◌, length, get_or, take, drop, All, map, codes}
 use Rattle.std.specs.Fmt.{decimal}
-use Rattle.std.specs.List.{flat_map}
+use Rattle.std.specs.List.{flat_map, slice_get}
 use Rattle.std.specs.Str.{IsUtf8}
 use Rattle.rec_model.specs.declared.command.Cmd.{Cmd}
-use Rattle.rec_model.specs.declared.limits.TheConstants.{MOST_SLOTS, MOST_FIELDS, MOST_REGISTERS, MOST_SCRIPT_MUTATORS, MOST_COMMANDS, MOST_BYTES}
+use Rattle.rec_model.specs.declared.limits.TheConstants.{MOST_SLOTS, MOST_FIELDS, MOST_REGISTERS, MOST_MUTATORS, MOST_SCRIPT_MUTATORS, MOST_COMMANDS, MOST_BYTES}
 use Rattle.rec_model.specs.declared.command.Cmd.TheVariants.{New, Leaf, Null, Copy, Get, Put, Value, Same, Leave}
 use Rattle.rec_model.specs.Operands.{HasOperands, HasLabel}
 use Rattle.rec_script.specs.declared.error.Kind.{Kind}
@@ -20,9 +20,8 @@ pub record ScriptContents : Type 0 where
   pub registers : ℕ
   pub commands : List (List Cmd)
 
--- the operands of a command are in range; and none leaves yet
+-- the operands of a command are in range
 abbrev pub IsCommand : (registers fields : ℕ) → Cmd → Type 0
-IsCommand registers fields Leave = ⊥
 IsCommand registers fields cmd = HasOperands registers fields cmd × HasLabel cmd
 
 -- the version that a command came with
@@ -44,7 +43,11 @@ Allows version cmd = since cmd ≤ version
 -- the versions that there are
 pub record IsVersion (version : ℕ) : Type 0 where
   pub some : 1 ≤ version
-  pub most : version ≤ 2
+  pub most : version ≤ 3
+
+-- how many mutators a version allows: as many as a heap has, from the version on in which mutators leave
+abbrev pub most_mutators : (version : ℕ) → ℕ
+most_mutators version = if nat_le (since Leave) version then MOST_MUTATORS else MOST_SCRIPT_MUTATORS
 
 -- the limits of a heap
 pub record IsHeap (slots fields registers : ℕ) : Type 0 where
@@ -55,9 +58,18 @@ pub record IsHeap (slots fields registers : ℕ) : Type 0 where
   pub some_registers : 1 ≤ registers
   pub most_registers : registers ≤ MOST_REGISTERS
 
+-- a mutator with these commands has left: the last one is that by which it leaves
+abbrev pub HasLeft : List Cmd → Type 0
+HasLeft cmds = slice_get cmds (length cmds - 1) ≡ Some Leave
+
+-- no command follows the one by which the mutator leaves
+abbrev pub LeavesLast : List Cmd → Type 0
+LeavesLast cmds = (k : ℕ) → slice_get cmds k ≡ Some Leave → k + 1 ≡ length cmds
+
 -- the limits of one mutator's commands
 pub record AreCommands (version registers fields : ℕ) (cmds : List Cmd) : Type 0 where
   pub few : length cmds ≤ MOST_COMMANDS
+  pub leaves_last : LeavesLast cmds
   pub allowed : All (Allows version) cmds
   pub in_range : All (IsCommand registers fields) cmds
 
@@ -66,7 +78,7 @@ pub record IsScript (contents : ScriptContents) : Type 0 where
   pub version : IsVersion contents.version
   pub heap : IsHeap contents.slots contents.fields contents.registers
   pub some_mutators : 1 ≤ length contents.commands
-  pub most_mutators : length contents.commands ≤ MOST_SCRIPT_MUTATORS
+  pub most_mutators : length contents.commands ≤ most_mutators contents.version
   pub commands : All (AreCommands contents.version contents.registers contents.fields) contents.commands
 
 -- the first line that counts
@@ -165,25 +177,26 @@ AreWrong [] operands kind = ⊥
 AreWrong (limit ∷ limits) [] kind = ⊥
 AreWrong (limit ∷ limits) (word ∷ operands) kind = IsWrong limit word kind ⊎ (IsRight limit word × AreWrong limits operands kind)
 
--- how many commands the last mutator has
-abbrev pub last_length : List (List Cmd) → ℕ
-last_length [] = 0
-last_length (cmds ∷ []) = length cmds
-last_length (cmds ∷ more ∷ later) = last_length (more ∷ later)
+-- the commands of the last mutator
+abbrev pub last_commands : List (List Cmd) → List Cmd
+last_commands [] = []
+last_commands (cmds ∷ []) = cmds
+last_commands (cmds ∷ more ∷ later) = last_commands (more ∷ later)
 
--- what is wrong with a line behind so many commands of its mutator: it is of no command that the version has; else it is one too many; else an operand is wrong
-pub data IsBadCommand (version registers fields count : ℕ) (line : List (List ℕ)) : Kind → Type 0 where
-  unknown : ((cmd : Cmd) → Allows version cmd → ¬ IsShaped line cmd) → IsBadCommand version registers fields count line BadCommand
-  too_many : (cmd : Cmd) → Allows version cmd → IsShaped line cmd → count ≡ MOST_COMMANDS → IsBadCommand version registers fields count line TooManyCommands
-  operand : (cmd : Cmd) (kind : Kind) → Allows version cmd → IsShaped line cmd → count < MOST_COMMANDS → AreWrong (limits_of registers fields cmd) (drop 1 line) kind → IsBadCommand version registers fields count line kind
+-- what is wrong with a line behind these commands of its mutator: the mutator has left; else it is of no command that the version has; else it is one too many; else an operand is wrong
+pub data IsBadCommand (version registers fields : ℕ) (cmds : List Cmd) (line : List (List ℕ)) : Kind → Type 0 where
+  gone : HasLeft cmds → IsBadCommand version registers fields cmds line BadCommand
+  unknown : ((cmd : Cmd) → Allows version cmd → ¬ IsShaped line cmd) → IsBadCommand version registers fields cmds line BadCommand
+  too_many : (cmd : Cmd) → ¬ HasLeft cmds → Allows version cmd → IsShaped line cmd → length cmds ≡ MOST_COMMANDS → IsBadCommand version registers fields cmds line TooManyCommands
+  operand : (cmd : Cmd) (kind : Kind) → ¬ HasLeft cmds → Allows version cmd → IsShaped line cmd → length cmds < MOST_COMMANDS → AreWrong (limits_of registers fields cmd) (drop 1 line) kind → IsBadCommand version registers fields cmds line kind
 
 -- what is wrong with the words of a line behind such lines; which place it is in, the lines before it tell
 pub data Fits (before : List (List (List ℕ))) (line : List (List ℕ)) : Kind → Type 0 where
   no_header : before ≡ [] → ((version : ℕ) → IsVersion version → line ≢ header version) → Fits before line NoHeader
   bad_heap : (version : ℕ) → IsVersion version → before ≡ header version ∷ [] → ((slots fields registers : ℕ) → IsHeap slots fields registers → line ≢ heap_line slots fields registers) → Fits before line BadHeap
   no_mutator : (version slots fields registers : ℕ) → IsVersion version → IsHeap slots fields registers → before ≡ header version ∷ heap_line slots fields registers ∷ [] → line ≢ mutator_line → Fits before line NoMutator
-  too_many_mutators : (contents : ScriptContents) → IsScript contents → before ≡ spelled contents → line ≡ mutator_line → length contents.commands ≡ MOST_SCRIPT_MUTATORS → Fits before line TooManyMutators
-  bad_command : (contents : ScriptContents) (kind : Kind) → IsScript contents → before ≡ spelled contents → line ≢ mutator_line → IsBadCommand contents.version contents.registers contents.fields (last_length contents.commands) line kind → Fits before line kind
+  too_many_mutators : (contents : ScriptContents) → IsScript contents → before ≡ spelled contents → line ≡ mutator_line → length contents.commands ≡ most_mutators contents.version → Fits before line TooManyMutators
+  bad_command : (contents : ScriptContents) (kind : Kind) → IsScript contents → before ≡ spelled contents → line ≢ mutator_line → IsBadCommand contents.version contents.registers contents.fields (last_commands contents.commands) line kind → Fits before line kind
 
 -- what is wrong with a line behind lines of which these count: it isn't UTF-8; else it counts, and its words are wrong
 pub data IsFault (before : List (List (List ℕ))) (line : List ℕ) : Kind → Type 0 where

@@ -1,15 +1,15 @@
 //! The line of a command.
 
-ghost use Rattle.std.specs.Prelude.{◌≡◌, ◌≢◌, ◌<◌, ◌≤◌, ◌∷◌, map, IfOk, IfErr, IfSome, IfNone};
+ghost use Rattle.std.specs.Prelude.{◌≡◌, ◌≢◌, ◌<◌, ◌≤◌, List, ◌∷◌, length, map, IfOk, IfErr, IfSome, IfNone};
 ghost use Rattle.std.specs.Fmt.{decimal};
 ghost use Rattle.rec_model.specs.declared.command.Cmd.{Cmd};
 ghost use Rattle.rec_model.specs.declared.limits.TheConstants.{MOST_COMMANDS};
 ghost use Rattle.rec_script.specs.Lines.{words};
 ghost use Rattle.rec_script.specs.Operands.{AreMisread};
-ghost use Rattle.rec_script.specs.Script.{Allows, IsCommand, IsBadCommand, IsVersion, command_line, limits_of, operands_of, since, word_of};
+ghost use Rattle.rec_script.specs.Script.{Allows, HasLeft, IsCommand, IsBadCommand, IsVersion, command_line, limits_of, operands_of, word_of};
 
 use crate::error::Kind;
-use crate::operand::{Limit, is_name, one_operand, three_operands, two_operands};
+use crate::operand::{Limit, is_name, no_operands, one_operand, three_operands, two_operands};
 use rec_model::Cmd;
 
 /// Every numeral is a label.
@@ -49,13 +49,14 @@ fn named(version: u32, word: &[u8]) -> Option<Cmd>
         Some(Cmd::Value { reg: 0 })
     } else if is_name(word, b"same") {
         Some(Cmd::Same { a: 0, b: 0 })
+    } else if version >= 3 && is_name(word, b"leave") {
+        Some(Cmd::Leave)
     } else {
         None
     }
 }
 
-/// The command like this one, of some version, with the operands that a line has behind its first word, in a mutator that has so many
-/// commands.
+/// The command like this one with the operands that a line has behind its first word, in a mutator that has so many commands.
 fn with_operands(
     named: Cmd,
     registers: u32,
@@ -63,7 +64,6 @@ fn with_operands(
     count: usize,
     rest: &[u8],
 ) -> Result<Cmd, Kind>
-    requires known { since named ≤ 2 }
     requires few { count ≤ MOST_COMMANDS }
     requires registers { registers ≤ 64 }
     requires fields { fields ≤ 16 }
@@ -135,11 +135,15 @@ fn with_operands(
                 b: b as u8,
             }
         }
-        Cmd::Leave => unreachable!(),
+        Cmd::Leave => {
+            no_operands(count, rest)?;
+            Cmd::Leave
+        }
     })
 }
 
-/// The command of a line with this first word and what is behind it, in a mutator that has so many, in a script of this version.
+/// The command of a line with this first word and what is behind it, in a mutator that has so many and hasn't left, in a script of this
+/// version.
 pub fn command(
     version: u32,
     registers: u32,
@@ -156,8 +160,8 @@ pub fn command(
     ensures allowed { IfOk result (λ cmd. Allows version cmd) }
     ensures in_range { IfOk result (λ cmd. IsCommand registers fields cmd) }
     ensures room { IfOk result (λ cmd. count < MOST_COMMANDS) }
-    ensures wrong { IfErr result (λ kind.
-        IsBadCommand version registers fields count (word.now ∷ words rest.now) kind) }
+    ensures wrong { IfErr result (λ kind. (cmds : List Cmd) → length cmds ≡ count → ¬ HasLeft cmds
+        → IsBadCommand version registers fields cmds (word.now ∷ words rest.now) kind) }
 {
     match named(version, word) {
         Some(named) => with_operands(named, registers, fields, count, rest),

@@ -15,8 +15,8 @@ use crate::line::{next_line, next_word};
 use crate::operand::{is_name, no_word};
 use crate::script::Script;
 use crate::spaced::spaced_command;
-use crate::version::read_version;
-use rec_model::limits::{MOST_COMMANDS, MOST_SCRIPT_MUTATORS};
+use crate::version::{most_mutators, read_version};
+use rec_model::limits::MOST_COMMANDS;
 use std::alloc::{AllocError, Global};
 use std::str::from_utf8;
 
@@ -53,7 +53,7 @@ fn bad(number: u32, kind: Kind) -> ScriptError
     ScriptError::Bad { line: number, kind }
 }
 
-/// Adds the command at the front of the bytes, where it is spaced and there is room for it; gives what is behind its line.
+/// Adds the command at the front of the bytes, where it is spaced and its mutator takes one more; gives what is behind its line.
 #[inline(always)]
 fn add_spaced<'b>(script: &mut Script, bytes: &'b [u8]) -> Result<Option<&'b [u8]>, AllocError>
     ensures taken { IfOk result (λ found. IfSome found (λ rest.
@@ -69,7 +69,7 @@ fn add_spaced<'b>(script: &mut Script, bytes: &'b [u8]) -> Result<Option<&'b [u8
     ) else {
         return Ok(None);
     };
-    if script.last() == MOST_COMMANDS {
+    if script.has_left() || script.last() == MOST_COMMANDS {
         return Ok(None);
     }
     script.add(cmd)?;
@@ -91,10 +91,13 @@ fn add_to_script(
         → (line ≡ number) × Fits (spelled script.old) (word.now ∷ words rest.now) kind }
 {
     if is_mutator(word, rest) {
-        if script.mutators() == MOST_SCRIPT_MUTATORS {
+        if script.mutators() == most_mutators(script.version()) {
             return Err(bad(number, Kind::TooManyMutators));
         }
         return script.add_mutator(alloc).map_err(|_| ScriptError::NoMemory);
+    }
+    if script.has_left() {
+        return Err(bad(number, Kind::BadCommand));
     }
     let cmd = match command(
         script.version(),

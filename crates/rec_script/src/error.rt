@@ -11,15 +11,15 @@ pub enum Kind {
     TooLong,
     /// A line isn't UTF-8, be it one that is skipped.
     NotUtf8,
-    /// The first line that counts isn't `recycler 1` or `recycler 2`.
+    /// The first line that counts isn't `recycler 1`, `recycler 2` or `recycler 3`.
     NoHeader,
     /// The second one is no heap with its numbers within their limits.
     BadHeap,
     /// The third one isn't `mutator`.
     NoMutator,
-    /// A later line has none of the version's first words, or another number of words.
+    /// A later line has none of the version's first words, or another number of words; or its mutator has left.
     BadCommand,
-    /// The ninth mutator.
+    /// The ninth mutator, in version 3 the 64th.
     TooManyMutators,
     /// The 200,001st command of a mutator.
     TooManyCommands,

@@ -105,6 +105,20 @@ fn room(count: usize) -> Result<(), Kind>
     }
 }
 
+/// A line that has no operands, behind so many commands.
+pub fn no_operands(count: usize, line: &[u8]) -> Result<(), Kind>
+    requires { count ≤ MOST_COMMANDS }
+    ensures right { IfOk result (λ x. words line.now ≡ []) }
+    ensures room { IfOk result (λ x. count < MOST_COMMANDS) }
+    ensures wrong { IfErr result (λ kind. AreMisread count [] (words line.now) kind) }
+{
+    if no_word(line) {
+        room(count)
+    } else {
+        Err(Kind::BadCommand)
+    }
+}
+
 /// The operand of a line that has one, behind so many commands.
 pub fn one_operand(count: usize, limit: Limit, line: &[u8]) -> Result<u32, Kind>
     requires { count ≤ MOST_COMMANDS }

@@ -1,8 +1,8 @@
 //! A script that was read, or its first mutators and commands while it grows.
 
-ghost use Rattle.std.specs.Prelude.{◌≡◌, ◌≢◌, ◌<◌, ◌≤◌, ◌+◌, ◌-◌, ℕ, List, [], ◌∷◌, ◌++◌, Err, Ok, Some, length, All, Any, IfOk, slice_get};
-ghost use Rattle.rec_model.specs.declared.limits.TheConstants.{MOST_COMMANDS, MOST_SCRIPT_MUTATORS};
-ghost use Rattle.rec_script.specs.Script.{Allows, AreCommands, IsCommand, IsHeap, IsScript, IsVersion, command_line, last_length, mutator_line, spelled};
+ghost use Rattle.std.specs.Prelude.{◌≡◌, ◌↔◌, ◌<◌, ◌≤◌, ◌+◌, ◌-◌, ℕ, List, [], ◌∷◌, ◌++◌, Err, Ok, Some, length, All, Any, IfOk, IsTrue, slice_get};
+ghost use Rattle.rec_model.specs.declared.limits.TheConstants.{MOST_COMMANDS};
+ghost use Rattle.rec_script.specs.Script.{Allows, AreCommands, HasLeft, IsCommand, IsHeap, IsScript, IsVersion, command_line, last_commands, most_mutators, mutator_line, spelled};
 
 use crate::heap::Heap;
 use rec_model::Cmd;
@@ -56,7 +56,7 @@ impl Script {
         }
     }
 
-    /// The version that the header names: 1, or 2, which has leaves.
+    /// The version that the header names: 1, or 2, which has leaves, or 3, in which mutators leave too.
     pub fn version(&self) -> u32
         ensures value { result ≡ self.now.version }
         ensures valid { IsScript self.now }
@@ -88,7 +88,7 @@ impl Script {
         self.registers
     }
 
-    /// How many mutators there are, from 1 to 8.
+    /// How many mutators there are, from 1 to 8, and up to 63 in version 3.
     pub fn mutators(&self) -> u8
         ensures value { result ≡ length self.now.commands }
         ensures valid { IsScript self.now }
@@ -130,18 +130,27 @@ impl Script {
 
     /// How many commands the last mutator has.
     pub(crate) fn last(&self) -> usize
-        ensures value { result ≡ last_length self.now.commands }
+        ensures value { result ≡ length (last_commands self.now.commands) }
         ensures most { result ≤ MOST_COMMANDS }
         ensures valid { IsScript self.now }
     {
         self.last.len()
     }
 
+    /// Whether the last mutator has left.
+    pub(crate) fn has_left(&self) -> bool
+        ensures value { IsTrue result ↔ HasLeft (last_commands self.now.commands) }
+        ensures valid { IsScript self.now }
+    {
+        self.last.last() == Some(&Cmd::Leave)
+    }
+
     /// A command more for the last mutator.
     pub(crate) fn add(&mut self, cmd: Cmd) -> Result<(), AllocError>
         requires allowed { Allows self.old.version cmd }
         requires in_range { IsCommand self.old.registers self.old.fields cmd }
-        requires room { last_length self.old.commands < MOST_COMMANDS }
+        requires room { length (last_commands self.old.commands) < MOST_COMMANDS }
+        requires stays { ¬ HasLeft (last_commands self.old.commands) }
         ensures more { IfOk result (λ x. spelled self.new ≡ spelled self.old ++ command_line cmd ∷ []) }
         ensures valid { IsScript self.new }
     {
@@ -151,7 +160,7 @@ impl Script {
 
     /// A mutator more, without commands.
     pub(crate) fn add_mutator(&mut self, alloc: Global) -> Result<(), AllocError>
-        requires { length self.old.commands < MOST_SCRIPT_MUTATORS }
+        requires { length self.old.commands < most_mutators self.old.version }
         ensures more { IfOk result (λ x. spelled self.new ≡ spelled self.old ++ mutator_line ∷ []) }
         ensures valid { IsScript self.new }
     {

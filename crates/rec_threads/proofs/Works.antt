@@ -1,9 +1,13 @@
 -- What a worker does, put together from polls and commands.
-use Rattle.std.proofs.Common.{◌≡◌, ℕ, ◌-◌, ◌<◌, Some, List, [], ◌∷◌, ◌++◌, All, length, refl, sym, ap, subst, ◌∙◌, arith, append_assoc}
-use Rattle.std.proofs.lemmas.List.{append-nil, append_cancel_left, length-append, map-append}
+use Rattle.std.proofs.Common.{◌≡◌, ◌≢◌, ℕ, ◌-◌, ◌<◌, ◌||◌, false, Some, List, [], ◌∷◌, ◌++◌, All, length, map, slice_index_or, take, refl, sym, ap, subst, ◌∙◌, arith, append_assoc}
+use Rattle.std.specs.List.{list_any}
+use Rattle.std.proofs.Math.Bool.{or-false, or_assoc}
+use Rattle.std.proofs.lemmas.List.{append-nil, append_cancel_left, get_or-map, get_or-take, length-append, length-map, length-take-le, map-append}
+use Rattle.std.proofs.lemmas.List.Folds.{list_any-append, list_any_none}
+use Rattle.std.proofs.lemmas.Option.{slice_get-get_or}
 use Rattle.std.proofs.lemmas.Grind.{flat_map-append}
 use Rattle.rec_model.specs.LegalOrder.{Line}
-use Rattle.rec_model.specs.Operands.{HasOperands}
+use Rattle.rec_model.specs.declared.answer.Answer.{Answer}
 use Rattle.rec_model.specs.declared.command.Cmd.{Cmd}
 use Rattle.rec_model.specs.declared.command.Cmd.TheVariants as commands
 use Rattle.rec_model.specs.declared.told.Told.{Told}
@@ -11,8 +15,7 @@ use Rattle.rec_model.proofs.Operands.{operands_same}
 use Rattle.rec_mutator.specs.Private.{KeepsSizes, Private}
 use Rattle.rec_mutator.specs.declared.work.Work.{Work}
 use Rattle.rec_mutator.specs.declared.work.Work.TheVariants as works
-use Rattle.rec_core.specs.Config.{IsNoLeave}
-use Rattle.rec_script.specs.Script.{IsCommand}
+use Rattle.rec_script.specs.Script.{IsCommand, LeavesLast, ScriptContents}
 use Rattle.rec_table.specs.Beats.{told}
 use Rattle.rec_table.specs.Views.{MutatorView, Started, IsMutatorOf, Works, mutator_now}
 use Rattle.rec_table.specs.Journals.{Tells, journal}
@@ -23,7 +26,8 @@ use Rattle.rec_table.proofs.Beats.{told_both}
 use Rattle.rec_table.proofs.Journals.{journal_both}
 use Rattle.rec_table.proofs.Making.{keeps_on}
 use Rattle.rec_world.specs.Journal.{Notes}
-use Rattle.rec_threads.specs.Done.{HasMade, begun, begun_by}
+use Rattle.rec_world.specs.World.{is_leave_done}
+use Rattle.rec_threads.specs.Done.{HasMade, IsReady, IsThereFor, begun, begun_by, commands_at, has_left_by}
 use Rattle.rec_threads.specs.declared.worker.Worker.{Worker}
 
 -- a mutator whose list grew is still this heap's
@@ -62,6 +66,9 @@ made_on xs ys ds es a b d first then = record {
   begins = flat_map-append begun_by first.told.beats then.told.beats ∙ (λ i. first.begins i ++ then.begins i);
   mutator = then.mutator ∙ (λ i. record (first.mutator i) { log = d.mutator.log });
   sizes = keeps_on (mutator_now a.mutator) (mutator_now b.mutator) (mutator_now d.mutator) first.sizes then.sizes;
+  left =
+      then.left ∙ ap (λ left. left || list_any has_left_by then.lines) first.left ∙ or_assoc (mutator_now a.mutator).left (list_any has_left_by first.lines) (list_any has_left_by then.lines)
+      ∙ ap (λ by. (mutator_now a.mutator).left || by) (sym (list_any-append has_left_by first.lines then.lines));
 }
 
 same_sizes : (p : Private) → KeepsSizes p p
@@ -78,11 +85,13 @@ made_none w = record {
   begins = refl;
   mutator = refl;
   sizes = same_sizes (mutator_now w.mutator);
+  left = sym (or-false (mutator_now w.mutator).left);
 }
 
 -- a poll
-pub polled : (w v : Worker) → v.journal ≡ w.journal → Works works.Poll w.mutator.log v.mutator.log → v.mutator ≡ record w.mutator { log = v.mutator.log } → Tells (mutator_now w.mutator) w.mutator.log v.mutator.log [] → KeepsSizes (mutator_now w.mutator) (mutator_now v.mutator) → HasMade [] (works.Poll ∷ []) w v
-polled w v noted poll is tells sizes = record {
+pub polled : (w v : Worker) → v.journal ≡ w.journal → Works works.Poll w.mutator.log v.mutator.log → v.mutator ≡ record w.mutator { log = v.mutator.log } → Tells (mutator_now w.mutator) w.mutator.log v.mutator.log [] → KeepsSizes (mutator_now w.mutator) (mutator_now v.mutator)
+    → (mutator_now v.mutator).left ≡ (mutator_now w.mutator).left → HasMade [] (works.Poll ∷ []) w v
+polled w v noted poll is tells sizes left = record {
   lines = [];
   commands = refl;
   noted = ap (λ (j : Notes). j.lines) noted ∙ sym (append-nil w.journal.lines);
@@ -91,12 +100,14 @@ polled w v noted poll is tells sizes = record {
   begins = begun_once works.Poll w.mutator.log v.mutator.log tells.beats poll tells.grows;
   mutator = is;
   sizes = sizes;
+  left = left ∙ sym (or-false (mutator_now w.mutator).left);
 }
 
--- a command, whose line is noted
+-- a command of a mutator that hasn't left, whose line is noted
 pub commanded : (cmd : Cmd) (told : Told) (w v : Worker) → v.journal.lines ≡ w.journal.lines ++ (cmd, told) ∷ [] → v.journal.room ≡ w.journal.room - 1 → 0 < w.journal.room → Works (works.Command cmd) w.mutator.log v.mutator.log → v.mutator ≡ record w.mutator { log = v.mutator.log }
-    → Tells (mutator_now w.mutator) w.mutator.log v.mutator.log ((cmd, told) ∷ []) → KeepsSizes (mutator_now w.mutator) (mutator_now v.mutator) → HasMade (cmd ∷ []) (works.Command cmd ∷ []) w v
-commanded cmd told w v noted room some work is tells sizes = record {
+    → Tells (mutator_now w.mutator) w.mutator.log v.mutator.log ((cmd, told) ∷ []) → KeepsSizes (mutator_now w.mutator) (mutator_now v.mutator) → (mutator_now w.mutator).left ≡ false → (mutator_now v.mutator).left ≡ is_leave_done cmd told.answer
+    → HasMade (cmd ∷ []) (works.Command cmd ∷ []) w v
+commanded cmd told w v noted room some work is tells sizes present left = record {
   lines = (cmd, told) ∷ [];
   commands = refl;
   noted = noted;
@@ -105,24 +116,39 @@ commanded cmd told w v noted room some work is tells sizes = record {
   begins = begun_once (works.Command cmd) w.mutator.log v.mutator.log tells.beats work tells.grows;
   mutator = is;
   sizes = sizes;
+  left = left ∙ sym (or-false (is_leave_done cmd told.answer)) ∙ ap (λ before. before || (is_leave_done cmd told.answer || false)) (sym present);
 }
 
--- who has its registers and fields may be asked the same
-pub operands_kept : (p q : Private) → KeepsSizes p q → (cmd : Cmd) → MayAsk p cmd → MayAsk q cmd
-operands_kept p q k cmd may = (operands_same cmd (sym k.registers) (sym k.fields) may.0, may.1)
+-- by a command other than Leave nobody leaves
+stays_by : (cmd : Cmd) (answer : Answer) → cmd ≢ commands.Leave → is_leave_done cmd answer ≡ false
+stays_by commands.Leave answer other = absurd (other refl)
+stays_by _ answer other = refl
 
--- a script's command has its operands, and is none that leaves
-command_operands : (registers fields : ℕ) (cmd : Cmd) → IsCommand registers fields cmd → HasOperands registers fields cmd × IsNoLeave (works.Command cmd)
-command_operands registers fields commands.Leave is = absurd is
-command_operands registers fields (commands.New reg label) is = (is.0, tt)
-command_operands registers fields (commands.Leaf reg label) is = (is.0, tt)
-command_operands registers fields (commands.Null reg) is = (is.0, tt)
-command_operands registers fields (commands.Copy dst src) is = (is.0, tt)
-command_operands registers fields (commands.Get dst src f) is = (is.0, tt)
-command_operands registers fields (commands.Put src f val) is = (is.0, tt)
-command_operands registers fields (commands.Value reg) is = (is.0, tt)
-command_operands registers fields (commands.Same a b) is = (is.0, tt)
+-- so who wasn't to leave by these commands stays as it was
+pub stays : (cmds : List Cmd) (done : List Work) (w v : Worker) → HasMade cmds done w v → All (λ cmd. cmd ≢ commands.Leave) cmds → (mutator_now v.mutator).left ≡ (mutator_now w.mutator).left
+stays cmds done w v made others = made.left ∙ ap (λ by. (mutator_now w.mutator).left || by) (list_any_none has_left_by made.lines each) ∙ or-false (mutator_now w.mutator).left
+  where
+    own : List Cmd
+    own = map (λ (line : Line). line.0) made.lines
 
--- a script's commands may be asked of who has the script's registers and fields
-pub all_operands : (registers fields : ℕ) (p : Private) (cmds : List Cmd) → length p.registers ≡ registers → p.fields ≡ fields → All (IsCommand registers fields) cmds → All (MayAsk p) cmds
-all_operands registers fields p cmds r f all = λ k d lt. let is = command_operands registers fields _ (all k d lt) in (operands_same _ (sym r) (sym f) is.0, is.1)
+    each : All (λ (line : Line). has_left_by line ≡ false) made.lines
+    each k d lt =
+        let other : slice_index_or own k d.0 ≢ commands.Leave = subst (All (λ (cmd : Cmd). cmd ≢ commands.Leave)) (sym made.commands) others k d.0 (subst (λ n. k < n) (sym (length-map made.lines (λ (line : Line). line.0))) lt) in
+        stays_by (slice_index_or made.lines k d).0 (slice_index_or made.lines k d).1.answer (subst (λ (cmd : Cmd). cmd ≢ commands.Leave) (get_or-map (λ (line : Line). line.0) made.lines k d d.0 lt) other)
+
+-- where only the last of these commands may be Leave, none before it is
+pub none_before : (cmds : List Cmd) (i : ℕ) → LeavesLast cmds → i < length cmds → All (λ cmd. cmd ≢ commands.Leave) (take i cmds)
+none_before cmds i last within k d lt is =
+    let many : length (take i cmds) ≡ i = length-take-le i cmds (omega (arith, within)) in
+    let there : k < length cmds = omega (arith, lt, many, within) in
+    let same : slice_index_or cmds k d ≡ commands.Leave = sym (get_or-take i cmds k d (omega (arith, lt, many))) ∙ is in
+    let ends = last k (slice_get-get_or cmds k d there ∙ ap Some same) in
+    absurd (omega (arith, ends, lt, many, within))
+
+-- who has its registers and fields, and hasn't left since, may be asked the same
+pub operands_kept : (p q : Private) → KeepsSizes p q → q.left ≡ p.left → (cmd : Cmd) → MayAsk p cmd → MayAsk q cmd
+operands_kept p q k left cmd may = (operands_same cmd (sym k.registers) (sym k.fields) may.0, left ∙ may.1)
+
+-- a mutator that is ready may be asked its commands
+pub all_operands : (h : Started) (script : ScriptContents) (k : ℕ) (w : Worker) (cmds : List Cmd) → IsReady h script k w → commands_at script.commands k ≡ cmds → All (IsCommand script.registers script.fields) cmds → All (MayAsk (mutator_now w.mutator)) cmds
+all_operands h script k w cmds ready own all = λ i d lt. (operands_same _ (sym ready.registers) (sym ready.fields) (all i d lt).0, subst (λ (asked : List Cmd). IsThereFor asked (mutator_now w.mutator)) own ready.present (omega (arith, lt)))

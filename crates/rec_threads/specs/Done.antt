@@ -1,10 +1,10 @@
 -- What a crew has to be for a script, and what is done once its commands are carried out.
-use Rattle.std.specs.Prelude.{◌≡◌, ℕ, ◌⊎◌, ◌+◌, ◌<◌, ◌≤◌, Bool, MatchBool, None, List, [], ◌∷◌, ◌++◌, length, map, replicate, slice_index_or}
-use Rattle.std.specs.List.{flat_map}
+use Rattle.std.specs.Prelude.{◌≡◌, ℕ, ◌⊎◌, ◌+◌, ◌<◌, ◌≤◌, ◌||◌, Bool, true, false, MatchBool, None, List, [], ◌∷◌, ◌++◌, length, map, replicate, slice_index_or}
+use Rattle.std.specs.List.{flat_map, list_any}
 use Rattle.rec_model.specs.LegalOrder.{Line}
 use Rattle.rec_model.specs.declared.command.Cmd.{Cmd}
 use Rattle.rec_model.specs.declared.limits.TheConstants.{MOST_POLLS, MOST_TURNS}
-use Rattle.rec_mutator.specs.Private.{KeepsSizes}
+use Rattle.rec_mutator.specs.Private.{KeepsSizes, Private}
 use Rattle.rec_mutator.specs.declared.work.Work.{Work}
 use Rattle.rec_mutator.specs.declared.work.Work.TheVariants as works
 use Rattle.rec_collector.specs.Next.{next_of}
@@ -16,6 +16,7 @@ use Rattle.rec_table.specs.Turn.{MakesTurn}
 use Rattle.rec_table.specs.declared.views.Beat.{Beat}
 use Rattle.rec_table.specs.declared.views.Beat.TheVariants as beats
 use Rattle.rec_world.specs.Journal.{Notes, no_notes}
+use Rattle.rec_world.specs.World.{is_leave_done}
 use Rattle.rec_threads.specs.declared.crew.Crew.{Crew}
 use Rattle.rec_threads.specs.declared.worker.Worker.{Worker}
 
@@ -27,13 +28,19 @@ commands_at commands k = slice_index_or commands k []
 abbrev pub worker_at : List MutatorView → List Notes → ℕ → MutatorView → Worker
 worker_at mutators journals k d = record { mutator = slice_index_or mutators k d; journal = slice_index_or journals k no_notes }
 
--- Mutator k of this heap may carry out its commands: it has the script's registers and fields, and an empty journal with room.
+-- a mutator with commands to make hasn't left before; one without any may have
+abbrev pub IsThereFor : List Cmd → Private → Type 0
+IsThereFor cmds p = 0 < length cmds → p.left ≡ false
+
+-- Mutator k of this heap may carry out its commands: it has the script's registers and fields, it is there for them, and it has an empty
+-- journal with room.
 pub record IsReady (h : Started) (script : ScriptContents) (k : ℕ) (w : Worker) : Type 0 where
   pub own : IsMutatorOf h w.mutator
   pub number : w.mutator.number ≡ k + 1
   pub named : (mutator_now w.mutator).number ≡ k + 1
   pub registers : length (mutator_now w.mutator).registers ≡ script.registers
   pub fields : (mutator_now w.mutator).fields ≡ script.fields
+  pub present : IsThereFor (commands_at script.commands k) (mutator_now w.mutator)
   pub empty : w.journal.lines ≡ []
   pub room : length (commands_at script.commands k) ≤ w.journal.room
 
@@ -70,8 +77,12 @@ polled_before = flat_map turn
 abbrev pub driving_rule : List Cmd → (polls : ℕ) → List Work
 driving_rule cmds polls = polled_before cmds ++ replicate polls works.Poll
 
+-- by this line its mutator has left
+abbrev pub has_left_by : Line → Bool
+has_left_by line = is_leave_done line.0 line.1.answer
+
 -- The worker's mutator made these works, of which these commands are answered, each once and in order. Its journal grew by them with
--- what was told, and these are the lines that the mutator's list tells since.
+-- what was told, and these are the lines that the mutator's list tells since. It has left just where it had before, or did by one of them.
 pub record HasMade (cmds : List Cmd) (done : List Work) (was now : Worker) : Type 0 where
   pub lines : List Line
   pub commands : map (λ line. line.0) lines ≡ cmds
@@ -81,11 +92,14 @@ pub record HasMade (cmds : List Cmd) (done : List Work) (was now : Worker) : Typ
   pub begins : begun told.beats ≡ done
   pub mutator : now.mutator ≡ record was.mutator { log = now.mutator.log }
   pub sizes : KeepsSizes (mutator_now was.mutator) (mutator_now now.mutator)
+  pub left : (mutator_now now.mutator).left ≡ ((mutator_now was.mutator).left || list_any has_left_by lines)
 
--- The worker carried out these commands by the rule: it polled once before each, and at most 65,536 times behind the last one.
+-- The worker carried out these commands by the rule: it polled once before each, and at most 65,536 times behind the last one, but not
+-- once where its mutator has left.
 pub record HasDone (cmds : List Cmd) (was now : Worker) : Type 0 where
   pub polls : ℕ
   pub few : polls ≤ MOST_POLLS
+  pub gone : (mutator_now now.mutator).left ≡ true → polls ≡ 0
   pub made : HasMade cmds (driving_rule cmds polls) was now
 
 -- each mutator's worker carried out that mutator's commands

@@ -3,6 +3,7 @@
 ghost use Rattle.std.specs.Prelude.{◌≡◌, ◌<◌, ◌≤◌, ◌∷◌, ◌++◌, [], All, length, IfErr, IfOk, MatchBool, vec_capacity, vec_len};
 ghost use Rattle.std.specs.Thread.{IsSync};
 ghost use Rattle.rec_model.specs.declared.limits.TheConstants.{MOST_COMMANDS, MOST_TURNS};
+ghost use Rattle.rec_script.specs.Script.{LeavesLast};
 ghost use Rattle.rec_table.specs.Rule.{MayAsk};
 ghost use Rattle.rec_table.specs.Views.{mutator_now, AreMutatorsOf, IsCollectorOf, IsMutatorOf};
 ghost use Rattle.rec_threads.specs.Done.{AreReady, HasCollected, HasDone, HasEnded, HasWorked, HaveDone, IsCrewFor, IsSame};
@@ -25,7 +26,8 @@ use std::thread::{Scope, Threads};
 ///
 /// The worker of mutator `t` calls `gate.pass(t, i)`, polls, and makes its command `i`, numbered from 1; the collector's worker calls
 /// `gate.turn(n)` before its turn `n`. A mutator whose commands are done polls on until the collector's worker has ended, at most
-/// 65,536 times; that ends when every mutator's last command is answered, or after 10,000,000 turns. All threads are joined.
+/// 65,536 times; that ends when every mutator's last command is answered, or after 10,000,000 turns. By its last command a mutator may
+/// leave the heap: then it polls no more, and its thread may end before the others. All threads are joined.
 pub fn drive<R: Threads + Wait + Sync, G: Gate>(
     rt: &R,
     _alloc: Global,
@@ -35,7 +37,7 @@ pub fn drive<R: Threads + Wait + Sync, G: Gate>(
     gate: &G,
 ) -> Result<Crew, (Crew, NoMemory)>
     // The heap has the script's numbers. The crew has all its mutators, in order of number, and its collector, and a journal for each
-    // mutator, empty, with room for its commands.
+    // mutator, empty, with room for its commands. No mutator that has commands has left before.
     requires { IsCrewFor heap.now script.now crew }
 
     // Each journal has its mutator's commands, each once and in order, with what was told: the lines that the mutator's list tells.
@@ -121,6 +123,7 @@ fn hire<'s, 'e, R: Threads + Wait + Sync, G: Gate>(
             requires own { IsMutatorOf heap.now worker.mutator }
             requires room { length commands.now ≤ worker.journal.room }
             requires valid { All (MayAsk (mutator_now worker.mutator)) commands.now }
+            requires leaves_last { LeavesLast commands.now }
             requires few { length commands.now ≤ MOST_COMMANDS }
             ensures orders { result.orders.of ≡ signals.entry.now.orders.id }
             ensures done { MatchBool result.orders.value (HasDone commands.entry.now worker result.worker) (result.worker ≡ worker) }

@@ -2,6 +2,7 @@
 
 ghost use Rattle.std.specs.Prelude.{◌≡◌, ◌≤◌, length, All, MatchBool};
 ghost use Rattle.rec_model.specs.declared.limits.TheConstants.{MOST_COMMANDS};
+ghost use Rattle.rec_script.specs.Script.{LeavesLast};
 ghost use Rattle.rec_table.specs.Rule.{MayAsk};
 ghost use Rattle.rec_table.specs.Views.{mutator_now, IsMutatorOf};
 ghost use Rattle.rec_threads.specs.Done.{HasDone};
@@ -36,7 +37,7 @@ impl<'a> Promise<Report<'a>> for Duty<'a> {
     ghost kept_by = { λ p r. (r.orders.of ≡ p.signals.now.orders.id) × MatchBool r.orders.value (HasDone p.commands.now p.was.value r.worker) (r.worker ≡ p.was.value) };
 }
 
-/// What the thread of a mutator's worker does.
+/// What the thread of a mutator's worker does. Where the mutator has left it comes to its end, also while others go on.
 pub fn follow<'a, R: Wait, G: Gate>(
     rt: &R,
     heap: &Heap,
@@ -48,6 +49,7 @@ pub fn follow<'a, R: Wait, G: Gate>(
     requires own { IsMutatorOf heap.now worker.mutator }
     requires room { length commands.now ≤ worker.journal.room }
     requires valid { All (MayAsk (mutator_now worker.mutator)) commands.now }
+    requires leaves_last { LeavesLast commands.now }
     requires few { length commands.now ≤ MOST_COMMANDS }
 
     ensures orders { result.orders.of ≡ signals.now.orders.id }

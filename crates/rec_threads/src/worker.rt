@@ -1,9 +1,10 @@
 //! The worker of a mutator.
 
-ghost use Rattle.std.specs.Prelude.{◌<◌, ◌≤◌, ◌∷◌, [], length, replicate, All};
+ghost use Rattle.std.specs.Prelude.{◌≡◌, ◌<◌, ◌≤◌, ◌∷◌, [], false, true, length, replicate, All};
 ghost use Rattle.rec_model.specs.declared.limits.TheConstants.{MOST_COMMANDS, MOST_POLLS};
-ghost use Rattle.rec_table.specs.Rule.{MayAsk};
 ghost use Rattle.rec_mutator.specs.declared.work.Work.TheVariants as works;
+ghost use Rattle.rec_script.specs.Script.{LeavesLast};
+ghost use Rattle.rec_table.specs.Rule.{MayAsk};
 ghost use Rattle.rec_table.specs.Views.{mutator_now, IsMutatorOf};
 ghost use Rattle.rec_threads.specs.Done.{HasMade, polled_before, turn};
 
@@ -24,11 +25,12 @@ pub struct Worker {
 }
 
 impl Worker {
-    /// Carries out the commands, each behind the gate and a poll, and notes what is told.
+    /// Carries out the commands, each behind the gate and a poll, and notes what is told. Only by the last one may it leave.
     pub fn carry_out<G: Gate>(&mut self, heap: &Heap, commands: &[Cmd], gate: &G)
         requires own { IsMutatorOf heap.now self.old.mutator }
         requires room { length commands.now ≤ self.old.journal.room }
         requires valid { All (MayAsk (mutator_now self.old.mutator)) commands.now }
+        requires leaves_last { LeavesLast commands.now }
         requires few { length commands.now ≤ MOST_COMMANDS }
 
         ensures { HasMade commands.now (polled_before commands.now) self.old self.new }
@@ -54,12 +56,17 @@ impl Worker {
     }
 
     /// Polls where the collector waits for it, and lets others run, until the collector's worker has ended. It tells how often it polled.
+    /// One that has left is waited for no more, and ends at once.
     pub fn attend<R: Wait>(&mut self, rt: &R, heap: &Heap, signals: &Signals) -> u32
-        requires own { IsMutatorOf heap.now self.old.mutator }
+        requires { IsMutatorOf heap.now self.old.mutator }
 
         ensures few { result ≤ MOST_POLLS }
+        ensures gone { (mutator_now self.new.mutator).left ≡ true → result ≡ 0 }
         ensures made { HasMade [] (replicate result works.Poll) self.old self.new }
     {
+        if self.mutator.left() {
+            return 0;
+        }
         let mut polls = 0;
         for _ in rt.forever() {
             if signals.is_over() || polls >= MOST_POLLS {
@@ -74,6 +81,7 @@ impl Worker {
     // Polls if the collector waits for it, and tells how often it did: once, or not at all.
     fn poll_if_awaited(&mut self, heap: &Heap, signals: &Signals) -> u32
         requires own { IsMutatorOf heap.now self.old.mutator }
+        requires present { (mutator_now self.old.mutator).left ≡ false }
 
         ensures few { result ≤ 1 }
         ensures made { HasMade [] (replicate result works.Poll) self.old self.new }

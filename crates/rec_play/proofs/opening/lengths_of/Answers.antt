@@ -4,6 +4,7 @@ use Rattle.std.specs.List.{slice_get}
 use Rattle.std.proofs.lemmas.List.{length-take-le, take_more, take_all, length-map, get_or-map}
 use Rattle.std.proofs.lemmas.Option.{get_or_from_slice_get, slice_get_within}
 use Rattle.rec_model.specs.declared.command.Cmd.{Cmd}
+use Rattle.rec_model.specs.declared.limits.TheConstants.{MOST_MUTATORS}
 use Rattle.rec_play.specs.Played.{lengths_of}
 use Rattle.rec_play.proofs.Due.{few_mutators}
 use Rattle.rec_play.proofs.opening.lengths_of.Goals as goal
@@ -22,7 +23,7 @@ more all i cmds so lengths is so_is lengths_is =
 
 pub push-requires : goal.push-requires
 push-requires c =
-    let few : length c.args.script.now.commands ≤ 8 = few_mutators c.args.script.now c.mutators-index-end.ensures.valid in
+    let few : length c.args.script.now.commands ≤ MOST_MUTATORS = few_mutators c.args.script.now c.mutators-index-end.ensures.valid in
     let all : length (lengths_of c.args.script.now) ≡ length c.args.script.now.commands = length-map c.args.script.now.commands (length {A = Cmd}) in
     let so : length c.loop-index.lengths.items ≡ length (take c.loop-index.index (lengths_of c.args.script.now)) = ap length c.loop-index.invariant in
     let taken : length (take c.loop-index.index (lengths_of c.args.script.now)) ≡ c.loop-index.index = length-take-le c.loop-index.index (lengths_of c.args.script.now) (omega (arith, all, c.mutators-index-end.ensures.value)) in

@@ -2,6 +2,7 @@
 use Rattle.std.proofs.Common.{◌≡◌, ℕ, ◌+◌, ◌*◌, ◌≤◌, List, length, take, sym, ap, ◌∙◌, arith}
 use Rattle.std.specs.List.{sum}
 use Rattle.std.proofs.lemmas.Result.{IfOk-weaker}
+use Rattle.rec_model.specs.declared.limits.TheConstants.{MOST_MUTATORS}
 use Rattle.rec_world.specs.Order.{Turns}
 use Rattle.rec_script.specs.Script.{ScriptContents}
 use Rattle.rec_play.specs.Played.{lengths_of}
@@ -11,7 +12,7 @@ use Rattle.rec_play.proofs.opening.order_for.Goals as goal
 
 pub overflow_add-room : goal.overflow_add-room
 overflow_add-room c =
-    let mutators : length c.args.script.now.commands ≤ 8 = few_mutators c.args.script.now c.mutators-index-end.ensures.valid in
+    let mutators : length c.args.script.now.commands ≤ MOST_MUTATORS = few_mutators c.args.script.now c.mutators-index-end.ensures.valid in
     omega (arith, c.loop-index.invariant.small, c.loop-index-test.true, c.mutators-index-end.ensures.value, c.commands.ensures.valid.few)
 
 pub loop-index-preserved : goal.loop-index-preserved

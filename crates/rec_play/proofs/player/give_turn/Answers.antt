@@ -1,12 +1,14 @@
 -- The mutator polled and made its next command.
-use Rattle.std.proofs.Common.{◌≡◌, ◌-◌, ◌<◌, List, [], length, ap, subst, ◌∙◌}
+use Rattle.std.proofs.Common.{◌≡◌, ◌+◌, ◌-◌, ◌<◌, List, [], length, ap, subst, ◌∙◌}
 use Rattle.std.specs.List.{slice_get}
 use Rattle.std.proofs.lemmas.Option.{slice_get-get_or, get_or_from_slice_get}
 use Rattle.rec_model.specs.declared.command.Cmd.{Cmd}
 use Rattle.rec_settle.proofs.Waiting.{others_idle}
 use Rattle.rec_play.specs.Run.{commands_of}
 use Rattle.rec_play.proofs.Due.{commands_are}
+use Rattle.rec_play.proofs.Going.{told_not_yet}
 use Rattle.rec_play.proofs.Named.{names_go}
+use Rattle.rec_play.proofs.There.{stays_on}
 use Rattle.rec_play.proofs.player.give_turn.Goals as goal
 
 pub returns-clause-carried : goal.returns-clause-carried
@@ -21,8 +23,22 @@ returns-clause-carried c =
       poll = c.poll.ensures.worked;
       command = c.command-told.ensures.worked;
       answer = c.command-told.ensures.answer;
+      not_yet = told_not_yet c.args.script.now c.poll.new.self c.command-told.new.self c.args.t _ c.command-told.result c.poll.ensures.kept (c.poll.ensures.quiet.config ∙ c.requires.config) c.requires.some c.requires.most c.poll.ensures.idle
+          (c.poll.ensures.left ∙ c.requires.present) (c.commands.ensures.valid.in_range c.args.made _ next) c.command-told.ensures.worked c.command-told.ensures.answer;
       names = names_go c.args.world.now c.poll.new.self c.command-told.new.self slot c.args.t _ c.command-told.result c.poll.ensures.quiet.seen seen lowest;
     }
+
+-- no command follows the one by which it leaves
+pub returns-clause-present : goal.returns-clause-present
+returns-clause-present c = λ more.
+    let cmds : List Cmd = c.commands.result.now in
+    let own : commands_of c.args.script.now c.args.t ≡ cmds = commands_are c.args.script.now c.args.t c.requires.some ∙ get_or_from_slice_get c.args.script.now.commands (c.args.t - 1) cmds [] c.commands.ensures.value in
+    let next : c.args.made < length cmds = subst (λ (xs : List Cmd). c.args.made < length xs) own c.requires.next in
+    let later : c.args.made + 1 < length cmds = subst (λ (xs : List Cmd). c.args.made + 1 < length xs) own more in
+    c.command-told.ensures.stays.left ∙ stays_on cmds c.args.made _ c.command-told.result.answer c.commands.ensures.valid.leaves_last (slice_get-get_or cmds c.args.made _ next) later
+
+pub returns-clause-others : goal.returns-clause-others
+returns-clause-others c = λ s other some. c.command-told.ensures.stays.others s other some ∙ c.poll.ensures.quiet.others s other some
 
 pub returns-clause-idle : goal.returns-clause-idle
 returns-clause-idle c =

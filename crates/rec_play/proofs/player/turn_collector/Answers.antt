@@ -1,12 +1,12 @@
 -- The collector made its step; the mutator for which it waits polls just where it has made all its commands.
-use Rattle.std.proofs.Common.{◌≡◌, ◌-◌, Some, List, [], length, slice_index_or, sym, ap, subst, ◌∙◌, arith}
+use Rattle.std.proofs.Common.{◌≡◌, ◌-◌, false, Some, List, [], length, slice_index_or, sym, ap, subst, ◌∙◌, arith}
 use Rattle.std.specs.List.{slice_get}
 use Rattle.std.proofs.lemmas.Option.{get_or_from_slice_get}
 use Rattle.rec_model.specs.declared.command.Cmd.{Cmd}
 use Rattle.rec_collector.specs.declared.phase.Phase.{Phase}
 use Rattle.rec_collector.specs.declared.phase.Phase.TheVariants.{Looking}
 use Rattle.rec_collector.specs.declared.turn.Turn.TheVariants.{Waiting}
-use Rattle.rec_core.specs.Core.{Core}
+use Rattle.rec_core.specs.Core.{Core, mutator}
 use Rattle.rec_core.specs.Kept.{IsKept}
 use Rattle.rec_core.specs.Turn.{TurnHasCause}
 use Rattle.rec_core.specs.Worked.{AreIdle}
@@ -30,7 +30,13 @@ awaits c = awaited c.args.world.now c.turn_seen-turn.new.self c.in-Waiting.mutat
 theirs : (c : In-Waiting) → (cmds : List Cmd) → slice_get c.args.script.now.commands (c.in-Waiting.mutator - 1) ≡ Some cmds → commands_of c.args.script.now c.in-Waiting.mutator ≡ cmds
 theirs c cmds is = commands_are c.args.script.now c.in-Waiting.mutator (awaits c).there.0 ∙ get_or_from_slice_get c.args.script.now.commands (c.in-Waiting.mutator - 1) cmds [] is
 
--- so its number is small
+-- it hasn't left, so it may poll
+pub poll-requires-clause-present : goal.poll-requires-clause-present
+poll-requires-clause-present c =
+    subst (λ (w : Core). (mutator w c.in-Waiting.mutator).left ≡ false) (sym (waits (goal.at.poll-requires-clause-present c).In-Waiting).2)
+    (c.turn_seen-turn.ensures.turn.present c.in-Waiting.mutator c.in-Waiting.is)
+
+-- its number is small
 pub bounds-made-from : goal.bounds-made-from
 bounds-made-from c =
     let d : In-Waiting = (goal.at.bounds-made-from c).In-Waiting in

@@ -12,7 +12,7 @@ use Rattle.rec_world.specs.World.{IsWorld}
 use Rattle.rec_script.specs.Script.{ScriptContents, IsScript}
 use Rattle.rec_play.specs.declared.moves.Move.{Move}
 use Rattle.rec_play.specs.declared.moves.Move.TheVariants.{Command, Step}
-use Rattle.rec_play.specs.Moves.{Makes, MakesCommand, Player}
+use Rattle.rec_play.specs.Moves.{AreThere, Makes, MakesCommand, Player}
 use Rattle.rec_play.specs.Played.{config_of}
 use Rattle.rec_play.specs.Playing.{to_come}
 use Rattle.rec_play.proofs.Rounds.{Between, HasRoom, all_played, command_made, has_room, journal_is, legally, notes_at, order_made, start, step_made}
@@ -55,19 +55,19 @@ loop-made-preserved-in-Command c =
     (command_made c.args.script.now c.args.seed c.args.turns c.loop-made.world c.next.new.world c.loop-made.journals c.loop-made.order c.loop-made.playing c.next.new.self
     c.in-Command.mutator c.in-Command.cmd c.in-Command.told c.loop-made.invariant (makes d) c.note.new.self c.note-in-Command.new.self
     (c.note.ensures.lines ∙ ap (λ (j : Notes). j.lines ++ (c.in-Command.cmd, c.in-Command.told) ∷ []) journal) (c.note.ensures.room ∙ ap (λ (j : Notes). j.room - 1) journal)
-    c.note-in-Command.ensures.list c.note-in-Command.ensures.room c.next.ensures.script c.next.ensures.due.1.long c.next.ensures.kept c.next.ensures.idle
+    c.note-in-Command.ensures.list c.note-in-Command.ensures.room c.next.ensures.script c.next.ensures.due.1.long c.next.ensures.kept c.next.ensures.idle c.next.ensures.present
     (c.next.ensures.config ∙ ap config_of (c.next.ensures.script ∙ c.loop-made.invariant.of)))
 
 -- a move that is no command is a step
 stepped : (script : ScriptContents) (seed turns : ℕ) (before after : Core) (journals : List Notes) (noted : Turns) (p q : Player) (move : Move) → ((t : ℕ) (cmd : Cmd) (told : Told) → move ≡ Command t cmd told → ⊥) → Makes p q before after move
-    → q.script ≡ p.script → IsWorld after → AreIdle after → after.config ≡ config_of script → Between script seed turns before journals noted p → Between script seed turns after journals noted q
-stepped script seed turns before after journals noted p q (Command t cmd told) other makes same kept idle config so = absurd (other t cmd told refl)
-stepped script seed turns before after journals noted p q (Step seen turn) other makes same kept idle config so = step_made script seed turns before after journals noted p q seen turn makes same kept idle config so
+    → q.script ≡ p.script → IsWorld after → AreIdle after → AreThere q.script q.made after → after.config ≡ config_of script → Between script seed turns before journals noted p → Between script seed turns after journals noted q
+stepped script seed turns before after journals noted p q (Command t cmd told) other makes same kept idle present config so = absurd (other t cmd told refl)
+stepped script seed turns before after journals noted p q (Step seen turn) other makes same kept idle present config so = step_made script seed turns before after journals noted p q seen turn makes same kept idle present config so
 
 pub loop-made-preserved : goal.loop-made-preserved
 loop-made-preserved c =
     stepped c.args.script.now c.args.seed c.args.turns c.loop-made.world c.next.new.world c.loop-made.journals c.loop-made.order c.loop-made.playing c.next.new.self
-    c.in-Some.made c.in_default-made.not-Command c.in-Some.ensures.told c.next.ensures.script c.next.ensures.kept c.next.ensures.idle
+    c.in-Some.made c.in_default-made.not-Command c.in-Some.ensures.told c.next.ensures.script c.next.ensures.kept c.next.ensures.idle c.next.ensures.present
     (c.next.ensures.config ∙ ap config_of (c.next.ensures.script ∙ c.loop-made.invariant.of)) c.loop-made.invariant
 
 pub returns-clause-played : goal.returns-clause-played

@@ -34,7 +34,7 @@ returns-clause-outcome g c =
     let (events, has_run, made) = was_driven script c.in_ok-heap.heap ms c.in-Ok.crew.mutators.items js c.stop.result.journals.items c.in-Ok.crew.collector.collecting.log c.stop.result.world
     (record {
       opens = so.started.opens;
-      some_slots = so.started.config.some_slots;
+      config = so.started.config;
       all = so.whole.all ∙ sym so.whole.script_all;
       one_each = one_each;
       fresh_all = so.started.fresh_mutators;

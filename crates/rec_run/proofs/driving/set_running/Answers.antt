@@ -35,6 +35,7 @@ module _ (script : ScriptContents) (heap : Started) (ms : List MutatorView) (js 
         named = ap (λ (p : Private). p.number) is;
         registers = ap (λ (p : Private). length p.registers) is ∙ registers_many (config_of script) (k + 1) config;
         fields = ap (λ (p : Private). p.fields) is;
+        present = λ some. ap (λ (p : Private). p.left) is;
         empty = All-get_or (λ (j : Notes). j.lines ≡ []) js k no_notes (omega (arith, lt, as_many, one_each)) journals.empty;
         room = journals.room k;
       }

@@ -3,6 +3,7 @@ use Rattle.std.proofs.Common.{◌≡◌, ℕ, ◌++◌, List, Some, length, take
 use Rattle.std.proofs.Math.Seq.{take-append_seam}
 use Rattle.rec_model.specs.LegalOrder.{Event}
 use Rattle.rec_play.specs.Played.{lines_of}
+use Rattle.rec_play.proofs.NotYet.{turn_told}
 use Rattle.rec_script.specs.Script.{ScriptContents}
 use Rattle.rec_world.specs.Journal.{Notes}
 use Rattle.rec_run.specs.declared.command_line.How.TheVariants as hows
@@ -32,7 +33,7 @@ returns-clause-outcome c =
             full = full_only script (lines_of js) events played.legal;
             names = played.names;
             stands = played.stands;
-            steps = record { in_order = played.in_order; run = played.run };
+            steps = record { in_order = played.in_order; run = played.run; not_yet = turn_told script _ events played.names c.play.new.world played.run };
             no_log_full = played.no_log_full;
           });
       made = made;

@@ -5,6 +5,7 @@ use denote.Param.Send.{IsSend, IsSync, given_sync, param_send, sendable}
 use Rattle.rec_threads.proofs.driving.+hire.Given.{Over}
 use Rattle.rec_threads.proofs.driving.+hire.Lts-hire as lts
 use Rattle.rec_model.specs.declared.command.Cmd.{Cmd}
+use Rattle.rec_script.specs.Script.{LeavesLast}
 use Rattle.rec_table.specs.Rule.{MayAsk}
 use Rattle.rec_table.specs.Views.{MutatorView, Started, IsMutatorOf, mutator_now}
 use Rattle.rec_threads.specs.Done.{HasDone, IsReady, commands_at}
@@ -43,8 +44,8 @@ spawn_with-requires-clause-runs g t c κs within =
       (
         subst (λ (done : List Cmd). length done ≤ w.journal.room) cmds ready.room,
         (
-          all_operands c.args.script.now.registers c.args.script.now.fields (mutator_now w.mutator) c.commands-commands.result.now ready.registers ready.fields c.commands-commands.ensures.valid.in_range,
-          (c.commands-commands.ensures.valid.few, search rules),
+          all_operands c.args.heap.now c.args.script.now k w c.commands-commands.result.now ready cmds c.commands-commands.ensures.valid.in_range,
+          (c.commands-commands.ensures.valid.leaves_last, (c.commands-commands.ensures.valid.few, search rules)),
         ),
       ),
     )
@@ -71,10 +72,15 @@ pub spawn_with-report-requires-clause-valid : goal.spawn_with-report-requires-cl
 spawn_with-report-requires-clause-valid g t c κs within =
     let rest : Crew = record c.args.crew { mutators = c.pop.new.self; journals = c.pop-2.new.self } in
     let w : Worker = together c.in-Some.mutator c.in-Some-pop.journal in
-    let ready : IsReady c.args.heap.now c.args.script.now (length c.pop.new.self.items) w = (rest_ready c.args.heap.now c.args.script.now c.args.crew rest w c.in-Some.ensures.items c.in-Some-pop.ensures.items c.requires.ready).1 in
+    let k : ℕ = length c.pop.new.self.items in
+    let ready : IsReady c.args.heap.now c.args.script.now k w = (rest_ready c.args.heap.now c.args.script.now c.args.crew rest w c.in-Some.ensures.items c.in-Some-pop.ensures.items c.requires.ready).1 in
+    let cmds : commands_at c.args.script.now.commands k ≡ c.commands-commands.result.now = own_commands c.args.script.now.commands k c.number.result c.commands-commands.result.now (c.number.ensures.number ∙ ready.named) c.commands-commands.ensures.value in
     let err = c.in-Err.ensures.err in
     subst (λ (x : List Cmd × MutatorView). All (MayAsk (mutator_now x.1)) x.0) (sym (λ i. ((err i).5.now, (err i).4.mutator)))
-    (all_operands c.args.script.now.registers c.args.script.now.fields (mutator_now w.mutator) c.commands-commands.result.now ready.registers ready.fields c.commands-commands.ensures.valid.in_range)
+    (all_operands c.args.heap.now c.args.script.now k w c.commands-commands.result.now ready cmds c.commands-commands.ensures.valid.in_range)
+
+pub spawn_with-report-requires-clause-leaves_last : goal.spawn_with-report-requires-clause-leaves_last
+spawn_with-report-requires-clause-leaves_last g t c κs within = let err = c.in-Err.ensures.err in subst LeavesLast (sym (λ i. (err i).5.now)) c.commands-commands.ensures.valid.leaves_last
 
 pub returns-in-Ok-clause-ended : goal.returns-in-Ok-clause-ended
 returns-in-Ok-clause-ended g t c =

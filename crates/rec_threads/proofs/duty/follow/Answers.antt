@@ -15,5 +15,5 @@ returns-clause-done g c =
     let both : HasMade (cmds ++ []) (driving_rule cmds polls) c.args.worker c.attend.new.self =
     made_on cmds [] (polled_before cmds) (replicate polls works.Poll) c.args.worker c.carry_out.new.self c.attend.new.self c.carry_out.ensures c.attend.ensures.made in
     let done : HasDone cmds c.args.worker c.attend.new.self =
-    record { polls = polls; few = c.attend.ensures.few; made = subst (λ (made : List Cmd). HasMade made (driving_rule cmds polls) c.args.worker c.attend.new.self) (append-nil cmds) both } in
+    record { polls = polls; few = c.attend.ensures.few; gone = c.attend.ensures.gone; made = subst (λ (made : List Cmd). HasMade made (driving_rule cmds polls) c.args.worker c.attend.new.self) (append-nil cmds) both } in
     subst (λ b. MatchBool b (HasDone cmds c.args.worker c.attend.new.self) (c.attend.new.self ≡ c.args.worker)) (sym yes) done

@@ -1,11 +1,12 @@
 -- A turn of the rule was made, or none is left.
-use Rattle.std.proofs.Common.{◌≡◌, ◌+◌, ◌-◌, ◌<◌, [], ◌∷◌, slice_index_or, slice_set, length, refl, sym, ap, subst, ◌∙◌, arith}
+use Rattle.std.proofs.Common.{◌≡◌, ℕ, ◌+◌, ◌-◌, ◌<◌, List, [], ◌∷◌, slice_index_or, slice_set, length, refl, sym, ap, subst, ◌∙◌, arith}
 use Rattle.rec_play.specs.InsidePlaying.{player}
-use Rattle.rec_play.specs.Moves.{AreDue, Player, made_by}
+use Rattle.rec_play.specs.Moves.{AreDue, AreThere, Player, made_by}
 use Rattle.rec_play.specs.Playing.{to_come}
 use Rattle.rec_play.specs.Run.{commands_of}
 use Rattle.rec_play.specs.declared.actor.Actor.TheVariants.{Mutator}
-use Rattle.rec_play.proofs.Due.{HasCommand, commands_are, due_made, due_stepped, next_turn}
+use Rattle.rec_play.proofs.Due.{HasCommand, commands_are, due_made, due_stepped, few_mutators, next_turn}
+use Rattle.rec_play.proofs.There.{made_there}
 use Rattle.rec_play.proofs.player.Playing.turn.Goals as goal
 use Rattle.rec_play.proofs.player.Playing.turn.Goals.{In-Some-Mutator}
 
@@ -22,7 +23,7 @@ overflow_sub-made c = omega (arith, (next (goal.at.overflow_sub-made c).In-Some-
 pub bounds-self-inside-from : goal.bounds-self-inside-from
 bounds-self-inside-from c =
     let n = next (goal.at.bounds-self-inside-from c).In-Some-Mutator in
-    omega (arith, n.some, n.most, c.from.ensures, c.self.invariant.valid.most_mutators)
+    omega (arith, n.some, n.most, c.from.ensures, few_mutators c.self.inside.script.now c.self.invariant.valid)
 
 pub give_turn-cmd-requires-clause-some : goal.give_turn-cmd-requires-clause-some
 give_turn-cmd-requires-clause-some c = (next (goal.at.give_turn-cmd-requires-clause-some c).In-Some-Mutator).some
@@ -41,6 +42,18 @@ overflow_add-made c =
     let n = next (goal.at.overflow_add-made c).In-Some-Mutator in
     let few = (c.self.invariant.valid.commands (m - 1) [] (omega (arith, n.some, n.most))).few in
     omega (arith, few, n.next, ap length (commands_are c.self.inside.script.now m n.some), ap (λ i. slice_index_or c.self.inside.made (i - 1) 0) c.from.ensures)
+
+-- the others go on as before, and it is there until its last command
+pub returns-in-Some-Mutator-clause-present : goal.returns-in-Some-Mutator-clause-present
+returns-in-Some-Mutator-clause-present c =
+    let m = c.in-Some-Mutator.mutator in
+    let script = c.self.inside.script.now in
+    let made : List ℕ = c.self.inside.made in
+    let n = next (goal.at.returns-in-Some-Mutator-clause-present c).In-Some-Mutator in
+    subst (λ x. AreThere script (slice_set made (x - 1) (slice_index_or made (x - 1) 0 + 1)) c.give_turn-cmd.new.world) (sym c.from.ensures)
+    (made_there script made m c.args.world.now c.give_turn-cmd.new.world n.some (omega (arith, n.some, n.most, few_mutators script c.self.invariant.valid, c.self.invariant.long)) c.give_turn-cmd.ensures.others
+    (λ more. c.give_turn-cmd.ensures.present (subst (λ x. slice_index_or made (x - 1) 0 + 1 < length (commands_of script m)) (sym c.from.ensures) more))
+    (subst (λ (q : Player). AreThere q.script q.made c.args.world.now) (sym c.self.view_is) c.requires.present))
 
 pub invariant_of-self : goal.invariant_of-self
 invariant_of-self c =

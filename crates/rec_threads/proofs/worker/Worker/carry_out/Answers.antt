@@ -6,7 +6,7 @@ use Rattle.rec_model.specs.declared.command.Cmd.{Cmd}
 use Rattle.rec_mutator.specs.declared.work.Work.{Work}
 use Rattle.rec_table.specs.Views.{mutator_now}
 use Rattle.rec_threads.specs.Done.{HasMade, polled_before, turn}
-use Rattle.rec_threads.proofs.Works.{made_none, made_on, operands_kept, still_own}
+use Rattle.rec_threads.proofs.Works.{made_none, made_on, none_before, operands_kept, stays, still_own}
 use Rattle.rec_threads.proofs.worker.Worker.carry_out.Goals as goal
 
 pub loop-index-init : goal.loop-index-init
@@ -23,7 +23,10 @@ go_on-requires-clause-room g c =
     omega (arith, many, room, enough)
 
 pub go_on-requires-clause-valid : goal.go_on-requires-clause-valid
-go_on-requires-clause-valid g c = operands_kept (mutator_now c.args.self.now.mutator) (mutator_now c.loop-index.self.mutator) c.loop-index.invariant.sizes _ (c.requires.valid c.loop-index.index _ (omega arith))
+go_on-requires-clause-valid g c =
+    let so_far : List Cmd = take c.loop-index.index c.args.commands.now in
+    let left = stays so_far (polled_before so_far) c.args.self.now c.loop-index.self c.loop-index.invariant (none_before c.args.commands.now c.loop-index.index c.requires.leaves_last (omega arith)) in
+    operands_kept (mutator_now c.args.self.now.mutator) (mutator_now c.loop-index.self.mutator) c.loop-index.invariant.sizes left _ (c.requires.valid c.loop-index.index _ (omega arith))
 
 -- one command more
 more : (cmds : List Cmd) (i : ℕ) (d : Cmd) → i < length cmds → take i cmds ++ slice_index_or cmds i d ∷ [] ≡ take (i + 1) cmds

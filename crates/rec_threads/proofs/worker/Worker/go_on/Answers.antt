@@ -1,5 +1,5 @@
 -- The contract of `Worker::go_on`: polls, carries out a command, and notes what is told.
-use Rattle.std.proofs.Common.{[], ◌∷◌, refl}
+use Rattle.std.proofs.Common.{[], ◌∷◌, refl, ◌∙◌}
 use Rattle.rec_mutator.specs.declared.work.Work.TheVariants as works
 use Rattle.rec_threads.specs.declared.worker.Worker.{Worker}
 use Rattle.rec_threads.proofs.Lists.{together}
@@ -13,5 +13,6 @@ returns c =
     let after : Worker = together c.command-told.new.self c.note.new.self in
     let poll = c.poll.ensures in
     let told = c.command-told.ensures in
-    made_on [] (c.args.cmd ∷ []) (works.Poll ∷ []) (works.Command c.args.cmd ∷ []) before between after (polled before between refl poll.grows poll.is poll.line poll.same)
-    (commanded c.args.cmd c.command-told.result between after c.note.ensures.lines c.note.ensures.room c.requires.room told.grows told.is told.line told.same)
+    made_on [] (c.args.cmd ∷ []) (works.Poll ∷ []) (works.Command c.args.cmd ∷ []) before between after (polled before between refl poll.grows poll.is poll.line poll.same poll.left)
+    (commanded c.args.cmd c.command-told.result between after c.note.ensures.lines c.note.ensures.room c.requires.room told.grows told.is told.line told.same
+    (poll.left ∙ c.requires.valid.1) told.leaves.left)

@@ -12,4 +12,4 @@ pub returns-clause-made : goal.returns-clause-made
 returns-clause-made c =
     let after : Worker = together c.poll.new.self c.args.self.now.journal in
     let poll = c.poll.ensures in
-    polled c.args.self.now after refl poll.grows poll.is poll.line poll.same
+    polled c.args.self.now after refl poll.grows poll.is poll.line poll.same poll.left
