@@ -87,6 +87,7 @@ static void want_commands(recycler_handle *handle, uint32_t code) {
     WANT(recycler_put(handle, 0, 0, 0, &told.asked), code);
     WANT(recycler_value(handle, 0, &told.asked), code);
     WANT(recycler_same(handle, 0, 1, &told.asked), code);
+    WANT(recycler_leave(handle, &told.asked), code);
 }
 
 /* Each number just out of its range: below, above, and two at once, of which the first is named. */
@@ -219,6 +220,40 @@ static void go_round(recycler *r) {
     WANT(recycler_close(r), RECYCLER_OK);
 }
 
+/* Both mutators leave, the first once the log that it handed over is collected. They are asked nothing then, nor after a stop and a start. */
+static void leave_all(recycler *r) {
+    recycler_handle *first = &r->mutators[0], *second = &r->mutators[1];
+    recycler_asked asked;
+    recycler_settled settled;
+    recycler_turned turned;
+    uint32_t crossed;
+    WANT(open_small(r, 1), RECYCLER_OK);
+    WANT(recycler_start(r), RECYCLER_OK);
+    WANT(recycler_turn(&r->collector, &turned), RECYCLER_OK);
+    WANT(recycler_poll(first, &crossed), RECYCLER_OK);
+    WANT(recycler_leave(first, &asked), RECYCLER_OK);
+    WANT_TRUE(crossed == 2 && asked.answer == RECYCLER_NOT_YET);
+    WANT(recycler_leave(second, &asked), RECYCLER_OK);
+    WANT_TRUE(asked.answer == RECYCLER_DONE);
+    want_commands(second, RECYCLER_LEFT);
+    WANT(recycler_null(second, REGISTERS, &told.asked), RECYCLER_LEFT);
+    for (int turn = 0; turn < 100 && turned.what != RECYCLER_COLLECTED; turn++) {
+        WANT(recycler_turn(&r->collector, &turned), RECYCLER_OK);
+        WANT_TRUE(turned.what != RECYCLER_WAITING);
+    }
+    WANT(recycler_leave(first, &asked), RECYCLER_OK);
+    WANT_TRUE(asked.answer == RECYCLER_DONE);
+    WANT(recycler_stop(r), RECYCLER_OK);
+    want_commands(first, RECYCLER_RESTS);
+    WANT(recycler_settle(r, &settled), RECYCLER_OK);
+    WANT_TRUE(settled.live == 0);
+    WANT(recycler_start(r), RECYCLER_OK);
+    want_commands(first, RECYCLER_LEFT);
+    want_commands(second, RECYCLER_LEFT);
+    WANT(recycler_stop(r), RECYCLER_OK);
+    WANT(recycler_close(r), RECYCLER_OK);
+}
+
 /* Turns until no epoch is left, and answers how many collections were completed. Each mutator polls where it is waited for. */
 static uint32_t spend(recycler *r) {
     recycler_turned turned;
@@ -295,6 +330,8 @@ int main(void) {
     while_closed(&r);
     open_bounds(&r);
     go_round(&r);
+    while_closed(&r);
+    leave_all(&r);
     while_closed(&r);
     /* bytes that are all zero are closed too */
     memset(&r, 0, sizeof r);

@@ -33,10 +33,11 @@ pub record SeenSlot : Type 0 where
   pub set : Option ℕ
   pub fields : List (Option ℕ)
 
--- a mutator with its registers
+-- a mutator with its registers, and whether it has left
 pub record SeenMutator : Type 0 where
   pub mutator : ℕ
   pub epoch : ℕ
+  pub left : Bool
   pub registers : List (Option ℕ)
 
 -- how far the collector is, and what it has come to so far
@@ -106,7 +107,7 @@ abbrev pub slots_of : Core → ℕ → List SeenSlot
 slots_of w n = map (slot_of w) (range_with_len 0 n)
 
 abbrev pub mutator_of : Core → ℕ → SeenMutator
-mutator_of w t = record { mutator = t; epoch = (mutator w t).epoch; registers = (mutator w t).registers }
+mutator_of w t = record { mutator = t; epoch = (mutator w t).epoch; left = (mutator w t).left; registers = (mutator w t).registers }
 
 -- the first so many mutators, which are numbered from 1
 abbrev pub mutators_of : Core → ℕ → List SeenMutator
@@ -152,7 +153,7 @@ slot_seen s =
     }
 
 abbrev pub mutator_seen : Mutator → SeenMutator
-mutator_seen m = record { mutator = m.mutator; epoch = m.epoch; registers = m.registers.items }
+mutator_seen m = record { mutator = m.mutator; epoch = m.epoch; left = m.left; registers = m.registers.items }
 
 abbrev pub collector_seen : Collector → SeenCollector
 collector_seen c =

@@ -39,7 +39,20 @@ target_words (Some slot) = codes "#" ++ decimal slot
 abbrev pub field_words : (place fields : ℕ) → List ℕ
 field_words place fields = codes "#" ++ decimal (place / max fields 1) ++ codes "." ++ decimal (place % max fields 1)
 
--- the epoch into which a mutator crossed
+-- what is seen of a mutator by its number
+abbrev pub seen_mutator : Seen → (t : ℕ) → SeenMutator
+seen_mutator s t = slice_index_or s.mutators (t - 1) (record { mutator = 0; epoch = 0; left = false; registers = [] })
+
+-- the epoch in which a mutator made its command that is in this one behind it: by leaving it comes into the next one
+abbrev pub epoch_then : Cmd → Answer → (after : ℕ) → ℕ
+epoch_then commands.Leave answers.Done after = after - 1
+epoch_then cmd answer after = after
+
+-- the epoch into which a mutator crossed before its command
+abbrev pub crossed_before : (before after : ℕ) → Cmd → Answer → Option ℕ
+crossed_before before after cmd answer = if before == epoch_then cmd answer after then None else Some (epoch_then cmd answer after)
+
+-- the epoch into which a mutator crossed that was waited for
 abbrev pub crossed : List SeenMutator → List SeenMutator → Option ℕ
 crossed [] after = None
 crossed (m ∷ ms) [] = None
@@ -55,7 +68,7 @@ polls_words (Some epoch) = codes "; it polls, and crosses into epoch " ++ decima
 
 -- what register `reg` of mutator `t` names
 abbrev pub register_of : Seen → (t reg : ℕ) → Option ℕ
-register_of s t reg = slice_index_or (slice_index_or s.mutators (t - 1) (record { mutator = 0; epoch = 0; registers = [] })).registers reg None
+register_of s t reg = slice_index_or (seen_mutator s t).registers reg None
 
 -- the object that was born
 abbrev pub birth_words : Option ℕ → List ℕ
@@ -75,24 +88,24 @@ outcome_words t commands.Leave answers.NotYet saw left s = codes ", its mailbox 
 outcome_words t cmd answers.Object saw left s = codes " " ++ target_words (target_of saw)
 outcome_words t cmd answer saw left s = []
 
--- what is said of a mailbox that is given back; behind the last one comes the batch
-abbrev pub returned_words : (t mutators : ℕ) → List ℕ
-returned_words t mutators = if t == mutators then codes "'s mailbox back, applies the batch" else codes "'s mailbox back"
+-- what comes in the same step, by the phase behind it: once no mailbox is waited for, the batch is applied
+abbrev pub batch_words : (phase : List ℕ) → List ℕ
+batch_words phase = if bytes_eq phase (codes "gather") then [] else codes ", applies the batch"
 
--- an operation of the collector, and the word that it found
-abbrev pub op_words : Op → (found mutators fields : ℕ) → List ℕ
-op_words (StoreEpoch epoch) found mutators fields = codes "requests epoch " ++ decimal epoch
-op_words (LookBox t epoch) found mutators fields = codes "looks at mutator " ++ decimal t ++ codes "'s mailbox"
-op_words (ReturnBox t epoch) found mutators fields = codes "gives mutator " ++ decimal t ++ returned_words t mutators
-op_words (LoadChild place) found mutators fields = codes "loads " ++ field_words place fields ++ codes ", which is " ++ target_words (target_of found)
-op_words (ClearField place) found mutators fields = codes "clears " ++ field_words place fields ++ codes ", which was " ++ target_words (target_of found)
-op_words (FreeHeader slot) found mutators fields = codes "sweeps #" ++ decimal slot ++ codes ", whose slot is free now"
-op_words AddFreed found mutators fields = if found % 2 == 0 then codes "begins a sweep" else codes "ends the sweep"
-op_words _ found mutators fields = codes "makes a step"
+-- an operation of the collector, the word that it found, and the phase behind it
+abbrev pub op_words : Op → (found : ℕ) → (phase : List ℕ) → (fields : ℕ) → List ℕ
+op_words (StoreEpoch epoch) found phase fields = codes "requests epoch " ++ decimal epoch ++ batch_words phase
+op_words (LookBox t epoch) found phase fields = codes "looks at mutator " ++ decimal t ++ codes "'s mailbox"
+op_words (ReturnBox t epoch) found phase fields = codes "gives mutator " ++ decimal t ++ codes "'s mailbox back" ++ batch_words phase
+op_words (LoadChild place) found phase fields = codes "loads " ++ field_words place fields ++ codes ", which is " ++ target_words (target_of found)
+op_words (ClearField place) found phase fields = codes "clears " ++ field_words place fields ++ codes ", which was " ++ target_words (target_of found)
+op_words (FreeHeader slot) found phase fields = codes "sweeps #" ++ decimal slot ++ codes ", whose slot is free now"
+op_words AddFreed found phase fields = if found % 2 == 0 then codes "begins a sweep" else codes "ends the sweep"
+op_words _ found phase fields = codes "makes a step"
 
-abbrev pub step_words : Option (Op × ℕ) → (mutators fields : ℕ) → List ℕ
-step_words None mutators fields = codes "finds the epochs spent"
-step_words (Some p) mutators fields = op_words p.0 p.1 mutators fields
+abbrev pub step_words : Option (Op × ℕ) → (phase : List ℕ) → (fields : ℕ) → List ℕ
+step_words None phase fields = codes "finds the epochs spent"
+step_words (Some p) phase fields = op_words p.0 p.1 phase fields
 
 -- what came of a turn of the collector
 abbrev pub turn_words : Turn → List ℕ
@@ -179,11 +192,11 @@ changes_words changed = flat_map (λ p. change_words p.0 p.1) (take 6 changed) +
 -- a move, between what was seen before it and what is seen behind it
 abbrev pub sentence : Move → (was is : Seen) → List ℕ
 sentence (Command t cmd told) was is =
-    crosses_words (crossed was.mutators is.mutators)
+    crosses_words (crossed_before (seen_mutator was t).epoch (seen_mutator is t).epoch cmd told.answer)
     ++ command_words cmd ++ codes ": " ++ answer_word told.answer
     ++ outcome_words t cmd told.answer told.saw told.left is
 sentence (Step found turn) was is =
-    step_words found (length is.mutators) is.fields
+    step_words found is.collector.phase is.fields
     ++ turn_words turn
     ++ polls_words (crossed was.mutators is.mutators)
     ++ sets_words was.collector is.collector

@@ -73,9 +73,10 @@ fn add_object(text: &mut String, seen: &Slot) -> Result<(), NoMemory> {
 fn drawn_mutator(alloc: Global, seen: &Mutator) -> Result<String, NoMemory> {
     let mut text = String::new(alloc);
     let (t, epoch, mailbox) = (seen.mutator, seen.epoch, seen.mailbox);
+    let left = if seen.left { ", has left" } else { "" };
     write!(
         text,
-        "  m{t} [label=\"mutator {t}\\nepoch {epoch}\\nmailbox {mailbox}\""
+        "  m{t} [label=\"mutator {t}{left}\\nepoch {epoch}\\nmailbox {mailbox}\""
     )?;
     text.push_str(", shape=ellipse, fillcolor=white];\n")?;
     add_arrows(&mut text, 'm', u32::from(t), &seen.registers)?;

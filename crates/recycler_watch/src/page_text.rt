@@ -129,7 +129,7 @@ const keyframes = [], taken = [], epochs = [];
     }
     apply(state, line);
     taken.push(count);
-    epochs.push(state.mutators.map(mutator => mutator.epoch));
+    epochs.push(state.mutators.map(mutator => mutator.left ? 0 : mutator.epoch));
     if (at % KEYFRAME === 0) keyframes.push(copy(state));
   });
 }
@@ -246,7 +246,7 @@ function drawMutators() {
     const into = document.createElement("div"), table = document.createElement("table");
     into.className = "mutator";
     into.dataset.mutator = mutator.mutator;
-    into.append(Object.assign(document.createElement("b"), { textContent: `mutator ${mutator.mutator} in epoch ${mutator.epoch}` }), table);
+    into.append(Object.assign(document.createElement("b"), { textContent: `mutator ${mutator.mutator} in epoch ${mutator.epoch}` + (mutator.left ? ", has left" : "") }), table);
     table.append(rowOf("registers", mutator.registers.map((to, r) => `r${r}\u00a0${ref(to)}`).join("  ")));
     table.append(rowOf("log", mutator.logged === 0 ? "none" : (mutator.logged > mutator.log.length ? `${mutator.logged} entries, the last: ` : "") + mutator.log.map(entry => entry.replaceAll("->", "\u2192").replaceAll(" ", "\u00a0")).join("; ")));
     table.append(rowOf("mailbox", `${mutator.mailbox}, ${mutator.posted} entries`));
@@ -313,7 +313,7 @@ function drawRows(svg) {
   svg.setAttribute("viewBox", `0 0 ${WIDE} ${high}`);
   for (let t = 0; t < mutators; t++) {
     svg.append(make("text", { x: 0, y: t * ROW + 13, class: "name" }, "mutator " + (t + 1)));
-    runs(svg, t * ROW, at => epochs[at][t], epoch => epoch % 2 ? "var(--odd)" : "var(--even)", epoch => "epoch " + epoch, () => "var(--ink)");
+    runs(svg, t * ROW, at => epochs[at][t], epoch => epoch === 0 ? "none" : epoch % 2 ? "var(--odd)" : "var(--even)", epoch => epoch === 0 ? "left" : "epoch " + epoch, () => "var(--ink)");
   }
   svg.append(make("text", { x: 0, y: mutators * ROW + 13, class: "name" }, "collector"));
   runs(svg, mutators * ROW, at => lines[at].collector.phase, phase => PHASES[phase], phase => phase === "rest" ? "" : phase, phase => phase === "release" ? "#fff" : "#111");

@@ -93,14 +93,15 @@ fn sentence_on(kind: Kind) -> &'static str {
     match kind {
         Kind::TooLong => "a script has 16,777,216 bytes at most; split it, or leave commands out",
         Kind::NotUtf8 => "this line isn't UTF-8",
-        Kind::NoHeader => "the first line that counts has to be `recycler 1` or `recycler 2`",
+        Kind::NoHeader =>
+            "the first line that counts has to be `recycler 1`, `recycler 2` or `recycler 3`",
         Kind::BadHeap =>
             "the second one has to be `heap`, 1 to 65535 slots, 1 to 16 fields, 1 to 64 registers",
         Kind::NoMutator => "the third line that counts has to be `mutator`",
         Kind::BadCommand => {
-            "a line is one of `mutator`, `new R LABEL`, `null R`, `copy R R`, `get R R FIELD`, `put R FIELD R`, `value R`, `same R R`"
+            "a line is one of `mutator`, `new R LABEL`, `null R`, `copy R R`, `get R R FIELD`, `put R FIELD R`, `value R`, `same R R`; from version 2 on also `leaf R LABEL`, and from version 3 on `leave`, behind which its mutator has no more"
         }
-        Kind::TooManyMutators => "a script has eight mutators at most",
+        Kind::TooManyMutators => "a script has eight mutators at most, and 63 in version 3",
         Kind::TooManyCommands => "a mutator has 200,000 commands at most",
         Kind::BadNumber => "this is no number up to 4294967295 without leading zeros",
         Kind::Register => "there is no such register; the heap's line says how many, from 0",

@@ -6,7 +6,7 @@ ghost use Rattle.rec_core.specs.Core.{mutator};
 ghost use Rattle.rec_counts.specs.Counts.{slot_at};
 ghost use Rattle.rec_word.specs.Word.{target_of};
 ghost use Rattle.recycler_watch.specs.Seen.{collector_of, collector_seen, colour_name, counted_slot, mutator_of, mutator_seen, mutators_of, phase_name, seen, seen_of, slot_of, slot_seen, slots_of};
-ghost use Rattle.recycler_watch.specs.Sentence.{field_words, register_of, target_words};
+ghost use Rattle.recycler_watch.specs.Sentence.{field_words, register_of, seen_mutator, target_words};
 
 use rec_collector::Phase;
 use rec_counts::{Colour, Counts};
@@ -36,11 +36,12 @@ pub struct Slot {
     pub fields: Vec<Option<u16>>,
 }
 
-/// A mutator with its registers, its log and its mailbox, and how many entries the collector gathered of its last two epochs.
+/// A mutator with its registers, its log and its mailbox, whether it has left, and how many entries the collector gathered of its last two epochs.
 #[derive(Drop, PartialEq, Serialize)]
 pub struct Mutator {
     pub mutator: u8,
     pub epoch: u32,
+    pub left: bool,
     pub mailbox: &'static str,
     pub posted: usize,
     pub newer: usize,
@@ -105,6 +106,16 @@ impl State {
     {
         let seen = self.mutators.get(usize::from(t).saturating_sub(1))?;
         *seen.registers.get(usize::from(reg))?
+    }
+
+    /// The epoch that mutator `t` is in.
+    pub fn epoch(&self, t: u8) -> u32
+        ensures { result ≡ (seen_mutator (seen self.now) t).epoch }
+    {
+        match self.mutators.get(usize::from(t).saturating_sub(1)) {
+            None => 0,
+            Some(seen) => seen.epoch,
+        }
     }
 }
 
@@ -201,6 +212,7 @@ fn mutator_of(alloc: Global, world: &World, t: u8, fields: u32) -> Result<Mutato
     Ok(Mutator {
         mutator: t,
         epoch: world.epoch_of(t),
+        left: world.left(t),
         mailbox: MAILBOXES[(crossing % 4) as usize],
         posted: length_of(mailbox),
         newer: length_of(world.collector().newer().get(place)),

@@ -6,7 +6,7 @@ ghost use Rattle.std.specs.List.{flat_map};
 ghost use Rattle.rec_report.specs.Text.{answer_word};
 ghost use Rattle.rec_word.specs.Word.{target_of};
 ghost use Rattle.recycler_watch.specs.Seen.{collector_seen, mutator_seen, seen, slot_seen};
-ghost use Rattle.recycler_watch.specs.Sentence.{birth_words, change_words, changed_slots, changes_words, colour_words, command_words, counts_words, crossed, crosses_words, field_words, is_same_slot, loss_words, more_words, outcome_words, polls_words, put_words, returned_words, root_words, sentence, set_words, sets_words, step_words, target_words, turn_words};
+ghost use Rattle.recycler_watch.specs.Sentence.{batch_words, birth_words, change_words, changed_slots, changes_words, colour_words, command_words, counts_words, crossed, crossed_before, crosses_words, epoch_then, field_words, is_same_slot, loss_words, more_words, outcome_words, polls_words, put_words, root_words, sentence, set_words, sets_words, step_words, target_words, turn_words};
 
 use crate::state::{Collector, Mutator, Slot, State, add_field, add_target};
 use rec_model::Answer;
@@ -63,7 +63,8 @@ pub fn says(alloc: Global, made: Move, was: &State, is: &State) -> Result<String
     let mut text = String::new(alloc);
     match made {
         Move::Command { mutator, cmd, told } => {
-            add_crossing(&mut text, crossed(&was.mutators, &is.mutators))?;
+            let epoch = crossed_before(was.epoch(mutator), is.epoch(mutator), cmd, told.answer);
+            add_crossing(&mut text, epoch)?;
             add_answer(&mut text, alloc, cmd, told)?;
             add_outcome(&mut text, mutator, cmd, told, is)?;
         }
@@ -124,7 +125,25 @@ fn add_turn(text: &mut String, turn: Turn) -> Result<(), NoMemory>
     }
 }
 
-// The epoch into which a mutator crossed with this move.
+// The epoch into which a mutator crossed before its command, by the epochs in which it was before this move and is behind it.
+fn crossed_before(before: u32, after: u32, cmd: Cmd, answer: Answer) -> Option<u32>
+    ensures { result ≡ crossed_before before after cmd answer }
+{
+    let then = epoch_then(cmd, answer, after);
+    if before == then { None } else { Some(then) }
+}
+
+// The epoch in which a mutator made its command that is in this one behind it: by leaving it comes into the next one.
+fn epoch_then(cmd: Cmd, answer: Answer, after: u32) -> u32
+    ensures { result ≡ epoch_then cmd answer after }
+{
+    match (cmd, answer) {
+        (Cmd::Leave, Answer::Done) => after.saturating_sub(1),
+        _ => after,
+    }
+}
+
+// The epoch into which a mutator crossed that was waited for.
 fn crossed(was: &[Mutator], is: &[Mutator]) -> Option<u32>
     ensures { result ≡ crossed (map mutator_seen was.now) (map mutator_seen is.now) }
 {
@@ -173,18 +192,22 @@ fn add_put(text: &mut String, object: Option<u16>, field: u8, told: Told) -> Res
     add_target(text, ", now ", target(told.left))
 }
 
-// What the collector did: its operation, and the word that it found.
+// What the collector did: its operation, the word that it found, and whether it applied the batch.
 fn add_step(text: &mut String, seen: Option<(Op, u64)>, is: &State) -> Result<(), NoMemory>
-    ensures { OnOk result (string_bytes text.new ≡ string_bytes text.old ++ step_words seen (length is.now.mutators.items) is.now.fields) }
+    ensures { OnOk result (string_bytes text.new ≡ string_bytes text.old ++ step_words seen (collector_seen is.now.collector).phase is.now.fields) }
 {
     let Some((op, found)) = seen else {
         return text.push_str("finds the epochs spent");
     };
     match op {
-        Op::StoreEpoch(epoch) => write!(text, "requests epoch {epoch}"),
+        Op::StoreEpoch(epoch) => {
+            write!(text, "requests epoch {epoch}")?;
+            text.push_str(batch(is.collector.phase))
+        }
         Op::LookBox(t, _) => write!(text, "looks at mutator {t}'s mailbox"),
         Op::ReturnBox(t, _) => {
-            write!(text, "gives mutator {t}{}", returned(t, is.mutators.len()))
+            write!(text, "gives mutator {t}'s mailbox back")?;
+            text.push_str(batch(is.collector.phase))
         }
         Op::LoadChild(place) => add_found(text, "loads ", place, ", which is ", found, is.fields),
         Op::ClearField(place) => {
@@ -197,14 +220,14 @@ fn add_step(text: &mut String, seen: Option<(Op, u64)>, is: &State) -> Result<()
     }
 }
 
-// What is said of a mailbox that is given back. Behind the last one comes the batch.
-fn returned(t: u8, mutators: usize) -> &'static str
-    ensures { result.now ≡ returned_words t mutators }
+// What comes in the same step, by the phase behind it: once no mailbox is waited for, the batch is applied.
+fn batch(phase: &str) -> &'static str
+    ensures { result.now ≡ batch_words phase.now }
 {
-    if usize::from(t) == mutators {
-        "'s mailbox back, applies the batch"
+    if phase == "gather" {
+        ""
     } else {
-        "'s mailbox back"
+        ", applies the batch"
     }
 }
 
