@@ -116,6 +116,7 @@ static void carry_on(recycler *r) {
         collections += turned.what == RECYCLER_COLLECTED;
     }
     MUST(collections == 5);
+    MUST(recycler_leave(&r->mutators[MUTATORS - 1], &told) == RECYCLER_OK);
 }
 
 int main(void) {

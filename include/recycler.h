@@ -71,7 +71,9 @@ typedef enum recycler_code {
     /* fewer than four epochs are left to request; 16,777,215 is the last */
     RECYCLER_EPOCHS_SPENT = 14,
     /* something else than its handles holds the running heap: no call of this library was seen to make it so */
-    RECYCLER_SHARED = 15
+    RECYCLER_SHARED = 15,
+    /* the mutator has left: nothing is asked of it any more */
+    RECYCLER_LEFT = 16
 } recycler_code;
 
 typedef struct recycler_handle {
@@ -105,7 +107,8 @@ typedef enum recycler_answer {
                               * within a sweep and greater after it */
     RECYCLER_LOG_FULL = 9,  /* the mutator's log has no room: let the collector turn, poll until the poll crosses, and ask again */
     RECYCLER_NO_FIELD = 10, /* recycler_put: the object is a leaf, whose fields are null for good. No call below makes leaves yet */
-    RECYCLER_NOT_YET = 11   /* a mutator that leaves: its log of the epoch before is not collected yet. No call below leaves yet */
+    RECYCLER_NOT_YET = 11   /* recycler_leave: the log that the mutator handed over last is not collected yet: let the collector turn, and
+                              * ask again */
 } recycler_answer;
 
 /* `label`, `before` and `after` are 0 where the answer says nothing of them. */
@@ -117,8 +120,8 @@ typedef struct recycler_asked {
 /* What a turn of the collector came to. */
 typedef enum recycler_what {
     RECYCLER_MOVED = 0,
-    /* the mutator with the number `mutator` has not crossed into the requested epoch: it has still to poll, or is in the middle of its
-     * poll; nothing changed */
+    /* the mutator with the number `mutator` has not crossed into the requested epoch: it has still to poll or to leave, or is in the
+     * middle of that; nothing changed */
     RECYCLER_WAITING = 1,
     RECYCLER_COLLECTED = 2, /* the collection of `epoch` is complete, with so many slots `freed` */
     RECYCLER_NO_EPOCH = 3   /* no epoch is left to request, so no collection begins any more; nothing changed */
@@ -190,12 +193,16 @@ uint32_t recycler_totals(recycler *r, recycler_totals_told *told);
 /* One step of a collection, on &r->collector. It waits for nobody. Codes: CLOSED_HANDLE, RESTS, OTHER_HANDLE. */
 uint32_t recycler_turn(recycler_handle *collector, recycler_turned *told);
 
-/* The calls below are for &r->mutators[k]. Codes of each: CLOSED_HANDLE, RESTS, OTHER_HANDLE; of the commands RANGE too, where a
+/* The calls below are for &r->mutators[k]. Codes of each: CLOSED_HANDLE, RESTS, OTHER_HANDLE, LEFT; of the commands RANGE too, where a
  * register or the field is not there. A command that the heap refuses is answered RECYCLER_OK, with the refusal in `answer`. */
 
 /* Crosses into the requested epoch, if the mutator is not in it: `crossed` is that epoch, or 0. A mutator that does not poll holds up
- * the collector, so one with nothing to do polls too. */
+ * the collector, so one with nothing to do polls too, or leaves. */
 uint32_t recycler_poll(recycler_handle *mutator, uint32_t *crossed);
+
+/* Leaves the heap for good: the mutator's registers become null, and the collector waits for it no more once its last log is collected.
+ * From then on its calls are answered LEFT, also after the heap was stopped and started again. Answers: DONE, NOT_YET. */
+uint32_t recycler_leave(recycler_handle *mutator, recycler_asked *told);
 
 /* Makes an object with this label and null fields, and lets `reg` name it. Any label fits. Answers: DONE, FULL, BUSY, LOG_FULL. */
 uint32_t recycler_new(recycler_handle *mutator, uint32_t reg, uint32_t label, recycler_asked *told);

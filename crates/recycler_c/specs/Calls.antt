@@ -1,5 +1,5 @@
 -- What each call comes to, code by code: why that code came, and what the call left.
-use Rattle.std.specs.Prelude.{◌≡◌, ℕ, ◌+◌, ◌%◌, ◌<◌, ◌≤◌, All, Option, Some, None, IsSome, List, [], ◌∷◌, length, map, slice_index_or, unwrap_or}
+use Rattle.std.specs.Prelude.{◌≡◌, ℕ, ◌+◌, ◌%◌, ◌<◌, ◌≤◌, false, true, All, Option, Some, None, IsSome, List, [], ◌∷◌, length, map, slice_index_or, unwrap_or}
 use Rattle.std.specs.Arc.{arc_value}
 use Rattle.rec_word.specs.declared.word.TheConstants.{LAST_EPOCH}
 use Rattle.rec_collector.specs.declared.turn.Turn.{Turn}
@@ -11,13 +11,13 @@ use Rattle.rec_model.specs.Heap.{Heap}
 use Rattle.rec_model.specs.Sight.{StandsBy}
 use Rattle.rec_model.specs.declared.command.Cmd.{Cmd}
 use Rattle.rec_model.specs.declared.told.Told.{Told}
-use Rattle.rec_mutator.specs.Private.{answer_of}
+use Rattle.rec_mutator.specs.Private.{HasOperands, answer_of}
 use Rattle.rec_table.specs.Rule.{MayAsk}
 use Rattle.rec_mutator.specs.declared.made.Made.TheVariants as makes
 use Rattle.rec_mutator.specs.declared.work.Work.TheVariants as works
 use Rattle.rec_settle.specs.Collecting.{taken_slots}
 use Rattle.rec_settle.specs.Whole as whole
-use Rattle.rec_table.specs.Answered.{IsAnswered, IsPolled}
+use Rattle.rec_table.specs.Answered.{IsAnswered, IsPolled, Leaves}
 use Rattle.rec_table.specs.Ends.{IsStopped}
 use Rattle.rec_table.specs.Views.{MutatorView, Started, Works, fresh, fresh_collector, collector_now, mutator_now}
 use Rattle.rec_table.specs.Journals.{Tells}
@@ -232,7 +232,7 @@ pub record KeepsMutator (before after : Mutating) : Type 0 where
   pub is : after.mutator ≡ record before.mutator { log = after.mutator.log }
 
 -- A command was carried out: the mutator's list grew by it and its steps, and what is told is the answer that the list makes up, each
--- refusal with its cause there.
+-- refusal with its cause there. The mutator has left just where that was asked, and done.
 pub record HasAsked (h : Option End) (cmd : Cmd) (h' : Option End) (told : Asked) : Type 0 where
   pub before : Mutating
   pub was : mutates_in h ≡ Some before
@@ -244,18 +244,27 @@ pub record HasAsked (h : Option End) (cmd : Cmd) (h' : Option End) (told : Asked
   pub grows : Works (works.Command cmd) before.mutator.log after.mutator.log
   pub answered : answer_of (mutator_now after.mutator) ≡ Some (makes.Answered answer)
   pub causes : IsAnswered (mutator_now before.mutator) cmd before.mutator.log after.mutator.log (mutator_now after.mutator) answer
+  pub leaves : Leaves (mutator_now before.mutator) cmd answer (mutator_now after.mutator)
   pub line : Tells (mutator_now before.mutator) before.mutator.log after.mutator.log ((cmd, answer) ∷ [])
   pub told_so : told ≡ asked_of answer.answer
 
--- a mutator may not ask this: a register or the field isn't there
+-- a mutator that hasn't left may not ask this: a register or the field isn't there
 pub record LacksOperand (h : Option End) (asked : Option Cmd) : Type 0 where
   pub mutating : Mutating
   pub is : mutates_in h ≡ Some mutating
-  pub lacks : (cmd : Cmd) → asked ≡ Some cmd → MayAsk (mutator_now mutating.mutator) cmd → ⊥
+  pub present : (mutator_now mutating.mutator).left ≡ false
+  pub lacks : (cmd : Cmd) → asked ≡ Some cmd → HasOperands (mutator_now mutating.mutator) cmd → ⊥
+
+-- nor may one that has left ask anything
+pub record HasLeft (h : Option End) : Type 0 where
+  pub mutating : Mutating
+  pub is : mutates_in h ≡ Some mutating
+  pub left : (mutator_now mutating.mutator).left ≡ true
 
 abbrev pub Asks : Option End → Option Cmd → Asked → Code → Option End → Asked → Type 0
 Asks h asked told codes.Ok h' told' = (cmd : Cmd) × (asked ≡ Some cmd) × HasAsked h cmd h' told'
 Asks h asked told codes.Range h' told' = LacksOperand h asked × (h' ≡ h) × (told' ≡ told)
+Asks h asked told codes.Left h' told' = HasLeft h × (h' ≡ h) × (told' ≡ told)
 Asks h asked told code h' told' = LacksEnd (Runs h) h code × (h' ≡ h) × (told' ≡ told)
 
 -- A mutator polled: `crossed` is the epoch that it crossed into, or 0.
@@ -269,11 +278,13 @@ pub record HasPolled (h h' : Option End) (crossed : ℕ) : Type 0 where
   pub grows : Works works.Poll before.mutator.log after.mutator.log
   pub answered : answer_of (mutator_now after.mutator) ≡ Some (makes.Crossed epoch)
   pub cause : IsPolled (mutator_now before.mutator) before.mutator.log after.mutator.log epoch
+  pub left : (mutator_now after.mutator).left ≡ (mutator_now before.mutator).left
   pub line : Tells (mutator_now before.mutator) before.mutator.log after.mutator.log []
   pub told_so : crossed ≡ unwrap_or epoch 0
 
 abbrev pub Polls : Option End → ℕ → Code → Option End → ℕ → Type 0
 Polls h crossed codes.Ok h' crossed' = HasPolled h h' crossed'
+Polls h crossed codes.Left h' crossed' = HasLeft h × (h' ≡ h) × (crossed' ≡ crossed)
 Polls h crossed code h' crossed' = LacksEnd (Runs h) h code × (h' ≡ h) × (crossed' ≡ crossed)
 
 -- a slot of a heap at rest was looked at

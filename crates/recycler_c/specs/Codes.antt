@@ -25,6 +25,7 @@ number_of codes.Other = 12
 number_of codes.Range = 13
 number_of codes.EpochsSpent = 14
 number_of codes.Shared = 15
+number_of codes.Left = 16
 
 -- the code of a number that is out of its range
 abbrev pub code_at : Part → Code

@@ -33,6 +33,8 @@ pub enum Code {
     EpochsSpent = 14,
     /// Something else than its handles holds the running heap.
     Shared = 15,
+    /// The mutator has left, and is asked nothing any more.
+    Left = 16,
 }
 
 impl Code {

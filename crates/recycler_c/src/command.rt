@@ -29,6 +29,9 @@ fn ask_in(end: &mut End, cmd: Option<Cmd>, told: &mut Asked) -> Code
 {
     match end {
         End::Mutating(out) => {
+            if out.has_left() {
+                return Code::Left;
+            }
             let Some(cmd) = cmd else {
                 return Code::Range;
             };
@@ -62,6 +65,9 @@ fn poll_in(end: &mut End, crossed: &mut u32) -> Code
 {
     match end {
         End::Mutating(out) => {
+            if out.has_left() {
+                return Code::Left;
+            }
             let epoch = out.mutator.poll(&out.heap);
             *crossed = epoch.unwrap_or(0);
             Code::Ok

@@ -93,11 +93,18 @@ impl Mutating {
     ghost use Rattle.rec_mutator.specs.declared.work.Work.TheVariants as works;
     ghost use Rattle.rec_table.specs.Views.{mutator_now};
 
-    /// Whether its registers and the field are there.
+    /// Whether its registers and the field are there, and it hasn't left.
     pub fn can_ask(&self, cmd: &Cmd) -> bool
         ensures { IsTrue result ↔ MayAsk (mutator_now self.now.mutator) cmd.now }
     {
         self.mutator.valid(cmd)
+    }
+
+    /// Whether its mutator has left.
+    pub fn has_left(&self) -> bool
+        ensures { result ≡ (mutator_now self.now.mutator).left }
+    {
+        self.mutator.left()
     }
 }
 

@@ -1,5 +1,5 @@
 //! What C calls. Each export calls one function of the modules beside this one.
-ghost use Rattle.std.specs.Prelude.{◌≡◌};
+ghost use Rattle.std.specs.Prelude.{◌≡◌, Some};
 ghost use Rattle.rec_model.specs.declared.command.Cmd.TheVariants as commands;
 ghost use Rattle.recycler_c.specs.Calls.{Asks, Closes, Counts, Looks, Opens, Polls, Settles, Starts, Stops, Tallies, TurnsIn, held};
 ghost use Rattle.recycler_c.specs.Codes.{Answers};
@@ -9,6 +9,7 @@ use crate::handle::Handle;
 use crate::recycler::Recycler;
 use crate::told::{Asked, Settled, Slot, Totals, Turned};
 use crate::{collecting, command, looking, opening, running};
+use rec_model::Cmd;
 use rec_world::Config;
 use std::alloc::Global;
 
@@ -114,6 +115,14 @@ pub extern "C" fn recycler_poll(alloc: Global, mutator: &mut Handle, crossed: &m
     ensures { Answers result (λ code. Polls mutator.old.owned.held crossed.old code mutator.new.owned.held crossed.new) }
 {
     command::poll(alloc, mutator, crossed).number()
+}
+
+/// Lets a mutator leave for good: its registers become null, and its last log is handed over.
+#[unsafe(no_mangle)]
+pub extern "C" fn recycler_leave(alloc: Global, mutator: &mut Handle, told: &mut Asked) -> u32
+    ensures { Answers result (λ code. Asks mutator.old.owned.held (Some commands.Leave) told.old code mutator.new.owned.held told.new) }
+{
+    command::ask(alloc, mutator, Some(Cmd::Leave), told).number()
 }
 
 /// Makes an object with this label and null fields, and lets a register name it.

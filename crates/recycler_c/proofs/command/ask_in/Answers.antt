@@ -1,18 +1,25 @@
 -- The contract of `ask_in`: a command, where the handle has a mutator.
-use Rattle.std.proofs.Common.{◌≡◌, Some, ap, refl, sym, subst, rules}
+use Rattle.std.proofs.Common.{◌≡◌, Some, ap, refl, sym, subst, ◌∙◌, rules}
 use Rattle.rec_model.specs.declared.command.Cmd.{Cmd}
 use Rattle.rec_table.specs.Rule.{MayAsk}
-use Rattle.rec_mutator.specs.declared.work.Work.TheVariants as works
 use Rattle.rec_table.specs.Views.{mutator_now}
 use Rattle.recycler_c.specs.Standing.{mutates_in}
 use Rattle.recycler_c.specs.declared.end.End.{End}
 use Rattle.recycler_c.proofs.command.ask_in.Goals as goal
+
+pub returns-then-has_left : goal.returns-then-has_left
+returns-then-has_left c = (
+  record { mutating = c.in-Mutating.out; is = ap (λ (e : End). mutates_in (Some e)) c.in-Mutating.is; left = sym c.has_left.ensures ∙ c.if-has_left.true },
+  ap Some (sym c.in-Mutating.is),
+  refl,
+)
 
 pub returns-in_default-cmd : goal.returns-in_default-cmd
 returns-in_default-cmd c = (
   record {
     mutating = c.in-Mutating.out;
     is = ap (λ (e : End). mutates_in (Some e)) c.in-Mutating.is;
+    present = sym c.has_left.ensures ∙ c.if-has_left.false;
     lacks = λ cmd e v. c.in_default-cmd.not-Some cmd e;
   },
   ap Some (sym c.in-Mutating.is),
@@ -24,9 +31,10 @@ returns-then-not-can_ask c = (
   record {
     mutating = c.in-Mutating.out;
     is = ap (λ (e : End). mutates_in (Some e)) c.in-Mutating.is;
+    present = sym c.has_left.ensures ∙ c.if-has_left.false;
     lacks = λ cmd e v.
         let same : cmd ≡ c.in-Some.cmd = cc in
-        let yes = c.can_ask.ensures.1 (subst (λ (x : Cmd). MayAsk (mutator_now c.in-Mutating.out.mutator) x) same v) in
+        let yes = c.can_ask.ensures.1 (subst (λ (x : Cmd). MayAsk (mutator_now c.in-Mutating.out.mutator) x) same (v, sym c.has_left.ensures ∙ c.if-has_left.false)) in
         cc;
   },
   ap Some (sym c.in-Mutating.is),
@@ -48,6 +56,7 @@ returns-else-not-can_ask c = (
     grows = c.command-answered.ensures.grows;
     answered = c.command-answered.ensures.answer;
     causes = c.command-answered.ensures.causes;
+    leaves = c.command-answered.ensures.leaves;
     line = c.command-answered.ensures.line;
     told_so = c.show_answer.ensures;
   },
