@@ -24,11 +24,12 @@ WORDS = {
     "put": ("none", "nofield", "done"),
     "value": ("none", "value"),
     "same": ("yes", "no"),
+    "leave": ("done", "notyet"),
 }
 NUMBERS = {"value": 1, "busy": 2}
 BIRTHS = ("new", "leaf")
 # What is told where nothing was read or written, whatever the fields hold.
-REFUSALS = ("none", "nofield")
+REFUSALS = ("none", "nofield", "notyet")
 
 
 class Illegal(Exception):
@@ -197,7 +198,7 @@ class Judge:
         i = moment.places[t]
         name, operands = self.commands[t][i]
         told, row = self.answers[t][i], moment.registers[t]
-        if told[0] in ("full", "busy"):
+        if told[0] in ("full", "busy", "notyet"):
             answer = told
         elif name in BIRTHS:
             it = self.bases[t] + i
@@ -221,6 +222,8 @@ class Judge:
             row[operands[0]] = None
         elif name == "copy":
             row[operands[0]] = row[operands[1]]
+        elif name == "leave":
+            row[:] = [None] * len(row)
         elif name == "same":
             return ("yes",) if row[operands[0]] == row[operands[1]] else ("no",)
         elif name == "value":

@@ -1,9 +1,10 @@
 """The grammar of scripts, read a second time: what a script says, or the line and the kind with which it is refused."""
 
-MOST_BYTES, MOST_COMMANDS, MOST_MUTATORS, MOST_NUMERAL = 16_777_216, 200_000, 8, 4_294_967_295
+MOST_BYTES, MOST_COMMANDS, MOST_NUMERAL = 16_777_216, 200_000, 4_294_967_295
 OPERANDS = {"new": "RL", "null": "R", "copy": "RR", "get": "RRF", "put": "RFR", "value": "R", "same": "RR"}
-# The commands of each version, by their operands.
-VERSIONS = {"1": OPERANDS, "2": {**OPERANDS, "leaf": "RL"}}
+# The commands of each version, by their operands, and the most mutators that a script of it has.
+VERSIONS = {"1": OPERANDS, "2": {**OPERANDS, "leaf": "RL"}, "3": {**OPERANDS, "leaf": "RL", "leave": ""}}
+MOST_MUTATORS = {"1": 8, "2": 8, "3": 63}
 
 
 class Refused(Exception):
@@ -46,14 +47,14 @@ def read(data):
                 raise Refused(number, "BadHeap")
             needs = "mutator"
         elif words == ["mutator"]:
-            if len(mutators) == MOST_MUTATORS:
+            if len(mutators) == MOST_MUTATORS[version]:
                 raise Refused(number, "TooManyMutators")
             mutators.append([])
             needs = "command"
         elif needs == "mutator":
             raise Refused(number, "NoMutator")
         else:
-            mutators[-1].append(command(number, words, VERSIONS[version], heap, len(mutators[-1])))
+            mutators[-1].append(command(number, words, VERSIONS[version], heap, mutators[-1]))
     for need, kind in (("header", "NoHeader"), ("heap", "BadHeap"), ("mutator", "NoMutator")):
         if needs == need:
             raise Refused(len(lines) + 1, kind)
@@ -61,10 +62,10 @@ def read(data):
 
 
 def command(number, words, known, heap, already):
-    kinds = known.get(words[0])
-    if kinds is None or len(words) != len(kinds) + 1:
+    kinds, has_left = known.get(words[0]), already[-1:] == [("leave", [])]
+    if has_left or kinds is None or len(words) != len(kinds) + 1:
         raise Refused(number, "BadCommand")
-    if already == MOST_COMMANDS:
+    if len(already) == MOST_COMMANDS:
         raise Refused(number, "TooManyCommands")
     operands = []
     for kind, word in zip(kinds, words[1:]):
@@ -89,18 +90,29 @@ def spelled(version, heap, mutators):
 
 
 def drawn(draw, mutators=8, lengths=(0, 1, 5, 20, 80, 300)):
-    """The bytes of a script with any commands, for so many mutators at most, each with one of these numbers of commands."""
+    """The bytes of a script with any commands, for so many mutators at most, each with one of these numbers of commands.
+
+    In version 3 a mutator may leave behind them.
+    """
     heap = [draw.choice((1, 2, 3, 5, 8, 13, 40, 200, 65535)), draw.randint(1, 3), draw.randint(1, 6)]
     version = draw.choice(list(VERSIONS))
-    known = VERSIONS[version]
-    weights = [draw.random() for _ in known]
+    known = {name: kinds for name, kinds in VERSIONS[version].items() if name != "leave"}
+    weights, most = [draw.random() for _ in known], min(mutators, MOST_MUTATORS[version])
     ranges = {"R": heap[2] - 1, "F": heap[1] - 1, "L": draw.choice((9, 999, MOST_NUMERAL))}
 
     def one():
         name = draw.choices(list(known), weights)[0]
         return name, [draw.randint(0, ranges[it]) for it in known[name]]
 
-    return spelled(version, heap, [[one() for _ in range(draw.choice(lengths))] for _ in range(draw.randint(1, mutators))])
+    def commands():
+        return [one() for _ in range(draw.choice(lengths))] + leaving(draw, version)
+
+    return spelled(version, heap, [commands() for _ in range(draw.randint(1, most))])
+
+
+def leaving(draw, version):
+    """The command by which a mutator leaves, or none."""
+    return [("leave", [])] if version == "3" and draw.random() < 0.5 else []
 
 
 def contended(draw):
@@ -136,6 +148,6 @@ def contended(draw):
         for i in range(draw.randint(3, 6)):
             row += one(t, i)
             row += [("same", [0, 0])] * aside
-        return row
+        return row + leaving(draw, version)
 
     return spelled(version, heap, [commands(t) for t in range(1, draw.randint(2, 4) + 1)])

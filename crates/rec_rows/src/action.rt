@@ -98,6 +98,8 @@ pub enum Fact {
     Valid(u8, Cmd),
     /// Whether a mutator works.
     Busy(u8),
+    /// Whether a mutator has left.
+    Left(u8),
     /// The epoch that a mutator is in.
     EpochOf(u8),
     /// What became of the sets that were tested.

@@ -1,11 +1,11 @@
 //! What a heap shows.
 
-ghost use Rattle.std.specs.Prelude.{◌≡◌, IsTrue};
+ghost use Rattle.std.specs.Prelude.{◌≡◌, ◌<◌, IsTrue};
 ghost use Rattle.rec_core.specs.Config.{IsMutator};
+ghost use Rattle.rec_world.specs.World.{IsWorld};
 
 use crate::action::{Fact, Whole};
 use crate::told::{number, yes};
-use rec_model::Cmd;
 use rec_world::{Numbering, World};
 use std::alloc::{AllocError as NoMemory, Global};
 
@@ -23,6 +23,7 @@ pub fn shown(alloc: Global, world: &World, fact: Fact) -> Result<String, NoMemor
         Fact::Register(t, r) => register(alloc, world, t, r),
         Fact::Valid(t, cmd) => yes(alloc, world.valid(t, &cmd)),
         Fact::Busy(t) => busy(alloc, world, t),
+        Fact::Left(t) => left(alloc, world, t),
         Fact::EpochOf(t) => epoch_of(alloc, world, t),
         Fact::Sets => sets(alloc, world),
         Fact::Mailboxes => mailboxes(alloc, world),
@@ -52,11 +53,20 @@ fn mailboxes(alloc: Global, world: &World) -> Result<String, NoMemory> {
     String::from_str(alloc, if world.boxes_home() { "home" } else { "away" })
 }
 
-/// Whether the heap has this mutator.
+/// Whether the heap has this mutator, also where it has left.
 pub fn is_there(world: &World, t: u8) -> bool
-    ensures { IsTrue result → IsMutator world.now.config t }
+    ensures mutator { IsTrue result → IsMutator world.now.config t }
+    ensures kept { IsWorld world.now }
 {
-    world.valid(t, &Cmd::Null { reg: 0 })
+    (1..=world.mutators()).contains(&t)
+}
+
+// Whether this mutator is there, and has this register.
+fn has_register(world: &World, t: u8, r: u8) -> bool
+    ensures mutator { IsTrue result → IsMutator world.now.config t }
+    ensures register { IsTrue result → r < world.now.config.registers }
+{
+    is_there(world, t) && usize::from(r) < world.mutator(t).registers().len()
 }
 
 fn slot(alloc: Global, world: &World, slot: u16) -> Result<String, NoMemory> {
@@ -97,6 +107,13 @@ fn busy(alloc: Global, world: &World, t: u8) -> Result<String, NoMemory> {
     yes(alloc, world.busy(t))
 }
 
+fn left(alloc: Global, world: &World, t: u8) -> Result<String, NoMemory> {
+    if !is_there(world, t) {
+        return String::from_str(alloc, ABSENT);
+    }
+    yes(alloc, world.left(t))
+}
+
 fn epoch_of(alloc: Global, world: &World, t: u8) -> Result<String, NoMemory> {
     if !is_there(world, t) {
         return String::from_str(alloc, ABSENT);
@@ -107,7 +124,7 @@ fn epoch_of(alloc: Global, world: &World, t: u8) -> Result<String, NoMemory> {
 
 // What a register names. Its place in the list of registers has the same.
 fn register(alloc: Global, world: &World, t: u8, r: u8) -> Result<String, NoMemory> {
-    if !world.valid(t, &Cmd::Null { reg: r }) {
+    if !has_register(world, t, r) {
         return String::from_str(alloc, ABSENT);
     }
     let slot = world.register(t, r);

@@ -51,17 +51,18 @@ pub fn polled(alloc: Global, outcome: Option<Option<u32>>) -> Result<String, NoM
     }
 }
 
-// Whether this mutator is there, and is asked nothing at the moment.
+// Whether this mutator is there, hasn't left, and is asked nothing at the moment.
 fn is_idle(world: &World, t: u8) -> bool
     ensures mutator { IsTrue result → IsMutator world.now.config t }
+    ensures present { IsTrue result → (mutator world.now t).left ≡ false }
     ensures idle { IsTrue result → is_busy (mutator world.now t) ≡ false }
 {
-    is_there(world, t) && !world.busy(t)
+    is_there(world, t) && !world.left(t) && !world.busy(t)
 }
 
 // What a mutator is told, of a command that it may ask.
 fn ask(world: &mut World, t: u8, cmd: Cmd) -> Option<Told> {
-    if !world.valid(t, &cmd) || world.busy(t) {
+    if !is_idle(world, t) || !world.valid(t, &cmd) {
         return None;
     }
     Some(world.command(t, cmd))

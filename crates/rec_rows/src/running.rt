@@ -115,7 +115,7 @@ fn happen(
     }
 }
 
-// What mutator `t` is told, where there is one that may ask this.
+// What mutator `t` is told, where there is one that may ask this. One that has left may ask nothing.
 fn ask(heap: &Heap, mutators: &mut Vec<Mutator>, t: u8, cmd: Cmd) -> Option<Told>
     requires { AreMutatorsOf heap.now mutators.old.items }
     ensures { AreMutatorsOf heap.now mutators.new.items }
@@ -131,7 +131,7 @@ fn ask(heap: &Heap, mutators: &mut Vec<Mutator>, t: u8, cmd: Cmd) -> Option<Told
     Some(mutator.command(heap, cmd))
 }
 
-// What a poll of mutator `t` answers, where there is one.
+// What a poll of mutator `t` answers, where there is one that hasn't left.
 fn poll(heap: &Heap, mutators: &mut Vec<Mutator>, t: u8) -> Option<Option<u32>>
     requires { AreMutatorsOf heap.now mutators.old.items }
     ensures { AreMutatorsOf heap.now mutators.new.items }
@@ -140,5 +140,9 @@ fn poll(heap: &Heap, mutators: &mut Vec<Mutator>, t: u8) -> Option<Option<u32>>
     if t < 1 || mutators.len() < t {
         return None;
     }
-    Some(mutators[t - 1].poll(heap))
+    let mutator = &mut mutators[t - 1];
+    if mutator.left() {
+        return None;
+    }
+    Some(mutator.poll(heap))
 }

@@ -102,6 +102,7 @@ fn deed(line: &[&str], words: bool) -> Result<Deed, Wrong> {
 // A command, spelled as in a script.
 fn command(line: &[&str]) -> Result<Cmd, Wrong> {
     match line {
+        ["leave"] => Ok(Cmd::Leave),
         ["null", reg] => Ok(Cmd::Null { reg: short(reg)? }),
         ["value", reg] => Ok(Cmd::Value { reg: short(reg)? }),
         ["new", reg, label] => birth(false, reg, label),
@@ -241,6 +242,7 @@ fn fact_at(name: &str, at: &str) -> Result<Fact, Wrong> {
         "number" => Ok(Fact::Number(slot(at)?)),
         "field" => Ok(Fact::Field(number(at)?)),
         "busy" => Ok(Fact::Busy(short(at)?)),
+        "left" => Ok(Fact::Left(short(at)?)),
         _ => Err(Wrong::Unknown),
     }
 }

@@ -1,6 +1,6 @@
 //! Two births at once.
 
-use crate::crew::{Limits, Task};
+use crate::crew::{End, Limits, Task};
 use crate::race::race;
 use rec_model::Cmd;
 use rec_world::{Config, World};
@@ -15,7 +15,11 @@ const NO_TURNS: Limits = Limits { turns: 0, freed: 0 };
 // One birth of an object with this label.
 fn birth(alloc: Global, label: u32) -> Result<Task, NoMemory> {
     let commands = vec![in alloc; Cmd::New { reg: 1, label }]?;
-    Ok(Task { commands, times: 1 })
+    Ok(Task {
+        commands,
+        times: 1,
+        end: End::Stops,
+    })
 }
 
 fn labels(world: &World) -> Option<(Option<u32>, Option<u32>)> {

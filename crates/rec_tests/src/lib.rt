@@ -3,6 +3,7 @@
 //! Races on a running heap, its mutators and its collector on threads of their own, a thousand times over:
 //! - `births`: two mutators make an object each at once, and take two slots.
 //! - `mixed`: two and four mutators carry out commands of all kinds over shared fields, each its own, beside the collector.
+//! - `leaving`: up to 63 mutators make rings and leave, each its own, beside the collector.
 //! - `rings`: two mutators make rings and drop them, while the collector frees them and their slots are claimed again.
 //!
 //! No clause says which answers come on threads, or that a thread gets on. So the races look at what is left afterwards: the world
@@ -31,6 +32,8 @@ mod crew;
 mod cycles;
 #[cfg(test)]
 mod failures;
+#[cfg(test)]
+mod leaving;
 #[cfg(test)]
 mod mixed;
 #[cfg(test)]

@@ -2,7 +2,7 @@
 
 ghost use Rattle.std.specs.Prelude.{◌<◌};
 
-use crate::crew::{Limits, Task};
+use crate::crew::{End, Limits, Task};
 use crate::race::race_and_settle;
 use rand_core::utils::NextWord;
 use rand_pcg::Pcg32;
@@ -71,6 +71,7 @@ fn draw_task(alloc: Global, generator: &mut Pcg32) -> Result<Task, NoMemory> {
     Ok(Task {
         commands,
         times: TIMES,
+        end: End::Stops,
     })
 }
 

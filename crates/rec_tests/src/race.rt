@@ -22,6 +22,8 @@ pub struct Seen {
     pub is_cut: bool,
     /// Whether an allocation found no slot.
     pub is_refused: bool,
+    /// Whether a mutator was told that it may not leave yet.
+    pub is_put_off: bool,
 }
 
 /// What a race came to.
@@ -70,6 +72,7 @@ pub fn race<R: Abort + Threads + Sync>(
     let seen = Seen {
         is_cut: signals.is_cut(),
         is_refused: signals.is_refused(),
+        is_put_off: signals.is_put_off(),
     };
     Ok((world, seen))
 }

@@ -1,6 +1,6 @@
 //! Mutators that make rings and drop them while the collector turns.
 
-use crate::crew::{Limits, Task};
+use crate::crew::{End, Limits, Task};
 use crate::race::race_and_settle;
 use rec_model::Cmd;
 use rec_world::Config;
@@ -44,6 +44,7 @@ fn rings(alloc: Global) -> Result<Task, NoMemory> {
     Ok(Task {
         commands,
         times: RINGS,
+        end: End::Stops,
     })
 }
 

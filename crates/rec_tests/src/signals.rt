@@ -11,23 +11,25 @@ const LOOKS: u32 = 1_000;
 pub struct Signals {
     /// How many threads have still to come.
     awaited: AtomicU64,
-    /// How many mutators aren't done.
+    /// How many workers aren't done.
     working: AtomicU64,
     enough: AtomicBool,
     is_cut: AtomicBool,
     is_refused: AtomicBool,
+    is_put_off: AtomicBool,
 }
 
 impl Signals {
-    /// So many mutators and a collector are awaited.
-    pub fn of(mutators: u32) -> Signals {
-        let working = u64::from(mutators);
+    /// So many workers of mutators and a collector are awaited.
+    pub fn of(workers: u32) -> Signals {
+        let working = u64::from(workers);
         Signals {
             awaited: AtomicU64::new(working + 1),
             working: AtomicU64::new(working),
             enough: AtomicBool::new(false),
             is_cut: AtomicBool::new(false),
             is_refused: AtomicBool::new(false),
+            is_put_off: AtomicBool::new(false),
         }
     }
 
@@ -42,13 +44,13 @@ impl Signals {
         }
     }
 
-    /// A mutator is done.
-    pub fn leave(&self) {
+    /// A worker is done.
+    pub fn end(&self) {
         self.working.fetch_sub(1, Ordering::SeqCst);
     }
 
-    /// Whether all mutators are done.
-    pub fn all_left(&self) -> bool {
+    /// Whether all workers are done.
+    pub fn is_over(&self) -> bool {
         self.working.load(Ordering::SeqCst) == 0
     }
 
@@ -71,6 +73,11 @@ impl Signals {
         self.is_refused.store(true, Ordering::SeqCst);
     }
 
+    /// A mutator was told that it may not leave yet.
+    pub fn put_off(&self) {
+        self.is_put_off.store(true, Ordering::SeqCst);
+    }
+
     /// Whether a mutator had commands left when it was enough.
     pub fn is_cut(&self) -> bool {
         self.is_cut.load(Ordering::SeqCst)
@@ -79,5 +86,10 @@ impl Signals {
     /// Whether an allocation found no slot.
     pub fn is_refused(&self) -> bool {
         self.is_refused.load(Ordering::SeqCst)
+    }
+
+    /// Whether a mutator was told that it may not leave yet.
+    pub fn is_put_off(&self) -> bool {
+        self.is_put_off.load(Ordering::SeqCst)
     }
 }

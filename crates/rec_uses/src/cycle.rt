@@ -45,8 +45,8 @@ pub fn watch(out: &impl Print, world: &mut World) -> io::Result<()>
         let (first, second, third) = (world.count(0), world.count(1), world.count(2));
         println!(out; "turn {turn}: counts {first} {second} {third}, {told:?}")?;
         match told {
-            Turn::Waiting { .. } => {
-                world.poll(1);
+            Turn::Waiting { mutator } => {
+                world.poll(mutator);
             }
             Turn::Collected { freed: 2, .. } => return Ok(()),
             _ => {}

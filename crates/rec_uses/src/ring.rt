@@ -37,7 +37,7 @@ pub fn make(world: &mut World)
     }
 }
 
-/// A mutator of a running heap makes the cycle, with a poll after each command. Only its list grows.
+/// A mutator of a running heap makes the cycle, with a poll after each command; one that has left does nothing. Only its list grows.
 pub fn make_on(heap: &Heap, mutator: &mut Mutator)
     requires { IsMutatorOf heap.now mutator.old }
     ensures { mutator.new ≡ record mutator.old { log = mutator.new.log } }
@@ -46,6 +46,8 @@ pub fn make_on(heap: &Heap, mutator: &mut Mutator)
         if mutator.valid(cmd) {
             mutator.command(heap, *cmd);
         }
-        mutator.poll(heap);
+        if !mutator.left() {
+            mutator.poll(heap);
+        }
     }
 }
