@@ -68,7 +68,7 @@ due_gathers requested t left phase = go (has_left left t) phase
     go false _ due = cc
 
 -- one whose mailbox is held stands so
-held_stands : (w : Core) (t : ℕ) → IsKept w → w.collector.phase ≡ Returning t → stand_of w t ≡ Handshake.Held
+pub held_stands : (w : Core) (t : ℕ) → IsKept w → w.collector.phase ≡ Returning t → stand_of w t ≡ Handshake.Held
 held_stands w t kept phase =
     let held : IsHeldAt w (Returning t) = subst (IsHeldAt w) phase kept.held in
     ap (λ (x : Phase). stand_at w.collector.left x t) phase ∙ cond-false (has_left w.collector.left t) Handshake.Gone (stand_in (Returning t) t) held.0

@@ -111,7 +111,7 @@ spare_own w t kept is =
     ap (λ n. make n w.config.log_entries) (sym own.registers) ∙ ap (make (length (mutator w t).registers)) (sym own.capacity)
 
 -- what a mutator learns as it takes its mailbox
-pub learns_taken : (p : Private) (word : ℕ) → p.phase ≡ at.Crossing → took_of p word ≡ retiring p
+learns_taken : (p : Private) (word : ℕ) → p.phase ≡ at.Crossing → took_of p word ≡ retiring p
 unfolding took_of took_at
 learns_taken p word is = ap (took_at p word) is
 

@@ -239,12 +239,6 @@ here_same p word box busy none = unswapped (took_of p word) box (step_between (l
 here_made : (p : Private) (word : ℕ) (box : Contents) → is_busy p ≡ true → TakesNone p.phase → Step p word box (next_of p) (step_of p word box)
 here_made p word box busy none = subst (Step p word box (next_of p)) (sym (here_same p word box busy none)) (learnt_made p word box busy none)
 
--- no mailbox waits to be swapped where none is taken
-pub none_between : (phase : Phase) → TakesNone phase → IsBetween phase
-none_between Swapping none = none
-none_between Retiring none = none
-none_between _ none = tt
-
 -- a step that takes the own mailbox
 crossing_made : (p : Private) (word : ℕ) (box : Contents) → p.phase ≡ Crossing → Step p word box (next_of p) (step_of p word box)
 unfolding next_of next_at took_of took_at swapped_of swapped_at step_of

@@ -17,6 +17,7 @@ mod laws;
 mod machine;
 mod made;
 mod phase;
+mod telling;
 mod work;
 
 pub use laws::{
