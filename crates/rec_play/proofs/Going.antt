@@ -20,7 +20,6 @@ use Rattle.rec_mutator.specs.Causes.{IsAwaited}
 use Rattle.rec_mutator.specs.Private.{Private, HasOperands, answer_of, is_busy, work_of}
 use Rattle.rec_mutator.specs.declared.made.Made.TheVariants as makes
 use Rattle.rec_mutator.specs.declared.work.Work.TheVariants as works
-use Rattle.rec_mutator.proofs.Sizes.{step_left}
 use Rattle.rec_collector.specs.Next.{next_of}
 use Rattle.rec_core.specs.Config.{IsMutator, HasLabel}
 use Rattle.rec_core.specs.Core.{opened, Core, sight, mutator}
@@ -31,9 +30,8 @@ use Rattle.rec_core.specs.declared.config.Config.{Config}
 use Rattle.rec_core.proofs.Gathering.{awaited_stays}
 use Rattle.rec_core.proofs.Leaving.{IsStayingIn, polls_stay}
 use Rattle.rec_core.proofs.Runs.{move_stays}
-use Rattle.rec_core.proofs.Showing.{step_caused, stepped_mutator}
-use Rattle.rec_core.proofs.Steps.{actor_of, stays_here}
-use Rattle.rec_core.proofs.Unfinished.{its_step}
+use Rattle.rec_core.proofs.Showing.{step_caused}
+use Rattle.rec_core.proofs.Steps.{actor_of}
 use Rattle.rec_order.specs.Events.{swept_by}
 use Rattle.rec_order.specs.Naming.{Naming, NamesGoOn, first_naming}
 use Rattle.rec_order.proofs.Legal.{swept_lines}
@@ -41,6 +39,7 @@ use Rattle.rec_order.proofs.Runs.{Runs, runs_both, runs_one, commanded_runs, pol
 use Rattle.rec_world.specs.World.{IsWorld}
 use Rattle.rec_world.proofs.Beginnings.{began_work}
 use Rattle.rec_world.proofs.Calls.{moved_world, world_kept}
+use Rattle.rec_world.proofs.Commands.{stays_after}
 use Rattle.rec_world.proofs.Skipping.{path_counts, path_world}
 use Rattle.rec_script.specs.Script.{ScriptContents, AreCommands, IsCommand, IsScript}
 use Rattle.rec_settle.specs.Collecting.{Follows}
@@ -152,8 +151,7 @@ polled_world w v t world is idle present done =
     let work : work_of (mutator u t) ≡ Some works.Poll = (path_counts b t u begins is done.path).1 ∙ began_work w t works.Poll (world_kept w world) is in
     let stays : IsStayingIn (mutator u t).phase = polls_stay (mutator u t).phase work in (
       subst IsWorld (sym done.steps) (moved_world u (Move.Steps t) last (there, done.busy)),
-      ap (λ (x : Core). (mutator x t).left) done.steps ∙ ap (λ (p : Private). p.left) (stepped_mutator u t kept there)
-          ∙ step_left (λ parts. subst IsStayingIn parts stays) (its_step u t kept there done.busy) ∙ stays_here u t kept there done.busy,
+      stays_after u v t kept there done.busy stays done.steps,
     )
 
 -- A command of a world is told NotYet just where its last step is the first one of leaving and finds a log that is still to be collected.

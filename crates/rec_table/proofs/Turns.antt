@@ -24,6 +24,7 @@ use Rattle.rec_core.specs.Kept.{HasCrossed, IsHeldAt}
 use Rattle.rec_core.specs.Preconditions.{MayTurn}
 use Rattle.rec_core.specs.declared.config.Config.{Config}
 use Rattle.rec_core.proofs.Actors.{giving_crosses}
+use Rattle.rec_core.proofs.Crossings.{held_stands}
 use Rattle.rec_core.proofs.Steps.{stand_of, stays_here}
 use Rattle.rec_core.proofs.Turning.{some_op}
 use Rattle.rec_core.proofs.Turns.{its_spare}
@@ -219,13 +220,7 @@ returns_op c t is = ap (next_at c) is
 -- the mailbox that is given back next is held, with a spare
 pub held_so : (w : Core) (t : ℕ) → IsKept w → IsMutator w.config t → w.collector.phase ≡ Returning t → HasCrossed w.epoch (mutator w t) (crossing_of w t) WithCollector × (box w t ≡ spare_of w.config)
 held_so w t kept is at_phase =
-    let held : IsHeldAt w (Returning t) = subst (IsHeldAt w) at_phase kept.held in
-    let stands : stand_at w.collector.left w.collector.phase t ≡ Handshake.Held =
-    ap (λ (g : Phase). stand_at w.collector.left g t) at_phase
-    ∙ ap (λ x. cond x Handshake.Gone (stand_in (Returning t) t)) held.0
-    ∙ ap (λ x. cond x Handshake.Done (cond (eqb t t) Handshake.Held Handshake.Due)) (le-ltb t t (omega arith))
-    ∙ ap (λ x. cond x Handshake.Held Handshake.Due) (eq-eqb t t refl) in
-    subst (IsHandshake w.config w.epoch (mutator w t) (crossing_of w t) (box w t)) stands (actor_of w t kept is).handshake
+    subst (IsHandshake w.config w.epoch (mutator w t) (crossing_of w t) (box w t)) (held_stands w t kept at_phase) (actor_of w t kept is).handshake
 
 -- a look at the mailbox of mutator t
 pub looks : (key : Core) (slots id t : ℕ) (c : CollectorSeat) (p : Private) (f : ℕ → ℕ) (st : Step (Option Contents))

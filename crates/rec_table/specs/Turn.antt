@@ -1,5 +1,5 @@
--- A turn of the collector on the table, by its own list.
-use Rattle.std.specs.Prelude.{◌≡◌, ℕ, None, Some}
+-- A turn of the collector on the table, by its own list, and many of them.
+use Rattle.std.specs.Prelude.{◌≡◌, ◌≢◌, ℕ, ◌+◌, ◌<◌, None, Some}
 use Rattle.rec_word.specs.declared.op.Op.{Op}
 use Rattle.rec_collector.specs.Causes.{HasCause}
 use Rattle.rec_collector.specs.Next.{next_of}
@@ -28,3 +28,14 @@ pub record MakesTurn (before after : CollectorView) (answer : Turn) : Type 0 whe
   -- In whatever state of a run the collector's record is what it was here, and its operation's word is the one that was found, this is
   -- the turn of that heap.
   pub turn : (w : Core) → IsWorld w → w.collector ≡ collector_now before → ((op : Op) (b : Beat) → next_of w.collector ≡ Some op → after.collecting ≡ collecting_more before.collecting b → word_of b ≡ cell (cells_of w) op) → IsTurn w (after_turn w) answer
+
+-- so many turns, one after another, of which each moved
+pub data MovesTo (before : CollectorView) : ℕ → CollectorView → Type 0 where
+  none : MovesTo before 0 before
+  more : (moves : ℕ) (a b : CollectorView) → MovesTo before moves a → MakesTurn a b turns.Moved → MovesTo before (moves + 1) b
+
+-- The collector made so many turns, and each moved; or fewer, and behind those that moved the last one came to something else. This is
+-- what the last one came to.
+pub data MakesTurns (before after : CollectorView) (most : ℕ) (answer : Turn) : Type 0 where
+  moved : answer ≡ turns.Moved → MovesTo before most after → MakesTurns before after most answer
+  ended : (moves : ℕ) (last : CollectorView) → moves < most → MovesTo before moves last → MakesTurn last after answer → answer ≢ turns.Moved → MakesTurns before after most answer

@@ -1,9 +1,10 @@
 //! A mutator on the table.
-ghost use Rattle.std.specs.Prelude.{◌≡◌, ◌<◌, ◌≤◌, ◌↔◌, [], ◌++◌, false, true, length, Option, IsTrue};
+ghost use Rattle.std.specs.Prelude.{◌≡◌, ◌<◌, ◌≤◌, ◌↔◌, [], ◌++◌, false, true, length, Option, IfSome, IsTrue};
 ghost use Rattle.rec_mutator.specs.Next.{next_of};
 ghost use Rattle.rec_mutator.specs.Private.{is_busy, register, HasOperands, IsMachine, KeepsSizes};
 ghost use Rattle.rec_mutator.specs.Step.{NamesSlots};
 ghost use Rattle.rec_mutator.specs.Took.{IsBetween, IsFound, spare, took_of};
+ghost use Rattle.rec_mutator.specs.declared.phase.Phase.TheVariants.{Begun};
 ghost use Rattle.rec_table.specs.Views.{mutator_view, mutator_now, IsOf};
 ghost use Rattle.rec_table.specs.Beats.{told, learnt};
 ghost use Rattle.rec_core.specs.Row.{index_of};
@@ -58,6 +59,7 @@ impl Model for Actor {
 }
 
 // Makes the atomic operation of a step, and no more.
+#[inline(always)]
 fn make<W: Doing>(
     board: &Board,
     seat: &mut Seat<Option<Buffer>, View>,
@@ -101,15 +103,18 @@ fn make<W: Doing>(
 }
 
 // The machine learns the word that the step found; where it has just taken its mailbox, the retired log goes there for the buffer.
+#[inline(always)]
 fn learn(
     board: &Board,
     seat: &mut Seat<Option<Buffer>, View>,
     machine: &mut Machine,
+    work: Option<Start>,
     op: Op,
     word: u64,
 )
     requires table { seat.old.table_id ≡ board.now.table.shared.table_id }
     requires busy { is_busy machine.old ≡ true }
+    requires begun { IfSome work (λ start. machine.old.phase ≡ Begun start.work) }
     requires between { IsBetween machine.old.phase }
     requires number { 1 ≤ machine.old.number }
     requires op { op ≡ next_of machine.old }
@@ -122,6 +127,11 @@ fn learn(
     ensures between { IsBetween machine.new.phase }
     ensures me { seat.new.me ≡ (seat.old.me.0, hands (seated_of seat.old.me.0) machine.new) }
 {
+    // A first step takes no mailbox.
+    if let Some(start) = work {
+        machine.took_first(start.work, word);
+        return;
+    }
     match op {
         Op::TakeBox(t, _) => {
             machine.took(word);
@@ -132,9 +142,11 @@ fn learn(
     }
 }
 
+#[inline(always)]
 fn prepare(machine: &mut Machine, work: Option<Start>)
     requires may { MayGo machine.old work }
     ensures ready { machine.new ≡ ready machine.old work }
+    ensures begun { IfSome work (λ start. machine.new.phase ≡ Begun start.work) }
     ensures busy { is_busy machine.new ≡ true }
     ensures same { KeepsSizes machine.old machine.new }
     ensures kept { IsMachine machine.new }
@@ -146,6 +158,7 @@ fn prepare(machine: &mut Machine, work: Option<Start>)
 }
 
 // How many objects a step made.
+#[inline(always)]
 fn births(op: Op, found: u64) -> u64
     ensures { result ≡ births_of op found }
 {
@@ -156,6 +169,7 @@ fn births(op: Op, found: u64) -> u64
 }
 
 // Where the next scan begins after this step: behind the slot that it claimed.
+#[inline(always)]
 fn cursor_after(op: Op, cursor: u16) -> u16 {
     match op {
         Op::ClaimHeader(slot, _) => slot.wrapping_add(1),
@@ -215,6 +229,7 @@ impl Actor {
     }
 
     /// One step, which begins a work first, or goes on with one.
+    #[inline(always)]
     pub fn step(&mut self, board: &Board, work: Option<Start>) -> u64
         requires own { IsOf board.now.table.shared.table_id board.now.table.shared.key.value self.old }
         requires world { IsWorld board.now.table.shared.key.value }
@@ -233,7 +248,7 @@ impl Actor {
         prepare(&mut self.machine, work);
         let op = self.machine.next();
         let word = make::<Brand>(board, &mut self.seat, op, work);
-        learn(board, &mut self.seat, &mut self.machine, op, word);
+        learn(board, &mut self.seat, &mut self.machine, work, op, word);
         self.births = self.births.wrapping_add(births(op, word));
         self.cursor = cursor_after(op, self.cursor);
         let _steps = self.machine.steps();
@@ -266,6 +281,7 @@ impl Actor {
     }
 
     // A work, and where its scan is to begin, if it makes one.
+    #[inline(always)]
     fn start(&self, board: &Board, work: Work) -> Start
         requires own { IsOf board.now.table.shared.table_id board.now.table.shared.key.value self.now }
         requires world { IsWorld board.now.table.shared.key.value }
@@ -284,6 +300,7 @@ impl Actor {
     }
 
     // What came of the last work, if it is finished.
+    #[inline(always)]
     fn answer(&self) -> Option<Made>
         ensures answer { result ≡ answer_of (mutator_now self.now) }
     {
@@ -327,6 +344,7 @@ impl Actor {
     }
 
     /// Begins a work and makes its steps to the end.
+    #[inline(always)]
     pub fn work(&mut self, board: &Board, work: Work) -> Made
         requires own { IsOf board.now.table.shared.table_id board.now.table.shared.key.value self.old }
         requires world { IsWorld board.now.table.shared.key.value }

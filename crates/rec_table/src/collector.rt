@@ -9,7 +9,7 @@ ghost use Rattle.rec_collector.specs.declared.phase.Phase.TheVariants as phases;
 ghost use Rattle.rec_table.specs.Beats.{gathered, gathered_all, births_told};
 ghost use Rattle.rec_table.specs.Views.{collector_view, collector_now, mutator_now, IsCollectorOf, IsOwn, PutsBack};
 ghost use Rattle.rec_core.specs.Row.{index_of};
-ghost use Rattle.rec_table.specs.Turn.{MakesTurn};
+ghost use Rattle.rec_table.specs.Turn.{MakesTurn, MakesTurns};
 ghost use Rattle.rec_table.specs.Rule.{boxes_out, collecting_of, IsReturnOp, collecting_more, word_of, Looks, NotLooking};
 ghost use Rattle.rec_table.specs.declared.views.Beat.{Beat as Beats};
 ghost use Rattle.rec_table.specs.declared.views.Beat.TheVariants.{Saw};
@@ -218,6 +218,27 @@ impl Collector {
         ensures own { IsCollectorOf heap.now self.new }
     {
         self.turn_on(heap.board())
+    }
+
+    /// Makes turns until one comes to something else than `Moved`, and at most so many. It answers what the last one came to, and `Moved`
+    /// where none was to be made.
+    pub fn turns(&mut self, heap: &Heap, most: u32) -> Turn
+        requires own { IsCollectorOf heap.now self.old }
+
+        ensures turns { MakesTurns self.old self.new most result }
+
+        // It stays the collector of this heap.
+        ensures own { IsCollectorOf heap.now self.new }
+    {
+        for moves in 0..most {
+            let _ = moves;
+            let turn = self.turn(heap);
+            match turn {
+                Turn::Moved => {}
+                _ => return turn,
+            }
+        }
+        Turn::Moved
     }
 
     /// What became of the sets of possible garbage cycles that were tested since the opening.

@@ -196,7 +196,7 @@ none_leaves commands.Leave answers.Done stays = absurd stays
 none_leaves _ _ stays = refl
 
 -- nor by a step that isn't one of leaving
-stays_after : (w v : Core) (t : ℕ) → IsKept w → IsMutator w.config t → is_busy (mutator w t) ≡ true → IsStayingIn (mutator w t).phase → v ≡ stepped w t → (mutator v t).left ≡ false
+pub stays_after : (w v : Core) (t : ℕ) → IsKept w → IsMutator w.config t → is_busy (mutator w t) ≡ true → IsStayingIn (mutator w t).phase → v ≡ stepped w t → (mutator v t).left ≡ false
 stays_after w v t kept is busy stays steps =
     ap (λ (x : Core). (mutator x t).left) steps ∙ ap (λ (p : Private). p.left) (stepped_mutator w t kept is)
     ∙ step_left (λ parts. subst IsStayingIn parts stays) (its_step w t kept is busy) ∙ stays_here w t kept is busy

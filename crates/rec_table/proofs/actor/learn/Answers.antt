@@ -1,8 +1,12 @@
 -- The contract of `learn`: the machine learns the word that the step found; where it has just taken its mailbox, the retired log goes there for the buffer.
-use Rattle.std.proofs.Common.{◌≡◌, ◌-◌, Option, Some, ◌∷◌, [], refl, sym, ap, ◌∙◌, subst, arith}
+use Rattle.std.proofs.Common.{◌≡◌, ◌-◌, Option, Some, IfSome, ◌∷◌, [], refl, sym, ap, ◌∙◌, subst, arith}
 use Rattle.atomic_table.specs.Table.{rest}
 use Rattle.rec_table.proofs.Common.{Contents, Private, KeepsSizes, TakesBox, spare, took_of, swapped_of, left_of, seated_of}
 use Rattle.rec_world.specs.Mailbox.{held}
+use Rattle.rec_mutator.specs.declared.phase.Phase.{Phase}
+use Rattle.rec_mutator.specs.declared.phase.Phase.TheVariants.{Begun}
+use Rattle.rec_mutator.proofs.Steps.{TakesNone}
+use Rattle.rec_table.specs.declared.start.Start.{Start}
 use Rattle.rec_table.proofs.Making.{IsTakeOp, taking_phase, takes_own, out_at, first_is, learns_box, learns_word, takes_none, taking_takes, Boxed}
 use Rattle.rec_table.proofs.actor.learn.Goals as goal
 use Rattle.rec_table.proofs.actor.learn.Goals.{After-from}
@@ -47,15 +51,35 @@ returns-in-TakeBox-clause-me c =
     let l : (c.from.result - 1, c.swap_own.new.mailbox) ∷ rest c.args.seat.now.me.1 ≡ (c.args.machine.now.number - 1, c.swap_own.new.mailbox) ∷ [] = λ j. (own a j - 1, c.swap_own.new.mailbox) ∷ rest (out a j) in
     λ k. (c.args.seat.now.me.0, (l ∙ b.3) k)
 
-pub returns-in_default : goal.returns-in_default
-returns-in_default c =
+pub returns-in_default-op : goal.returns-in_default-op
+returns-in_default-op c =
     let p : Private = c.args.machine.now in
-    let all = learns_word p c.took-in_default.new.self (seated_of c.args.seat.now.me.0) c.args.word c.args.seat.now.me c.requires.busy c.requires.between
-    (takes_none p.phase c.requires.between (λ takes. taking_takes p c.args.op takes c.requires.op c.in_default.not-TakeBox)) c.took-in_default.ensures.took c.requires.out in
+    let all = learns_word p c.took-in_default-op.new.self (seated_of c.args.seat.now.me.0) c.args.word c.args.seat.now.me c.requires.busy c.requires.between
+    (takes_none p.phase c.requires.between (λ takes. taking_takes p c.args.op takes c.requires.op c.in_default-op.not-TakeBox)) c.took-in_default-op.ensures.took c.requires.out in
     record {
       seat = (refl, refl);
       machine = all.0;
-      same = c.took-in_default.ensures.same;
+      same = c.took-in_default-op.ensures.same;
+      between = all.1;
+      me = all.2;
+    }
+
+-- A work that was begun takes no mailbox by its first step.
+begun : (work : Option Start) (start : Start) (phase : Phase) → work ≡ Some start → IfSome work (λ s. phase ≡ Begun s.work) → phase ≡ Begun start.work
+begun work start phase is so = subst (λ (w : Option Start). IfSome w (λ s. phase ≡ Begun s.work)) is so
+
+pub took_first-requires-clause-begun : goal.took_first-requires-clause-begun
+took_first-requires-clause-begun c = begun c.args.work c.in-Some.start c.args.machine.now.phase c.in-Some.is c.requires.begun
+
+pub returns-in-Some : goal.returns-in-Some
+returns-in-Some c =
+    let p : Private = c.args.machine.now in
+    let is : p.phase ≡ Begun c.in-Some.start.work = begun c.args.work c.in-Some.start p.phase c.in-Some.is c.requires.begun in
+    let all = learns_word p c.took_first.new.self (seated_of c.args.seat.now.me.0) c.args.word c.args.seat.now.me c.requires.busy c.requires.between (subst TakesNone (sym is) tt) c.took_first.ensures.took c.requires.out in
+    record {
+      seat = (refl, refl);
+      machine = all.0;
+      same = c.took_first.ensures.same;
       between = all.1;
       me = all.2;
     }
