@@ -193,6 +193,11 @@ uint32_t recycler_totals(recycler *r, recycler_totals_told *told);
 /* One step of a collection, on &r->collector. It waits for nobody. Codes: CLOSED_HANDLE, RESTS, OTHER_HANDLE. */
 uint32_t recycler_turn(recycler_handle *collector, recycler_turned *told);
 
+/* Up to so many steps of a collection, on &r->collector, in one call: it ends behind the first one that does not come to MOVED. `told` is
+ * what the last step came to, and MOVED where turns is 0. It waits for nobody, and its steps are those of as many calls of
+ * recycler_turn. Codes: CLOSED_HANDLE, RESTS, OTHER_HANDLE. */
+uint32_t recycler_collect(recycler_handle *collector, uint32_t turns, recycler_turned *told);
+
 /* The calls below are for &r->mutators[k]. Codes of each: CLOSED_HANDLE, RESTS, OTHER_HANDLE, LEFT; of the commands RANGE too, where a
  * register or the field is not there. A command that the heap refuses is answered RECYCLER_OK, with the refusal in `answer`. */
 

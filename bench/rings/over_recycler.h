@@ -34,11 +34,9 @@ static bool all_done(int more) {
 static void *collect(void *nothing) {
     recycler_turned told;
     while (!all_done(0)) {
-        for (int turn = 0; turn < 100; turn++) {
-            must(recycler_turn(&heap.collector, &told), "turn");
-            if (told.what == RECYCLER_WAITING) {
-                sched_yield();
-            }
+        must(recycler_collect(&heap.collector, 100, &told), "collect");
+        if (told.what == RECYCLER_WAITING) {
+            sched_yield();
         }
     }
     return nothing;

@@ -130,6 +130,7 @@ static void while_closed(recycler *r) {
     WANT(recycler_taken(r, &told.number), RECYCLER_CLOSED_HANDLE);
     WANT(recycler_totals(r, &told.totals), RECYCLER_CLOSED_HANDLE);
     WANT(recycler_turn(&r->collector, &told.turned), RECYCLER_CLOSED_HANDLE);
+    WANT(recycler_collect(&r->collector, 1, &told.turned), RECYCLER_CLOSED_HANDLE);
     WANT(recycler_turn(&r->mutators[0], &told.turned), RECYCLER_CLOSED_HANDLE);
     want_commands(&r->collector, RECYCLER_CLOSED_HANDLE);
     want_commands(&r->mutators[0], RECYCLER_CLOSED_HANDLE);
@@ -143,6 +144,7 @@ static void while_at_rest(recycler *r) {
     WANT(recycler_open(r, 0, 1, 4, 2, 64, 1), RECYCLER_OPEN_ALREADY);
     WANT(recycler_stop(r), RECYCLER_RESTS);
     WANT(recycler_turn(&r->collector, &told.turned), RECYCLER_RESTS);
+    WANT(recycler_collect(&r->collector, 1, &told.turned), RECYCLER_RESTS);
     WANT(recycler_turn(&r->mutators[0], &told.turned), RECYCLER_RESTS);
     want_commands(&r->collector, RECYCLER_RESTS);
     want_commands(&r->mutators[0], RECYCLER_RESTS);
@@ -166,6 +168,7 @@ static void while_it_runs(recycler *r) {
     WANT(recycler_taken(r, &told.number), RECYCLER_RUNS);
     WANT(recycler_totals(r, &told.totals), RECYCLER_RUNS);
     WANT(recycler_turn(m, &told.turned), RECYCLER_OTHER_HANDLE);
+    WANT(recycler_collect(m, 1, &told.turned), RECYCLER_OTHER_HANDLE);
     WANT(recycler_turn(&r->mutators[MUTATORS], &told.turned), RECYCLER_CLOSED_HANDLE);
     want_commands(&r->collector, RECYCLER_OTHER_HANDLE);
     want_commands(&r->mutators[MUTATORS], RECYCLER_CLOSED_HANDLE);

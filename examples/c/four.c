@@ -95,13 +95,11 @@ static void *collect(void *handle) {
     const struct timespec shortly = { 0, 100000 };
     recycler_turned told;
     while (!all_done(0)) {
-        for (int turn = 0; turn < 100; turn++) {
-            must(recycler_turn(handle, &told), "turn");
-            if (told.what == RECYCLER_WAITING) {
-                sched_yield();
-            } else if (told.what == RECYCLER_COLLECTED && told.freed == 0) {
-                nanosleep(&shortly, NULL);
-            }
+        must(recycler_collect(handle, 100, &told), "collect");
+        if (told.what == RECYCLER_WAITING) {
+            sched_yield();
+        } else if (told.what == RECYCLER_COLLECTED && told.freed == 0) {
+            nanosleep(&shortly, NULL);
         }
     }
     return NULL;

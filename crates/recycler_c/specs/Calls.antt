@@ -19,9 +19,9 @@ use Rattle.rec_settle.specs.Collecting.{taken_slots}
 use Rattle.rec_settle.specs.Whole as whole
 use Rattle.rec_table.specs.Answered.{IsAnswered, IsPolled, Leaves}
 use Rattle.rec_table.specs.Ends.{IsStopped}
-use Rattle.rec_table.specs.Views.{MutatorView, Started, Works, fresh, fresh_collector, collector_now, mutator_now}
+use Rattle.rec_table.specs.Views.{CollectorView, MutatorView, Started, Works, fresh, fresh_collector, collector_now, mutator_now}
 use Rattle.rec_table.specs.Journals.{Tells}
-use Rattle.rec_table.specs.Turn.{MakesTurn}
+use Rattle.rec_table.specs.Turn.{MakesTurn, MakesTurns}
 use Rattle.rec_world.specs.OpenError.{IsRefused}
 use Rattle.rec_world.specs.World.{label_of}
 use Rattle.rec_world.specs.declared.open_error.OpenError.{OpenError}
@@ -208,23 +208,31 @@ Settles h told codes.Ok h' told' = HasSettled h h' told'
 Settles h told codes.EpochsSpent h' told' = HasFewEpochs h × (h' ≡ h) × (told' ≡ told)
 Settles h told code h' told' = LacksRest h code × (h' ≡ h) × (told' ≡ told)
 
--- one turn of the collector, and how it is told
-pub record HasTurned (h h' : Option End) (told : Turned) : Type 0 where
+-- the collector made its turns, as this relation says, and how it is told
+pub record HasTurned (makes : CollectorView → CollectorView → Turn → Type 0) (h h' : Option End) (told : Turned) : Type 0 where
   pub before : Collecting
   pub was : collects_in h ≡ Some before
   pub after : Collecting
   pub is : collects_in h' ≡ Some after
   pub turn : Turn
-  pub turns : MakesTurn before.collector after.collector turn
+  pub turns : makes before.collector after.collector turn
   pub told_so : told ≡ turned_of turn
   -- nothing else of the handle changes
   pub heap : arc_value after.heap ≡ arc_value before.heap
   pub home : after.home.items ≡ before.home.items
   pub count : after.count ≡ before.count
 
+abbrev pub TurnsBy : (CollectorView → CollectorView → Turn → Type 0) → Option End → Turned → Code → Option End → Turned → Type 0
+TurnsBy makes h told codes.Ok h' told' = HasTurned makes h h' told'
+TurnsBy makes h told code h' told' = LacksEnd (IsSome (mutates_in h)) h code × (h' ≡ h) × (told' ≡ told)
+
+-- one turn
 abbrev pub TurnsIn : Option End → Turned → Code → Option End → Turned → Type 0
-TurnsIn h told codes.Ok h' told' = HasTurned h h' told'
-TurnsIn h told code h' told' = LacksEnd (IsSome (mutates_in h)) h code × (h' ≡ h) × (told' ≡ told)
+TurnsIn = TurnsBy MakesTurn
+
+-- turns until one comes to something else than that it moved, and at most so many
+abbrev pub CollectsIn : Option End → (most : ℕ) → Turned → Code → Option End → Turned → Type 0
+CollectsIn h most told = TurnsBy (λ before after answer. MakesTurns before after most answer) h told
 
 -- what stays of a mutator's handle
 pub record KeepsMutator (before after : Mutating) : Type 0 where

@@ -1,7 +1,7 @@
 //! What C calls. Each export calls one function of the modules beside this one.
 ghost use Rattle.std.specs.Prelude.{◌≡◌, Some};
 ghost use Rattle.rec_model.specs.declared.command.Cmd.TheVariants as commands;
-ghost use Rattle.recycler_c.specs.Calls.{Asks, Closes, Counts, Looks, Opens, Polls, Settles, Starts, Stops, Tallies, TurnsIn, held};
+ghost use Rattle.recycler_c.specs.Calls.{Asks, CollectsIn, Closes, Counts, Looks, Opens, Polls, Settles, Starts, Stops, Tallies, TurnsIn, held};
 ghost use Rattle.recycler_c.specs.Codes.{Answers};
 ghost use Rattle.recycler_c.specs.Narrow.{narrow};
 
@@ -107,6 +107,19 @@ pub extern "C" fn recycler_turn(alloc: Global, collector: &mut Handle, told: &mu
     ensures { Answers result (λ code. TurnsIn collector.old.owned.held told.old code collector.new.owned.held told.new) }
 {
     collecting::turn(alloc, collector, told).number()
+}
+
+/// Turns of the collector of a running heap until one comes to something else than that it moved, and at most so many.
+#[unsafe(no_mangle)]
+pub extern "C" fn recycler_collect(
+    alloc: Global,
+    collector: &mut Handle,
+    turns: u32,
+    told: &mut Turned,
+) -> u32
+    ensures { Answers result (λ code. CollectsIn collector.old.owned.held turns told.old code collector.new.owned.held told.new) }
+{
+    collecting::collect(alloc, collector, turns, told).number()
 }
 
 /// A mutator crosses into the requested epoch, if it isn't in it.
