@@ -178,6 +178,8 @@ impl Machine {
 
         ensures took { self.new ≡ took_of self.old word }
         ensures same { KeepsSizes self.old self.new }
+        ensures cause { (cmd : Command) (told : Answered) → work_of self.old ≡ Some (works.Command cmd) → answer_of self.new ≡ Some (makes.Answered told) → HasCause self.old self.new cmd word told.answer }
+        ensures polled { PollHasCause self.old self.new word }
         ensures steps { self.new.steps ≡ self.old.steps + 1 }
         ensures work { work_of self.new ≡ work_of self.old }
         ensures limit { IfSome (work_of self.new) (λ work. self.new.steps ≤ limit_of self.new.slots work) }

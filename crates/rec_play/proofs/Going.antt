@@ -24,12 +24,12 @@ use Rattle.rec_collector.specs.Next.{next_of}
 use Rattle.rec_core.specs.Config.{IsMutator, HasLabel}
 use Rattle.rec_core.specs.Core.{opened, Core, sight, mutator}
 use Rattle.rec_core.specs.Kept.{IsKept}
-use Rattle.rec_core.specs.Moves.{Move, after_move, after_moves, begun as begun_in, found_by, turned}
+use Rattle.rec_core.specs.Moves.{Move, begun as begun_in, found_by, turned}
 use Rattle.rec_core.specs.Worked.{AreIdle, IsWorked}
 use Rattle.rec_core.specs.declared.config.Config.{Config}
 use Rattle.rec_core.proofs.Gathering.{awaited_stays}
 use Rattle.rec_core.proofs.Leaving.{IsStayingIn, polls_stay}
-use Rattle.rec_core.proofs.Runs.{move_stays}
+use Rattle.rec_core.proofs.Runs.{config_after}
 use Rattle.rec_core.proofs.Showing.{step_caused}
 use Rattle.rec_core.proofs.Steps.{actor_of}
 use Rattle.rec_order.specs.Events.{swept_by}
@@ -87,13 +87,8 @@ pub record Went (script : ScriptContents) (events : List Event) (n : Naming) (wo
 pub begun : (script : ScriptContents) → IsScript script → Went script [] first_naming (opened (config_of script))
 begun script is = record { valid = is; run = record { moves = []; fit = tt; ends = refl; tells = refl; names = refl }; commands = λ t. refl }
 
--- moves leave the heap's numbers
-moves_stay : (w : Core) (ms : List Move) → (after_moves w ms).config ≡ w.config
-moves_stay w [] = refl
-moves_stay w (m ∷ ms) = moves_stay (after_move w m) ms ∙ move_stays w m
-
 runs_config : (script : ScriptContents) (w : Core) (events : List Event) (n : Naming) → Runs (opened (config_of script)) w events first_naming n → w.config ≡ config_of script
-runs_config script w events n run = ap (λ (x : Core). x.config) (sym run.ends) ∙ moves_stay (opened (config_of script)) run.moves
+runs_config script w events n run = ap (λ (x : Core). x.config) (sym run.ends) ∙ config_after (opened (config_of script)) run.moves
 
 -- operands in range are those of a mutator
 operands : (script : ScriptContents) (p : Private) (cmd : Cmd) → length p.registers ≡ script.registers → p.fields ≡ script.fields → IsCommand script.registers script.fields cmd → HasOperands p cmd × HasLabel (works.Command cmd)

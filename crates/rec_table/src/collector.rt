@@ -231,7 +231,6 @@ impl Collector {
         ensures own { IsCollectorOf heap.now self.new }
     {
         for moves in 0..most {
-            let _ = moves;
             let turn = self.turn(heap);
             match turn {
                 Turn::Moved => {}

@@ -4,14 +4,12 @@ use crate::crew::{End, Limits, Task};
 use crate::race::race;
 use crate::settled::settles;
 use rec_model::Cmd;
+use rec_model::limits::MOST_MUTATORS;
 use rec_world::{Config, World};
 use std::alloc::{AllocError as NoMemory, Global};
 use std::process::Abort;
 use std::test::Fail;
 use std::thread::Threads;
-
-// The most mutators that a heap has.
-const MOST: u32 = 63;
 
 // The collector turns as long as mutators work, and no set that it frees is enough.
 const LIMITS: Limits = Limits {
@@ -117,13 +115,13 @@ fn race_leaving<R: Abort + Threads + Sync>(
     Ok(leftovers)
 }
 
-// From one mutator to 63, of which all leave or one stays. What is left is the first object, where one stays who holds it.
+// From one mutator to as many as a heap has, of which all leave or one stays. What is left is the first object, where one stays who holds it.
 #[test]
 fn nothing_is_left_of_those_that_leave(rt: HostRuntime) -> Result<(), Fail> {
     let alloc: Global = rt.alloc();
     let mut is_put_off = false;
     for round in 0..1000u32 {
-        let (mutators, staying) = (round % MOST + 1, round % 2);
+        let (mutators, staying) = (round % u32::from(MOST_MUTATORS) + 1, round % 2);
         let left = race_leaving(&rt, alloc, mutators, staying)?;
         let present = u64::from(staying.min(mutators));
         assert_eq!(rt; left.present, present, "round {round}");

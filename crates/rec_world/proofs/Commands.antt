@@ -500,8 +500,8 @@ poll_answers w b v t told kept is begins its f last_kept =
         let not_so : ◌≡◌ {A = Option Made} (Some (makes.Crossed (Some ((mutator last t).epoch + 1)))) (Some (makes.Answered told)) = sym crossed ∙ answer in
         (cc)
 
--- What is said of a poll that ended so: nothing is seen of it, the mutator hasn't left by it, and it stays in its epoch just where that is the requested one,
--- and else is in the requested one, with an empty log.
+-- What is said of a poll that ended so: nothing is seen of it, the mutator hasn't left by it, and it stays in its epoch just where that
+-- is the requested one, and else is in the requested one, with an empty log.
 pub record IsPolled (w v : Core) (t : ℕ) (crossed : Option ℕ) : Type 0 where
   pub quiet : IsQuiet w v t
   pub crossed_into : IsCrossed w v t crossed

@@ -189,8 +189,8 @@ impl World {
     }
 
     /// Makes one turn of the collector: one step of its collection, on the word that this names. It answers `Waiting` for a mutator
-    /// that hasn't crossed into the requested epoch and hasn't left, and `EpochsSpent` for good where the next request would be epoch 16,777,216.
-    /// No slot that a register reaches is freed or changed, and whatever heap stood for the world still does.
+    /// that hasn't crossed into the requested epoch and hasn't left, and `EpochsSpent` for good where the next request would be epoch
+    /// 16,777,216. No slot that a register reaches is freed or changed, and whatever heap stood for the world still does.
     pub fn turn(&mut self) -> Turn
         ensures turn { IsTurn self.old self.new result }
         ensures kept { IsWorld self.new }
