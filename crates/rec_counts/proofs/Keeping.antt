@@ -37,7 +37,7 @@ less_at f slots x v z e y =
     ]
 
 -- another number of slots with the same buffers
-remade : {slots : List Slot} {roots : List ℕ} {sets : List (List ℕ)} {marked work zeros free : List ℕ} → Kept slots roots sets marked work zeros free →
+pub remade : {slots : List Slot} {roots : List ℕ} {sets : List (List ℕ)} {marked work zeros free : List ℕ} → Kept slots roots sets marked work zeros free →
     (slots' : List Slot) (roots' : List ℕ) (sets' : List (List ℕ)) → length slots' ≡ length slots →
     ((x : ℕ) → times x roots' + times x (concat sets') ≡ one (get_or slots' x absent).buffered) →
     ((number x : ℕ) → times x (get_or sets' number []) ≡ one (is_in number (get_or slots' x absent).set)) →

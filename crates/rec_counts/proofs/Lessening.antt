@@ -9,6 +9,7 @@ use Rattle.rec_counts.specs.Slot.{absent, lessened, due_of, due_if}
 use Rattle.rec_counts.specs.Colour.{is_green}
 use Rattle.rec_counts.specs.Lists.{times}
 use Rattle.rec_counts.specs.Kept.{Kept, HasRoom}
+use Rattle.rec_counts.specs.Touched.{Touching, untouched}
 use Rattle.rec_counts.proofs.Keeping.{keep_slot, keep_push_root, relisted}
 use Rattle.rec_counts.proofs.Times.{once_push}
 
@@ -60,16 +61,16 @@ pub keep_root : {slots : List Slot} {roots : List ℕ} {sets : List (List ℕ)} 
 keep_root k x v l t e = keep_push_root k x (lessened v) l (ap (λ (w : Slot). w.buffered) (sym e) ∙ t.unbuffered) t.buffered (t.set ∙ ap (λ (w : Slot). w.set) e)
 
 -- the rooms are the same for as many slots
-pub room_kept : {n n' roots sets marked work zeros free : ℕ} → HasRoom n roots sets marked work zeros free → n' ≡ n → HasRoom n' roots sets marked work zeros free
-room_kept h e = record { roots_room = rw e h.roots_room; sets_room = rw e h.sets_room; marked_room = rw e h.marked_room; work_room = rw e h.work_room; zeros_room = rw e h.zeros_room; free_room = rw e h.free_room }
+pub room_kept : {n n' roots sets marked work zeros free : ℕ} {touched : Touching} → HasRoom n roots sets marked work zeros free touched → n' ≡ n → HasRoom n' roots sets marked work zeros free touched
+room_kept h e = record { roots_room = rw e h.roots_room; sets_room = rw e h.sets_room; marked_room = rw e h.marked_room; work_room = rw e h.work_room; zeros_room = rw e h.zeros_room; free_room = rw e h.free_room; none_touched = rw e h.none_touched }
 
 -- it is not among the zeros yet
 pub new_zero : {v w : Slot} (x : ℕ) (zeros : List ℕ) → ToZeros v → v ≡ w → (w.released ≡ false → w.count ≡ 1 → times x zeros ≡ 0) → times x zeros ≡ 0
 new_zero x zeros t e h = h (ap (λ (w : Slot). w.released) (sym e) ∙ t.unreleased) (ap (λ (w : Slot). w.count) (sym e) ∙ t.last)
 
 -- the rooms at opening
-pub room_open : (n m : ℕ) → m ≡ n → HasRoom m (n * 2) n (n * 2) (n * 2) (n * 2) (n * 2)
-room_open n m e = record { roots_room = omega arith; sets_room = sym e; marked_room = omega arith; work_room = omega arith; zeros_room = omega arith; free_room = omega arith }
+pub room_open : (n m : ℕ) → m ≡ n → HasRoom m (n * 2) n (n * 2) (n * 2) (n * 2) (n * 2) (untouched n)
+room_open n m e = record { roots_room = omega arith; sets_room = sym e; marked_room = omega arith; work_room = omega arith; zeros_room = omega arith; free_room = omega arith; none_touched = ap untouched (sym e) }
 
 -- what is known of a slot that is due nowhere
 pub record ToNothing (v : Slot) : Type 0 where

@@ -5,6 +5,7 @@ use Rattle.rec_counts.specs.contracts.slot.Slot as slot
 use Rattle.rec_counts.specs.contracts.queue.Queue as queue
 use Rattle.rec_counts.specs.contracts.row.Row as row
 use Rattle.rec_counts.specs.contracts.cycle_buffer.CycleBuffer as sets
+use Rattle.rec_counts.specs.contracts.touched.Touched as touched
 use Rattle.rec_counts.specs.contracts.counts.Counts as counts
 
 slot_send : IsSend slot.the_field.row
@@ -31,8 +32,14 @@ sets_send = search (row_send, sendable) depth 20
 sets_sync : IsSync sets.the_field.row
 sets_sync = search (row_sync, sendable) depth 20
 
+touched_send : IsSend touched.the_field.row
+touched_send = search (row_send, sendable, crosses) depth 20
+
+touched_sync : IsSync touched.the_field.row
+touched_sync = search (row_sync, sendable, crosses) depth 20
+
 pub counts_send : IsSend counts.the_row
-counts_send = search (slot_send, queue_send, sets_send, sendable, crosses) depth 20
+counts_send = search (slot_send, queue_send, sets_send, touched_send, sendable, crosses) depth 20
 
 pub counts_sync : IsSync counts.the_row
-counts_sync = search (slot_sync, queue_sync, sets_sync, sendable, crosses) depth 20
+counts_sync = search (slot_sync, queue_sync, sets_sync, touched_sync, sendable, crosses) depth 20

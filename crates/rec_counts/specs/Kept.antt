@@ -4,6 +4,7 @@ use Rattle.std.specs.List.{concat}
 use Rattle.rec_counts.specs.declared.slot.Slot.{Slot}
 use Rattle.rec_counts.specs.Slot.{absent, is_in}
 use Rattle.rec_counts.specs.Lists.{one, times, EachOnce}
+use Rattle.rec_counts.specs.Touched.{Touching, untouched}
 
 -- a slot is buffered exactly while it stands in the root buffer or in a set, and then it stands there once; it is in the
 -- set whose number it has; and each of the other lists has each slot at most once
@@ -17,11 +18,13 @@ pub record Kept (slots : List Slot) (roots : List ℕ) (sets : List (List ℕ)) 
   pub free_once : EachOnce (length slots) free
   pub few_slots : length slots < 2 ^ 16
 
--- the room of each list: a queue has room for every slot twice, the cycle buffer for every slot once
-pub record HasRoom (slots roots sets marked work zeros free : ℕ) : Type 0 where
+-- the room of each list: a queue has room for every slot twice, the cycle buffer for every slot once; and no slot is touched between
+-- two batches
+pub record HasRoom (slots roots sets marked work zeros free : ℕ) (touched : Touching) : Type 0 where
   pub roots_room : roots ≡ slots + slots
   pub sets_room : sets ≡ slots
   pub marked_room : marked ≡ slots + slots
   pub work_room : work ≡ slots + slots
   pub zeros_room : zeros ≡ slots + slots
   pub free_room : free ≡ slots + slots
+  pub none_touched : touched ≡ untouched slots

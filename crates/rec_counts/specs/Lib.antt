@@ -1,4 +1,5 @@
 -- The modules of the definitions.
+pub mod Batched
 pub mod Colour
 pub mod Counts
 pub mod Groups
@@ -7,3 +8,4 @@ pub mod Lists
 pub mod Rest
 pub mod Shelf
 pub mod Slot
+pub mod Touched

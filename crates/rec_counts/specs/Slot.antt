@@ -45,6 +45,22 @@ due_if false false false = Root
 abbrev pub due_of : Slot → Due
 due_of v = due_if v.released (v.count == 1) (v.buffered || is_green v.colour)
 
+-- a slot that keeps its colour (or does not), and has no reference left (or some), once references were taken off
+abbrev pub settled_if : (keeps none : Bool) → Slot → Slot
+settled_if true none v = v
+settled_if false true v = record v { colour = Black }
+settled_if false false v = record v { colour = Purple; buffered = true }
+
+-- once references were taken off: a released slot, and a Green one, stay as they are; else the slot is Black where no reference is left,
+-- and where some are it is Purple and buffered
+abbrev pub settled : Slot → Slot
+settled v = settled_if (stays v) (v.count == 0) v
+
+-- where the slot goes then: to the zeros where no reference is left, else to the root buffer where it is in no buffer and isn't
+-- Green; a released slot goes nowhere
+abbrev pub settled_due : Slot → Due
+settled_due v = due_if v.released (v.count == 0) (v.buffered || is_green v.colour)
+
 -- one reference less, also in the cyclic count, which does not fall below zero
 abbrev pub lowered : Slot → Slot
 lowered v = record v { count = v.count - 1; cyclic = v.cyclic - 1 }

@@ -1,5 +1,6 @@
 //! The counts, colours, flags, buffers and lists of all slots.
 ghost use Rattle.std.specs.Prelude.{IfOk, ◌≡◌, ℕ, ◌+◌, ◌-◌, ◌<◌, ◌≤◌, ◌^◌, true, false, Some, None, List, [], ◌∷◌, ◌++◌, length, drop, map, slice_get, slice_index_or as item_at};
+ghost use Rattle.rec_counts.specs.Batched.{batched};
 ghost use Rattle.rec_counts.specs.Counts.{IsKept, IsLastSetNew, decremented, opened, opened_slots, slot_at, with_joined, with_slot, without_last_set, without_root};
 ghost use Rattle.rec_counts.specs.Groups.{last_set};
 ghost use Rattle.rec_counts.specs.Lists.{EachOnce, times};
@@ -8,7 +9,9 @@ ghost use Rattle.rec_counts.specs.Slot.{absent, lowered, raised, swept_clean, un
 use crate::colour::Colour;
 use crate::cycle_buffer::CycleBuffer;
 use crate::queue::Queue;
+use crate::changes::{Changes, make_changes};
 use crate::slot::{Due, Slot};
+use crate::touched::Touched;
 use crate::unbuffer::unbuffer;
 use std::alloc::{AllocError as NoMemory, Global};
 use std::marker::Model;
@@ -24,6 +27,8 @@ pub struct Counts {
     work: Queue,
     zeros: Queue,
     free: Queue,
+    // Empty between two batches, and so no part of what a contract sees.
+    touched: Touched,
 }
 
 impl Model for Counts {
@@ -45,7 +50,7 @@ impl Model for Counts {
 
     ghost invariant = { λ c.
         Kept c.slots.items c.roots.list c.sets.sets c.marked.list c.work.list c.zeros.list c.free.list
-        × HasRoom (length c.slots.items) c.roots.room c.sets.room c.marked.room c.work.room c.zeros.room c.free.room };
+        × HasRoom (length c.slots.items) c.roots.room c.sets.room c.marked.room c.work.room c.zeros.room c.free.room c.touched };
 }
 
 /// The slots at opening.
@@ -74,6 +79,7 @@ impl Counts {
             work: Queue::open(alloc, room)?,
             zeros: Queue::open(alloc, room)?,
             free: Queue::open(alloc, room)?,
+            touched: Touched::open(alloc, slots)?,
         })
     }
 
@@ -212,6 +218,27 @@ impl Counts {
             Due::Zero => self.zeros.push(slot),
             Due::Root => self.roots.push(slot),
         }
+    }
+
+    /// Counts a batch: the changes of all slots in one go. Each slot that they name is then changed once: it is Green where it was
+    /// born a leaf, its count is what they come to, and it gets the colour that they call for. What has references more, and none
+    /// taken off, is Black, or stays Green. What some were taken off is treated as by `decrement`, in the order in which that was
+    /// first told.
+    #[inline(always)]
+    pub fn count_batch<C: Changes>(&mut self, changes: &C)
+        requires told { C.can_tell changes.now (length self.old.slots) }
+        requires fits { (x : ℕ) → (slot_at self.old x).count + C.added changes.now x < 2 ^ 64 }
+        requires covered { (x : ℕ) → times x (C.taken changes.now) ≤ (slot_at self.old x).count + C.added changes.now x }
+        requires zeros { self.old.zeros ≡ [] }
+        ensures { self.new ≡ batched self.old (C.born changes.now) (C.added changes.now) (C.taken changes.now) }
+    {
+        make_changes(
+            changes,
+            &mut self.slots,
+            &mut self.touched,
+            &mut self.roots,
+            &mut self.zeros,
+        );
     }
 
     /// Counts one reference to `slot` less, in its true and in its cyclic count, which stays at zero where it is zero. The

@@ -10,14 +10,19 @@
 //! Breaks" (2001). When a decrement offers a slot, and what lowering does, are this project's profile.
 #![tactic(auto)]
 
+mod changes;
 mod colour;
 mod counts;
 mod cycle_buffer;
 mod queue;
 mod row;
+mod settle;
 mod slot;
+mod touched;
 mod unbuffer;
 
+pub use changes::Changes;
 pub use colour::Colour;
 pub use counts::Counts;
 pub use slot::{Due, Slot};
+pub use touched::{Mark, Touched};

@@ -1,6 +1,6 @@
 //! What is kept of one slot.
 ghost use Rattle.std.specs.Prelude.{◌≡◌, ◌+◌, ◌<◌, ◌^◌, true, Some};
-ghost use Rattle.rec_counts.specs.Slot.{raised, lessened, due_of, lowered, swept_clean, fresh, unbuffered};
+ghost use Rattle.rec_counts.specs.Slot.{raised, lessened, due_of, lowered, settled, settled_due, swept_clean, fresh, unbuffered};
 
 use crate::colour::Colour;
 
@@ -64,6 +64,15 @@ impl Slot {
         ensures due { result ≡ due_of self.old }
     {
         self.count -= 1;
+        self.settle()
+    }
+
+    /// Gives it the colour that its count calls for, once references were taken off, and answers where the slot goes. A slot that
+    /// goes to the root buffer is marked as buffered.
+    pub(crate) fn settle(&mut self) -> Due
+        ensures after { self.new ≡ settled self.old }
+        ensures due { result ≡ settled_due self.old }
+    {
         if self.released {
             return Due::Nothing;
         }
