@@ -1,15 +1,17 @@
 -- How often a slot is named.
-use Rattle.std.proofs.Common.{◌≡◌, ℕ, ◌+◌, ◌<◌, cond, Option, None, List, [], ◌∷◌, ◌++◌, length, map, take, drop, get_or, refl, arith, sym, ◌∙◌, ap}
+use Rattle.std.proofs.Common.{◌≡◌, ℕ, ◌+◌, ◌<◌, ◌≤◌, cond, Option, None, Some, IfSome, List, [], ◌∷◌, ◌++◌, length, map, take, drop, get_or, refl, arith, sym, ◌∙◌, ap, inl, inr}
 use Rattle.std.specs.List.{flat_map, sum_by}
-use Rattle.std.proofs.lemmas.List.{append-nil, take-append-drop, drop_more, take_more, flat_map_more}
-use Rattle.std.proofs.lemmas.List.Sums.{sum_by-cons, sum_by-append}
-use Rattle.std.proofs.lemmas.List.Concat.{flat_map-append}
+use Rattle.std.proofs.lemmas.Bool.{cases_lt}
+use Rattle.std.proofs.lemmas.List.{flat_map_more, take_more}
+use Rattle.std.proofs.lemmas.List.Elements.{filter_map-append}
+use Rattle.std.proofs.lemmas.List.Sums.{sum_by-cons, sum_by-append, sum_by-take-le, sum_by_more}
 use Rattle.rec_word.specs.Word.{is_slot}
 use Rattle.rec_counts.specs.Lists.{one}
 use Rattle.rec_log.specs.declared.contents.Contents.{Contents}
 use Rattle.rec_log.specs.declared.entry.Entry.{Entry}
-use Rattle.rec_apply.specs.Targets.{named, added, taken, leaf_born, leaves, new_target, old_target}
-use Rattle.rec_apply.specs.Batch.{up_targets, down_targets, leaf_targets}
+use Rattle.rec_counts.specs.Lists.{times}
+use Rattle.rec_counts.proofs.Times.{one-same, times-cons, times-nil}
+use Rattle.rec_apply.specs.Targets.{named, added, held, taken, new_target, old_target, slots_in, taken_targets, written}
 
 pub named-nil : (x : ℕ) → named x [] ≡ 0
 unfolding named
@@ -40,37 +42,49 @@ named_halves x f (b ∷ bs) =
       named_halves x f bs,
     )
 
--- what is added is what the increments name
-pub added_is : (x : ℕ) (bs : List Contents) → named x (flat_map up_targets bs) ≡ added x bs
-added_is x bs = named_parts x up_targets bs ∙ named_halves x new_target bs
+-- what is taken off is what the older buffers no longer refer to
+pub taken_is : (x : ℕ) (bs : List Contents) → named x (flat_map taken_targets bs) ≡ taken x bs
+taken_is x bs = named_parts x taken_targets bs ∙ named_halves x old_target bs
 
--- what is taken off is what the decrements name
-leaves_part : (x : ℕ) (bs : List Contents) → sum_by (λ (b : Contents). named x (leaf_targets b)) bs ≡ leaves x bs
-leaves_part x [] = refl
-leaves_part x (b ∷ bs) =
+-- with one target more
+pub named_more : (x : ℕ) (ts : List (Option ℕ)) (i : ℕ) → i < length ts → named x (take (i + 1) ts) ≡ named x (take i ts) + one (is_slot x (get_or ts i None))
+unfolding named
+named_more x ts i h = sum_by_more (λ z. cond (is_slot x z) 1 0) ts i None h
+
+-- each of them is among all
+pub named-at : (x : ℕ) (ts : List (Option ℕ)) (i : ℕ) → i < length ts → one (is_slot x (get_or ts i None)) ≤ named x ts
+unfolding named
+named-at x ts i h = omega (arith, sum_by_more (λ z. cond (is_slot x z) 1 0) ts i None h, sum_by-take-le (λ z. cond (is_slot x z) 1 0) ts (i + 1))
+
+pub part-le : (f : Contents → ℕ) (bs : List Contents) (i : ℕ) (d : Contents) → i < length bs → f (get_or bs i d) ≤ sum_by f bs
+part-le f bs i d h = omega (arith, sum_by_more f bs i d h, sum_by-take-le f bs (i + 1))
+
+-- so a target that none of the slots past the last one is, is there
+pub there : (n : ℕ) (t : Option ℕ) → ((x : ℕ) → n ≤ x → one (is_slot x t) ≡ 0) → IfSome t (λ x. x < n)
+there n None h = tt
+there n (Some x) h = elim (cases_lt x n) [ inl l ↦ l | inr l ↦ absurd (omega (arith, h x l, one-same x)) ]
+
+-- what is added is what is written, and what the registers hold
+pub added_parts : (x : ℕ) (bs : List Contents) → added x bs ≡ written x bs + held x bs
+added_parts x [] = refl
+added_parts x (b ∷ bs) =
     omega (
       arith,
-      sum_by-cons (λ (b : Contents). named x (leaf_targets b)) b bs,
-      sum_by-cons (λ (b : Contents). named x (map leaf_born b.entries)) b bs,
-      ap (named x) (append-nil (map leaf_born b.entries)),
-      leaves_part x bs,
+      sum_by-cons (λ (b : Contents). named x (map new_target b.entries) + named x b.snapshot) b bs,
+      sum_by-cons (λ (b : Contents). named x (map new_target b.entries)) b bs,
+      sum_by-cons (λ (b : Contents). named x b.snapshot) b bs,
+      added_parts x bs,
     )
 
--- so are births of leaves
-pub leaves_is : (x : ℕ) (bs : List Contents) → named x (flat_map leaf_targets bs) ≡ leaves x bs
-leaves_is x bs = named_parts x leaf_targets bs ∙ leaves_part x bs
+-- the slots among targets stand there as often as these name them
+pub times_slots : (x : ℕ) (ts : List (Option ℕ)) → times x (slots_in ts) ≡ named x ts
+times_slots x [] = omega (arith, times-nil x, named-nil x)
+times_slots x (None ∷ ts) = omega (arith, named-cons x None ts, times_slots x ts)
+times_slots x (Some y ∷ ts) = omega (arith, named-cons x (Some y) ts, times-cons x y (slots_in ts), times_slots x ts)
 
-pub taken_is : (x : ℕ) (bs : List Contents) → named x (flat_map down_targets bs) ≡ taken x bs
-taken_is x bs = named_parts x down_targets bs ∙ named_halves x old_target bs
+-- with one more
+pub slots_more : (ts : List (Option ℕ)) (i : ℕ) → i < length ts → slots_in (take (i + 1) ts) ≡ slots_in (take i ts) ++ slots_in (get_or ts i None ∷ [])
+slots_more ts i h = ap slots_in (take_more ts i None h) ∙ filter_map-append (λ target. target) (take i ts) (get_or ts i None ∷ [])
 
--- a list of targets, at one place of it
-pub split_at : (ts : List (Option ℕ)) (i : ℕ) → i < length ts → ts ≡ take i ts ++ get_or ts i None ∷ drop (i + 1) ts
-split_at ts i h = sym (take-append-drop i ts) ∙ ap (λ r. take i ts ++ r) (drop_more ts i None h)
-
--- joined lists, at one of them
-pub split_parts : (f : Contents → List (Option ℕ)) (bs : List Contents) (i : ℕ) (d : Contents) → i < length bs → flat_map f bs ≡ flat_map f (take i bs) ++ (f (get_or bs i d) ++ flat_map f (drop (i + 1) bs))
-split_parts f bs i d h =
-    ap (flat_map f) (sym (take-append-drop i bs)) ∙ flat_map-append f (take i bs) (drop i bs) ∙ ap (λ r. flat_map f (take i bs) ++ flat_map f r) (drop_more bs i d h)
-
-pub more_parts : (f : Contents → List (Option ℕ)) (bs : List Contents) (i : ℕ) (d : Contents) → i < length bs → flat_map f (take (i + 1) bs) ≡ flat_map f (take i bs) ++ f (get_or bs i d)
-more_parts f bs i d h = ap (flat_map f) (take_more bs i d h) ∙ sym (flat_map_more f [] (take i bs) (get_or bs i d))
+pub slots_parts : (bs : List Contents) (i : ℕ) (d : Contents) → i < length bs → slots_in (flat_map taken_targets (take (i + 1) bs)) ≡ slots_in (flat_map taken_targets (take i bs)) ++ slots_in (taken_targets (get_or bs i d))
+slots_parts bs i d h = ap slots_in (ap (flat_map taken_targets) (take_more bs i d h) ∙ sym (flat_map_more taken_targets [] (take i bs) (get_or bs i d))) ∙ filter_map-append (λ target. target) (flat_map taken_targets (take i bs)) (taken_targets (get_or bs i d))

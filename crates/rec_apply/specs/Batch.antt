@@ -1,70 +1,19 @@
--- What a batch makes of the counts: all leaves become Green, then all increments in order, and then all decrements in order.
-use Rattle.std.specs.Prelude.{◌≡◌, ℕ, ◌+◌, ◌<◌, ◌≤◌, ◌^◌, Bool, true, false, Option, None, Some, List, [], ◌++◌, map, length, flat_map, fold}
+-- What a batch makes of the counts: each slot that it names is changed once, by how often it names the slot.
+use Rattle.std.specs.Prelude.{◌≡◌, ℕ, ◌+◌, ◌<◌, ◌≤◌, ◌^◌, Bool, true, false, List, [], length, flat_map, slice_index_or as item_at}
 use Rattle.rec_counts.specs.declared.colour.Colour.{Colour}
 use Rattle.rec_counts.specs.declared.colour.Colour.TheVariants.{Black, Purple, Green}
+use Rattle.rec_counts.specs.Batched.{batched}
 use Rattle.rec_counts.specs.Colour.{is_green}
-use Rattle.rec_counts.specs.Counts.{IsKept, State, slot_at, with_slot, decremented}
+use Rattle.rec_counts.specs.Counts.{IsKept, State, slot_at}
 use Rattle.rec_counts.specs.Rest.{AllZeros, AreZeros, KeepsRest}
-use Rattle.rec_counts.specs.Slot.{raised}
-use Rattle.rec_apply.specs.declared.way.Way.{Way}
-use Rattle.rec_apply.specs.declared.way.Way.TheVariants.{Up, Down, Leaves}
-use Rattle.rec_counts.specs.Lists.{times}
 use Rattle.rec_log.specs.declared.contents.Contents.{Contents}
-use Rattle.rec_apply.specs.Targets.{added, entry_target, leaves, named, taken}
+use Rattle.rec_apply.specs.Targets.{added, leaves, slots_in, taken, taken_targets}
 
--- an increment of this slot, or a decrement, or it becomes Green
-abbrev pub changed : Way → State → ℕ → State
-changed Up s x = with_slot s x (raised (slot_at s x))
-changed Down s x = decremented s x
-changed Leaves s x = with_slot s x (record (slot_at s x) { colour = Green })
-
--- what is named is counted; null counts for nothing
-abbrev pub counted : Way → State → Option ℕ → State
-counted way s None = s
-counted way s (Some x) = changed way s x
-
-abbrev pub counted_up : State → Option ℕ → State
-counted_up s t = counted Up s t
-
-abbrev pub counted_down : State → Option ℕ → State
-counted_down s t = counted Down s t
-
--- the snapshot of a buffer, which bears no leaves
-abbrev pub snapshot_of : Way → Contents → List (Option ℕ)
-snapshot_of Up b = b.snapshot
-snapshot_of Down b = b.snapshot
-snapshot_of Leaves b = []
-
--- what a buffer names: for increments the new targets of its entries, for decrements what they replaced or bore, and then
--- the snapshot; and the leaves that they bore
-abbrev pub targets_of : Way → Contents → List (Option ℕ)
-targets_of way b = map (entry_target way) b.entries ++ snapshot_of way b
-
-abbrev pub up_targets : Contents → List (Option ℕ)
-up_targets b = targets_of Up b
-
-abbrev pub down_targets : Contents → List (Option ℕ)
-down_targets b = targets_of Down b
-
-abbrev pub leaf_targets : Contents → List (Option ℕ)
-leaf_targets b = targets_of Leaves b
-
--- these are counted, one after another
-unfoldable pub all_counted : Way → State → List (Option ℕ) → State
-all_counted way s targets = fold (counted way) s targets
-
-abbrev pub all_up : State → List (Option ℕ) → State
-all_up s targets = all_counted Up s targets
-
-abbrev pub all_down : State → List (Option ℕ) → State
-all_down s targets = all_counted Down s targets
-
-abbrev pub all_greened : State → List (Option ℕ) → State
-all_greened s targets = all_counted Leaves s targets
-
--- the newer buffers' leaves, then their increments in order of mutator, and then the older buffers' decrements
-abbrev pub batch : State → (newer older : List Contents) → State
-batch s newer older = all_down (all_up (all_greened s (flat_map leaf_targets newer)) (flat_map up_targets newer)) (flat_map down_targets older)
+-- Each true count is the old one, plus what is added, less what is taken off. A leaf that was born is Green. What is only added to is in
+-- use. What something is taken off gets the colour that its count calls for, and goes where it is due, in the order in which the older
+-- buffers first name it.
+unfoldable pub batch : State → (newer older : List Contents) → State
+batch s newer older = batched s (λ x. leaves x newer) (λ x. added x newer) (slots_in (flat_map taken_targets older))
 
 -- these buffers name slots that are there, and no count passes the greatest or falls below zero
 pub record IsCovered (s : State) (newer older : List Contents) : Type 0 where
@@ -72,6 +21,15 @@ pub record IsCovered (s : State) (newer older : List Contents) : Type 0 where
   pub born : (x : ℕ) → length s.slots ≤ x → leaves x newer ≡ 0
   pub fits : (x : ℕ) → (slot_at s x).count + added x newer < 2 ^ 64
   pub covered : (x : ℕ) → taken x older ≤ (slot_at s x).count + added x newer
+
+-- a buffer that names nothing
+abbrev pub blank : Contents
+blank = record { entries = []; snapshot = []; capacity = 0; last = false }
+
+-- there is an older buffer for each newer one, with as many registers
+pub record AreAlike (newer older : List Contents) : Type 0 where
+  pub both : length older ≡ length newer
+  pub registers : (place : ℕ) → place < length older → length (item_at older place blank).snapshot ≡ length (item_at newer place blank).snapshot
 
 -- how often a batch names a slot
 abbrev pub names : ℕ → (newer older : List Contents) → ℕ
@@ -99,28 +57,3 @@ pub record IsBatch (s : State) (newer older : List Contents) (t : State) : Type 
   pub all_zeros : AllZeros s → AllZeros t
   pub lists : IsKept s → IsKept t
   pub rest : KeepsRest s t
-
--- these increments name slots that are there, and no count passes the greatest
-pub record CanRise (s : State) (targets : List (Option ℕ)) : Type 0 where
-  pub in_range : (x : ℕ) → length s.slots ≤ x → named x targets ≡ 0
-  pub fits : (x : ℕ) → (slot_at s x).count + named x targets < 2 ^ 64
-
--- these decrements take no count below zero, and the zeros are zeros
-pub record CanFall (s : State) (targets : List (Option ℕ)) : Type 0 where
-  pub covered : (x : ℕ) → named x targets ≤ (slot_at s x).count
-  pub zeros : AreZeros s
-
--- these leaves are slots that are there
-abbrev pub CanMark : State → List (Option ℕ) → Type 0
-CanMark s targets = (x : ℕ) → length s.slots ≤ x → named x targets ≡ 0
-
-abbrev pub CanCount : Way → State → List (Option ℕ) → Type 0
-CanCount Up s targets = CanRise s targets
-CanCount Down s targets = CanFall s targets
-CanCount Leaves s targets = CanMark s targets
-
--- this slot is there, and its count fits one more; or it has a count, and is not in the zeros
-abbrev pub CanChange : Way → State → ℕ → Type 0
-CanChange Up s x = (x < length s.slots) × ((slot_at s x).count + 1 < 2 ^ 64)
-CanChange Down s x = (x < length s.slots) × (0 < (slot_at s x).count) × (times x s.zeros ≡ 0)
-CanChange Leaves s x = x < length s.slots

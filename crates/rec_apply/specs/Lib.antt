@@ -1,3 +1,4 @@
 -- The modules of the definitions.
 pub mod Batch
 pub mod Targets
+pub mod Telling

@@ -1,8 +1,7 @@
 -- What a buffer names, and how often it names a slot.
-use Rattle.std.specs.Prelude.{ℕ, ◌+◌, true, Option, None, Some, List, map, count_by, sum_by}
+use Rattle.std.specs.Prelude.{ℕ, ◌+◌, true, Option, None, Some, List, ◌++◌, map, count_by, sum_by}
 use Rattle.rec_word.specs.Word.{target_of, is_slot}
-use Rattle.rec_apply.specs.declared.way.Way.{Way}
-use Rattle.rec_apply.specs.declared.way.Way.TheVariants.{Up, Down, Leaves}
+use Rattle.std.specs.List.{filter_map}
 use Rattle.rec_log.specs.declared.contents.Contents.{Contents}
 use Rattle.rec_log.specs.declared.entry.Entry.{Entry}
 use Rattle.rec_log.specs.declared.entry.Entry.TheVariants.{Put, Born}
@@ -22,11 +21,13 @@ abbrev pub leaf_born : Entry → Option ℕ
 leaf_born (Born slot true) = Some slot
 leaf_born _ = None
 
--- what it names for increments, for decrements, or for leaves
-abbrev pub entry_target : Way → Entry → Option ℕ
-entry_target Up entry = new_target entry
-entry_target Down entry = old_target entry
-entry_target Leaves entry = leaf_born entry
+-- what a buffer no longer refers to: what its entries replaced or bore, in order, and then its snapshot
+abbrev pub taken_targets : Contents → List (Option ℕ)
+taken_targets b = map old_target b.entries ++ b.snapshot
+
+-- the slots among these targets
+abbrev pub slots_in : List (Option ℕ) → List ℕ
+slots_in targets = filter_map (λ target. target) targets
 
 -- how often the slot stands among these targets
 unfoldable pub named : ℕ → List (Option ℕ) → ℕ
@@ -43,3 +44,10 @@ taken x older = sum_by (λ (b : Contents). named x (map old_target b.entries) + 
 -- how often the slot stands among the births of leaves
 abbrev pub leaves : ℕ → List Contents → ℕ
 leaves x newer = sum_by (λ (b : Contents). named x (map leaf_born b.entries)) newer
+
+-- how often the slot stands among the new targets alone, and in the snapshots alone
+abbrev pub written : ℕ → List Contents → ℕ
+written x newer = sum_by (λ (b : Contents). named x (map new_target b.entries)) newer
+
+abbrev pub held : ℕ → List Contents → ℕ
+held x newer = sum_by (λ (b : Contents). named x b.snapshot) newer

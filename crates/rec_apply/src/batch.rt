@@ -1,11 +1,9 @@
-ghost use Rattle.std.specs.Prelude.{◌≡◌, ℕ, ◌+◌, ◌<◌, ◌≤◌, ◌^◌, [], length};
-ghost use Rattle.rec_counts.specs.Counts.{slot_at};
-ghost use Rattle.rec_apply.specs.Targets.{added, leaves, taken};
-ghost use Rattle.rec_apply.specs.Batch.{batch, IsBatch, IsCovered};
+ghost use Rattle.std.specs.Prelude.{◌≡◌, [], flat_map};
+ghost use Rattle.rec_apply.specs.Targets.{added, leaves, slots_in, taken_targets};
+ghost use Rattle.rec_apply.specs.Batch.{AreAlike, batch, IsBatch, IsCovered};
 
-use crate::counting::count_all;
-use crate::way::Way;
-use rec_counts::Counts;
+use crate::telling::{tell_newer, tell_older};
+use rec_counts::{Changes, Counts, Slot, Touched};
 use rec_log::Buffer;
 
 /// Counts a batch: each leaf that was born in the newer buffers becomes Green, what they refer to is added, and what the older
@@ -13,13 +11,37 @@ use rec_log::Buffer;
 pub fn apply(counts: &mut Counts, newer: &[Buffer], older: &[Buffer])
     requires zeros { counts.old.zeros ≡ [] }
     requires covered { IsCovered counts.old newer.now older.now }
+    requires alike { AreAlike newer.now older.now }
 
     ensures batch { IsBatch counts.old newer.now older.now counts.new }
 
-    // The order of the lists, too, is that of all leaves becoming Green, then all increments in order, and then all decrements in order.
+    // The order of the lists, too, and each slot whole: it is changed once, by all that names it.
     ensures order { counts.new ≡ batch counts.old newer.now older.now }
 {
-    count_all(counts, newer, Way::Leaves);
-    count_all(counts, newer, Way::Up);
-    count_all(counts, older, Way::Down);
+    counts.count_batch(&Batch { newer, older });
+}
+
+/// The buffers of two epochs, in order of mutator.
+#[derive(Drop)]
+struct Batch<'a> {
+    newer: &'a [Buffer],
+    older: &'a [Buffer],
+}
+
+impl Changes for Batch<'_> {
+    ghost use Rattle.rec_apply.specs.Telling.{CanTell};
+
+    ghost born = { λ b x. leaves x b.newer.now };
+
+    ghost added = { λ b x. added x b.newer.now };
+
+    ghost taken = { λ b. slots_in (flat_map taken_targets b.older.now) };
+
+    ghost can_tell = { λ b slots. CanTell slots b.newer.now b.older.now };
+
+    #[inline(always)]
+    fn tell(&self, slots: &mut [Slot], touched: &mut Touched) {
+        tell_newer(slots, touched, self.newer);
+        tell_older(slots, touched, self.newer, self.older);
+    }
 }

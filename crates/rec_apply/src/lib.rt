@@ -12,8 +12,7 @@
 #![tactic(auto)]
 
 mod batch;
-mod counting;
 mod targets;
-mod way;
+mod telling;
 
 pub use batch::apply;

@@ -1,0 +1,30 @@
+-- The contract of `Batch::tell`: what the buffers of two epochs tell of the slots.
+use Rattle.std.proofs.Common.{◌≡◌, ℕ, ◌+◌, ◌<◌, ◌≤◌, ◌∷◌, ◌++◌, [], None, Option, List, length, map, take, get_or, refl, arith, sym, ap, ◌∙◌}
+use Rattle.std.specs.List.{flat_map}
+use Rattle.rec_word.specs.Word.{is_slot}
+use Rattle.rec_counts.specs.Lists.{one}
+use Rattle.rec_apply.specs.Targets.{added, held, leaf_born, leaves, named, new_target, old_target, slots_in, taken, taken_targets, written}
+use Rattle.rec_apply.specs.Telling.{Tells}
+use Rattle.rec_apply.proofs.Naming.{named-at, named-nil, named_more, part-le, slots_more, slots_parts, there}
+use Rattle.rec_apply.proofs.Tells.{tells_born, tells_added, tells_kept, tells_none, tells_same, tells_taken, tells_then}
+use Rattle.rec_log.specs.declared.contents.Contents.{Contents}
+use Rattle.rec_apply.proofs.Naming.{added_parts}
+use Rattle.rec_counts.proofs.Telling.{told_same}
+use Rattle.rec_apply.proofs.batch.BatchChanges.tell.Goals as goal
+
+pub tell_newer-requires : goal.tell_newer-requires
+tell_newer-requires c = record { marked = c.requires.marked; in_range = λ x l. omega (arith, added_parts x c.args.self.now.newer.now, c.requires.can.in_range x l) }
+
+pub tell_older-requires : goal.tell_older-requires
+tell_older-requires c = record {
+  marked = c.tell_newer.ensures.marked ∙ c.requires.marked ∙ sym c.tell_newer.ensures.many;
+  alike = c.requires.can.alike;
+  in_range = λ x l. omega (arith, added_parts x c.args.self.now.newer.now, c.requires.can.in_range x (omega (arith, l, c.tell_newer.ensures.many)));
+}
+
+pub returns : goal.returns
+returns c =
+    let newer : List Contents = c.args.self.now.newer.now in
+    let less : List ℕ = slots_in (flat_map taken_targets c.args.self.now.older.now) in
+    let all = tells_then (λ x. leaves x newer) (λ x. added x newer) less (λ x. omega arith) (λ x. added_parts x newer) refl c.tell_newer.ensures c.tell_older.ensures in
+    λ before k. told_same (λ x. leaves x newer) (λ x. added x newer) less (λ x. omega arith) (λ x. omega arith) refl (all.told before (λ x. 0) (λ x. 0) [] k)

@@ -1,0 +1,12 @@
+-- The loops of `tell_new_entries`: the entries up to here are told.
+use Rattle.std.proofs.Common.{◌≡◌, ℕ, ◌∷◌, [], length, map, take}
+use Rattle.std.specs.List.{flat_map}
+use Rattle.rec_apply.specs.Targets.{held, leaf_born, leaves, named, new_target, old_target, slots_in, taken_targets, written}
+use Rattle.rec_apply.specs.Telling.{Tells}
+use Rattle.rec_apply.proofs.telling.tell_new_entries.Given as goal
+
+abbrev pub invariant-loop-entry : goal.invariant-loop-entry
+invariant-loop-entry l = record {
+  marked : length l.touched.marks ≡ length l.slots;
+  tells : Tells (λ x. named x (take l.entry-index (map leaf_born l.entries))) (λ x. named x (take l.entry-index (map new_target l.entries))) [] l.initial.slots l.initial.touched l.slots l.touched;
+}

@@ -1,0 +1,12 @@
+-- The loops of `tell_newer`: the buffers up to here are told.
+use Rattle.std.proofs.Common.{◌≡◌, ℕ, ◌∷◌, [], length, map, take}
+use Rattle.std.specs.List.{flat_map}
+use Rattle.rec_apply.specs.Targets.{held, leaf_born, leaves, named, new_target, old_target, slots_in, taken_targets, written}
+use Rattle.rec_apply.specs.Telling.{Tells}
+use Rattle.rec_apply.proofs.telling.tell_newer.Given as goal
+
+abbrev pub invariant-loop-buffer : goal.invariant-loop-buffer
+invariant-loop-buffer l = record {
+  marked : length l.touched.marks ≡ length l.slots;
+  tells : Tells (λ x. leaves x (take l.buffer-index l.newer)) (λ x. written x (take l.buffer-index l.newer)) [] l.initial.slots l.initial.touched l.slots l.touched;
+}

@@ -1,0 +1,55 @@
+-- The contract of `tell_older`: the older buffers, and all registers.
+use Rattle.std.proofs.Common.{◌≡◌, ℕ, ◌+◌, ◌<◌, ◌≤◌, ◌∷◌, ◌++◌, [], None, Option, List, length, map, take, get_or, refl, arith, sym, ap, ◌∙◌}
+use Rattle.std.specs.List.{flat_map}
+use Rattle.rec_word.specs.Word.{is_slot}
+use Rattle.rec_counts.specs.Lists.{one}
+use Rattle.rec_apply.specs.Targets.{held, leaf_born, leaves, named, new_target, old_target, slots_in, taken, taken_targets, written}
+use Rattle.rec_apply.specs.Telling.{Tells}
+use Rattle.rec_apply.proofs.Naming.{named-at, named-nil, named_more, part-le, slots_more, slots_parts, there}
+use Rattle.rec_apply.proofs.Tells.{tells_born, tells_added, tells_kept, tells_none, tells_same, tells_taken, tells_then}
+use Rattle.std.proofs.lemmas.List.{get_or_read, take_all}
+use Rattle.std.proofs.lemmas.List.Sums.{sum_by_more}
+use Rattle.rec_log.specs.declared.contents.Contents.{Contents}
+use Rattle.rec_apply.specs.Batch.{blank}
+use Rattle.rec_apply.proofs.Naming.{named-append}
+use Rattle.rec_apply.proofs.telling.tell_older.Goals as goal
+
+pub loop-place-init : goal.loop-place-init
+loop-place-init c = record { marked = c.requires.marked; tells = tells_none _ _ _ _ _ (λ x. refl) (λ x. refl) refl }
+
+pub tell_older_buffer-requires : goal.tell_older_buffer-requires
+tell_older_buffer-requires c =
+    let place : ℕ = c.loop-place.place in
+    let older : c.index-older-place.result ≡ get_or c.args.older.now place blank = get_or_read c.args.older.now place _ c.loop-place-test.true c.index-older-place.is blank in
+    let there : place < length c.args.newer.now = omega (arith, c.requires.alike.both, c.loop-place-test.true) in
+    let newer : c.index-newer-place.result ≡ get_or c.args.newer.now place blank = get_or_read c.args.newer.now place _ there c.index-newer-place.is blank in
+    record {
+      marked = c.loop-place.invariant.marked;
+      alike = ap (λ (b : Contents). length b.snapshot) older ∙ c.requires.alike.registers place c.loop-place-test.true ∙ sym (ap (λ (b : Contents). length b.snapshot) newer);
+      in_range = λ x l. omega (
+        arith,
+        ap (λ (b : Contents). named x b.snapshot) newer,
+        ap (λ (b : Contents). named x (taken_targets b)) older,
+        named-append x (map old_target (get_or c.args.older.now place blank).entries) (get_or c.args.older.now place blank).snapshot,
+        part-le (λ (b : Contents). named x b.snapshot) c.args.newer.now place blank there,
+        part-le (λ (b : Contents). named x (map old_target b.entries) + named x b.snapshot) c.args.older.now place blank c.loop-place-test.true,
+        c.requires.in_range x (omega (arith, l, c.loop-place.auto.slots)),
+      );
+    }
+
+pub loop-place-preserved : goal.loop-place-preserved
+loop-place-preserved c =
+    let place : ℕ = c.loop-place.place in
+    let older : c.index-older-place.result ≡ get_or c.args.older.now place blank = get_or_read c.args.older.now place _ c.loop-place-test.true c.index-older-place.is blank in
+    let there : place < length c.args.newer.now = omega (arith, c.requires.alike.both, c.loop-place-test.true) in
+    let newer : c.index-newer-place.result ≡ get_or c.args.newer.now place blank = get_or_read c.args.newer.now place _ there c.index-newer-place.is blank in
+    record {
+      marked = c.tell_older_buffer.ensures.marked ∙ c.loop-place.invariant.marked ∙ sym c.tell_older_buffer.ensures.many;
+      tells = tells_then _ _ _ (λ x. refl)
+          (λ x. omega (arith, sum_by_more (λ (b : Contents). named x b.snapshot) c.args.newer.now place blank there, ap (λ (b : Contents). named x b.snapshot) newer))
+          (slots_parts c.args.older.now place blank c.loop-place-test.true ∙ ap (λ (b : Contents). slots_in (flat_map taken_targets (take place c.args.older.now)) ++ slots_in (taken_targets b)) (sym older))
+          c.loop-place.invariant.tells c.tell_older_buffer.ensures;
+    }
+
+pub returns : goal.returns
+returns c = tells_same _ _ _ (λ x. refl) (λ x. ap (held x) (sym (take_all c.loop-place.place c.args.newer.now (omega (arith, c.requires.alike.both))))) (ap (λ bs. slots_in (flat_map taken_targets bs)) (sym (take_all c.loop-place.place c.args.older.now (omega arith)))) c.loop-place.invariant.tells

@@ -1,0 +1,12 @@
+-- The loops of `tell_registers`: the registers up to here are told.
+use Rattle.std.proofs.Common.{◌≡◌, ℕ, ◌∷◌, [], length, map, take}
+use Rattle.std.specs.List.{flat_map}
+use Rattle.rec_apply.specs.Targets.{held, leaf_born, leaves, named, new_target, old_target, slots_in, taken_targets, written}
+use Rattle.rec_apply.specs.Telling.{Tells}
+use Rattle.rec_apply.proofs.telling.tell_registers.Given as goal
+
+abbrev pub invariant-loop-place : goal.invariant-loop-place
+invariant-loop-place l = record {
+  marked : length l.touched.marks ≡ length l.slots;
+  tells : Tells (λ x. 0) (λ x. named x (take l.place l.newer)) (slots_in (take l.place l.older)) l.initial.slots l.initial.touched l.slots l.touched;
+}
