@@ -4,9 +4,8 @@ use Rattle.std.proofs.lemmas.Bool.{cond-false, cond-true, eq-eqb, ne_eqb}
 use Rattle.std.proofs.lemmas.Bool.Decides.{eqb_tells}
 use Rattle.rec_collector.proofs.Common.{Op, Contents, Orange, Slot, State, slot_at, one, emptied, next_from, prep_started, with_freed, with_released, relieved_at, IsGiven, IsGivenAt, Idle, IsAt, IsAtRest, IsMachine, buffer_at, next_present, noted, under_way, Parts, new_freeing, new_release, Private, parts_of, zeros_released, Begun, counted_by, freeing_at, releasing_at, tested, step_of, swapped_of, took_at, took_of, turn_of, Phase, Returning, Releasing, Freeing, Trying, Preparing, Held, Touched}
 use Rattle.rec_word.specs.Word.{target_of}
-use Rattle.rec_apply.specs.Batch.{batch, counted_down, names, IsBatch, IsCovered}
-use Rattle.rec_apply.specs.declared.way.Way.TheVariants.{Down}
-use Rattle.rec_apply.proofs.Touching.{counted_touches, touched_orange}
+use Rattle.rec_apply.specs.Batch.{batch, names, IsBatch, IsCovered}
+use Rattle.rec_apply.proofs.Touching.{decremented_touched, touched_orange}
 use Rattle.rec_apply.proofs.Whole.{is_batch}
 use Rattle.rec_release.specs.TakenOff.{down_if, IsApart, is_lowered, taken_off}
 use Rattle.rec_walk.specs.Load.{Load}
@@ -73,7 +72,8 @@ off_spares lowers s (Some y) x a h = record {
         let here : y ≡ x = elim (eqb_tells x y) [ inl q ↦ sym q.1 | inr q ↦ let n : true ≡ false = sym e ∙ q.0 in absurd (cc) ] in
         let plain : is_lowered lowers (slot_at s y).colour ≡ false = ap (λ z. is_lowered lowers (slot_at s z).colour) here ∙ f in
         let down : taken_off lowers s (Some y) ≡ down_if false s y = ap (λ b. down_if b s y) plain in
-        absurd (touched_orange (slot_at (counted_down s (Some y)) x).colour ((counted_touches Down s (Some y) x).touched (a x c).unreleased (omega (arith, ap one e))) (ap (λ t. (slot_at t x).colour) (sym down) ∙ o))
+        let unreleased : (slot_at s y).released ≡ false = ap (λ z. (slot_at s z).released) here ∙ (a x c).unreleased in
+        absurd (touched_orange (slot_at (down_if false s y) y).colour (decremented_touched s y unreleased) (ap (λ z. (slot_at (down_if false s y) z).colour) here ∙ ap (λ t. (slot_at t x).colour) (sym down) ∙ o))
 
 -- the zeros are to be released
 zeros_spares : (lowers : Bool) (w : Parts) (x : ℕ) → Spares w.counts (zeros_released lowers w).parts.counts x 0

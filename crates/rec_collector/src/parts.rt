@@ -1,5 +1,5 @@
 ghost use Rattle.std.specs.Prelude.{◌≡◌, ◌+◌, ◌<◌, None, Some, length, false, true};
-ghost use Rattle.rec_apply.specs.Batch.{batch, IsCovered};
+ghost use Rattle.rec_apply.specs.Batch.{AreAlike, batch, IsCovered};
 ghost use Rattle.rec_release.specs.CycleFree.{IsFreeable, started_of};
 ghost use Rattle.rec_release.specs.Release.{IsReady};
 ghost use Rattle.rec_trial.specs.Rules.{IsReady as IsReadyForTrial};
@@ -66,6 +66,7 @@ impl Parts {
     /// The batch of these buffers is applied, and its zeros are to be released. The answer is the phase that follows.
     pub(crate) fn apply_batch(&mut self, newer: &[Buffer], older: &[Buffer]) -> Phase
         requires covered { IsCovered self.old.counts newer.now older.now }
+        requires alike { AreAlike newer.now older.now }
         requires cleared { IsCleared self.old }
         requires unreleased { NoneReleased self.old.counts }
         requires counted { AreCounted self.old.counts }

@@ -1,10 +1,10 @@
 -- The contract of `Machine::gather_behind`: the next mutator's mailbox is looked at that hasn't left, or the batch is applied.
 use Rattle.std.proofs.Common.{Bool, List, ap, sym, subst, ◌∙◌}
 use Rattle.rec_log.specs.declared.contents.Contents.{Contents}
-use Rattle.rec_apply.specs.Batch.{IsCovered}
+use Rattle.rec_apply.specs.Batch.{AreAlike, IsCovered}
 use Rattle.rec_collector.proofs.Common.{IsMachine, KeepsSizes, MayGatherBehind, Next, next_present, Private}
 use Rattle.rec_collector.specs.Inside.{private}
-use Rattle.rec_collector.proofs.Gathering.{batch_keeps, batch_lands, next_keeps}
+use Rattle.rec_collector.proofs.Gathering.{batch_keeps, batch_lands, next_keeps, rows_alike}
 use Rattle.rec_collector.proofs.Keeping.{batch_follows}
 use Rattle.rec_collector.proofs.Landing.{landed, landed_sizes, Lands}
 use Rattle.rec_collector.proofs.Presence.{next_none}
@@ -27,6 +27,12 @@ apply_batch-self-inside-requires-clause-covered c =
     subst (λ (newer : List Contents). IsCovered p.counts newer c.deref-3.result.now) (sym c.deref-2.ensures.value)
     (subst (λ (older : List Contents). IsCovered p.counts p.newer older) (sym c.deref-3.ensures.value)
     (g.covered (next_none p.left c.args.mutator (ap (λ (left : List Bool). next_present left c.args.mutator) (sym c.deref.ensures.value) ∙ sym c.next_present.ensures ∙ c.in_default.is))))
+
+pub apply_batch-self-inside-requires-clause-alike : goal.apply_batch-self-inside-requires-clause-alike
+apply_batch-self-inside-requires-clause-alike c =
+    let p : Private = private c.self.inside in
+    subst (λ (newer : List Contents). AreAlike newer c.deref-3.result.now) (sym c.deref-2.ensures.value)
+    (subst (λ (older : List Contents). AreAlike p.newer older) (sym c.deref-3.ensures.value) (rows_alike p c.self.invariant))
 
 pub invariant_of-self-2 : goal.invariant_of-self-2
 invariant_of-self-2 c =
