@@ -5,8 +5,11 @@
 //! falls to zero for a moment only.
 //! The rule that this crate keeps: each true count afterwards is the old one, plus the slot's occurrences among new targets
 //! and snapshots, less those among replaced targets, births and snapshots.
+//! Pairs of what is added and what is taken off cancel, and still touch their slot: a register that names the same slot in both
+//! snapshots is one, and by far the commonest. A write and its replacement within one log are none, since they are counted by two
+//! batches.
 //! The layer above may use what `IsBatch` says: that formula, which slots are touched, become Green, roots or zeros, and that all
-//! else stays. In which order roots and zeros are listed, `batch` says: that of all increments, followed by all decrements.
+//! else stays. In which order roots and zeros are listed, `batch` says: that in which the older buffers first name them.
 //! That increments of an epoch are applied with the decrements of the epoch before is the idea of the paper "Java without
 //! the Coffee Breaks" (2001); that a batch is applied whole is this project's profile (`docs/PROFILE.md`).
 #![tactic(auto)]
