@@ -1,13 +1,12 @@
 -- What is told, one thing after another.
-use Rattle.std.proofs.Common.{◌≡◌, ◌≢◌, ℕ, ◌+◌, ◌<◌, Option, None, Some, List, [], ◌∷◌, ◌++◌, length, eqb, append_assoc, get_or, refl, sym, ap, ◌∙◌, arith}
+use Rattle.std.proofs.Common.{◌≡◌, ℕ, ◌+◌, ◌<◌, List, [], ◌∷◌, ◌++◌, length, eqb, append_assoc, get_or, refl, sym, ap, ◌∙◌, arith}
 use Rattle.std.proofs.Math.ListN.{set}
 use Rattle.std.proofs.lemmas.List.{append-nil, length-set}
-use Rattle.rec_word.specs.Word.{is_slot}
 use Rattle.rec_counts.specs.declared.slot.Slot.{Slot}
 use Rattle.rec_counts.specs.declared.colour.Colour.TheVariants.{Green}
 use Rattle.rec_counts.specs.Lists.{one}
 use Rattle.rec_counts.specs.Slot.{absent}
-use Rattle.rec_counts.specs.Touched.{Told, Touching, counted_less, counted_more, with_added, with_taken}
+use Rattle.rec_counts.specs.Touched.{Touching, counted_less, counted_more, with_added, with_taken}
 use Rattle.rec_counts.proofs.Telling.{told_added, told_born, told_kept, told_same, told_taken}
 use Rattle.rec_apply.specs.Telling.{Tells}
 

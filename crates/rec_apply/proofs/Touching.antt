@@ -1,17 +1,16 @@
 -- What a batch names is touched, and what it doesn't name stays as it was.
-use Rattle.std.proofs.Common.{◌≡◌, ◌↔◌, ℕ, ◌+◌, ◌-◌, ◌<◌, ◌≤◌, ◌||◌, Bool, true, false, eqb, ltb, List, [], ◌∷◌, flat_map, length, refl, sym, ap, ◌∙◌, arith, inl, inr}
-use Rattle.std.proofs.lemmas.Bool.{cases_lt, false≢true, lt-ltb, le-ltb, ltb-false}
+use Rattle.std.proofs.Common.{◌≡◌, ◌↔◌, ℕ, ◌+◌, ◌<◌, ◌||◌, Bool, true, false, eqb, ltb, List, flat_map, length, refl, sym, ap, ◌∙◌, arith, inl, inr}
+use Rattle.std.proofs.lemmas.Bool.{cases_lt, false≢true, lt-ltb, ltb-false}
 use Rattle.std.proofs.lemmas.List.{get_or-set_same, get_or_past}
 use Rattle.rec_log.specs.declared.contents.Contents.{Contents}
 use Rattle.rec_counts.specs.declared.colour.Colour.{Colour}
 use Rattle.rec_counts.specs.declared.colour.Colour.TheVariants.{Green, Orange}
 use Rattle.rec_counts.specs.declared.slot.Slot.{Slot}
-use Rattle.rec_counts.specs.declared.touched.Mark.TheVariants.{Untouched, Added, Taken}
 use Rattle.rec_counts.specs.Batched.{counted_slot}
 use Rattle.rec_counts.specs.Colour.{in_use, is_green}
-use Rattle.rec_counts.specs.Counts.{State, slot_at, with_slot, decremented}
+use Rattle.rec_counts.specs.Counts.{State, slot_at, decremented}
 use Rattle.rec_counts.specs.Lists.{times}
-use Rattle.rec_counts.specs.Slot.{absent, lessened, lessened_if, settled, settled_if, stays}
+use Rattle.rec_counts.specs.Slot.{absent, lessened, lessened_if, settled_if, stays}
 use Rattle.rec_counts.specs.Touched.{greened_if, mark_of, settled_at}
 use Rattle.rec_counts.proofs.Batching.{at_below, unnamed_at}
 use Rattle.rec_counts.proofs.Decrementing.{same_slot}

@@ -1,11 +1,10 @@
 -- A whole batch: what is known of the counts afterwards.
-use Rattle.std.proofs.Common.{◌≡◌, ℕ, ◌+◌, ◌-◌, ◌<◌, ◌≤◌, ◌^◌, ◌||◌, Bool, true, false, eqb, ltb, List, [], flat_map, length, refl, sym, ap, arith, inl, inr, ◌∙◌}
-use Rattle.std.proofs.lemmas.Bool.{cases_lt, false≢true, le-ltb, lt-ltb, ne_eqb}
-use Rattle.rec_counts.specs.declared.colour.Colour.TheVariants.{Green, Purple}
+use Rattle.std.proofs.Common.{◌≡◌, ℕ, ◌+◌, ◌≤◌, ◌||◌, Bool, true, false, eqb, ltb, List, [], flat_map, length, refl, sym, ap, arith, ◌∙◌}
+use Rattle.std.proofs.lemmas.Bool.{false≢true, le-ltb, lt-ltb, ne_eqb}
+use Rattle.rec_counts.specs.declared.colour.Colour.TheVariants.{Purple}
 use Rattle.rec_counts.specs.declared.slot.Slot.{Slot}
-use Rattle.rec_counts.specs.declared.touched.Mark.{Mark}
 use Rattle.rec_counts.specs.declared.touched.Mark.TheVariants.{Taken}
-use Rattle.rec_counts.specs.Batched.{batched_at, counted_at, counted_slot}
+use Rattle.rec_counts.specs.Batched.{batched_at, counted_at}
 use Rattle.rec_counts.specs.Colour.{is_green}
 use Rattle.rec_counts.specs.Counts.{State, slot_at}
 use Rattle.rec_counts.specs.Lists.{times}
@@ -14,7 +13,7 @@ use Rattle.rec_counts.specs.Touched.{greened_if, mark_of, settled_at}
 use Rattle.rec_counts.proofs.Batching.{at_each, batched_all_zeros, batched_kept, batched_rest, batched_zeros, count_at, counted_released, settled_green, unnamed_at}
 use Rattle.rec_log.specs.declared.contents.Contents.{Contents}
 use Rattle.rec_apply.specs.Batch.{batch, IsBatch, IsCovered}
-use Rattle.rec_apply.specs.Targets.{added, leaves, slots_in, taken, taken_targets}
+use Rattle.rec_apply.specs.Targets.{added, leaves, slots_in, taken_targets}
 use Rattle.rec_apply.proofs.Touching.{batch_touched, taken_times}
 
 -- nothing is told of the slots past the last one

@@ -104,12 +104,7 @@ fn tell_registers(
 
 // What a register held before and holds now. Where that is the same slot, its count stays.
 #[inline(always)]
-fn tell_register(
-    slots: &mut [Slot],
-    touched: &mut Touched,
-    newer: Option<u16>,
-    older: Option<u16>,
-)
+fn tell_register(slots: &mut [Slot], touched: &mut Touched, newer: Option<u16>, older: Option<u16>)
     requires marked { length touched.old.marks ≡ length slots.old }
     requires newer { IfSome newer (λ slot. slot < length slots.old) }
     requires older { IfSome older (λ slot. slot < length slots.old) }

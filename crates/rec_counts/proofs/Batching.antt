@@ -1,11 +1,10 @@
 -- What a batch makes of each slot and of the lists.
-use Rattle.std.proofs.Common.{◌≡◌, ℕ, ◌+◌, ◌-◌, ◌<◌, ◌≤◌, ◌||◌, Bool, true, false, eqb, ltb, cond, Option, Some, None, List, [], ◌∷◌, ◌++◌, length, map, get_or, refl, sym, ap, subst, ◌∙◌, arith, inl, inr}
-use Rattle.std.specs.List.{filter, range_with_len}
+use Rattle.std.proofs.Common.{◌≡◌, ℕ, ◌+◌, ◌-◌, ◌<◌, ◌≤◌, ◌||◌, Bool, true, false, eqb, ltb, cond, Option, List, [], ◌++◌, length, refl, sym, ap, subst, ◌∙◌, arith, inl, inr}
 use Rattle.std.proofs.lemmas.List.{get_or_past}
 use Rattle.std.proofs.lemmas.List.FromFn.{get_or-map-range_with_len, length-map-range_with_len}
-use Rattle.std.proofs.lemmas.Bool.{cases_lt, eq-eqb, eqb-true, false≢true, le-ltb, lt-ltb, ltb-true}
+use Rattle.std.proofs.lemmas.Bool.{cases_lt, eq-eqb, eqb-true, false≢true, lt-ltb}
 use Rattle.rec_counts.specs.declared.slot.Slot.{Slot}
-use Rattle.rec_counts.specs.declared.slot.Due.TheVariants.{Nothing, Zero, Root}
+use Rattle.rec_counts.specs.declared.slot.Due.TheVariants.{Nothing}
 use Rattle.rec_counts.specs.declared.colour.Colour.{Colour}
 use Rattle.rec_counts.specs.declared.colour.Colour.TheVariants.{Green}
 use Rattle.rec_counts.specs.declared.touched.Mark.{Mark}
@@ -13,8 +12,7 @@ use Rattle.rec_counts.specs.declared.touched.Mark.TheVariants.{Untouched, Added,
 use Rattle.rec_counts.specs.Batched.{batched, batched_at, batched_slots, counted_at, counted_slot, is_root, is_zero, new_roots, new_zeros}
 use Rattle.rec_counts.specs.Colour.{in_use, is_green}
 use Rattle.rec_counts.specs.Counts.{IsKept, State, slot_at}
-use Rattle.rec_counts.specs.Kept.{Kept}
-use Rattle.rec_counts.specs.Lists.{EachOnce, one, times}
+use Rattle.rec_counts.specs.Lists.{one, times}
 use Rattle.rec_counts.specs.Rest.{AllZeros, AreZeros, KeepsRest}
 use Rattle.rec_counts.specs.Slot.{absent, due_if, is_in, settled, settled_due, settled_if, stays}
 use Rattle.rec_counts.specs.Touched.{firsts, greened_if, mark_of, settled_at}
@@ -152,15 +150,15 @@ batched_kept s born added taken z k =
     let slots : List Slot = batched_slots s.slots born added taken in
     let many : length slots ≡ length s.slots = as_many s born added taken in
     let again = remade k slots (s.roots ++ new_roots s.slots born added taken) s.sets many
-        (λ x. elim (cases_lt x (length s.slots)) [
-          | inl l ↦ omega (arith, times-append x s.roots (new_roots s.slots born added taken), k.buffers x, buffered_at s born added taken x, ap (λ (v : Slot). one v.buffered) (at_below s born added taken x l))
-          | inr l ↦ omega (arith, times-append x s.roots (new_roots s.slots born added taken), k.buffers x, ap (λ (v : Slot). one v.buffered) (get_or_past s.slots x absent l), ap (λ (v : Slot). one v.buffered) (past s born added taken x l), times-roots s born added taken x, ap (λ d. cond (is_root d) (one (ltb 0 (times x taken))) 0) (past_due s born added taken x l))
-        ])
-        (λ i x. k.numbers i x ∙ ap (λ (o : Option ℕ). one (is_in i o)) (elim (cases_lt x (length s.slots)) [
-          | inl l ↦ sym (ap (λ (v : Slot). v.set) (at_below s born added taken x l) ∙ set_at s born added taken x)
-          | inr l ↦ ap (λ (v : Slot). v.set) (get_or_past s.slots x absent l) ∙ sym (ap (λ (v : Slot). v.set) (past s born added taken x l))
-        ]))
-        k.few_sets in
+    (λ x. elim (cases_lt x (length s.slots)) [
+      | inl l ↦ omega (arith, times-append x s.roots (new_roots s.slots born added taken), k.buffers x, buffered_at s born added taken x, ap (λ (v : Slot). one v.buffered) (at_below s born added taken x l))
+      | inr l ↦ omega (arith, times-append x s.roots (new_roots s.slots born added taken), k.buffers x, ap (λ (v : Slot). one v.buffered) (get_or_past s.slots x absent l), ap (λ (v : Slot). one v.buffered) (past s born added taken x l), times-roots s born added taken x, ap (λ d. cond (is_root d) (one (ltb 0 (times x taken))) 0) (past_due s born added taken x l))
+    ])
+    (λ i x. k.numbers i x ∙ ap (λ (o : Option ℕ). one (is_in i o)) (elim (cases_lt x (length s.slots)) [
+      | inl l ↦ sym (ap (λ (v : Slot). v.set) (at_below s born added taken x l) ∙ set_at s born added taken x)
+      | inr l ↦ ap (λ (v : Slot). v.set) (get_or_past s.slots x absent l) ∙ sym (ap (λ (v : Slot). v.set) (past s born added taken x l))
+    ]))
+    k.few_sets in
     relisted again again.marked_once again.work_once
     (λ x. elim (cases_lt x (length s.slots)) [
       | inl l ↦ omega (arith, times-append x s.zeros (new_zeros s.slots born added taken), ap (times x) z, times-nil x, times-zeros s born added taken x, few (is_zero (settled_due (counted_at s.slots born added taken x))) (ltb 0 (times x taken)), ap one (lt-ltb x (length slots) (omega (arith, l, many))))
@@ -207,7 +205,7 @@ zero_some false c h = absurd (omega arith)
 pub batched_zeros : (s : State) (born added : ℕ → ℕ) (taken : List ℕ) → ((x : ℕ) → length s.slots ≤ x → born x + added x + times x taken ≡ 0) → s.zeros ≡ [] → AreZeros (batched s born added taken)
 batched_zeros s born added taken none z =
     let zeros : (x : ℕ) → times x (batched s born added taken).zeros ≡ cond (is_zero (settled_due (counted_at s.slots born added taken x))) (one (ltb 0 (times x taken))) 0
-          = λ x. omega (arith, times-append x s.zeros (new_zeros s.slots born added taken), ap (times x) z, times-nil x, times-zeros s born added taken x) in
+    = λ x. omega (arith, times-append x s.zeros (new_zeros s.slots born added taken), ap (times x) z, times-nil x, times-zeros s born added taken x) in
     record {
       once = λ x. omega (arith, zeros x, few (is_zero (settled_due (counted_at s.slots born added taken x))) (ltb 0 (times x taken)));
       none = λ x h. ap (λ (v : Slot). v.count) (at_each s born added taken none x) ∙ count_at s born added taken x ∙ (zero_due (counted_at s.slots born added taken x) (zero_some _ (ltb 0 (times x taken)) (subst (λ n. 0 < n) (zeros x) h)).0).1;

@@ -4,7 +4,7 @@ use Rattle.std.proofs.Math.ListN.{set}
 use Rattle.std.specs.List.{filter}
 use Rattle.std.proofs.lemmas.List.{append-nil, get_or-set_same, get_or-set_other, ext_get_or, length-replicate, take_all}
 use Rattle.std.proofs.lemmas.List.Elements.{filter_more}
-use Rattle.std.proofs.lemmas.Bool.{cases_lt, lt-ltb, le-ltb}
+use Rattle.std.proofs.lemmas.Bool.{lt-ltb}
 use Rattle.std.proofs.lemmas.Bool.Decides.{eqb_tells}
 use Rattle.rec_counts.specs.declared.slot.Slot.{Slot}
 use Rattle.rec_counts.specs.declared.touched.Mark.{Mark}
@@ -12,11 +12,11 @@ use Rattle.rec_counts.specs.declared.touched.Mark.TheVariants.{Untouched, Added,
 use Rattle.rec_counts.specs.declared.colour.Colour.{Colour}
 use Rattle.rec_counts.specs.declared.colour.Colour.TheVariants.{Black, Purple, Green}
 use Rattle.rec_counts.specs.Colour.{in_use, is_green}
-use Rattle.rec_counts.specs.Lists.{one, times, EachOnce}
+use Rattle.rec_counts.specs.Lists.{one, times}
 use Rattle.rec_counts.specs.Shelf.{Shelf}
 use Rattle.rec_counts.specs.Slot.{absent, settled, settled_if, stays}
-use Rattle.rec_counts.specs.Touched.{AreListed, is_added, is_taken, is_untouched, mark_at, settled_at, settled_where, used_where}
-use Rattle.rec_counts.proofs.Times.{one-le, times_more, test_of}
+use Rattle.rec_counts.specs.Touched.{AreListed, is_added, is_taken, mark_at, settled_at, settled_where, used_where}
+use Rattle.rec_counts.proofs.Times.{times_more, test_of}
 use Rattle.rec_counts.proofs.Marking.{unmarked_at}
 
 -- a slot that does not keep its colour is not released
@@ -81,7 +81,7 @@ used_then false Taken v = refl
 pub marks_used : (marks old : List Mark) (members : List ℕ) (i : ℕ) → i < length members → get_or members i 0 < length marks →
     ((x : ℕ) → mark_at marks x ≡ cond (ltb 0 (times x (take i members)) && is_added (mark_at old x)) Untouched (mark_at old x)) →
     (x : ℕ) → mark_at (set marks (get_or members i 0) (cond (is_added (mark_at marks (get_or members i 0))) Untouched (mark_at marks (get_or members i 0)))) x
-        ≡ cond (ltb 0 (times x (take (i + 1) members)) && is_added (mark_at old x)) Untouched (mark_at old x)
+    ≡ cond (ltb 0 (times x (take (i + 1) members)) && is_added (mark_at old x)) Untouched (mark_at old x)
 marks_used marks old members i l r h x =
     let m : ℕ = get_or members i 0 in
     let k : Mark = cond (is_added (mark_at marks m)) Untouched (mark_at marks m) in
@@ -100,7 +100,7 @@ pub slots_used : (marks old : List Mark) (slots before : List Slot) (members : L
     ((x : ℕ) → mark_at marks x ≡ cond (ltb 0 (times x (take i members)) && is_added (mark_at old x)) Untouched (mark_at old x)) →
     ((x : ℕ) → get_or slots x absent ≡ used_where (ltb 0 (times x (take i members)) && is_added (mark_at old x)) (get_or before x absent)) →
     (x : ℕ) → get_or (set slots (get_or members i 0) (used_where (is_added (mark_at marks (get_or members i 0))) (get_or slots (get_or members i 0) absent))) x absent
-        ≡ used_where (ltb 0 (times x (take (i + 1) members)) && is_added (mark_at old x)) (get_or before x absent)
+    ≡ used_where (ltb 0 (times x (take (i + 1) members)) && is_added (mark_at old x)) (get_or before x absent)
 slots_used marks old slots before members i l r g h x =
     let m : ℕ = get_or members i 0 in
     let v : Slot = used_where (is_added (mark_at marks m)) (get_or slots m absent) in

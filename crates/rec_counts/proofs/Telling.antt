@@ -1,21 +1,21 @@
 -- What a batch tells, one thing after another.
-use Rattle.std.proofs.Common.{◌≡◌, ◌≢◌, ℕ, suc, zero, ◌+◌, ◌-◌, ◌%◌, ◌^◌, ◌<◌, ◌≤◌, Bool, true, false, not, eqb, ltb, cond, List, [], ◌∷◌, ◌++◌, length, map, replicate, get_or, refl, sym, ap, subst, ◌∙◌, arith, inl, inr}
+use Rattle.std.proofs.Common.{◌≡◌, ◌≢◌, ℕ, ◌+◌, ◌-◌, ◌%◌, ◌^◌, ◌<◌, ◌≤◌, Bool, true, false, not, eqb, ltb, cond, List, [], ◌∷◌, ◌++◌, length, get_or, refl, sym, ap, subst, ◌∙◌, arith, inl, inr}
 use Rattle.std.proofs.Math.ListN.{set}
-use Rattle.std.specs.List.{filter, range_with_len}
-use Rattle.std.proofs.lemmas.List.{append-nil, get_or-set_same, get_or-set_other, get_or_past, length-set, length-map, length-replicate, ext_get_or}
+use Rattle.std.specs.List.{filter}
+use Rattle.std.proofs.lemmas.List.{append-nil, get_or-set_same, get_or-set_other, length-set, length-replicate, ext_get_or}
 use Rattle.std.proofs.lemmas.List.Elements.{filter-append}
 use Rattle.std.proofs.lemmas.List.FromFn.{get_or-map-range_with_len, length-map-range_with_len}
-use Rattle.std.proofs.lemmas.Bool.{cases_lt, eq-eqb, eqb-true, false≢true, le-ltb, lt-ltb, ltb-true, ltb-false, ne_eqb}
+use Rattle.std.proofs.lemmas.Bool.{eq-eqb, eqb-true, false≢true, le-ltb, lt-ltb, ltb-true, ltb-false, ne_eqb}
 use Rattle.std.proofs.lemmas.Bool.Decides.{eqb_tells}
 use Rattle.rec_counts.specs.declared.slot.Slot.{Slot}
 use Rattle.rec_counts.specs.declared.touched.Mark.{Mark}
-use Rattle.rec_counts.specs.declared.touched.Mark.TheVariants.{Untouched, Added, Taken}
+use Rattle.rec_counts.specs.declared.touched.Mark.TheVariants.{Untouched, Taken}
 use Rattle.rec_counts.specs.declared.colour.Colour.TheVariants.{Green}
-use Rattle.rec_counts.specs.Batched.{batched_at, batched_slots, counted_at, is_root, is_zero}
+use Rattle.rec_counts.specs.Batched.{batched_at, batched_slots, counted_at}
 use Rattle.rec_counts.specs.Lists.{one, times}
-use Rattle.rec_counts.specs.Slot.{absent, settled_due}
+use Rattle.rec_counts.specs.Slot.{absent}
 use Rattle.rec_counts.specs.Touched.{Told, Touching, counted_less, counted_more, firsts, greened_if, is_taken, mark_added, mark_at, mark_of, settled_at, untouched, with_added, with_taken}
-use Rattle.rec_counts.proofs.Times.{one-le, one-same, times-cons, times-nil, times_push}
+use Rattle.rec_counts.proofs.Times.{times-cons, times-nil, times_push}
 use Rattle.rec_counts.proofs.Marking.{unmarked_at}
 
 -- Counts that wrap.
@@ -283,7 +283,7 @@ pub told_slots : {before slots : List Slot} {born added : ℕ → ℕ} {taken : 
 told_slots {before = before} {slots = slots} {born = born} {added = added} {taken = taken} {touched = touched} k fits covered after e h =
     ext_get_or absent after (batched_slots before born added taken) (e ∙ k.many ∙ sym (length-map-range_with_len (batched_at before born added taken) 0 (length before)))
     (λ i l. h i ∙ ap (λ m. settled_at m (get_or slots i absent)) (k.marks i) ∙ ap (settled_at (mark_of (ltb 0 (added i)) (ltb 0 (times i taken)))) (told_slot k fits covered i)
-      ∙ sym (get_or-map-range_with_len (batched_at before born added taken) 0 (length before) i i absent (omega (arith, l, e, k.many)) (omega arith)))
+    ∙ sym (get_or-map-range_with_len (batched_at before born added taken) 0 (length before) i i absent (omega (arith, l, e, k.many)) (omega arith)))
 
 filter_same : (p q : ℕ → Bool) → ((x : ℕ) → p x ≡ q x) → (xs : List ℕ) → filter p xs ≡ filter q xs
 filter_same p q h [] = refl

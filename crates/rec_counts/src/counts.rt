@@ -6,10 +6,10 @@ ghost use Rattle.rec_counts.specs.Groups.{last_set};
 ghost use Rattle.rec_counts.specs.Lists.{EachOnce, times};
 ghost use Rattle.rec_counts.specs.Slot.{absent, lowered, raised, swept_clean, unbuffered_if, unrooted};
 
+use crate::changes::{Changes, make_changes};
 use crate::colour::Colour;
 use crate::cycle_buffer::CycleBuffer;
 use crate::queue::Queue;
-use crate::changes::{Changes, make_changes};
 use crate::slot::{Due, Slot};
 use crate::touched::Touched;
 use crate::unbuffer::unbuffer;

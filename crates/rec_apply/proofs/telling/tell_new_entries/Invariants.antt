@@ -1,7 +1,6 @@
 -- The loops of `tell_new_entries`: the entries up to here are told.
-use Rattle.std.proofs.Common.{◌≡◌, ℕ, ◌∷◌, [], length, map, take}
-use Rattle.std.specs.List.{flat_map}
-use Rattle.rec_apply.specs.Targets.{held, leaf_born, leaves, named, new_target, old_target, slots_in, taken_targets, written}
+use Rattle.std.proofs.Common.{◌≡◌, [], length, map, take}
+use Rattle.rec_apply.specs.Targets.{leaf_born, named, new_target}
 use Rattle.rec_apply.specs.Telling.{Tells}
 use Rattle.rec_apply.proofs.telling.tell_new_entries.Given as goal
 

@@ -1,12 +1,8 @@
 -- The contract of `tell_newer`: the entries of the newer buffers.
-use Rattle.std.proofs.Common.{◌≡◌, ℕ, ◌+◌, ◌<◌, ◌≤◌, ◌∷◌, ◌++◌, [], None, Option, List, length, map, take, get_or, refl, arith, sym, ap, ◌∙◌}
-use Rattle.std.specs.List.{flat_map}
-use Rattle.rec_word.specs.Word.{is_slot}
-use Rattle.rec_counts.specs.Lists.{one}
-use Rattle.rec_apply.specs.Targets.{held, leaf_born, leaves, named, new_target, old_target, slots_in, taken, taken_targets, written}
-use Rattle.rec_apply.specs.Telling.{Tells}
-use Rattle.rec_apply.proofs.Naming.{named-at, named-nil, named_more, part-le, slots_more, slots_parts, there}
-use Rattle.rec_apply.proofs.Tells.{tells_born, tells_added, tells_kept, tells_none, tells_same, tells_taken, tells_then}
+use Rattle.std.proofs.Common.{ℕ, List, map, refl, arith, sym, ap, ◌∙◌}
+use Rattle.rec_apply.specs.Targets.{leaf_born, leaves, named, new_target, written}
+use Rattle.rec_apply.proofs.Naming.{part-le}
+use Rattle.rec_apply.proofs.Tells.{tells_none, tells_same, tells_then}
 use Rattle.std.proofs.lemmas.List.{take_all}
 use Rattle.std.proofs.lemmas.List.Sums.{sum_by_more}
 use Rattle.rec_log.specs.declared.contents.Contents.{Contents}

@@ -1,12 +1,10 @@
 -- The contract of `tell_old_entries`: the entries of an older buffer.
-use Rattle.std.proofs.Common.{◌≡◌, ℕ, ◌+◌, ◌<◌, ◌≤◌, ◌∷◌, ◌++◌, [], None, Option, List, length, map, take, get_or, refl, arith, sym, ap, ◌∙◌}
-use Rattle.std.specs.List.{flat_map}
+use Rattle.std.proofs.Common.{◌≡◌, ℕ, ◌<◌, ◌∷◌, ◌++◌, [], None, Option, List, length, map, take, get_or, refl, arith, sym, ap, ◌∙◌}
 use Rattle.rec_word.specs.Word.{is_slot}
 use Rattle.rec_counts.specs.Lists.{one}
-use Rattle.rec_apply.specs.Targets.{held, leaf_born, leaves, named, new_target, old_target, slots_in, taken, taken_targets, written}
-use Rattle.rec_apply.specs.Telling.{Tells}
-use Rattle.rec_apply.proofs.Naming.{named-at, named-nil, named_more, part-le, slots_more, slots_parts, there}
-use Rattle.rec_apply.proofs.Tells.{tells_born, tells_added, tells_kept, tells_none, tells_same, tells_taken, tells_then}
+use Rattle.rec_apply.specs.Targets.{old_target, slots_in}
+use Rattle.rec_apply.proofs.Naming.{named-at, slots_more, there}
+use Rattle.rec_apply.proofs.Tells.{tells_none, tells_same, tells_then}
 use Rattle.std.proofs.lemmas.List.{get_or-map, length-map, take_all}
 use Rattle.rec_apply.proofs.telling.tell_old_entries.Goals as goal
 

@@ -1,7 +1,6 @@
 -- The loops of `tell_old_entries`: the entries up to here are told.
-use Rattle.std.proofs.Common.{◌≡◌, ℕ, ◌∷◌, [], length, map, take}
-use Rattle.std.specs.List.{flat_map}
-use Rattle.rec_apply.specs.Targets.{held, leaf_born, leaves, named, new_target, old_target, slots_in, taken_targets, written}
+use Rattle.std.proofs.Common.{◌≡◌, length, map, take}
+use Rattle.rec_apply.specs.Targets.{old_target, slots_in}
 use Rattle.rec_apply.specs.Telling.{Tells}
 use Rattle.rec_apply.proofs.telling.tell_old_entries.Given as goal
 

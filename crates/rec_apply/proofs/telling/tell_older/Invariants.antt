@@ -1,7 +1,7 @@
 -- The loops of `tell_older`: the buffers up to here are told.
-use Rattle.std.proofs.Common.{◌≡◌, ℕ, ◌∷◌, [], length, map, take}
+use Rattle.std.proofs.Common.{◌≡◌, length, take}
 use Rattle.std.specs.List.{flat_map}
-use Rattle.rec_apply.specs.Targets.{held, leaf_born, leaves, named, new_target, old_target, slots_in, taken_targets, written}
+use Rattle.rec_apply.specs.Targets.{held, slots_in, taken_targets}
 use Rattle.rec_apply.specs.Telling.{Tells}
 use Rattle.rec_apply.proofs.telling.tell_older.Given as goal
 

@@ -1,12 +1,7 @@
 -- The contract of `tell_older_buffer`: one older buffer, and the registers of its mutator.
-use Rattle.std.proofs.Common.{◌≡◌, ℕ, ◌+◌, ◌<◌, ◌≤◌, ◌∷◌, ◌++◌, [], None, Option, List, length, map, take, get_or, refl, arith, sym, ap, ◌∙◌}
-use Rattle.std.specs.List.{flat_map}
-use Rattle.rec_word.specs.Word.{is_slot}
-use Rattle.rec_counts.specs.Lists.{one}
-use Rattle.rec_apply.specs.Targets.{held, leaf_born, leaves, named, new_target, old_target, slots_in, taken, taken_targets, written}
-use Rattle.rec_apply.specs.Telling.{Tells}
-use Rattle.rec_apply.proofs.Naming.{named-at, named-nil, named_more, part-le, slots_more, slots_parts, there}
-use Rattle.rec_apply.proofs.Tells.{tells_born, tells_added, tells_kept, tells_none, tells_same, tells_taken, tells_then}
+use Rattle.std.proofs.Common.{ℕ, ◌++◌, Option, List, length, map, refl, arith, sym, ap, ◌∙◌}
+use Rattle.rec_apply.specs.Targets.{named, old_target, slots_in, taken_targets}
+use Rattle.rec_apply.proofs.Tells.{tells_then}
 use Rattle.std.proofs.lemmas.List.Elements.{filter_map-append}
 use Rattle.rec_apply.proofs.Naming.{named-append}
 use Rattle.rec_apply.proofs.telling.tell_older_buffer.Goals as goal
@@ -27,6 +22,6 @@ tell_registers-requires c = record {
 pub returns : goal.returns
 returns c = tells_then (λ x. 0) (λ x. named x c.args.newer.now.snapshot) (slots_in (taken_targets c.args.older.now)) (λ x. refl) (λ x. omega (arith, ap (named x) c.snapshot.ensures))
     (filter_map-append (λ target. target) (map old_target c.args.older.now.entries) c.args.older.now.snapshot
-      ∙ ap (λ es. slots_in (map old_target es) ++ slots_in c.args.older.now.snapshot) (sym c.entries.ensures.entries)
-      ∙ ap (λ r. slots_in (map old_target c.entries.result.now) ++ slots_in r) (sym c.snapshot-2.ensures))
+    ∙ ap (λ es. slots_in (map old_target es) ++ slots_in c.args.older.now.snapshot) (sym c.entries.ensures.entries)
+    ∙ ap (λ r. slots_in (map old_target c.entries.result.now) ++ slots_in r) (sym c.snapshot-2.ensures))
     c.tell_old_entries.ensures c.tell_registers.ensures

@@ -1,10 +1,8 @@
 -- The contract of `make_changes`: the changes are told, and each slot that they touch is settled.
-use Rattle.std.proofs.Common.{◌≡◌, ◌^◌, ◌<◌, ◌≤◌, ℕ, ◌+◌, ◌++◌, [], List, length, get_or, arith, sym, ap, ◌∙◌}
-use Rattle.rec_counts.specs.declared.slot.Slot.{Slot}
+use Rattle.std.proofs.Common.{ℕ, ◌++◌, List, arith, sym, ap, ◌∙◌}
 use Rattle.rec_counts.specs.Batched.{is_root, is_zero}
 use Rattle.rec_counts.specs.Shelf.{Shelf}
-use Rattle.rec_counts.specs.Slot.{absent, settled_due}
-use Rattle.rec_counts.specs.Touched.{Told}
+use Rattle.rec_counts.specs.Slot.{settled_due}
 use Rattle.rec_counts.proofs.Telling.{told_list, told_open, told_slots}
 use Rattle.rec_counts.proofs.changes.make_changes.Goals as goal
 

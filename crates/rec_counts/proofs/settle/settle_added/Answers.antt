@@ -1,5 +1,5 @@
 -- The contract of `settle_added`: settles the slots that were only added to.
-use Rattle.std.proofs.Common.{◌≡◌, ℕ, ◌<◌, ◌&&◌, List, cond, ltb, length, get_or, arith, refl, ap, ◌∙◌}
+use Rattle.std.proofs.Common.{ℕ, ◌<◌, ◌&&◌, List, cond, ltb, length, get_or, arith, refl, ap, ◌∙◌}
 use Rattle.std.proofs.lemmas.List.{take_all}
 use Rattle.rec_counts.specs.declared.touched.Mark.TheVariants.{Untouched}
 use Rattle.rec_counts.specs.Lists.{times}

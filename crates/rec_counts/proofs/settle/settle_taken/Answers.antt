@@ -1,9 +1,8 @@
 -- The contract of `settle_taken`: settles the slots that something was taken off.
-use Rattle.std.proofs.Common.{◌≡◌, ℕ, ◌+◌, ◌<◌, ◌≤◌, ◌++◌, length, take, get_or, cond, ltb, List, arith, refl, sym, ap, ◌∙◌}
+use Rattle.std.proofs.Common.{◌≡◌, ℕ, ◌<◌, length, take, get_or, cond, ltb, List, arith, refl, sym, ap, ◌∙◌}
 use Rattle.std.specs.List.{filter}
 use Rattle.std.proofs.lemmas.List.{get_or_default, take_all, length-append, length-take-le}
 use Rattle.rec_counts.specs.declared.slot.Slot.{Slot}
-use Rattle.rec_counts.specs.declared.slot.Due.{Due}
 use Rattle.rec_counts.specs.Batched.{is_root, is_zero}
 use Rattle.rec_counts.specs.Lists.{times}
 use Rattle.rec_counts.specs.Shelf.{Shelf}

@@ -1,12 +1,8 @@
 -- The contract of `Batch::tell`: what the buffers of two epochs tell of the slots.
-use Rattle.std.proofs.Common.{◌≡◌, ℕ, ◌+◌, ◌<◌, ◌≤◌, ◌∷◌, ◌++◌, [], None, Option, List, length, map, take, get_or, refl, arith, sym, ap, ◌∙◌}
+use Rattle.std.proofs.Common.{ℕ, [], List, refl, arith, sym, ◌∙◌}
 use Rattle.std.specs.List.{flat_map}
-use Rattle.rec_word.specs.Word.{is_slot}
-use Rattle.rec_counts.specs.Lists.{one}
-use Rattle.rec_apply.specs.Targets.{added, held, leaf_born, leaves, named, new_target, old_target, slots_in, taken, taken_targets, written}
-use Rattle.rec_apply.specs.Telling.{Tells}
-use Rattle.rec_apply.proofs.Naming.{named-at, named-nil, named_more, part-le, slots_more, slots_parts, there}
-use Rattle.rec_apply.proofs.Tells.{tells_born, tells_added, tells_kept, tells_none, tells_same, tells_taken, tells_then}
+use Rattle.rec_apply.specs.Targets.{added, leaves, slots_in, taken_targets}
+use Rattle.rec_apply.proofs.Tells.{tells_then}
 use Rattle.rec_log.specs.declared.contents.Contents.{Contents}
 use Rattle.rec_apply.proofs.Naming.{added_parts}
 use Rattle.rec_counts.proofs.Telling.{told_same}

@@ -1,9 +1,7 @@
 -- The contract of `Counts::count_batch`: counts the changes of all slots in one go.
-use Rattle.std.proofs.Common.{◌≡◌, ◌<◌, ◌≤◌, ◌+◌, ◌++◌, [], List, length, take, drop, refl, arith, sym, ap, ◌∙◌}
+use Rattle.std.proofs.Common.{◌≡◌, ◌≤◌, ◌++◌, [], length, take, drop, refl, arith, ◌∙◌}
 use Rattle.rec_counts.specs.Counts.{State}
 use Rattle.std.proofs.lemmas.List.{take_at}
-use Rattle.rec_counts.specs.Batched.{batched_slots}
-use Rattle.rec_counts.specs.Touched.{untouched}
 use Rattle.rec_counts.proofs.Batching.{as_many, batched_kept}
 use Rattle.rec_counts.proofs.Keeping.{roots_once}
 use Rattle.rec_counts.proofs.Lessening.{room_kept}

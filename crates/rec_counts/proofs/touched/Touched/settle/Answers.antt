@@ -1,5 +1,5 @@
 -- The contract of `Touched::settle`: settles each slot that was touched, and forgets that it was.
-use Rattle.std.proofs.Common.{◌≡◌, ℕ, ◌+◌, ◌≤◌, ◌++◌, List, length, take, drop, get_or, [], replicate, refl, arith, sym, ap, ◌∙◌}
+use Rattle.std.proofs.Common.{◌≡◌, ◌++◌, List, length, take, drop, get_or, refl, ap, ◌∙◌}
 use Rattle.std.proofs.lemmas.List.{take_at}
 use Rattle.rec_counts.specs.declared.touched.Mark.{Mark}
 use Rattle.rec_counts.specs.Slot.{absent}
