@@ -17,7 +17,7 @@
 //! On one thread:
 //! - `cycles`: played scripts leave garbage cycles, and some collections later each is gone.
 //! - `adapters`: a reader and a writer of std that fail are passed on.
-//! - `words`, `refused_set`: worked values from outside.
+//! - `words`, `refused_set`, `cancelled`: worked values from outside.
 //!
 //! This crate holds tests alone, and nothing stands on it.
 #![tactic(auto)]
@@ -26,6 +26,8 @@
 mod adapters;
 #[cfg(test)]
 mod births;
+#[cfg(test)]
+mod cancelled;
 #[cfg(test)]
 mod crew;
 #[cfg(test)]
