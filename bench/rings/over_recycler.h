@@ -1,20 +1,17 @@
-/* The rings' allocator over librecycler_c. A further thread turns the collector. The heap has SLOTS slots, of one field. Beside the rings
- * a list of live objects takes LIVE slots, the lowest ones, before the first ring is made. A log holds LOG_ENTRIES entries. */
-#include <sched.h>
+/* The allocator over librecycler_c. A further thread turns the collector. The heap has SLOTS slots, and each log LOG_ENTRIES entries. The
+ * list of live objects takes the lowest slots. */
+#include <malloc.h>
 
 #include "recycler.h"
 
-/* What names the list, in the first mutator. */
-enum { LIST = REGISTERS, ALL_REGISTERS };
-
-typedef struct seat {
+struct seat {
     recycler_handle *mutator;
-} seat;
+};
 
 static recycler heap = RECYCLER_CLOSED;
+static uint64_t taken;
 static pthread_t collector;
-static pthread_mutex_t lock = PTHREAD_MUTEX_INITIALIZER;
-static int working = THREADS;
+static gate end = GATE;
 
 static void must(uint32_t code, const char *call) {
     if (code != RECYCLER_OK) {
@@ -22,24 +19,57 @@ static void must(uint32_t code, const char *call) {
     }
 }
 
-/* Whether all mutators are done, of which so many more are now. */
-static bool all_done(int more) {
-    pthread_mutex_lock(&lock);
-    working -= more;
-    int left = working;
-    pthread_mutex_unlock(&lock);
-    return left == 0;
-}
-
 static void *collect(void *nothing) {
     recycler_turned told;
-    while (!all_done(0)) {
+    while (!is_open(&end, 0)) {
         must(recycler_collect(&heap.collector, 100, &told), "collect");
         if (told.what == RECYCLER_WAITING) {
             sched_yield();
         }
     }
     return nothing;
+}
+
+/* What malloc has given out, with its own words. */
+static uint64_t given_out(void) {
+    struct mallinfo2 told = mallinfo2();
+    return told.uordblks + told.hblkhd;
+}
+
+/* A heap takes all its memory as it is opened and started. */
+static void open_heap(uint64_t most_bytes, bool whole) {
+    (void)most_bytes;
+    (void)whole;
+    uint64_t before = given_out();
+    must(recycler_open(&heap, SLOTS, FIELDS, ALL_REGISTERS, THREADS, LOG_ENTRIES, 1), "open");
+    must(recycler_start(&heap), "start");
+    taken = given_out() - before;
+    start_thread(&collector, collect, NULL);
+}
+
+static uint64_t heap_bytes(void) {
+    return taken;
+}
+
+/* Just the list and what registers name is left. */
+static void close_heap(void) {
+    recycler_settled told;
+    pthread_join(collector, NULL);
+    must(recycler_stop(&heap), "stop");
+    must(recycler_settle(&heap, &told), "settle");
+    if (told.live != THREADS * KEPT + LIVE) {
+        fail("%u objects are left", (unsigned)told.live);
+    }
+    must(recycler_close(&heap), "close");
+}
+
+static void enter(seat *s, int thread) {
+    s->mutator = &heap.mutators[thread];
+    empty(s, 0);
+}
+
+static void leave(seat *s) {
+    meet(&end, s);
 }
 
 static void poll(seat *s) {
@@ -59,14 +89,14 @@ static bool make(seat *s, int reg, uint32_t label) {
     return told.answer == RECYCLER_DONE;
 }
 
-static bool links(seat *s, int from, int to) {
+static bool links(seat *s, int from, int field, int to) {
     recycler_asked told;
-    must(recycler_put(s->mutator, from, 0, to, &told), "put");
+    must(recycler_put(s->mutator, from, field, to, &told), "put");
     return told.answer == RECYCLER_DONE;
 }
 
-static void link_to(seat *s, int from, int to) {
-    while (!links(s, from, to)) {
+static void link_to(seat *s, int from, int field, int to) {
+    while (!links(s, from, field, to)) {
         give_way(s);
     }
 }
@@ -81,66 +111,6 @@ static void empty(seat *s, int reg) {
     must(recycler_null(s->mutator, reg, &told), "null");
 }
 
-/* No thread carries on a mutator yet, so all of them poll here. */
-static void all_give_way(void) {
-    for (int thread = 0; thread < THREADS; thread++) {
-        seat it = {&heap.mutators[thread]};
-        give_way(&it);
-    }
-}
-
-/* Puts an object at the end of the list. */
-static void lengthen(seat *s, uint32_t number) {
-    while (!make(s, NEXT, number)) {
-        all_give_way();
-    }
-    if (number == 0) {
-        copy(s, LIST, NEXT);
-    }
-    while (number != 0 && !links(s, LAST, NEXT)) {
-        all_give_way();
-    }
-    copy(s, LAST, NEXT);
-}
-
-static void open_heap(void) {
-    must(recycler_open(&heap, SLOTS, 1, ALL_REGISTERS, THREADS, LOG_ENTRIES, 1), "open");
-    must(recycler_start(&heap), "start");
-    start_thread(&collector, collect, NULL);
-    seat first = {&heap.mutators[0]};
-    for (int number = 0; number < LIVE; number++) {
-        lengthen(&first, (uint32_t)number);
-    }
-    empty(&first, LAST);
-    empty(&first, NEXT);
-}
-
-/* The list and just the rings that registers name are left. */
-static void close_heap(void) {
-    recycler_settled told;
-    pthread_join(collector, NULL);
-    must(recycler_stop(&heap), "stop");
-    must(recycler_settle(&heap, &told), "settle");
-    if (told.live != THREADS * ALIVE * LONG + LIVE) {
-        fail("%u objects are left", (unsigned)told.live);
-    }
-    must(recycler_close(&heap), "close");
-}
-
-static void enter(seat *s, int thread) {
-    s->mutator = &heap.mutators[thread];
-    empty(s, 0);
-}
-
-/* A mutator that is done polls until all are: else it would hold up the collector, and the others would find no slot. */
-static void leave(seat *s) {
-    for (bool done = all_done(1); !done; done = all_done(0)) {
-        give_way(s);
-    }
-}
-
-/* Once a ring, so it polls too. */
 static void drop(seat *s, int reg) {
     empty(s, reg);
-    poll(s);
 }
