@@ -58,6 +58,7 @@ impl Model for Collector {
 }
 
 // Makes the operation of a turn that looks at no mailbox, and no more.
+#[inline(always)]
 fn make_turn<W: Turning>(board: &Board, seat: &mut Seat<Option<Buffer>, View>, op: Op) -> u64
     requires table { seat.old.table_id ≡ board.now.table.shared.table_id }
     requires seat { seat.old.me ≡ (Collects (collecting_of seat.old.me.0), boxes_out W.actor) }
@@ -88,6 +89,7 @@ fn make_turn<W: Turning>(board: &Board, seat: &mut Seat<Option<Buffer>, View>, o
 
 // The crossing word of mutator `t`, as a turn finds it: where its mailbox is home with what was retired, it is marked as taken. While
 // the collector waits it only loads the word, and so takes the word's line from no mutator.
+#[inline(always)]
 fn find<W: Turning>(board: &Board, seat: &mut Seat<Option<Buffer>, View>, t: u8, epoch: u32) -> u64
     requires table { seat.old.table_id ≡ board.now.table.shared.table_id }
     requires seat { seat.old.me ≡ (Collects (collecting_of seat.old.me.0), []) }
@@ -114,6 +116,7 @@ fn find<W: Turning>(board: &Board, seat: &mut Seat<Option<Buffer>, View>, t: u8,
 }
 
 // Looks at the mailbox of mutator `t`: where it is home with what was retired, it is taken, and a spare comes into it.
+#[inline(always)]
 fn look<W: Turning>(
     board: &Board,
     seat: &mut Seat<Option<Buffer>, View>,
@@ -182,6 +185,7 @@ impl Collector {
     }
 
     // One turn.
+    #[inline(always)]
     pub(crate) fn turn_on(&mut self, board: &Board) -> Turn
         requires own { IsOwn board.now.table.shared.table_id board.now.table.shared.key.value self.old }
         requires world { IsWorld board.now.table.shared.key.value }
@@ -209,6 +213,7 @@ impl Collector {
     /// Makes one turn of the collector: one step of its collection, on the word that this names. It answers `Waiting` for a mutator
     /// that hasn't crossed into the requested epoch and hasn't left, and `EpochsSpent` for good where the next request would be epoch
     /// 16,777,216.
+    #[inline(always)]
     pub fn turn(&mut self, heap: &Heap) -> Turn
         requires own { IsCollectorOf heap.now self.old }
 
