@@ -82,7 +82,6 @@ impl CycleFree {
 
     /// Learns the word that came out of the field: its target has one reference less. An orange target is lowered, any
     /// other is decremented.
-    #[inline(always)]
     pub fn took(&mut self, counts: &mut Counts, word: u64)
         requires busy { IsSome (next_of self.old) }
         requires kept { IsAtWork self.old counts.old }

@@ -54,7 +54,6 @@ impl Sweep {
 
     /// Learns that the header is freed: the slot leaves the free list with one reference, Black and not released.
     #[tactic(auto, unfolding(crate::specs::Sweep::took_of, crate::specs::Sweep::next_of))]
-    #[inline(always)]
     pub fn took(&mut self, counts: &mut Counts, _word: u64)
         requires busy { IsSome (next_of self.old) }
         requires kept { IsAtWork self.old counts.old }

@@ -69,7 +69,6 @@ impl Prep {
 
     /// Learns the word that was found in the field: where it leads to a member of the same set, it takes one off that
     /// member's cyclic count, not below zero.
-    #[inline(always)]
     pub fn took(&mut self, counts: &mut Counts, word: u64)
         requires busy { IsSome (next_of self.old) }
         requires kept { IsAtWork self.old counts.old }

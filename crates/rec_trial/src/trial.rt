@@ -89,7 +89,6 @@ impl Trial {
     }
 
     /// Learns the word that the field holds. One that leads to a Green slot counts as null: a trial doesn't see leaves.
-    #[inline(always)]
     pub fn took(&mut self, counts: &mut Counts, word: u64)
         requires busy { IsSome (next_of self.old) }
         requires kept { IsAtWork self.old counts.old }
