@@ -1,13 +1,10 @@
 -- What is told, one thing after another.
-use Rattle.std.proofs.Common.{◌≡◌, ℕ, ◌+◌, ◌<◌, List, [], ◌∷◌, ◌++◌, length, eqb, append_assoc, get_or, refl, sym, ap, ◌∙◌, arith}
-use Rattle.std.proofs.Math.ListN.{set}
+use Rattle.std.proofs.Common.{◌≡◌, ℕ, ◌+◌, ◌<◌, List, [], ◌∷◌, ◌++◌, length, eqb, append_assoc, refl, sym, ap, ◌∙◌, arith}
 use Rattle.std.proofs.lemmas.List.{append-nil, length-set}
 use Rattle.rec_counts.specs.declared.slot.Slot.{Slot}
-use Rattle.rec_counts.specs.declared.colour.Colour.TheVariants.{Green}
 use Rattle.rec_counts.specs.Lists.{one}
-use Rattle.rec_counts.specs.Slot.{absent}
-use Rattle.rec_counts.specs.Touched.{Touching, counted_less, counted_more, with_added, with_taken}
-use Rattle.rec_counts.proofs.Telling.{told_added, told_born, told_kept, told_same, told_taken}
+use Rattle.rec_counts.specs.Touched.{Touching, counted_less, with_taken}
+use Rattle.rec_counts.proofs.Telling.{told_kept, told_same, told_taken}
 use Rattle.rec_apply.specs.Telling.{Tells}
 
 pub tells_none : (slots : List Slot) (touched : Touching) (born added : ℕ → ℕ) (taken : List ℕ) → ((x : ℕ) → born x ≡ 0) → ((x : ℕ) → added x ≡ 0) → taken ≡ [] → Tells born added taken slots touched slots touched
@@ -38,20 +35,6 @@ tells_same born' added' taken' e f g k = record {
   many = k.many;
   marked = k.marked;
   told = λ before b a t m. told_same (λ x. b x + born' x) (λ x. a x + added' x) (t ++ taken') (λ x. omega (arith, e x)) (λ x. omega (arith, f x)) (ap (λ ts. t ++ ts) g) (k.told before b a t m);
-}
-
-pub tells_born : (slots : List Slot) (touched : Touching) (x : ℕ) → x < length slots → Tells (λ y. one (eqb y x)) (λ y. 0) [] slots touched (set slots x (record (get_or slots x absent) { colour = Green })) touched
-tells_born slots touched x l = record {
-  many = length-set slots x _;
-  marked = refl;
-  told = λ before b a t k. told_same (λ y. b y + one (eqb y x)) (λ y. a y + 0) (t ++ []) (λ y. refl) (λ y. omega arith) (append-nil t) (told_born k x l);
-}
-
-pub tells_added : (slots : List Slot) (touched : Touching) (x : ℕ) → x < length slots → Tells (λ y. 0) (λ y. one (eqb y x)) [] slots touched (counted_more slots x) (with_added touched x)
-tells_added slots touched x l = record {
-  many = length-set slots x _;
-  marked = length-set touched.marks x _;
-  told = λ before b a t k. told_same (λ y. b y + 0) (λ y. a y + one (eqb y x)) (t ++ []) (λ y. omega arith) (λ y. refl) (append-nil t) (told_added k x l);
 }
 
 pub tells_taken : (slots : List Slot) (touched : Touching) (x : ℕ) → x < length slots → Tells (λ y. 0) (λ y. 0) (x ∷ []) slots touched (counted_less slots x) (with_taken touched x)

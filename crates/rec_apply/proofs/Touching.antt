@@ -1,7 +1,7 @@
 -- What a batch names is touched, and what it doesn't name stays as it was.
-use Rattle.std.proofs.Common.{◌≡◌, ◌↔◌, ℕ, ◌+◌, ◌<◌, ◌||◌, Bool, true, false, eqb, ltb, List, flat_map, length, refl, sym, ap, ◌∙◌, arith, inl, inr}
+use Rattle.std.proofs.Common.{◌≡◌, ◌↔◌, ℕ, ◌+◌, ◌<◌, ◌||◌, Bool, true, false, eqb, ltb, List, flat_map, refl, sym, ap, ◌∙◌, arith, inl, inr}
 use Rattle.std.proofs.lemmas.Bool.{cases_lt, false≢true, lt-ltb, ltb-false}
-use Rattle.std.proofs.lemmas.List.{get_or-set_same, get_or_past}
+use Rattle.std.proofs.lemmas.List.{get_or-set_same}
 use Rattle.rec_log.specs.declared.contents.Contents.{Contents}
 use Rattle.rec_counts.specs.declared.colour.Colour.{Colour}
 use Rattle.rec_counts.specs.declared.colour.Colour.TheVariants.{Green, Orange}
@@ -14,6 +14,7 @@ use Rattle.rec_counts.specs.Slot.{absent, lessened, lessened_if, settled_if, sta
 use Rattle.rec_counts.specs.Touched.{greened_if, mark_of, settled_at}
 use Rattle.rec_counts.proofs.Batching.{at_below, unnamed_at}
 use Rattle.rec_counts.proofs.Decrementing.{same_slot}
+use Rattle.rec_counts.proofs.Keeping.{unreleased_within}
 use Rattle.rec_apply.specs.Batch.{batch, is_touched, names}
 use Rattle.rec_apply.specs.Targets.{added, leaves, slots_in, taken, taken_targets}
 use Rattle.rec_apply.proofs.Naming.{taken_is, times_slots}
@@ -51,13 +52,6 @@ slot_touched born added taken v r some = go (ltb 0 added) (ltb 0 taken) refl ref
         let is : ltb 0 born ≡ true = lt-ltb 0 born (omega (arith, some, ltb-false 0 added e, ltb-false 0 taken f)) in
         rw (e, f) (ap (λ b. is_touched (greened_if b v).colour) is)
 
--- an unreleased slot is there
-pub unreleased_there : (s : State) (x : ℕ) → (slot_at s x).released ≡ false → x < length s.slots
-unreleased_there s x r = elim (cases_lt x (length s.slots)) [
-  | inl l ↦ l
-  | inr l ↦ absurd (false≢true (sym r ∙ ap (λ (v : Slot). v.released) (get_or_past s.slots x absent l)))
-]
-
 -- how often the older buffers name a slot
 pub taken_times : (x : ℕ) (older : List Contents) → times x (slots_in (flat_map taken_targets older)) ≡ taken x older
 taken_times x older = times_slots x (flat_map taken_targets older) ∙ taken_is x older
@@ -65,13 +59,13 @@ taken_times x older = times_slots x (flat_map taken_targets older) ∙ taken_is 
 pub batch_touched : (s : State) (newer older : List Contents) (x : ℕ) → (slot_at s x).released ≡ false → 0 < names x newer older → is_touched (slot_at (batch s newer older) x).colour ≡ true
 unfolding batch
 batch_touched s newer older x r some =
-    ap (λ (v : Slot). is_touched v.colour) (at_below s (λ y. leaves y newer) (λ y. added y newer) (slots_in (flat_map taken_targets older)) x (unreleased_there s x r))
+    ap (λ (v : Slot). is_touched v.colour) (at_below s (λ y. leaves y newer) (λ y. added y newer) (slots_in (flat_map taken_targets older)) x (unreleased_within s x r))
     ∙ slot_touched (leaves x newer) (added x newer) (times x (slots_in (flat_map taken_targets older))) (slot_at s x) r (omega (arith, some, taken_times x older))
 
 pub batch_same : (s : State) (newer older : List Contents) (x : ℕ) → (slot_at s x).released ≡ false → names x newer older ≡ 0 → slot_at (batch s newer older) x ≡ slot_at s x
 unfolding batch
 batch_same s newer older x r none =
-    at_below s (λ y. leaves y newer) (λ y. added y newer) (slots_in (flat_map taken_targets older)) x (unreleased_there s x r)
+    at_below s (λ y. leaves y newer) (λ y. added y newer) (slots_in (flat_map taken_targets older)) x (unreleased_within s x r)
     ∙ unnamed_at (leaves x newer) (added x newer) (times x (slots_in (flat_map taken_targets older))) (slot_at s x) (omega (arith, none)) (omega (arith, none)) (omega (arith, none, taken_times x older))
 
 -- what is touched isn't Orange
@@ -97,4 +91,4 @@ lessened_touched false false v e r = refl
 pub decremented_touched : (s : State) (x : ℕ) → (slot_at s x).released ≡ false → is_touched (slot_at (decremented s x) x).colour ≡ true
 decremented_touched s x r =
     let v : Slot = slot_at s x in
-    ap (λ (w : Slot). is_touched w.colour) (same_slot s x x ∙ get_or-set_same s.slots x (lessened v) absent (unreleased_there s x r)) ∙ lessened_touched (stays v) (eqb v.count 1) v refl r
+    ap (λ (w : Slot). is_touched w.colour) (same_slot s x x ∙ get_or-set_same s.slots x (lessened v) absent (unreleased_within s x r)) ∙ lessened_touched (stays v) (eqb v.count 1) v refl r

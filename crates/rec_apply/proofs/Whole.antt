@@ -3,7 +3,6 @@ use Rattle.std.proofs.Common.{◌≡◌, ℕ, ◌+◌, ◌≤◌, ◌||◌, Bool
 use Rattle.std.proofs.lemmas.Bool.{false≢true, le-ltb, lt-ltb, ne_eqb}
 use Rattle.rec_counts.specs.declared.colour.Colour.TheVariants.{Purple}
 use Rattle.rec_counts.specs.declared.slot.Slot.{Slot}
-use Rattle.rec_counts.specs.declared.touched.Mark.TheVariants.{Taken}
 use Rattle.rec_counts.specs.Batched.{batched_at, counted_at}
 use Rattle.rec_counts.specs.Colour.{is_green}
 use Rattle.rec_counts.specs.Counts.{State, slot_at}
@@ -11,6 +10,7 @@ use Rattle.rec_counts.specs.Lists.{times}
 use Rattle.rec_counts.specs.Slot.{settled, settled_if}
 use Rattle.rec_counts.specs.Touched.{greened_if, mark_of, settled_at}
 use Rattle.rec_counts.proofs.Batching.{at_each, batched_all_zeros, batched_kept, batched_rest, batched_zeros, count_at, counted_released, settled_green, unnamed_at}
+use Rattle.rec_counts.proofs.Telling.{mark_taken_of}
 use Rattle.rec_log.specs.declared.contents.Contents.{Contents}
 use Rattle.rec_apply.specs.Batch.{batch, IsBatch, IsCovered}
 use Rattle.rec_apply.specs.Targets.{added, leaves, slots_in, taken_targets}
@@ -27,10 +27,6 @@ rooted false true n v e f h = absurd (false≢true (sym f))
 rooted false false true v e f h = absurd (false≢true (sym h))
 rooted false false false v e f h = (refl, refl)
 
-marked_taken : (b : Bool) → mark_of b true ≡ Taken
-marked_taken true = refl
-marked_taken false = refl
-
 -- what is known of the counts after a batch
 pub is_batch : (s : State) (newer older : List Contents) → s.zeros ≡ [] → IsCovered s newer older → IsBatch s newer older (batch s newer older)
 unfolding batch
@@ -42,7 +38,7 @@ is_batch s newer older z c = record {
   born = λ x some. green x ∙ ap (λ b. is_green (greened_if b (slot_at s x)).colour) (lt-ltb 0 (leaves x newer) some);
   roots = λ x r some g n.
       let w : Slot = counted_at s.slots born more less x in
-      let is : slot_at (batch s newer older) x ≡ settled w = each x ∙ ap (λ m. settled_at m w) (ap (mark_of (ltb 0 (added x newer))) (lt-ltb 0 (times x less) (omega (arith, some, taken_times x older))) ∙ marked_taken (ltb 0 (added x newer))) in
+      let is : slot_at (batch s newer older) x ≡ settled w = each x ∙ ap (λ m. settled_at m w) (ap (mark_of (ltb 0 (added x newer))) (lt-ltb 0 (times x less) (omega (arith, some, taken_times x older))) ∙ mark_taken_of (ltb 0 (added x newer))) in
       let still : is_green w.colour ≡ false = sym (green x) ∙ g in
       let count : w.count ≡ (slot_at (batch s newer older) x).count = sym (ap (λ (v : Slot). v.count) (each x) ∙ count_at s born more less x) in
       let root = rooted w.released (is_green w.colour) (eqb w.count 0) w (counted_released s born more less x ∙ r) still (ne_eqb w.count 0 (λ e. omega (arith, n, count, e))) in

@@ -9,9 +9,8 @@ use Rattle.std.proofs.lemmas.Bool.Decides.{eqb_tells}
 use Rattle.rec_counts.specs.declared.slot.Slot.{Slot}
 use Rattle.rec_counts.specs.declared.touched.Mark.{Mark}
 use Rattle.rec_counts.specs.declared.touched.Mark.TheVariants.{Untouched, Added, Taken}
-use Rattle.rec_counts.specs.declared.colour.Colour.{Colour}
-use Rattle.rec_counts.specs.declared.colour.Colour.TheVariants.{Black, Purple, Green}
-use Rattle.rec_counts.specs.Colour.{in_use, is_green}
+use Rattle.rec_counts.specs.declared.colour.Colour.TheVariants.{Black, Purple}
+use Rattle.rec_counts.specs.Colour.{is_green}
 use Rattle.rec_counts.specs.Lists.{one, times}
 use Rattle.rec_counts.specs.Shelf.{Shelf}
 use Rattle.rec_counts.specs.Slot.{absent, settled, settled_if, stays}
@@ -65,10 +64,6 @@ mark_then true Taken = refl
 mark_then false Added = refl
 mark_then false Untouched = refl
 mark_then false Taken = refl
-
-used_again : (c : Colour) → in_use (in_use c) ≡ in_use c
-used_again Green = refl
-used_again _ = refl
 
 used_then : (seen : Bool) (mark : Mark) (v : Slot) → used_where (is_added (cond (seen && is_added mark) Untouched mark)) (used_where (seen && is_added mark) v) ≡ used_where (true && is_added mark) v
 used_then true Added v = refl

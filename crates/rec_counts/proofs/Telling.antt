@@ -114,7 +114,7 @@ taken_of false true = refl
 taken_of true false = refl
 taken_of false false = refl
 
-mark_taken_of : (added : Bool) → mark_of added true ≡ Taken
+pub mark_taken_of : (added : Bool) → mark_of added true ≡ Taken
 mark_taken_of true = refl
 mark_taken_of false = refl
 
