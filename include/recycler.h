@@ -4,7 +4,9 @@
  * RECYCLER_CLOSED; bytes that are all zero are closed too. Its bytes are the library's: a caller passes addresses of it and of its
  * handles, and copies or writes nothing. Two heaps have nothing in common: calls on one may run beside calls on the other.
  *
- * Linking. The library calls malloc, realloc and free through an archive of the kit, in the folder c beside the page that `rt doc` names:
+ * Linking. `make -C include install PREFIX=..` installs this header, the library and what pkg-config says of them:
+ *     cc program.c $(pkg-config --cflags --libs recycler) -lpthread
+ * In a checkout the library calls malloc, realloc and free through an archive of the kit, in the folder c beside the page that `rt doc` names:
  *     cc -Iinclude program.c crates/recycler_c/out/librecycler_c.a "$(dirname "$(rt doc)")/c/liblibc_c.a" -lpthread
  *
  * Pointers. None is null. What an out-parameter points to lies outside every `recycler`, belongs to one call at a time, and needs no
@@ -76,9 +78,11 @@ typedef enum recycler_code {
     RECYCLER_LEFT = 16
 } recycler_code;
 
+/* It takes 64 bytes, so that no two handles lie in one line of memory, where threads that call with them would hold up each other. */
 typedef struct recycler_handle {
     bool full;
     struct { void *at; } owned;
+    uint64_t apart[6];
 } recycler_handle;
 
 /* How many mutators a heap has at most. */
@@ -90,7 +94,7 @@ typedef struct recycler {
 } recycler;
 
 /* All handles are closed: what an initializer does not name is zero. */
-#define RECYCLER_CLOSED { { false, { 0 } }, { { false, { 0 } } } }
+#define RECYCLER_CLOSED { { false, { 0 }, { 0 } }, { { false, { 0 }, { 0 } } } }
 
 /* What a command was answered. */
 typedef enum recycler_answer {
@@ -106,7 +110,7 @@ typedef enum recycler_answer {
     RECYCLER_BUSY = 8,      /* recycler_new: no free slot was found, but a sweep ran. `before` and `after` have the freed word, which is odd
                               * within a sweep and greater after it */
     RECYCLER_LOG_FULL = 9,  /* the mutator's log has no room: let the collector turn, poll until the poll crosses, and ask again */
-    RECYCLER_NO_FIELD = 10, /* recycler_put: the object is a leaf, whose fields are null for good. No call below makes leaves yet */
+    RECYCLER_NO_FIELD = 10, /* recycler_put: the object is a leaf, whose fields are null for good */
     RECYCLER_NOT_YET = 11   /* recycler_leave: the log that the mutator handed over last is not collected yet: let the collector turn, and
                               * ask again */
 } recycler_answer;
@@ -211,6 +215,10 @@ uint32_t recycler_leave(recycler_handle *mutator, recycler_asked *told);
 
 /* Makes an object with this label and null fields, and lets `reg` name it. Any label fits. Answers: DONE, FULL, BUSY, LOG_FULL. */
 uint32_t recycler_new(recycler_handle *mutator, uint32_t reg, uint32_t label, recycler_asked *told);
+
+/* Makes a leaf, and lets `reg` name it: an object whose fields are null for good, for what leads to no object. The collector looks into no
+ * leaf, and no leaf is a part of a cycle that it searches for. Answers: DONE, FULL, BUSY, LOG_FULL. */
+uint32_t recycler_leaf(recycler_handle *mutator, uint32_t reg, uint32_t label, recycler_asked *told);
 
 /* Lets `reg` be null. Answers: DONE. */
 uint32_t recycler_null(recycler_handle *mutator, uint32_t reg, recycler_asked *told);

@@ -81,6 +81,7 @@ static void want_same(const view *before, const view *after) {
 static void want_commands(recycler_handle *handle, uint32_t code) {
     WANT(recycler_poll(handle, &told.number), code);
     WANT(recycler_new(handle, 1, 7, &told.asked), code);
+    WANT(recycler_leaf(handle, 1, 7, &told.asked), code);
     WANT(recycler_null(handle, 0, &told.asked), code);
     WANT(recycler_copy(handle, 1, 0, &told.asked), code);
     WANT(recycler_get(handle, 1, 0, 0, &told.asked), code);
@@ -173,6 +174,7 @@ static void while_it_runs(recycler *r) {
     want_commands(&r->collector, RECYCLER_OTHER_HANDLE);
     want_commands(&r->mutators[MUTATORS], RECYCLER_CLOSED_HANDLE);
     WANT(recycler_new(m, REGISTERS, 1, &told.asked), RECYCLER_RANGE);
+    WANT(recycler_leaf(m, REGISTERS, 1, &told.asked), RECYCLER_RANGE);
     WANT(recycler_null(m, REGISTERS, &told.asked), RECYCLER_RANGE);
     WANT(recycler_null(m, 256, &told.asked), RECYCLER_RANGE);
     WANT(recycler_copy(m, 0, REGISTERS, &told.asked), RECYCLER_RANGE);
@@ -220,6 +222,35 @@ static void go_round(recycler *r) {
     WANT(recycler_start(r), RECYCLER_OK);
     WANT(recycler_stop(r), RECYCLER_OK);
     while_at_rest(r);
+    WANT(recycler_close(r), RECYCLER_OK);
+}
+
+/* A leaf has fields that are null for good, and is freed as any other object. */
+static void make_leaf(recycler *r) {
+    recycler_handle *m = &r->mutators[0];
+    recycler_asked asked;
+    recycler_settled settled;
+    WANT(open_small(r, 1), RECYCLER_OK);
+    WANT(recycler_start(r), RECYCLER_OK);
+    WANT(recycler_leaf(m, 1, 9, &asked), RECYCLER_OK);
+    WANT_TRUE(asked.answer == RECYCLER_DONE);
+    WANT(recycler_value(m, 1, &asked), RECYCLER_OK);
+    WANT_TRUE(asked.answer == RECYCLER_VALUE && asked.label == 9);
+    WANT(recycler_put(m, 1, 0, 0, &asked), RECYCLER_OK);
+    WANT_TRUE(asked.answer == RECYCLER_NO_FIELD);
+    WANT(recycler_get(m, 2, 1, 0, &asked), RECYCLER_OK);
+    WANT_TRUE(asked.answer == RECYCLER_NULL);
+    WANT(recycler_put(m, 0, 0, 1, &asked), RECYCLER_OK);
+    WANT_TRUE(asked.answer == RECYCLER_DONE);
+    WANT(recycler_null(m, 1, &asked), RECYCLER_OK);
+    WANT(recycler_stop(r), RECYCLER_OK);
+    WANT(recycler_settle(r, &settled), RECYCLER_OK);
+    WANT_TRUE(settled.live == 2);
+    WANT(recycler_start(r), RECYCLER_OK);
+    WANT(recycler_put(m, 0, 0, 1, &asked), RECYCLER_OK);
+    WANT(recycler_stop(r), RECYCLER_OK);
+    WANT(recycler_settle(r, &settled), RECYCLER_OK);
+    WANT_TRUE(settled.live == 1 && settled.freed == 1);
     WANT(recycler_close(r), RECYCLER_OK);
 }
 
@@ -334,6 +365,7 @@ int main(void) {
     open_bounds(&r);
     go_round(&r);
     while_closed(&r);
+    make_leaf(&r);
     leave_all(&r);
     while_closed(&r);
     /* bytes that are all zero are closed too */

@@ -8,7 +8,7 @@ import time
 from ctypes import CDLL, Structure, byref, c_uint32 as u32, c_uint64 as u64
 
 LIBRARY = CDLL(sys.argv[1] if len(sys.argv) > 1 else "out/librecycler.so")
-HEAP = (u64 * 128)()  # a `recycler`: 64 handles of 16 bytes, the collector's first; bytes that are all zero are closed
+HEAP = (u64 * 512)()  # a `recycler`: 64 handles of 64 bytes, the collector's first; bytes that are all zero are closed
 WORKING = {1, 2, 3, 4}  # the mutators that still build
 
 
@@ -24,7 +24,7 @@ Totals = struct(born=u64, freed=u64, epoch=u32, collections=u32, cycles_freed=u6
 
 def call(name, handle, *numbers, told=None):
     """Calls with the handle of the mutator with this number; 0 is the collector's, and the whole heap."""
-    code = getattr(LIBRARY, "recycler_" + name)(byref(HEAP, 16 * handle), *numbers, *(() if told is None else (byref(told),)))
+    code = getattr(LIBRARY, "recycler_" + name)(byref(HEAP, 64 * handle), *numbers, *(() if told is None else (byref(told),)))
     if code != 0:
         raise RuntimeError(f"recycler_{name}: code {code}")
     return told

@@ -98,6 +98,16 @@ pub fn new(reg: u32, label: u32) -> Option<Cmd>
     })
 }
 
+/// The command that makes a leaf, likewise.
+pub fn leaf(reg: u32, label: u32) -> Option<Cmd>
+    ensures { result ≡ narrow (commands.Leaf reg label) }
+{
+    Some(Cmd::Leaf {
+        reg: byte(reg)?,
+        label,
+    })
+}
+
 /// The command that lets a register be null, likewise.
 pub fn null(reg: u32) -> Option<Cmd>
     ensures { result ≡ narrow (commands.Null reg) }

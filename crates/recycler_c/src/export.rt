@@ -152,6 +152,20 @@ pub extern "C" fn recycler_new(
     command::ask(alloc, mutator, command::new(reg, label), told).number()
 }
 
+/// Makes a leaf, an object whose fields are null for good.
+#[unsafe(no_mangle)]
+pub extern "C" fn recycler_leaf(
+    alloc: Global,
+    mutator: &mut Handle,
+    reg: u32,
+    label: u32,
+    told: &mut Asked,
+) -> u32
+    ensures { Answers result (λ code. Asks mutator.old.owned.held (narrow (commands.Leaf reg label)) told.old code mutator.new.owned.held told.new) }
+{
+    command::ask(alloc, mutator, command::leaf(reg, label), told).number()
+}
+
 /// Lets a register be null.
 #[unsafe(no_mangle)]
 pub extern "C" fn recycler_null(

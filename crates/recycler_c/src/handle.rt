@@ -12,6 +12,8 @@ use std::mem::replace;
 pub struct Handle {
     pub full: bool,
     pub owned: Owned,
+    /// What keeps handles apart: no two of them lie in one line of memory, where the threads that call with them would hold up each other.
+    pub apart: [u64; 6],
     pub ghost holds: { full ≡ is_some owned.held },
 }
 
