@@ -213,7 +213,9 @@ uint32_t recycler_poll(recycler_handle *mutator, uint32_t *crossed);
  * From then on its calls are answered LEFT, also after the heap was stopped and started again. Answers: DONE, NOT_YET. */
 uint32_t recycler_leave(recycler_handle *mutator, recycler_asked *told);
 
-/* Makes an object with this label and null fields, and lets `reg` name it. Any label fits. Answers: DONE, FULL, BUSY, LOG_FULL. */
+/* Makes an object with this label and null fields, and lets `reg` name it. Any label fits. Answers: DONE, FULL, BUSY, LOG_FULL. A birth that
+ * is answered FULL or BUSY has looked at every slot. A poll that crosses tells that a collection is over: so poll until one does, or a few
+ * hundred times, before asking again (give_way in bench/rings/over_recycler.h). */
 uint32_t recycler_new(recycler_handle *mutator, uint32_t reg, uint32_t label, recycler_asked *told);
 
 /* Makes a leaf, and lets `reg` name it: an object whose fields are null for good, for what leads to no object. The collector looks into no

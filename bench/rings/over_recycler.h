@@ -72,15 +72,23 @@ static void leave(seat *s) {
     meet(&end, s);
 }
 
-static void poll(seat *s) {
+static bool crosses(seat *s) {
     uint32_t crossed;
     must(recycler_poll(s->mutator, &crossed), "poll");
+    return crossed != 0;
 }
 
-/* Without a slot, or with a full log, only the collector helps, once this mutator has polled. */
+static void poll(seat *s) {
+    crosses(s);
+}
+
+/* Without a slot, or with a full log, only the collector helps. A poll that crosses empties the log, and tells that a collection is over, so
+ * that what it freed is free. Before that each try would look at all headers in vain, mostly; but a sweep frees slot by slot. */
 static void give_way(seat *s) {
-    poll(s);
-    sched_yield();
+    enum { PATIENCE = 256 };
+    for (int polls = 0; polls < PATIENCE && !crosses(s); polls++) {
+        sched_yield();
+    }
 }
 
 static bool make(seat *s, int reg, uint32_t label) {
