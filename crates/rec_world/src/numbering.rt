@@ -52,6 +52,13 @@ impl Numbering {
         &self.list
     }
 
+    /// The numbered slots in order, without what was kept to number them.
+    pub fn into_list(self) -> Vec<u16>
+        ensures { result.items ≡ self.list }
+    {
+        self.list
+    }
+
     /// How many slots there are.
     pub fn slots(&self) -> u16
         ensures { result ≡ self.now.slots }
@@ -99,7 +106,7 @@ impl Numbering {
     }
 
     /// Numbers what a register or field names, where it is a slot that has no number yet.
-    fn meet(&mut self, target: Option<u16>)
+    pub fn meet(&mut self, target: Option<u16>)
         requires { IfSome target (λ slot. slot < self.old.slots) }
 
         ensures slots { self.new.slots ≡ self.old.slots }
@@ -125,8 +132,8 @@ impl Numbering {
         }
     }
 
-    /// Numbers what the registers of a mutator name.
-    fn meet_registers(&mut self, registers: &[Option<u16>])
+    /// Numbers what the registers of a mutator name, in order, each slot where it is first met.
+    pub fn meet_registers(&mut self, registers: &[Option<u16>])
         requires { (slot : ℕ) → is_in slot (named registers.now) ≡ true → slot < self.old.slots }
 
         ensures slots { self.new.slots ≡ self.old.slots }
@@ -137,8 +144,8 @@ impl Numbering {
         }
     }
 
-    /// Numbers what the words of an object's fields lead to.
-    fn meet_fields(&mut self, words: &[u64])
+    /// Numbers what the words of an object's fields lead to, in order, each slot where it is first met.
+    pub fn meet_fields(&mut self, words: &[u64])
         requires { (slot : ℕ) → is_in slot (named (map target_of words.now)) ≡ true → slot < self.old.slots }
 
         ensures slots { self.new.slots ≡ self.old.slots }

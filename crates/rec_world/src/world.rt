@@ -474,6 +474,14 @@ impl World {
         self.config.slots as u16
     }
 
+    /// How many fields an object has.
+    pub fn fields(&self) -> u8
+        ensures fields { result ≡ self.now.config.fields }
+        ensures kept { IsWorld self.now }
+    {
+        self.config.fields as u8
+    }
+
     /// How many mutators there are.
     pub fn mutators(&self) -> u8
         ensures mutators { result ≡ self.now.config.mutators }
