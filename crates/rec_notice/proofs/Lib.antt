@@ -1,0 +1,2 @@
+-- The modules of the proofs.
+pub mod Waiting
