@@ -1,0 +1,133 @@
+/* The threads of a program. Each has a mutator of its own, which leaves where the thread ends. */
+#define _POSIX_C_SOURCE 200809L
+#include "eval.h"
+
+#include <pthread.h>
+#include <sched.h>
+#include <stdlib.h>
+
+/* The shared object's HANDED vector has an item for each thread: the procedure that it is to carry out, and then what that came to. */
+typedef struct worker {
+    pthread_t thread;
+    mutator mutator;
+    enum { UNUSED, RUNS, IS_DONE, HAS_FAILED, JOINED } state;
+} worker;
+
+static pthread_mutex_t lock = PTHREAD_MUTEX_INITIALIZER;
+static worker workers[RECYCLER_MOST_MUTATORS];
+static int count;
+/* Whose mutator has the program's lock: none's where it is -1. */
+static int holder = -1;
+
+void open_threads(mutator *m, int threads) {
+    count = threads;
+    make_vector(m, SPARE, count, ROOT, WORK);
+    put(m, ROOT, HANDED, SPARE);
+}
+
+static int hand(mutator *m, int number) {
+    get(m, WALK, ROOT, HANDED);
+    return branch_of(m, count, number);
+}
+
+static void set_state(worker *w, int state) {
+    pthread_mutex_lock(&lock);
+    w->state = state;
+    pthread_mutex_unlock(&lock);
+}
+
+static int state_of(const worker *w) {
+    pthread_mutex_lock(&lock);
+    int state = (int)w->state;
+    pthread_mutex_unlock(&lock);
+    return state;
+}
+
+static void *work(void *given) {
+    worker *w = given;
+    mutator *m = &w->mutator;
+    bool failed = setjmp(m->failed) != 0;
+    if (!failed) {
+        get(m, FUNCTION, WALK, hand(m, m->number));
+        run_thunk(m);
+        put(m, WALK, hand(m, m->number), VALUE);
+    }
+    release(m);
+    leave(m);
+    set_state(w, failed ? HAS_FAILED : IS_DONE);
+    return NULL;
+}
+
+int spawn(mutator *m, int thunk) {
+    int number = take_mutator();
+    if (number < 0) {
+        fail(m, "a program has %d threads at most", count);
+    }
+    worker *w = &workers[number];
+    w->mutator.number = number;
+    w->mutator.line = m->line;
+    put(m, WALK, hand(m, number), thunk);
+    set_state(w, RUNS);
+    if (pthread_create(&w->thread, NULL, work, w) != 0) {
+        fail(m, "no thread can be started");
+    }
+    return number;
+}
+
+/* Waits for a thread, and polls meanwhile. */
+static void wait_for(mutator *m, worker *w) {
+    while (state_of(w) == RUNS) {
+        poll(m);
+        sched_yield();
+    }
+    pthread_join(w->thread, NULL);
+}
+
+void join(mutator *m, int number, int to) {
+    worker *w = &workers[number];
+    if (state_of(w) == JOINED) {
+        fail(m, "a thread is joined a second time");
+    }
+    wait_for(m, w);
+    bool failed = state_of(w) == HAS_FAILED;
+    set_state(w, JOINED);
+    if (failed) {
+        fail(m, "the thread that is joined has failed");
+    }
+    get(m, to, WALK, hand(m, number));
+    put(m, WALK, hand(m, number), ROOT);
+}
+
+/* Hands the lock on from one to another, where that one has it. */
+static bool hands_on(int from, int to) {
+    pthread_mutex_lock(&lock);
+    bool has = holder == from;
+    holder = has ? to : holder;
+    pthread_mutex_unlock(&lock);
+    return has;
+}
+
+void acquire(mutator *m) {
+    while (!hands_on(-1, m->number)) {
+        poll(m);
+        sched_yield();
+    }
+}
+
+void release(mutator *m) {
+    hands_on(m->number, -1);
+}
+
+bool join_all(mutator *m) {
+    bool well = true;
+    release(m);
+    for (int number = 0; number < count; number++) {
+        worker *w = &workers[number];
+        if (state_of(w) != UNUSED && state_of(w) != JOINED) {
+            wait_for(m, w);
+            well = well && state_of(w) == IS_DONE;
+            set_state(w, JOINED);
+        }
+    }
+    return well;
+}
