@@ -213,6 +213,7 @@ impl Collector {
     /// Makes one turn of the collector: one step of its collection, on the word that this names. It answers `Waiting` for a mutator
     /// that hasn't crossed into the requested epoch and hasn't left, and `EpochsSpent` for good where the next request would be epoch
     /// 16,777,216.
+    #[inline(always)]
     pub fn turn(&mut self, heap: &Heap) -> Turn
         requires own { IsCollectorOf heap.now self.old }
 
