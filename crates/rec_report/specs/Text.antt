@@ -108,6 +108,10 @@ refusals journals = sum_by (count_by (λ line. is_refused line.1.answer)) journa
 abbrev pub totals_line : (made refused live : ℕ) → List ℕ
 totals_line made refused live = codes "made " ++ decimal made ++ codes " refused " ++ decimal refused ++ codes " freed " ++ decimal (made - live) ++ line_feed
 
+-- how many slots a trace lists, and how many hold objects before settling and after it
+abbrev pub trace_line : (traced before after : ℕ) → List ℕ
+trace_line traced before after = codes "trace " ++ decimal traced ++ codes " before " ++ decimal before ++ codes " after " ++ decimal after ++ line_feed
+
 -- all lines
 abbrev pub play_lines : List (List Line) → Option (List ℕ) → List Row → (made : ℕ) → List (List ℕ)
 play_lines journals order rows made =

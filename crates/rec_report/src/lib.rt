@@ -3,8 +3,8 @@
 //! The rule that this crate keeps: the lines of a text are a stated function of the journals, the order, the listing of
 //! the settled heap, and the births.
 //! A summary has four lines in their place, a function of the script's version, the journals, the live objects, the births and
-//! the collections.
-//! The layer above may use the clauses of `text` and `summary`, `Text::lines` and `Text::bytes`.
+//! the collections. Behind either one may stand the line of a trace.
+//! The layer above may use the clauses of `text` and `summary`, `Text::with_trace`, `Text::lines` and `Text::bytes`.
 //! The form of a text is this project's profile (`docs/PROFILE.md`).
 #![tactic(auto)]
 
@@ -21,6 +21,7 @@ mod listing;
 mod page;
 mod summing;
 mod tally;
+mod tracing;
 
 pub use page::{Lines, Text};
 use rec_model::{Answer, Cmd, Told};

@@ -3,7 +3,7 @@
 ghost use Rattle.std.specs.Prelude.{◌≡◌, ◌-◌, ◌++◌, false, map, slice_index_or, IfOk, OnOk, string_bytes};
 ghost use Rattle.rec_word.specs.Word.{target_of};
 ghost use Rattle.rec_report.specs.Summary.{answers_line, collections_line, no_field_words, not_yet_words, objects_line, sizes_line};
-ghost use Rattle.rec_report.specs.Text.{field_number, field_word, field_words, line_feed, live_line, row_head as head_of, row_line, totals_line};
+ghost use Rattle.rec_report.specs.Text.{field_number, field_word, field_words, line_feed, live_line, row_head as head_of, row_line, totals_line, trace_line};
 
 use crate::tally::PLACES;
 use rec_word::target;
@@ -115,6 +115,18 @@ pub(super) fn collections(
     ensures { IfOk result (λ line. string_bytes line ≡ collections_line collections cycles delta sigma) }
 {
     format!(in alloc; "epochs {collections} cycles {cycles} delta {delta} sigma {sigma}\n")
+}
+
+/// How many slots a trace lists, and how many hold objects before settling and after it.
+pub(super) fn trace(
+    alloc: Global,
+    traced: usize,
+    before: u32,
+    after: u32,
+) -> Result<String, NoMemory>
+    ensures { IfOk result (λ line. string_bytes line ≡ trace_line traced before after) }
+{
+    format!(in alloc; "trace {traced} before {before} after {after}\n")
 }
 
 /// How many objects are live no more.

@@ -24,7 +24,7 @@ use Rattle.rec_script.specs.declared.error.ScriptError.{ScriptError}
 use Rattle.rec_script.specs.declared.error.ScriptError.TheVariants.{Bad}
 use Rattle.rec_run.specs.CommandLine.{Asks, ReadsScript}
 use Rattle.rec_run.specs.Ends.{Passage, Failed, Ends, HasCause, passage}
-use Rattle.rec_run.specs.Headline.{Are, HasRead, IsAnswer, Answers, AnswersTo, HasRun, WroteAnswer, WroteFront, IsReadPast, ReadNoScript, is_summary, printed, printed_order}
+use Rattle.rec_run.specs.Headline.{Are, HasRead, IsAnswer, Answers, AnswersTo, HasRun, WroteAnswer, WroteFront, IsReadPast, ReadNoScript, IsTail, is_summary, is_traced, printed, printed_order}
 use Rattle.rec_play.specs.Played.{last_moment}
 use Rattle.rec_script.proofs.Refusing.{refused_no_text}
 use Rattle.rec_script.proofs.Uniqueness.{refused_once}
@@ -241,11 +241,11 @@ counted : (heap : Heap) (rows : List Row) (listing : IsListing heap rows) → ma
 counted heap rows (ns, listed, are) = ap (map (λ (r : Row). r.count)) are ∙ row_counts heap ns ns
 
 -- what was run, settled and listed is the answer
-pub answers_script : (script : ScriptContents) (how : How) (journals : List (List Line)) (events : List Event) (end world : Core) (rows : List Row) (text : List ℕ)
+pub answers_script : (script : ScriptContents) (how : How) (journals : List (List Line)) (events : List Event) (end world : Core) (rows : List Row) (text tail : List ℕ)
     → HasRun script how journals events end → IsSettling end world → IsSettled world → Represents (last_moment script events).heap (sight world)
-    → length world.headers ≡ script.slots → ListsSlots (sight world) rows
-    → text ≡ printed script.version (is_summary how) journals (printed_order how (actors events)) rows (length (last_moment script events).heap.objects) world → Answers script how text
-answers_script script how journals events end world rows text has_run settles settled stands room listed written =
+    → length world.headers ≡ script.slots → ListsSlots (sight world) rows → IsTail (is_traced how) end world tail
+    → text ≡ printed script.version (is_summary how) journals (printed_order how (actors events)) rows (length (last_moment script events).heap.objects) world ++ tail → Answers script how text
+answers_script script how journals events end world rows text tail has_run settles settled stands room listed ends written =
     record {
       journals = journals;
       events = events;
@@ -262,6 +262,8 @@ answers_script script how journals events end world rows text has_run settles se
         listing = listing;
         counts = counted (last_moment script events).heap rows listing;
       };
+      tail = tail;
+      ends = ends;
       written = written;
     }
 

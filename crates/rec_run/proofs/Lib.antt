@@ -6,4 +6,5 @@ pub mod Opening
 pub mod Options
 pub mod Outcomes
 pub mod Requests
+pub mod Tails
 pub mod Turns

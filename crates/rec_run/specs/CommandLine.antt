@@ -23,7 +23,7 @@ flag name = record (option name) { action = Some SetTrue }
 
 -- the subcommand `play` and its options
 abbrev pub play : Shape
-play = record (new_shape (codes "play")) { rules = option (codes "seed") ∷ option (codes "turns") ∷ flag (codes "summary") ∷ [] }
+play = record (new_shape (codes "play")) { rules = option (codes "seed") ∷ option (codes "turns") ∷ flag (codes "summary") ∷ flag (codes "trace") ∷ [] }
 
 -- the subcommand `threads`, which has no options
 abbrev pub threads : Shape
@@ -62,11 +62,12 @@ abbrev pub is_set : Option Text → Bool
 is_set None = false
 is_set (Some text) = bytes_eq text (codes "true")
 
--- what the options of `play` ask for: a seed of 64 bits, at most ten million turns, and a summary or the whole text
+-- what the options of `play` ask for: a seed of 64 bits, at most ten million turns, a summary or the whole text, and a trace or none
 pub record AsksPlay (options : List Row) (asked : Play) : Type 0 where
   pub seeded : Says (first_of (codes "seed") options) 0 18446744073709551615 asked.seed
   pub limited : Says (first_of (codes "turns") options) 1000000 MOST_TURNS asked.turns
   pub summed : asked.summary ≡ is_set (first_of (codes "summary") options)
+  pub traced : asked.trace ≡ is_set (first_of (codes "trace") options)
 
 -- what the options of `make` ask for: a seed of 64 bits, one to eight mutators, and at most 200,000 commands of each
 pub record AsksMake (options : List Row) (asked : Make) : Type 0 where

@@ -7,17 +7,17 @@ use Rattle.std.specs.Option.{ForSome}
 use Rattle.rec_model.specs.Heap.{Heap, children, roots}
 use Rattle.rec_model.specs.Asking.{allocation, asks, is_done, AnswersAs}
 use Rattle.rec_model.specs.Numbering.{holders}
-use Rattle.rec_model.specs.Reach.{IsReached}
+use Rattle.rec_model.specs.Reach.{is_in, IsReached}
 use Rattle.rec_model.specs.declared.answer.Answer.TheVariants as answers
 use Rattle.rec_model.specs.declared.limits.TheConstants.{MOST_BYTES, MOST_POLLS, MOST_TURNS}
 use Rattle.rec_model.specs.declared.command.Cmd.{Cmd}
 use Rattle.rec_model.specs.declared.told.Told.{Told}
 use Rattle.rec_model.specs.LegalOrder.{Line, Event, Moment, actors, moment, IsLegalOrder, NoLogFull}
 use Rattle.rec_model.specs.Listing.{Row, IsListing}
-use Rattle.rec_model.specs.Sight.{IsTaken, StandsBy, Represents, targets_of}
+use Rattle.rec_model.specs.Sight.{IsTaken, NumbersSlots, StandsBy, Represents, targets_of}
 use Rattle.rec_core.specs.Core.{Core, opened, sight}
 use Rattle.rec_core.specs.Settled.{IsSettled}
-use Rattle.rec_settle.specs.Collecting.{IsSettling}
+use Rattle.rec_settle.specs.Collecting.{IsSettling, taken_slots}
 use Rattle.rec_order.specs.Events.{events_of}
 use Rattle.rec_order.specs.Naming.{Naming, first_naming, named_after_all}
 use Rattle.rec_table.specs.Ends.{Interleaves}
@@ -40,7 +40,7 @@ use Rattle.rec_run.specs.declared.command_line.Request.TheVariants as requests
 use Rattle.rec_script.specs.declared.error.Kind.{Kind}
 use Rattle.rec_script.specs.Made.{made_text}
 use Rattle.rec_report.specs.Summary.{summary_text}
-use Rattle.rec_report.specs.Text.{play_text}
+use Rattle.rec_report.specs.Text.{play_text, trace_line}
 use Rattle.rec_run.specs.Whole.{IsAtEnd}
 
 -- The world is settled and these are its rows: just the slots that registers reach hold objects, a row for each, with its true count.
@@ -130,10 +130,30 @@ abbrev pub printed : (version : ℕ) → (summary : Bool) → List (List Line) �
 printed version false journals order rows made world = play_text journals order rows made
 printed version true journals order rows made world = summary_text version journals (length rows) made world.collector.collections world.collector.sets
 
+-- whether a run is traced before its heap is settled
+abbrev pub is_traced : How → Bool
+is_traced (hows.Play play) = play.trace
+is_traced hows.Threads = false
+
+-- The line of a trace of this heap, which is settled as that world. It tells how many slots the trace lists, and how many held objects
+-- before settling and after it. Just the slots of the trace hold objects afterwards, so the first number and the last are one.
+pub record IsTraceLine (end world : Core) (line : List ℕ) : Type 0 where
+  -- the slots on a path of fields from a register before settling, each once
+  pub slots : List ℕ
+  pub traced : NumbersSlots (sight end) slots
+  pub left : (slot : ℕ) → IsTaken (sight world) slot ↔ (is_in slot slots ≡ true)
+  pub many : length slots ≡ taken_slots world
+  pub told : line ≡ trace_line (length slots) (taken_slots end) (taken_slots world)
+
+-- what stands behind the text: the line of a trace, or nothing
+abbrev pub IsTail : (traced : Bool) → (end world : Core) → List ℕ → Type 0
+IsTail false end world tail = tail ≡ []
+IsTail true end world tail = IsTraceLine end world tail
+
 -- The text answers the script: each printed answer is the one that the heap that never frees gives to the script's commands in one order
 -- that keeps each mutator's own; an allocation is answered full only where no slot was free; and after settling just the objects that
 -- registers reach hold slots, listed with true counts. The order of a played run is the one that the playing rule draws. A summary
--- counts the same answers and objects.
+-- counts the same answers and objects. Where a trace is asked for, its line stands behind.
 pub record Answers (script : ScriptContents) (how : How) (text : List ℕ) : Type 0 where
   pub journals : List (List Line)
   pub events : List Event
@@ -142,7 +162,9 @@ pub record Answers (script : ScriptContents) (how : How) (text : List ℕ) : Typ
   pub has_run : HasRun script how journals events end
   pub rows : List Row
   pub settled : IsSettledAs end (last_moment script events).heap script.slots rows
-  pub written : text ≡ printed script.version (is_summary how) journals (printed_order how (actors events)) rows (length (last_moment script events).heap.objects) settled.world
+  pub tail : List ℕ
+  pub ends : IsTail (is_traced how) end settled.world tail
+  pub written : text ≡ printed script.version (is_summary how) journals (printed_order how (actors events)) rows (length (last_moment script events).heap.objects) settled.world ++ tail
 
 -- The bytes are the text of a script within the limits, and the answer is the script's, run so.
 pub record AnswersTo (bytes : List ℕ) (how : How) (text : List ℕ) : Type 0 where

@@ -5,4 +5,5 @@ pub mod Headline
 pub mod Outcome
 pub mod Running
 pub mod Status
+pub mod Tracing
 pub mod Whole

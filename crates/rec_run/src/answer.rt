@@ -1,5 +1,5 @@
 //! The answer to a script: its commands are carried out on a heap of its own, which is then settled and listed.
-ghost use Rattle.std.specs.Prelude.{◌≡◌, ◌+◌, ◌≤◌, List, map, length, option_map, IfOk, IfSome};
+ghost use Rattle.std.specs.Prelude.{◌≡◌, ◌+◌, ◌++◌, ◌≤◌, List, map, length, option_map, IfOk, IfSome};
 ghost use Rattle.std.specs.List.{flat_map};
 ghost use Rattle.rec_model.specs.LegalOrder.{NoLogFull};
 ghost use Rattle.rec_model.specs.Listing.{Row, ListsSlots};
@@ -13,11 +13,13 @@ ghost use Rattle.rec_play.specs.Played.{config_of, lines_of};
 ghost use Rattle.rec_run.specs.CommandLine.{HasFewTurns};
 ghost use Rattle.rec_run.specs.Headline.{Answers, is_summary, printed};
 ghost use Rattle.rec_run.specs.Outcome.{IsOutcome};
+ghost use Rattle.rec_run.specs.Tracing.{tail_of};
 
 use crate::command_line::How;
 use crate::driving::drive_script;
 use crate::outcome::Outcome;
 use crate::playing::play_script;
+use crate::tracing::{Traced, trace_world};
 use rec_play::config_for;
 use rec_report::{Text, summary, text};
 use rec_script::Script;
@@ -28,7 +30,7 @@ use std::alloc::{AllocError as NoMemory, Global};
 use std::sync::Wait;
 use std::thread::Threads;
 
-/// The answer to a script that is run so: the whole text, or a summary.
+/// The answer to a script that is run so: the whole text, or a summary, and behind it the line of a trace where one is asked for.
 pub fn answer_script<R: Threads + Wait + Sync, G: Gate>(
     rt: &R,
     alloc: Global,
@@ -40,11 +42,13 @@ pub fn answer_script<R: Threads + Wait + Sync, G: Gate>(
     ensures { IfOk result (λ text. Answers script.now how (flat_map (λ line. line) text)) }
 {
     let mut outcome = carry_out(rt, alloc, script, how, gate)?;
+    let traced = trace_world(rt, alloc, how, &outcome.world)?;
     // There are epochs enough left to settle.
-    let Ok(_) = settle(&mut outcome.world) else {
+    let Ok(settled) = settle(&mut outcome.world) else {
         unreachable!();
     };
-    write_text(alloc, script, wants_summary(how), &outcome)
+    let text = write_text(alloc, script, wants_summary(how), &outcome)?;
+    end_text(alloc, text, traced, settled.live)
 }
 
 // Carries out a script's commands on a heap of its own.
@@ -98,6 +102,16 @@ fn write_text(
         summary(alloc, script, journals, order, &outcome.world)
     } else {
         text(alloc, script, journals, order, &outcome.world)
+    }
+}
+
+// The text with the line of a trace behind it, where one was made. So many slots hold objects after settling.
+fn end_text(alloc: Global, text: Text, traced: Option<Traced>, live: u32) -> Result<Text, NoMemory>
+    ensures { IfOk result (λ whole. flat_map (λ line. line) whole ≡ flat_map (λ line. line) text ++ tail_of traced live) }
+{
+    match traced {
+        Some(traced) => text.with_trace(alloc, traced.reached, traced.taken, live),
+        None => Ok(text),
     }
 }
 

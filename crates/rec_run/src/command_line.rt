@@ -55,6 +55,8 @@ pub struct Play {
     pub turns: u32,
     /// Whether a summary is written in place of the whole text.
     pub summary: bool,
+    /// Whether the heap is traced before it is settled, and a line tells of it.
+    pub trace: bool,
 }
 
 /// Which script is made.
@@ -127,10 +129,14 @@ fn play_command<'a>(alloc: Global) -> Result<Command<'a>, NoMemory>
     let summary = Arg::new(alloc, "summary")
         .long("summary")
         .action(ArgAction::SetTrue);
+    let trace = Arg::new(alloc, "trace")
+        .long("trace")
+        .action(ArgAction::SetTrue);
     Command::new(alloc, "play")
         .arg(seed)?
         .arg(turns)?
-        .arg(summary)
+        .arg(summary)?
+        .arg(trace)
 }
 
 // The subcommand that makes a script.
@@ -167,10 +173,12 @@ fn play_options(options: &ArgMatches) -> Option<Play>
     let seed = number(options.get_str("seed"), SEED, u64::MAX)?;
     let turns = number(options.get_str("turns"), TURNS, MOST_TURNS)?;
     let summary = is_flag_set(options.get_str("summary"));
+    let trace = is_flag_set(options.get_str("trace"));
     Some(Play {
         seed,
         turns: turns as u32,
         summary,
+        trace,
     })
 }
 

@@ -45,19 +45,19 @@ pub fn settle(world: &mut World) -> Result<Settled, EpochsSpent>
     Ok(Settled {
         epochs: world.collections() - collections,
         freed: (world.freed() - swept) as u32,
-        live: live(world),
+        live: count_taken(world),
     })
 }
 
-// How many slots hold an object.
-fn live(world: &World) -> u32
+/// How many slots hold an object.
+pub fn count_taken(world: &World) -> u32
     ensures { result ≡ taken_slots world.now }
 {
-    let mut live = 0;
+    let mut taken = 0;
     for slot in 0..world.slots() {
         if world.taken(slot) {
-            live += 1;
+            taken += 1;
         }
     }
-    live
+    taken
 }

@@ -43,7 +43,7 @@ module _ (before after : Sight) (heap : Heap) (number : ℕ → ℕ) (stood : St
       let here : Reaches before slot = reached slot (is_in-head slot slots) in
       (λ i. same_targets slot here (still_reached slot here) i ++ all_targets slots (λ s there. reached s (is_in-tail s slot slots there)) i)
 
-  pub still_numbered : (slots : List ℕ) → NumbersSlots before slots → NumbersSlots after slots
+  still_numbered : (slots : List ℕ) → NumbersSlots before slots → NumbersSlots after slots
   still_numbered slots numbers =
       let reached : (slot : ℕ) → is_in slot slots ≡ true → Reaches before slot = of_all (Reaches before) slots numbers.reached in
       record {

@@ -1,6 +1,6 @@
 //! What the fields of a frontier lead to.
 
-ghost use Rattle.std.specs.Prelude.{◌≡◌, ◌<◌, ◌≤◌, drop, length, OnOk};
+ghost use Rattle.std.specs.Prelude.{◌≡◌, ◌<◌, ◌≤◌, drop, length, IfOk};
 ghost use Rattle.rec_model.specs.Numbering.{joined};
 ghost use Rattle.rec_trace.specs.Children.{all_children, AreBelow, AreFieldsOf};
 
@@ -10,8 +10,8 @@ use rec_world::Numbering;
 use std::alloc::{AllocError as NoMemory, Global};
 use std::thread::Threads;
 
-/// How many slots a frontier has at least that is cut into chunks: a shorter one isn't worth a thread.
-const LEAST_CUT: usize = 2048;
+/// How many fields a frontier has at least that is cut into chunks: a thread costs more than it saves over a shorter one.
+const LEAST_CUT: usize = 262_144;
 
 /// Numbers what the fields of the frontier lead to, in order, each slot where it is first met. The frontier is the list from its slot
 /// number `first` on, and a long one is cut into as many chunks as `pieces` says, at most.
@@ -21,36 +21,59 @@ pub(super) fn follow<R: Threads + Sync>(
     fields: Fields<'_>,
     pieces: u16,
     first: usize,
-    found: &mut Numbering,
-) -> Result<(), NoMemory>
+    found: Numbering,
+) -> Result<Numbering, NoMemory>
     requires pieces { 1 ≤ pieces }
-    requires fields { AreFieldsOf found.old.slots fields.words.now fields.each }
-    requires list { AreBelow found.old.slots found.old.list }
-    requires first { first ≤ length found.old.list }
+    requires fields { AreFieldsOf found.slots fields.words.now fields.each }
+    requires list { AreBelow found.slots found.list }
+    requires first { first < length found.list }
 
-    ensures slots { OnOk result (found.new.slots ≡ found.old.slots) }
-    ensures joined { OnOk result (found.new.list ≡ joined found.old.list (all_children fields.entry.words.now fields.entry.each (drop first found.old.list))) }
+    ensures slots { IfOk result (λ next. next.slots ≡ found.slots) }
+    ensures joined { IfOk result (λ next. next.list ≡ joined found.list (all_children fields.entry.words.now fields.entry.each (drop first found.list))) }
 {
-    if pieces == 1 || found.list().len() - first < LEAST_CUT {
-        follow_alone(fields, first, found);
-        return Ok(());
+    let frontier = found.list().len() - first;
+    if pieces == 1 || frontier.saturating_mul(fields.each) < LEAST_CUT {
+        Ok(follow_alone(fields, first, found))
+    } else {
+        follow_in_chunks(rt, alloc, fields, pieces, first, found)
     }
-    let chunks = gather(rt, alloc, fields, pieces, &found.list()[first..], found)?;
-    meet_chunks(found, &chunks);
-    Ok(())
 }
 
-// The same in this thread, slot by slot.
-fn follow_alone(fields: Fields<'_>, first: usize, found: &mut Numbering)
-    requires fields { AreFieldsOf found.old.slots fields.words.now fields.each }
-    requires list { AreBelow found.old.slots found.old.list }
-    requires first { first ≤ length found.old.list }
+// The same in this thread, slot by slot. The numbering is passed by value, since the compiler keeps where it lies in registers then.
+#[inline(always)]
+fn follow_alone(fields: Fields<'_>, first: usize, mut found: Numbering) -> Numbering
+    requires fields { AreFieldsOf found.slots fields.words.now fields.each }
+    requires list { AreBelow found.slots found.list }
+    requires first { first ≤ length found.list }
 
-    ensures slots { found.new.slots ≡ found.old.slots }
-    ensures joined { found.new.list ≡ joined found.old.list (all_children fields.entry.words.now fields.entry.each (drop first found.old.list)) }
+    ensures slots { result.slots ≡ found.slots }
+    ensures joined { result.list ≡ joined found.list (all_children fields.entry.words.now fields.entry.each (drop first found.list)) }
 {
     for i in first..found.list().len() {
         let slot = found.list()[i];
         found.meet_fields(fields.of(slot));
     }
+    found
+}
+
+// The same by threads, a chunk for each.
+fn follow_in_chunks<R: Threads + Sync>(
+    rt: &R,
+    alloc: Global,
+    fields: Fields<'_>,
+    pieces: u16,
+    first: usize,
+    mut found: Numbering,
+) -> Result<Numbering, NoMemory>
+    requires pieces { 1 ≤ pieces }
+    requires fields { AreFieldsOf found.slots fields.words.now fields.each }
+    requires list { AreBelow found.slots found.list }
+    requires first { first < length found.list }
+
+    ensures slots { IfOk result (λ next. next.slots ≡ found.slots) }
+    ensures joined { IfOk result (λ next. next.list ≡ joined found.list (all_children fields.entry.words.now fields.entry.each (drop first found.list))) }
+{
+    let chunks = gather(rt, alloc, fields, pieces, &found.list()[first..], &found)?;
+    meet_chunks(&mut found, &chunks);
+    Ok(found)
 }

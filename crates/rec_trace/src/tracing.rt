@@ -40,7 +40,7 @@ pub fn trace<R: Threads + Sync>(
     let mut first = 0;
     while first < found.list().len() {
         let next = found.list().len();
-        follow(rt, alloc, fields, pieces, first, &mut found)?;
+        found = follow(rt, alloc, fields, pieces, first, found)?;
         first = next;
     }
     Ok(found.into_list())

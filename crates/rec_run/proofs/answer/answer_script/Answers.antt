@@ -1,5 +1,5 @@
 -- What was run, settled and written is the answer.
-use Rattle.std.proofs.Common.{◌∙◌, ℕ, Bool, List, Option, option_map, refl, sym, ap}
+use Rattle.std.proofs.Common.{◌∙◌, ◌++◌, ℕ, Bool, List, Option, option_map, refl, sym, ap}
 use Rattle.std.specs.List.{flat_map}
 use Rattle.rec_model.specs.LegalOrder.{Line, actors}
 use Rattle.rec_core.specs.Core.{Core}
@@ -7,10 +7,12 @@ use Rattle.rec_core.specs.declared.config.Config.{Config}
 use Rattle.rec_play.specs.Played.{last_moment, lines_of}
 use Rattle.rec_script.specs.Script.{ScriptContents}
 use Rattle.rec_world.specs.Order.{Turns}
-use Rattle.rec_run.specs.Headline.{Answers, is_summary, printed, printed_order}
+use Rattle.rec_run.specs.Headline.{Answers, is_summary, is_traced, printed, printed_order}
+use Rattle.rec_run.specs.Tracing.{tail_of}
 use Rattle.rec_run.specs.declared.command_line.How.{How}
 use Rattle.rec_run.proofs.Endings.{if_ok, answers_script}
 use Rattle.rec_run.proofs.Outcomes.{in_order, many}
+use Rattle.rec_run.proofs.Tails.{tail_is}
 use Rattle.rec_run.proofs.answer.answer_script.Goals as goal
 
 pub write_text-requires-clause-journals : goal.write_text-requires-clause-journals
@@ -37,12 +39,16 @@ returns g c =
     let journals : List (List Line) = lines_of o.journals.items in
     let world : Core = c.settle.new.world in
     let number : ℕ → ℕ = is.has_run.names.number in
-    if_ok c.write_text.result _ (λ text. Answers script how (flat_map (λ line. line) text))
-    (λ text (rows, listed, told). answers_script script how journals is.events o.world world rows (flat_map (λ line. line) text) is.has_run
+    let (rows, listed, told) = c.in_ok-text.ensures in
+    let tail : List ℕ = tail_of c.in_ok-traced.traced c.in-Ok.settled.live in
+    if_ok c.end_text.result _ (λ text. Answers script how (flat_map (λ line. line) text))
+    (λ text whole. answers_script script how journals is.events o.world world rows (flat_map (λ line. line) text) tail is.has_run
     c.in-Ok.ensures.done.settles c.in-Ok.ensures.done.settled (number, c.settle.ensures.stands (last_moment script is.events).heap number is.has_run.stands)
     (c.settle.ensures.kept.shaped.headers ∙ ap (λ (k : Config). k.slots) (c.settle.ensures.config ∙ is.config))
     listed
+    (tail_is (is_traced how) o.world world c.in-Ok.settled c.in_ok-traced.traced is.idle c.in_ok-traced.ensures c.in-Ok.ensures.done)
+    (whole ∙ ap (λ (front : List ℕ). front ++ tail)
     (told ∙ ap (λ (s : Bool). printed script.version s journals (option_map (λ (turns : Turns). turns.list) o.order) rows world.made world) c.wants_summary.ensures
     ∙ ap (λ (order : Option (List ℕ)). printed script.version (is_summary how) journals order rows world.made world) is.order
-    ∙ ap (λ (n : ℕ). printed script.version (is_summary how) journals (printed_order how (actors is.events)) rows n world) (c.settle.ensures.made ∙ is.made)))
-    c.write_text.ensures
+    ∙ ap (λ (n : ℕ). printed script.version (is_summary how) journals (printed_order how (actors is.events)) rows n world) (c.settle.ensures.made ∙ is.made))))
+    c.end_text.ensures

@@ -10,6 +10,9 @@ returns c =
     let seed_is : rule_of c.long-seed.result ≡ option (codes "seed") = search rules in
     let turns_is : rule_of c.long-turns.result ≡ option (codes "turns") = search rules in
     let summary_is : rule_of c.action-summary.result ≡ flag (codes "summary") = search rules in
+    let trace_is : rule_of c.action-trace.result ≡ flag (codes "trace") = search rules in
     let two_are : app_of c.in_ok-arg-2.field-0 ≡ with_rule (with_rule (new_app (codes "play")) (option (codes "seed"))) (option (codes "turns")) =
-    c.in_ok-arg-2.ensures.shape (search rules) ∙ ap₂ with_rule (c.in_ok-arg.ensures.shape (search rules) ∙ ap₂ with_rule c.new-4.ensures.app seed_is) turns_is in
-    IfOk-weaker c.arg-3.result _ _ (λ command added. added.shape (search rules) ∙ ap₂ with_rule two_are summary_is) c.arg-3.ensures
+    c.in_ok-arg-2.ensures.shape (search rules) ∙ ap₂ with_rule (c.in_ok-arg.ensures.shape (search rules) ∙ ap₂ with_rule c.new-5.ensures.app seed_is) turns_is in
+    let three_are : app_of c.in_ok-arg-3.field-0 ≡ with_rule (with_rule (with_rule (new_app (codes "play")) (option (codes "seed"))) (option (codes "turns"))) (flag (codes "summary")) =
+    c.in_ok-arg-3.ensures.shape (search rules) ∙ ap₂ with_rule two_are summary_is in
+    IfOk-weaker c.arg-4.result _ _ (λ command added. added.shape (search rules) ∙ ap₂ with_rule three_are trace_is) c.arg-4.ensures

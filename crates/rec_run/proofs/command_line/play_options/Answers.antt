@@ -18,4 +18,5 @@ returns-clause-some c =
       seeded = by_row (found_of c.args.options.now) (codes "seed") _ _ _ _ c.get_str.ensures c.in_ok-seed.ensures.some;
       limited = by_row (found_of c.args.options.now) (codes "turns") _ _ _ _ c.get_str-2.ensures c.in_ok-turns.ensures.some;
       summed = c.is_flag_set-summary.ensures ∙ ap is_set (c.get_str-3.ensures ∙ first_value-rows (found_of c.args.options.now) (codes "summary"));
+      traced = c.is_flag_set-trace.ensures ∙ ap is_set (c.get_str-4.ensures ∙ first_value-rows (found_of c.args.options.now) (codes "trace"));
     }

@@ -51,7 +51,7 @@ returns-clause-done c =
       epochs = omega (arith, h.all.collections, c.collections.ensures.collections, c.collections-collections.ensures.collections);
       requested = h.epoch;
       freed = omega (arith, h.all.stays.freed, c.freed.ensures.freed, c.freed-swept.ensures.freed);
-      live = c.live.ensures;
+      live = c.count_taken.ensures;
     }
 
 pub returns-clause-registers : goal.returns-clause-registers

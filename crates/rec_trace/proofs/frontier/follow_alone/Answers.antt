@@ -9,15 +9,15 @@ use Rattle.rec_trace.proofs.frontier.follow_alone.Goals as goal
 
 pub of-requires : goal.of-requires
 of-requires c =
-    let old : List ℕ = c.args.found.now.list in
+    let old : List ℕ = c.args.found.list in
     let lt : c.loop-i.i < length old = subst (λ ns. c.loop-i.i < length ns) c.list-i-end.ensures.list c.loop-i-test.true in
     let same : get_or c.list.result.now c.loop-i.i 0 ≡ get_or old c.loop-i.i 0 = ap (λ ns. get_or ns c.loop-i.i 0) c.list.ensures.list ∙ slot_kept old c.loop-i.found.list _ c.loop-i.i c.loop-i.invariant.list lt in
     subst (λ s. s * c.args.fields.each + c.args.fields.each ≤ length c.args.fields.words.now) (sym same)
-    (fields_there c.args.found.now.slots c.args.fields.words.now c.args.fields.each _ c.requires.fields (at_place (λ s. s < c.args.found.now.slots) old c.requires.list c.loop-i.i 0 lt))
+    (fields_there c.args.found.slots c.args.fields.words.now c.args.fields.each _ c.requires.fields (at_place (λ s. s < c.args.found.slots) old c.requires.list c.loop-i.i 0 lt))
 
 pub loop-i-preserved : goal.loop-i-preserved
 loop-i-preserved c =
-    let old : List ℕ = c.args.found.now.list in
+    let old : List ℕ = c.args.found.list in
     let words : List ℕ = c.args.fields.words.now in
     let each : ℕ = c.args.fields.each in
     let first : ℕ = c.args.first in

@@ -23,9 +23,9 @@ follow-requires-clause-list g c κs within =
 
 pub loop-first-preserved : goal.loop-first-preserved
 loop-first-preserved g c = record {
-  slots = c.in_ok-follow.ensures.slots ∙ c.loop-first.invariant.slots;
-  filled = world_frontier c.args.world.now c.words.ensures.kept c.loop-first.first c.from.result c.loop-first.found.list c.follow.new.found.list c.words.result.now c.list-next.result.now
-      c.words.ensures.words (c.from.ensures ∙ c.fields.ensures.fields) c.list-next.ensures.list c.loop-first.invariant.filled c.in_ok-follow.ensures.joined;
+  slots = c.in_ok-found-2.ensures.slots ∙ c.loop-first.invariant.slots;
+  filled = world_frontier c.args.world.now c.words.ensures.kept c.loop-first.first c.from.result c.loop-first.found.list _ c.words.result.now c.list-next.result.now
+      c.words.ensures.words (c.from.ensures ∙ c.fields.ensures.fields) c.list-next.ensures.list c.loop-first.invariant.filled c.in_ok-found-2.ensures.joined;
 }
 
 pub returns-clause-numbers : goal.returns-clause-numbers

@@ -1,6 +1,0 @@
--- The taken slots so far are counted.
-use Rattle.std.proofs.Common.{◌≡◌, nat_lt, count_by, take}
-use Rattle.rec_settle.proofs.whole.live.Given as goal
-
-abbrev pub invariant-loop-slot : goal.invariant-loop-slot
-invariant-loop-slot l = l.live ≡ count_by (λ header. nat_lt 0 header) (take l.slot l.world.headers)
