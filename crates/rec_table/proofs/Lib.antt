@@ -28,3 +28,4 @@ pub mod Stopping
 pub mod Turn
 pub mod Turns
 pub mod Within
+pub mod Freeing

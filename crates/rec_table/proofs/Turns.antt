@@ -1,5 +1,5 @@
 -- A turn of the collector keeps the rule.
-use Rattle.std.proofs.Common.{◌≡◌, ◌≢◌, ⊎_elim, ℕ, ◌+◌, ◌-◌, ◌%◌, ◌<◌, ◌≤◌, true, false, true≢false, cond, eqb, eq-eqb, ne_eqb, le-ltb, List, [], ◌∷◌, ◌++◌, length, get_or, set, Option, Some, IfSome, refl, sym, ap, ◌∙◌, subst, arith, append-nil, get_or-set_other}
+use Rattle.std.proofs.Common.{◌≡◌, ◌≢◌, ⊎_elim, ℕ, ◌+◌, ◌-◌, ◌%◌, ◌<◌, ◌≤◌, true, false, true≢false, cond, eqb, eq-eqb, ne_eqb, List, [], ◌∷◌, ◌++◌, length, get_or, set, Option, Some, IfSome, refl, sym, ap, ◌∙◌, subst, arith, append-nil, get_or-set_other}
 use mathlib.Core.Logic.{dite}
 use native.Mathlib.Decide.{ℕ_discrete}
 use mathlib.Core.Option as maybe
@@ -8,7 +8,7 @@ use lib.ListN.{get_elem?}
 use Rattle.std.proofs.lemmas.List.{set-get_or}
 use Rattle.atomic_table.specs.Table.{State, Step, keeps, takes, gives, stepped}
 use Rattle.atomic_table.proofs.Lists.{set_again}
-use Rattle.rec_table.proofs.Common.{written, Op, Contents, blank, IsMutator, Core, cells_of, mutator, box, crossing_of, IsKept, IsHandshake, Handshake, stand_at, stand_in, Move, after_moves, looked_at, left_by, turned_at, cell, IsWorld, world_kept, actor_of, may_turn, gives_back, is_busy_at, beats_of, looked, turn_at, gathered_all, OffersNone, Kind, Grows, Operates, operation, performed, step_in, steps_in, turned_by, row, index_of, Holds, TurnedBy, LookedBy, GlancedBy, ReturnedBy, Beat, Saw, Took, CollectorSeat, View, Collects, Mutates, Spent, after_both, config_after, every_both, fit_both, over_both}
+use Rattle.rec_table.proofs.Common.{written, Op, Contents, blank, IsMutator, Core, cells_of, mutator, box, crossing_of, IsKept, IsHandshake, Move, after_moves, looked_at, left_by, turned, turned_at, cell, IsWorld, world_kept, actor_of, may_turn, gives_back, is_busy_at, beats_of, looked, turn_at, gathered_all, OffersNone, Kind, Grows, Operates, operation, performed, step_in, steps_in, turned_by, row, index_of, Holds, TurnedBy, LookedBy, GlancedBy, ReturnedBy, Beat, Saw, Took, CollectorSeat, View, Collects, Mutates, Spent, after_both, config_after, every_both, fit_both, over_both}
 use Rattle.rec_word.specs.Mailbox.{crossing_word}
 use Rattle.rec_word.specs.declared.mailbox.Mailbox.TheVariants.{Retired, Spare, WithCollector, WithMutator}
 use Rattle.rec_word.specs.declared.op.Op.TheVariants as ops
@@ -20,7 +20,7 @@ use Rattle.rec_collector.specs.Private.{Private, spare}
 use Rattle.rec_collector.specs.declared.phase.Phase.{Phase}
 use Rattle.rec_collector.specs.declared.phase.Phase.TheVariants.{Looking, Returning}
 use Rattle.rec_core.specs.Core.{spare_of}
-use Rattle.rec_core.specs.Kept.{HasCrossed, IsHeldAt}
+use Rattle.rec_core.specs.Kept.{HasCrossed}
 use Rattle.rec_core.specs.Preconditions.{MayTurn}
 use Rattle.rec_core.specs.declared.config.Config.{Config}
 use Rattle.rec_core.proofs.Actors.{giving_crosses}
@@ -32,6 +32,11 @@ use Rattle.rec_core.proofs.Shapes.{same_boxes}
 use Rattle.rec_table.specs.Homes.{homes_of}
 use Rattle.rec_table.specs.Rule.{Fits}
 use Rattle.rec_core.proofs.Row.{row_read, row_write}
+use Rattle.rec_core.proofs.Swept.{turned_sweeps}
+use Rattle.rec_core.specs.Swept.{IsSweep, SweepsNothing}
+use Rattle.rec_core.specs.Kept.{IsHeader}
+use Rattle.rec_word.specs.Header.{IsTakenHeader}
+use Rattle.std.proofs.lemmas.List.Elements.{All-get_or}
 use Rattle.rec_table.proofs.Beats.{beats_both, world_after}
 use Rattle.rec_table.proofs.Boxes.{homes_set, homes_at, home_even, home_odd, even_zero, even_two, odd_three}
 use Rattle.rec_table.proofs.Collects.{collector_after}
@@ -191,6 +196,19 @@ turns_on key s h id c p op z homes' b fit here does homes_are beat_is =
 plain_boxes : (w : Core) (op : Op) → IsKept w → (left_by w.collector (cell (cells_of w) op) (box w (looked_at w.collector.phase)) w.collector.phase ≡ box w (looked_at w.collector.phase)) → (turned_at w (Some op)).boxes ≡ w.boxes
 plain_boxes w op kept same = ap (set w.boxes (looked_at w.collector.phase - 1)) same ∙ same_boxes w (looked_at w.collector.phase)
 
+-- The header of a slot that is freed next is that of a taken slot.
+freed_header : (w : Core) (slot : ℕ) → IsKept w → IsSweep w (turned w) → ◌≡◌ {A = Option Op} (next_of w.collector) (Some (ops.FreeHeader slot)) → IsTakenHeader (get_or w.headers slot 0)
+freed_header w slot kept (IsSweep.rests names h f s) frees = absurd (subst SweepsNothing frees names)
+freed_header w slot kept (IsSweep.marks names h f o s) frees = let not_so : ◌≡◌ {A = Option Op} (Some ops.AddFreed) (Some (ops.FreeHeader slot)) = sym names ∙ frees in absurd (cc)
+freed_header w slot kept (IsSweep.frees x names below taken unreached odd h f) frees =
+    let same : x ≡ slot = let one : ◌≡◌ {A = Option Op} (Some (ops.FreeHeader x)) (Some (ops.FreeHeader slot)) = sym names ∙ frees in cc in
+    subst (λ i. IsTakenHeader (get_or w.headers i 0)) same (All-get_or IsHeader w.headers x 0 below kept.labels taken)
+
+finds_header : (w : Core) (op : Op) (p : Private) (n slot : ℕ) → IsKept w → w.collector ≡ p → n ≡ cell (cells_of w) op → ◌≡◌ {A = Option Op} (next_of p) (Some op) → ◌≡◌ {A = Option Op} (next_of p) (Some (ops.FreeHeader slot)) → IsTakenHeader n
+finds_header w op p n slot kept is found next frees =
+    let its : op ≡ ops.FreeHeader slot = some_op op (ops.FreeHeader slot) (sym next ∙ frees) in
+    subst IsTakenHeader (sym (found ∙ ap (cell (cells_of w)) its)) (freed_header w slot kept (turned_sweeps w kept) (ap next_of is ∙ frees))
+
 -- a turn that takes no mailbox and gives none back
 pub turns : (key : Core) (slots id : ℕ) (c : CollectorSeat) (hs : List (ℕ × Option Contents)) (p : Private) (op : Op) (f : ℕ → ℕ) (st : Step (Option Contents))
     → p ≡ gathered_all key.collector c.log → ◌≡◌ {A = Option Op} (next_of p) (Some op) → IsPlainOp op
@@ -210,7 +228,7 @@ turns key slots id c hs p op f st is_p next plain sees stays does s h len at_id 
       tt,
       after.0,
       grows_by key s h c p op f after.0.run here does after.1,
-      (refl, subst (λ (q : Private). IsGiven q n) here.is (subst (IsGiven now.collector) (sym here.found) here.may.given)),
+      (refl, subst (λ (q : Private). IsGiven q n) here.is (subst (IsGiven now.collector) (sym here.found) here.may.given), λ slot frees. finds_header now op p n slot (world_kept now here.world) here.is here.found next frees),
     )
 
 pub returns_op : (c : Private) (t : ℕ) → c.phase ≡ Returning t → ◌≡◌ {A = Option Op} (next_of c) (Some (ops.ReturnBox t c.epoch))

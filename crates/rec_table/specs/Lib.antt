@@ -11,3 +11,4 @@ pub mod Answered
 pub mod Scan
 pub mod Operations
 pub mod Turn
+pub mod Telling

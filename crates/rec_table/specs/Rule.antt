@@ -20,8 +20,10 @@ use Rattle.rec_core.specs.Config.{HasLabel}
 use Rattle.rec_core.specs.Core.{Core, cells_of, mutator, box}
 use Rattle.rec_collector.specs.Private as collectors
 use Rattle.rec_collector.specs.Given.{IsGiven, IsSized}
+use Rattle.rec_word.specs.Header.{IsTakenHeader}
 use Rattle.rec_word.specs.Mailbox.{crossing_word}
 use Rattle.rec_word.specs.declared.mailbox.Mailbox.TheVariants.{Retired}
+use Rattle.rec_collector.specs.Next as turning_next
 use Rattle.rec_collector.specs.declared.phase.Phase as turning
 use Rattle.rec_collector.specs.declared.phase.Phase.TheVariants as turn_at
 use Rattle.rec_core.specs.Moves.{Move, AllFit, after_moves}
@@ -126,9 +128,13 @@ abbrev pub records : View → Beat → View
 records (Collects c) b = Collects (record c { log = c.log ++ b ∷ [] })
 records v b = v
 
+-- what a step that frees a slot finds is the header of a taken slot
+abbrev pub FindsHeader : collectors.Private → (word : ℕ) → Type 0
+FindsHeader c word = (slot : ℕ) → turning_next.next_of c ≡ Some (ops.FreeHeader slot) → IsTakenHeader word
+
 -- A turn of the collector with this record, which takes no mailbox and gives none back.
 abbrev pub TurnedBy : collectors.Private → Step (Option Contents) → Me (Option Contents) View → ℕ → Me (Option Contents) View → Type 0
-TurnedBy c st me word me' = (me' ≡ (records me.0 (Saw word), me.1)) × IsGiven c word
+TurnedBy c st me word me' = (me' ≡ (records me.0 (Saw word), me.1)) × IsGiven c word × FindsHeader c word
 
 -- a look at the mailbox of mutator t: where it is home with what was retired, it is taken
 abbrev pub Looks : collectors.Private → (t : ℕ) → Me (Option Contents) View → (word : ℕ) → Me (Option Contents) View → Type 0

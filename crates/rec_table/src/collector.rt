@@ -1,5 +1,5 @@
 //! The collector on the table.
-ghost use Rattle.std.specs.Prelude.{◌≡◌, ◌+◌, ◌%◌, ◌^◌, ◌<◌, ◌≤◌, ◌↔◌, IsTrue, [], ◌∷◌, ◌++◌, false, length, Some, Option};
+ghost use Rattle.std.specs.Prelude.{◌≡◌, ◌+◌, ◌%◌, ◌^◌, ◌<◌, ◌≤◌, ◌↔◌, IsTrue, [], ◌∷◌, ◌++◌, false, length, Some, Option, IsSome};
 ghost use Rattle.rec_collector.specs.Given.{IsGiven};
 ghost use Rattle.rec_collector.specs.Kept.{KeepsSizes};
 ghost use Rattle.rec_collector.specs.Next.{next_of as turn_next};
@@ -10,7 +10,11 @@ ghost use Rattle.rec_table.specs.Beats.{gathered, gathered_all, births_told};
 ghost use Rattle.rec_table.specs.Views.{collector_view, collector_now, mutator_now, IsCollectorOf, IsOwn, PutsBack};
 ghost use Rattle.rec_core.specs.Row.{index_of};
 ghost use Rattle.rec_table.specs.Turn.{MakesTurn, MakesTurns};
-ghost use Rattle.rec_table.specs.Rule.{boxes_out, collecting_of, IsReturnOp, collecting_more, word_of, Looks, NotLooking};
+ghost use Rattle.rec_table.specs.Telling.{Frees, IfHeld, IfTurned, IsFreeOp, TellsTurn};
+ghost use Rattle.rec_io.specs.Faults.{Rose};
+ghost use Rattle.rec_notice.specs.Telling.{told};
+ghost use mathlib.Core.List.{IsPrefix};
+ghost use Rattle.rec_table.specs.Rule.{boxes_out, collecting_of, IsReturnOp, collecting_more, word_of, FindsHeader, Looks, NotLooking};
 ghost use Rattle.rec_table.specs.declared.views.Beat.{Beat as Beats};
 ghost use Rattle.rec_table.specs.declared.views.Beat.TheVariants.{Saw};
 ghost use Rattle.rec_table.specs.declared.views.View.TheVariants.{Collects};
@@ -24,12 +28,14 @@ use crate::board::Board;
 use crate::heap::Heap;
 use crate::operating::{compare_exchange, fetch_add, join_seat, load, split_seat, swap};
 use crate::rule::{Glanced, Looked, Returned, Turned, Turning};
+use crate::telling::Telling;
 use crate::views::View;
 use atomic_table::Seat;
 use rec_collector::{Machine, Sets, Turn};
 use rec_log::Buffer;
 use rec_mutator::Machine as Mutators;
-use rec_word::{Mailbox, Op, crossing};
+use rec_notice::{Teller, Tube};
+use rec_word::{Header, Mailbox, Op, crossing};
 use rec_world::swap_gathered;
 use std::marker::{Brand, Model};
 use std::snapshot::Snapshot;
@@ -70,6 +76,7 @@ fn make_turn<W: Turning>(board: &Board, seat: &mut Seat<Option<Buffer>, View>, o
     ensures seat { (seat.new.table_id ≡ seat.old.table_id) × (seat.new.id ≡ seat.old.id) }
     ensures view { seat.new.me ≡ (Collects (collecting_more (collecting_of seat.old.me.0) (Saw result)), []) }
     ensures given { IsGiven W.actor result }
+    ensures header { FindsHeader W.actor result }
 {
     let word = board.index(op);
     match op {
@@ -149,6 +156,16 @@ fn gives_back(op: Op) -> bool
 {
     match op {
         Op::ReturnBox(_, _) => true,
+        _ => false,
+    }
+}
+
+// Whether the operation frees a slot.
+fn frees_slot(op: Op) -> bool
+    ensures { IsTrue result ↔ IsFreeOp op }
+{
+    match op {
+        Op::FreeHeader(_) => true,
         _ => false,
     }
 }
@@ -243,6 +260,63 @@ impl Collector {
             }
         }
         Turn::Moved
+    }
+
+    // One turn, and the label of the object that it freed.
+    #[inline(always)]
+    fn turn_freeing(&mut self, board: &Board) -> (Turn, Option<u32>)
+        requires own { IsOwn board.now.table.shared.table_id board.now.table.shared.key.value self.old }
+        requires world { IsWorld board.now.table.shared.key.value }
+
+        ensures turn { MakesTurn self.old self.new result.0 }
+        ensures freed { Frees self.old self.new result.1 }
+    {
+        let _turns = self.machine.turns();
+        let Some(op) = self.machine.next() else {
+            return (Turn::EpochsSpent, None);
+        };
+        if frees_slot(op) {
+            let header = make_turn::<Brand>(board, &mut self.seat, op);
+            let freed = Header::unpack(header).label;
+            return (self.machine.took(header), Some(freed));
+        }
+        (self.turn_on(board), None)
+    }
+
+    /// Makes one turn, as `turn` does, and tells the label of the object that it freed, if it freed one. A label that the teller keeps is
+    /// offered first. Where that comes back no turn is made, and the label is held on.
+    pub fn turn_telling<T: Tube>(&mut self, heap: &Heap, teller: &mut Teller<T>) -> Telling
+        requires own { IsCollectorOf heap.now self.old }
+
+        ensures turn { IfTurned result (λ turn. MakesTurn self.old self.new turn) }
+        // A label that was kept is sent by then; and what was told grows by what the turn frees.
+        ensures first { IfTurned result (λ _. IsPrefix (told T.sent teller.old) (T.sent teller.new.tube)) }
+        ensures told { IfTurned result (λ _. TellsTurn self.old self.new (told T.sent teller.old) (told T.sent teller.new)) }
+
+        // Nothing but the count of refusals changes where a label is held.
+        ensures held { IfHeld result (λ label. teller.old.kept ≡ Some label) }
+        ensures kept { IfHeld result (λ label. teller.new.kept ≡ Some label) }
+        ensures unsent { IfHeld result (λ _. T.sent teller.new.tube ≡ T.sent teller.old.tube) }
+        ensures unturned { IfHeld result (λ _. self.new ≡ self.old) }
+
+        // A label is held, or newly kept, only where one was refused in this call.
+        ensures refused { IsSome teller.new.kept → Rose (T.refusals teller.old.tube) (T.refusals teller.new.tube) }
+        ensures never_falls { T.refusals teller.old.tube ≤ T.refusals teller.new.tube }
+
+        // It stays the collector of this heap, and the teller's tube the same.
+        ensures own { IsCollectorOf heap.now self.new }
+        ensures same { T.SameTube teller.old.tube teller.new.tube }
+    {
+        if let Some(label) = teller.kept() {
+            if !teller.again() {
+                return Telling::Held { label };
+            }
+        }
+        let (turn, freed) = self.turn_freeing(heap.board());
+        if let Some(label) = freed {
+            teller.tell(label);
+        }
+        Telling::Turned(turn)
     }
 
     /// What became of the sets of possible garbage cycles that were tested since the opening.

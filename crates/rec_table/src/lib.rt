@@ -27,6 +27,7 @@ mod scan;
 mod seating;
 mod spare;
 mod start;
+mod telling;
 mod views;
 
 pub use collector::Collector;
@@ -37,4 +38,5 @@ pub use rule::{
     Doing, Gives, Glanced, Looked, Makes, Passes, Returned, Running, Takes, Turned, Turning,
 };
 pub use start::Start;
+pub use telling::Telling;
 pub use views::{Beat, CollectorSeat, Seated, View};

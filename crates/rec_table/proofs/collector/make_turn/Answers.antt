@@ -3,6 +3,8 @@ use Rattle.std.proofs.Common.{◌+◌, ◌%◌, ◌^◌, ◌<◌, ℕ, ⊎_elim,
 use mathlib.Core.Option.{none}
 use Rattle.atomic_table.specs.Table.{step}
 use Rattle.rec_table.proofs.Common.{written, Op, IsReturnOp}
+use Rattle.rec_word.specs.declared.op.Op.TheVariants as ops
+use Rattle.rec_core.proofs.Turning.{some_op}
 use Rattle.rec_table.proofs.Gathering.{IsLoneOp, allows_lone, allows_return, made_lone, made_return, no_else_turn}
 use Rattle.rec_table.proofs.collector.make_turn.Goals as goal
 
@@ -70,3 +72,7 @@ returns-in-AddFreed-clause-view g c =
 pub returns-in-ReturnBox-clause-view : goal.returns-in-ReturnBox-clause-view
 returns-in-ReturnBox-clause-view g c =
     made_return g.W.Turning.actor c.args.op c.swap-in-ReturnBox.result c.args.seat.now.me c.swap-in-ReturnBox.new.seat.me c.requires.seat c.requires.between c.requires.op (subst IsReturnOp (sym c.in-ReturnBox.is) tt) c.swap-in-ReturnBox.ensures.2.0
+
+pub returns-in-ReturnBox-clause-header : goal.returns-in-ReturnBox-clause-header
+returns-in-ReturnBox-clause-header g c = λ slot frees.
+    absurd (subst IsReturnOp (some_op c.args.op (ops.FreeHeader slot) (sym c.requires.op ∙ frees)) (subst IsReturnOp (sym c.in-ReturnBox.is) tt))

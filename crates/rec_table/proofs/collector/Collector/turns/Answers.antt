@@ -1,5 +1,5 @@
 -- The contract of `Collector::turns`: makes turns until one comes to something else than that it moved, and at most so many.
-use Rattle.std.proofs.Common.{refl, subst, arith}
+use Rattle.std.proofs.Common.{subst, arith}
 use Rattle.rec_collector.specs.declared.turn.Turn.{Turn}
 use Rattle.rec_table.specs.Turn.{MakesTurn, MakesTurns, MovesTo}
 use Rattle.rec_table.proofs.collector.Collector.turns.Goals as goal

@@ -1,0 +1,79 @@
+-- What a turn frees.
+use Rattle.std.proofs.Common.{◌≡◌, true≢false, IsNone, ℕ, List, [], ◌∷◌, ◌++◌, Option, None, Some, refl, sym, ap, ◌∙◌, subst, append_assoc, append-nil}
+use Rattle.rec_table.proofs.Common.{Op, gathered, gathered_all, CollectorView, collector_now, collecting_more, word_of, Beat, Saw}
+use Rattle.rec_word.specs.declared.op.Op.TheVariants as ops
+use Rattle.rec_collector.specs.Next.{next_of}
+use Rattle.rec_collector.specs.Private.{Private}
+use Rattle.rec_collector.specs.declared.turn.Turn.{Turn}
+use Rattle.rec_core.proofs.Turning.{some_op}
+use mathlib.Core.List.{IsPrefix}
+use Rattle.rec_notice.specs.Telling.{as_list, told}
+use Rattle.rec_notice.specs.declared.teller.Teller.{Teller}
+use Rattle.rec_table.specs.Telling.{Frees, IsFreeOp, TellsTurn, freed_by, freed_by_all, freed_labels}
+use Rattle.rec_table.specs.Turn.{MakesTurn}
+
+-- the operation frees this slot
+abbrev pub FreesSlot : Op → Type 0
+FreesSlot op = (slot : ℕ) × (op ≡ ops.FreeHeader slot)
+
+pub frees_slot : (op : Op) → IsFreeOp op → FreesSlot op
+frees_slot (ops.FreeHeader slot) frees = (slot, refl)
+frees_slot _ frees = absurd frees
+
+-- and so it looks at no mailbox
+pub looks_none : (op : Op) → IsFreeOp op → (t epoch : ℕ) → op ≡ ops.LookBox t epoch → ⊥
+looks_none op frees t epoch is = subst IsFreeOp is frees
+
+-- no other operation is one that frees a slot
+pub frees_none : (op : Op) (next : Option Op) → ◌≡◌ {A = Option Op} next (Some op) → (IsFreeOp op → ⊥) → (slot : ℕ) → ◌≡◌ {A = Option Op} next (Some (ops.FreeHeader slot)) → ⊥
+frees_none op next named other slot is = other (subst IsFreeOp (sym (some_op op (ops.FreeHeader slot) (sym named ∙ is))) tt)
+
+freed_others : (op : Op) (word : ℕ) → (IsFreeOp op → ⊥) → freed_by (Some op) word ≡ []
+freed_others (ops.FreeHeader slot) word other = absurd (other tt)
+freed_others _ word other = refl
+
+-- a list of one beat more
+freed_more : (p : Private) (log : List Beat) (b : Beat) → freed_by_all p (log ++ b ∷ []) ≡ freed_by_all p log ++ freed_by (next_of (gathered_all p log)) (word_of b)
+freed_more p [] b = append-nil (freed_by (next_of p) (word_of b))
+freed_more p (x ∷ log) b =
+    ap (λ l. freed_by (next_of p) (word_of x) ++ l) (freed_more (gathered p x) log b)
+    ∙ sym (append_assoc (freed_by (next_of p) (word_of x)) (freed_by_all (gathered p x) log) (freed_by (next_of (gathered_all (gathered p x) log)) (word_of b)))
+
+labels_more : (g g' : CollectorView) (answer : Turn) (b : Beat) → MakesTurn g g' answer → g'.collecting ≡ collecting_more g.collecting b → freed_labels g' ≡ freed_labels g ++ freed_by (next_of (collector_now g)) (word_of b)
+labels_more g g' answer b turn more =
+    (λ k. freed_by_all ((turn.same k).opened) (more k).log) ∙ freed_more g.opened g.collecting.log b
+
+-- what was freed since the start grows by what the turn frees
+labels_after : (g g' : CollectorView) (answer : Turn) (label : Option ℕ) → MakesTurn g g' answer → Frees g g' label → freed_labels g' ≡ freed_labels g ++ as_list label
+labels_after g g' answer label turn (Frees.slot slot word named more header) =
+    labels_more g g' answer (Saw word) turn more ∙ ap (λ (o : Option Op). freed_labels g ++ freed_by o word) named
+labels_after g g' answer label turn (Frees.none none) = by (next_of (collector_now g)) refl
+  where
+    by : (next : Option Op) → ◌≡◌ {A = Option Op} (next_of (collector_now g)) next → freed_labels g' ≡ freed_labels g ++ []
+    by None named = ap freed_labels (turn.spent named).0 ∙ sym (append-nil (freed_labels g))
+    by (Some op) named =
+        let (b, grows, now, is) = turn.turned op named in
+        labels_more g g' answer b turn (ap (λ (x : CollectorView). x.collecting) grows)
+        ∙ ap (λ (o : Option Op). freed_labels g ++ freed_by o (word_of b)) named
+        ∙ ap (λ l. freed_labels g ++ l) (freed_others op (word_of b) (λ frees. let s = frees_slot op frees in none s.0 (named ∙ ap (λ (o : Op). Some o) s.1)))
+
+pub tells_turn : (g g' : CollectorView) (answer : Turn) (label : Option ℕ) (was now : List ℕ) → MakesTurn g g' answer → Frees g g' label → now ≡ was ++ as_list label → TellsTurn g g' was now
+tells_turn g g' answer label was now turn frees told = record {
+  label = label;
+  freed = frees;
+  told = told;
+  all = labels_after g g' answer label turn frees;
+}
+
+-- A teller that keeps no label any more has sent all that it was told before.
+pub sent_before : {T : Type 0} (sent : T → List ℕ) (old now : Teller T) → now.kept ≡ None → told sent now ≡ told sent old → IsPrefix (told sent old) (sent now.tube)
+sent_before sent old now none same =
+    ([], append-nil (told sent old) ∙ sym same ∙ ap (λ o. sent now.tube ++ as_list o) none ∙ append-nil (sent now.tube))
+
+none_kept : (kept : Option ℕ) → IsNone kept → kept ≡ None
+none_kept None is = refl
+none_kept (Some label) is = absurd (true≢false is)
+
+-- one that has sent its label keeps none
+pub emptied : {T : Type 0} (now new : Teller T) → now ≡ new → IsNone new.kept → now.kept ≡ None
+emptied now new same none = ap (λ t. t.kept) same ∙ none_kept new.kept none
