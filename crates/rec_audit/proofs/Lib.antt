@@ -1,0 +1,4 @@
+-- The modules of the proofs.
+pub mod Numerals
+pub mod Texts
+pub mod Options
