@@ -1,3 +1,7 @@
 -- The modules of the definitions.
 pub mod Lines
 pub mod Form
+pub mod Graph
+pub mod States
+pub mod Verdicts
+pub mod Walks
