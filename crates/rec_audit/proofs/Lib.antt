@@ -5,3 +5,7 @@ pub mod Options
 pub mod Edits
 pub mod Held
 pub mod Marking
+pub mod Grown
+pub mod Sizes
+pub mod Knowing
+pub mod Telling

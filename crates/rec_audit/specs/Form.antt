@@ -1,6 +1,6 @@
 -- Which lines may stand behind which: the order of a journal's lines, and the ranges of their numbers.
 use Rattle.std.specs.Prelude.{◌≡◌, ◌≢◌, ◌⊎◌, ℕ, ◌+◌, ◌-◌, ◌*◌, ◌<◌, ◌≤◌, nat_lt, Bool, true, false, if◌then◌else◌, List, [], ◌∷◌, ◌++◌, length, take, drop, reverse, All, Option, None, Some, slice_index}
-use Rattle.std.specs.List.{find, slice_get}
+use Rattle.std.specs.List.{find}
 use Rattle.rec_model.specs.declared.limits.TheConstants.{MOST_SLOTS, MOST_FIELDS, MOST_REGISTERS, MOST_MUTATORS}
 use Rattle.rec_word.specs.declared.word.TheConstants.{LAST_EPOCH}
 use Rattle.rec_word.specs.Word.{target_bits}
@@ -191,7 +191,7 @@ pub record MayStand (form : Form) (line : Line) : Type 0 where
 
 -- each of these lines may stand behind those before it
 abbrev pub Stand : List Line → Type 0
-Stand lines = (k : ℕ) (line : Line) → slice_get lines k ≡ Some line → MayStand (form_of (take k lines)) line
+Stand lines = (before : List Line) (line : Line) (after : List Line) → lines ≡ before ++ line ∷ after → MayStand (form_of before) line
 
 -- a journal in form: its lines may stand so, and no block is left open
 pub record IsInForm (lines : List Line) : Type 0 where

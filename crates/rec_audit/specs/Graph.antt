@@ -111,3 +111,9 @@ roots lines = flat_map (λ line. named_by line.kind line.numbers) (this_block li
 -- a slot is on a path of references from a root
 abbrev pub IsReachedAt : List Line → (slot : ℕ) → Type 0
 IsReachedAt lines = IsReached (roots lines) (targets lines)
+
+-- one of some slots is
+pub record HasReached (lines : List Line) (slots : List ℕ) : Type 0 where
+  pub member : ℕ
+  pub listed : is_in member slots ≡ true
+  pub reached : IsReachedAt lines member

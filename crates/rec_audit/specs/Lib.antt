@@ -2,6 +2,8 @@
 pub mod Lines
 pub mod Form
 pub mod Graph
+pub mod Graphs
 pub mod States
 pub mod Verdicts
 pub mod Walks
+pub mod Checkers

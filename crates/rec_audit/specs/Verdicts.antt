@@ -1,17 +1,15 @@
 -- What a verdict says of a journal: that no line is at fault, or which line is the first, and by which rule.
-use Rattle.std.specs.Prelude.{◌≡◌, ℕ, ◌+◌, ◌<◌, ◌≤◌, true, List, [], ◌∷◌, ◌++◌, length, take, count_by, Some}
-use Rattle.std.specs.List.{slice_get}
+use Rattle.std.specs.Prelude.{◌≡◌, ℕ, ◌+◌, ◌<◌, ◌≤◌, true, List, [], ◌∷◌, ◌++◌, length, count_by}
 use Rattle.rec_model.specs.declared.limits.TheConstants.{MOST_BYTES}
-use Rattle.rec_model.specs.Reach.{is_in}
 use Rattle.rec_audit.specs.declared.kind.Kind.TheVariants.{Free}
 use Rattle.rec_audit.specs.declared.verdict.Rule.{Rule}
 use Rattle.rec_audit.specs.declared.verdict.Rule.TheVariants.{Long, Form, Stamp, Reach}
 use Rattle.rec_audit.specs.declared.verdict.Verdict.{Verdict}
 use Rattle.rec_audit.specs.declared.verdict.Verdict.TheVariants.{Yes, No}
 use Rattle.rec_audit.specs.declared.form.Stage.TheVariants as stages
-use Rattle.rec_audit.specs.Lines.{Line, AreNumbers, text_of, text_of_line}
-use Rattle.rec_audit.specs.Form.{number, form_of, MayStand, Stand, IsInForm, stage_behind}
-use Rattle.rec_audit.specs.Graph.{is_free, is_opened, opens, IsReachedAt}
+use Rattle.rec_audit.specs.Lines.{Line, text_of, text_of_line}
+use Rattle.rec_audit.specs.Form.{number, form_of, MayStand, Stand, stage_behind}
+use Rattle.rec_audit.specs.Graph.{HasReached, is_free, is_opened, opens}
 
 -- a word with a target is put into a field, and an earlier line has put the same word
 pub record HasStampFault (before : List Line) (line : Line) : Type 0 where
@@ -21,11 +19,16 @@ pub record HasStampFault (before : List Line) (line : Line) : Type 0 where
 -- a member of a set that is given up is on a path of references from a root
 pub record HasReachFault (before : List Line) (line : Line) : Type 0 where
   pub kind : line.kind ≡ Free
-  pub member : ℕ
-  pub listed : is_in member line.numbers ≡ true
-  pub reached : IsReachedAt before member
+  pub reached : HasReached before line.numbers
 
--- a line that may stand behind others is at fault by no rule
+-- a line that may stand behind others is at fault by this rule
+abbrev pub IsFaultBy : Rule → List Line → Line → Type 0
+IsFaultBy Long before line = ⊥
+IsFaultBy Form before line = ⊥
+IsFaultBy Stamp before line = HasStampFault before line
+IsFaultBy Reach before line = HasReachFault before line
+
+-- it is at fault by none
 pub record IsClean (before : List Line) (line : Line) : Type 0 where
   pub stamp : ¬ HasStampFault before line
   pub reach : ¬ HasReachFault before line
@@ -33,7 +36,7 @@ pub record IsClean (before : List Line) (line : Line) : Type 0 where
 -- none of these lines is at fault
 pub record AreClean (lines : List Line) : Type 0 where
   pub stand : Stand lines
-  pub clean : (k : ℕ) (line : Line) → slice_get lines k ≡ Some line → IsClean (take k lines) line
+  pub clean : (before : List Line) (line : Line) (after : List Line) → lines ≡ before ++ line ∷ after → IsClean before line
 
 -- bytes that begin with the text of a line that may stand behind others
 pub record GoesOn (before : List Line) (bytes : List ℕ) (line : Line) : Type 0 where

@@ -11,9 +11,10 @@
 //! The lines of a journal, its graph and the rules are this project's profile (`docs/AUDIT.md`).
 #![tactic(auto)]
 
-// mod checker;
+mod checker;
 // mod checking;
 mod form;
+mod graph;
 mod kind;
 mod reach;
 mod reading;
