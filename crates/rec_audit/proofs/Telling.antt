@@ -1,5 +1,5 @@
 -- What a line that may stand tells, by its kind.
-use Rattle.std.proofs.Common.{◌≡◌, ◌<◌, ◌≤◌, ◌+◌, ◌*◌, ◌/◌, ◌&&◌, ◌==◌, ℕ, zero, suc, Bool, true, false, cond, List, [], ◌∷◌, ◌++◌, length, get_or, filter, count_by, length-append, ◌≢◌, refl, sym, ap, ◌∙◌, subst, arith}
+use Rattle.std.proofs.Common.{◌≡◌, ◌<◌, ◌≤◌, ◌+◌, ◌*◌, ◌/◌, ◌&&◌, ◌==◌, ℕ, zero, suc, Bool, true, false, cond, List, [], ◌∷◌, ◌++◌, Some, nat_lt, length, get_or, filter, count_by, length-append, ◌≢◌, refl, sym, ap, ◌∙◌, subst, arith}
 use Rattle.std.proofs.Math.Nat.{div-lt_iff_lt-mul}
 use Rattle.std.proofs.lemmas.Bool.{false≢true}
 use Rattle.std.proofs.lemmas.List.Elements.{filter-append}
@@ -11,11 +11,16 @@ use Rattle.rec_audit.specs.declared.form.Stage.TheVariants as stages
 use Rattle.rec_audit.specs.declared.form.Form.{Form}
 use Rattle.rec_audit.specs.declared.graph.Graph.{Graph}
 use Rattle.rec_audit.specs.declared.checker.Checker.{Checker}
-use Rattle.rec_audit.specs.Lines.{Line}
+use Rattle.std.proofs.lemmas.Bool.Decides.{nat_tests}
+use Rattle.rec_audit.specs.Lines.{Line, AreNumbers, name_of, numerals, text_of_line}
+use Rattle.rec_audit.proofs.Texts.{ended, line_text, same_line}
 use Rattle.rec_audit.specs.Form.{HasNumbers, MayStand, Stand, behind, form_of, heap_in, is_heap, number, stage_behind, stage_of}
 use Rattle.rec_audit.specs.Graph.{HasReached, has_target, is_free, is_opened, is_put, opens}
 use Rattle.rec_audit.specs.Graphs.{IsGraphOf, TellNothing}
-use Rattle.rec_audit.specs.Verdicts.{HasReachFault, HasStampFault, IsClean}
+use Rattle.rec_audit.specs.Verdicts.{GoesOn, HasFault, HasReachFault, HasStampFault, IsClean, IsFaultBy}
+use Rattle.rec_audit.specs.Verdicts.HasFault.{form as unfit, stamp, reach}
+use Rattle.rec_audit.specs.declared.verdict.Rule.{Rule}
+use Rattle.rec_audit.specs.declared.verdict.Rule.TheVariants.{Long, Form as FormRule, Stamp, Reach}
 use Rattle.rec_audit.specs.Checkers.{Knows}
 use Rattle.rec_audit.proofs.Grown.{told_heap}
 use Rattle.rec_audit.proofs.Knowing.{clean_more, form_more, title_before}
@@ -120,3 +125,41 @@ knows_more lines line c d knows stands clean graph form sets =
       graph = graph;
       sets = sets ∙ ap (λ (n : ℕ). n + cond (is_free line.kind) 1 0) knows.sets ∙ sym (free_more lines line);
     }
+
+pub few_sets : (kind : Kind) → cond (is_free kind) 1 0 ≤ 1
+few_sets kind = at (is_free kind)
+  where
+    at : (b : Bool) → cond b 1 0 ≤ 1
+    at true = omega arith
+    at false = omega arith
+
+pub some_target : (n : ℕ) → (n ≡ 0 → ⊥) → nat_lt 0 n ≡ true
+some_target n some = grind (arith, nat_tests)
+
+-- ---- the line at the front of bytes
+
+pub fault_of : (rule : Rule) (lines : List Line) (bytes : List ℕ) (line : Line) → IsFaultBy rule lines line → GoesOn lines bytes line → HasFault lines bytes rule
+fault_of Long lines bytes line is goes = absurd is
+fault_of FormRule lines bytes line is goes = absurd is
+fault_of Stamp lines bytes line is goes = stamp line goes is
+fault_of Reach lines bytes line is goes = reach line goes is
+
+pub longer : (bytes rest : List ℕ) (line : Line) → bytes ≡ text_of_line line ++ rest → length rest < length bytes
+longer bytes rest line is =
+    omega (arith, ap (length {A = ℕ}) (is ∙ line_text line rest), length-append (name_of line.kind) (ended line.numbers rest), length-append (numerals line.numbers) (10 ∷ rest))
+
+-- no line goes on, as none has its text there
+pub none_goes : (lines : List Line) (bytes : List ℕ) → 0 < length bytes → ((line : Line) (rest : List ℕ) → AreNumbers line.numbers → bytes ≡ text_of_line line ++ rest → ⊥) → HasFault lines bytes FormRule
+none_goes lines bytes some none = unfit (λ line goes. none line goes.rest goes.stands.fits goes.text) (λ end. omega (arith, some, ap (length {A = ℕ}) end.0))
+
+-- or as the one that has may not stand
+pub none_stands : (lines : List Line) (bytes rest : List ℕ) (at : Form) (line : Line) → at ≡ form_of lines → 0 < length bytes → bytes ≡ text_of_line line ++ rest → AreNumbers line.numbers → (MayStand at line → ⊥) → HasFault lines bytes FormRule
+none_stands lines bytes rest at line is some text fit shut =
+    unfit
+    (λ other goes.
+        let same : line ≡ other = (same_line line other rest goes.rest fit goes.stands.fits (sym text ∙ goes.text)).0 in
+        shut (subst (λ (f : Form). MayStand f line) (sym is) (subst (λ (l : Line). MayStand (form_of lines) l) (sym same) goes.stands)))
+    (λ end. omega (arith, some, ap (length {A = ℕ}) end.0))
+
+pub goes_on : (lines : List Line) (bytes rest : List ℕ) (at : Form) (line : Line) → at ≡ form_of lines → bytes ≡ text_of_line line ++ rest → MayStand at line → GoesOn lines bytes line
+goes_on lines bytes rest at line is text stands = record { stands = subst (λ (f : Form). MayStand f line) is stands; rest = rest; text = text }

@@ -34,8 +34,6 @@ pub struct Checker {
     pub graph: Graph,
     /// How many sets were given up.
     pub sets: u32,
-    /// The numbers of the line that was read last.
-    pub numbers: Vec<u64>,
 }
 
 /// How many sets a line of this kind gives up.
@@ -49,7 +47,6 @@ fn sets_in(kind: Kind) -> u32
 }
 
 /// Tells a graph of a line that may stand.
-#[tactic(none)]
 fn tell(
     alloc: Global,
     graph: &mut Graph,
@@ -100,7 +97,6 @@ fn tell(
 }
 
 /// The rule by which a line that may stand is at fault.
-#[tactic(none)]
 fn fault(
     graph: &mut Graph,
     form: Form,
@@ -130,7 +126,8 @@ fn fault(
             Ok(None)
         }
         Kind::Free => {
-            if graph.reaches(numbers)? {
+            let found = graph.reaches(numbers)?;
+            if found {
                 return Ok(Some(Rule::Reach));
             }
             Ok(None)
@@ -156,7 +153,6 @@ impl Checker {
             },
             graph,
             sets: 0,
-            numbers: Vec::new(alloc),
         })
     }
 
@@ -171,32 +167,29 @@ impl Checker {
         None
     }
 
-    #[tactic(none)]
-    /// Keeps what a line tells that may stand and is not at fault: the one with these numbers.
-    fn note(&mut self, kind: Kind) -> Result<(), AllocError>
+    /// Keeps what a line tells that may stand and is not at fault.
+    fn note(&mut self, kind: Kind, numbers: &[u64]) -> Result<(), AllocError>
         requires ready { IsReady self.old }
         requires few { self.old.sets < MOST_BYTES }
-        requires stands { MayStand self.old.form (record { kind = kind; numbers = self.old.numbers.items }) }
+        requires stands { MayStand self.old.form (record { kind = kind; numbers = numbers.now }) }
         ensures ready { OnOk result (IsReady self.new) }
         ensures few { OnOk result (self.new.sets ≤ self.old.sets + 1) }
-        ensures knows { OnOk result ((lines : List Line) → Knows lines self.old → IsClean lines (record { kind = kind; numbers = self.old.numbers.items })
-            → Knows (lines ++ record { kind = kind; numbers = self.old.numbers.items } ∷ []) self.new) }
+        ensures knows { OnOk result ((lines : List Line) → Knows lines self.old → IsClean lines (record { kind = kind; numbers = numbers.now })
+            → Knows (lines ++ record { kind = kind; numbers = numbers.now } ∷ []) self.new) }
     {
-        tell(
-            self.alloc,
-            &mut self.graph,
-            self.form,
-            kind,
-            &self.numbers,
-        )?;
-        self.form = self.form.behind(kind, &self.numbers);
+        tell(self.alloc, &mut self.graph, self.form, kind, numbers)?;
+        self.form = self.form.behind(kind, numbers);
         self.sets += sets_in(kind);
         Ok(())
     }
 
-    #[tactic(none)]
-    /// Takes the line at the front of the bytes, and gives what is behind it; or the rule by which it is at fault.
-    pub fn take<'b>(&mut self, bytes: &'b [u8]) -> Result<Result<&'b [u8], Rule>, AllocError>
+    /// Takes the line at the front of the bytes, and gives what is behind it; or the rule by which it is at fault. The line's
+    /// numbers take the place of those that are there.
+    pub fn take<'b>(
+        &mut self,
+        numbers: &mut Vec<u64>,
+        bytes: &'b [u8],
+    ) -> Result<Result<&'b [u8], Rule>, AllocError>
         requires ready { IsReady self.old }
         requires some { 0 < length bytes.now }
         requires few { self.old.sets + length bytes.now ≤ MOST_BYTES }
@@ -206,16 +199,17 @@ impl Checker {
         ensures taken { IfOk result (λ taken. IfOk taken (λ rest. (lines : List Line) → Knows lines self.old → Takes lines bytes.now rest.now self.new)) }
         ensures fault { IfOk result (λ taken. IfErr taken (λ rule. (lines : List Line) → Knows lines self.old → HasFault lines bytes.now rule)) }
     {
-        let Some((kind, rest)) = read_line(&mut self.numbers, bytes)? else {
+        let Some((kind, rest)) = read_line(numbers, bytes)? else {
             return Ok(Err(Rule::Form));
         };
-        if !self.form.may_stand(kind, &self.numbers) {
+        let line = numbers.as_slice();
+        if !self.form.may_stand(kind, line) {
             return Ok(Err(Rule::Form));
         }
-        if let Some(rule) = fault(&mut self.graph, self.form, kind, &self.numbers)? {
+        if let Some(rule) = fault(&mut self.graph, self.form, kind, line)? {
             return Ok(Err(rule));
         }
-        self.note(kind)?;
+        self.note(kind, line)?;
         Ok(Ok(rest))
     }
 }

@@ -97,6 +97,7 @@ fn read_numbers<'b>(
 ) -> Result<Option<&'b [u8]>, AllocError>
     ensures found { IfOk result (λ found. IfSome found (λ rest.
         bytes.now ≡ numerals numbers.new.items ++ 10 ∷ rest.now)) }
+    ensures fit { IfOk result (λ found. IfSome found (λ rest. AreNumbers numbers.new.items)) }
     ensures none { IfOk result (λ found. IfNone found ((ns rest : List ℕ) → AreNumbers ns
         → bytes.now ≢ numerals ns ++ 10 ∷ rest)) }
 {
@@ -133,6 +134,7 @@ pub fn read_line<'b>(
 ) -> Result<Option<(Kind, &'b [u8])>, AllocError>
     ensures found { IfOk result (λ found. IfSome found (λ x. bytes.now
         ≡ text_of_line (record { kind = x.0; numbers = numbers.new.items }) ++ x.1.now)) }
+    ensures fit { IfOk result (λ found. IfSome found (λ x. AreNumbers numbers.new.items)) }
     ensures none { IfOk result (λ found. IfNone found ((line : Line) (rest : List ℕ)
         → AreNumbers line.numbers → bytes.now ≢ text_of_line line ++ rest)) }
 {

@@ -1,7 +1,8 @@
 -- The contract of `read_numbers`: numerals at the front up to an LF.
 use Rattle.std.proofs.Common.{◌≡◌, ◌<◌, ◌^◌, List, ℕ, ◌++◌, arith, subst, sym}
 use Rattle.rec_audit.proofs.Options.{IfNone_then}
-use Rattle.rec_audit.specs.Lines.{numerals}
+use Rattle.std.proofs.lemmas.List.Elements.{All-push}
+use Rattle.rec_audit.specs.Lines.{AreNumbers, numerals}
 use Rattle.rec_audit.proofs.Texts.{no_more, one_read, no_end, numerals_push}
 use Rattle.rec_audit.proofs.reading.read_numbers.Goals as goal
 
@@ -14,6 +15,7 @@ loop-word-preserved c =
     record {
       read = subst (λ (ns : List ℕ). c.args.bytes.now ≡ numerals ns ++ c.in-Some-numeral.next.now) (sym c.in_ok-push.ensures.items) read;
       only = one_read c.args.bytes.now c.loop-word.rest.now c.in-Some.word.now c.in-Some-numeral.next.now c.in-Some-numeral.number c.in-Some-numeral.ensures.fits c.loop-word.invariant.only c.in-Some.ensures.some c.in-Some-numeral.ensures.found c.in-Some-numeral.ensures.apart;
+      fit = subst (λ (ns : List ℕ). AreNumbers ns) (sym c.in_ok-push.ensures.items) (All-push (λ n. n < 2 ^ 64) c.loop-word.numbers.items c.in-Some-numeral.number c.loop-word.invariant.fit c.in-Some-numeral.ensures.fits);
     }
 
 pub returns-clause-none : goal.returns-clause-none
