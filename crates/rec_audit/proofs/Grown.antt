@@ -1,9 +1,9 @@
 -- The graph of some lines, and of one line more.
-use Rattle.std.proofs.Common.{◌≡◌, ◌≢◌, ◌<◌, ◌≤◌, ◌+◌, ◌-◌, ◌/◌, ◌==◌, ◌&&◌, ◌||◌, ℕ, zero, suc, Bool, true, false, cond, not, nat_eq, nat_lt, List, [], ◌∷◌, ◌++◌, length, get_or, set, replicate, map, filter, drop, reverse, Option, None, Some, refl, sym, ap, ◌∙◌, subst, arith, ⊎_elim, inl, inr, append-nil, length-set}
+use Rattle.std.proofs.Common.{◌≡◌, ◌<◌, ◌/◌, ◌==◌, ◌&&◌, ◌||◌, ℕ, zero, suc, Bool, true, false, cond, not, nat_eq, List, [], ◌∷◌, ◌++◌, length, get_or, set, replicate, map, filter, Some, refl, sym, ap, ◌∙◌, subst, arith, ⊎_elim, inl, inr, append-nil, length-set}
 use Rattle.std.specs.List.{find, flat_map, list_any, range_with_len}
 use Rattle.std.specs.HashSet.{contains}
 use Rattle.std.proofs.lemmas.Bool.{cases_eq, cases_lt, or_cases, eq-eqb, ne_eqb, false≢true}
-use Rattle.std.proofs.lemmas.List.{length-replicate, get_or-replicate, get_or_past, reverse-append, map-append, get_or-set_same, get_or-set_other, get_or-map}
+use Rattle.std.proofs.lemmas.List.{length-replicate, get_or-replicate, get_or_past, reverse-append, map-append, get_or-set_same, get_or-set_other}
 use Rattle.std.proofs.lemmas.List.Concat.{flat_map-append}
 use Rattle.std.specs.List.{All}
 use Rattle.std.proofs.lemmas.List.FromFn.{get_or-range_with_len, length-range_with_len}
@@ -13,7 +13,6 @@ use Rattle.std.proofs.Math.Bool.{or_assoc, or-false, or-true}
 use Rattle.rec_model.specs.Reach.{is_in, IsReached}
 use Rattle.rec_model.specs.Reach.IsReached.{root, child}
 use Rattle.rec_model.proofs.Members.{is_in-cons}
-use Rattle.rec_word.specs.Word.{target_bits}
 use Rattle.rec_audit.specs.declared.kind.Kind.{Kind}
 use Rattle.rec_audit.specs.declared.kind.Kind.TheVariants.{Title, Heap, Epoch, Put, Born, Snap, Out, Free, Sweep, End}
 use Rattle.rec_audit.specs.declared.references.Edge.{Edge}
@@ -282,16 +281,16 @@ references_put lines line r s put out epoch heap within are more =
     kept slot false is = are.edges slot ∙ ap (without (is_dead lines)) (sym (from_none lines line slot heap (opens_is slot false is)))
     kept slot true is =
         elim (cases_eq (number 1 line / (heap_of lines).fields) slot) [
-          inl same ↦
-            ap (λ (k : ℕ). without (is_dead lines) (edges_at (set (edges_of r) (number 1 line / (heap_of lines).fields) (edges_at (edges_of r) (number 1 line / (heap_of lines).fields) ++ edge_of (number 2 line) ∷ [])) k)) (sym same)
-            ∙ ap (without (is_dead lines)) (get_or-set_same (edges_of r) (number 1 line / (heap_of lines).fields) (edges_at (edges_of r) (number 1 line / (heap_of lines).fields) ++ edge_of (number 2 line) ∷ []) [] within)
-            ∙ ap (λ (k : ℕ). without (is_dead lines) (edges_at (edges_of r) k ++ edge_of (number 2 line) ∷ [])) same
-            ∙ alike_push (is_dead lines) (edges_at (edges_of r) slot) (opened_from lines slot) (edge_of (number 2 line)) (are.edges slot)
-            ∙ ap (without (is_dead lines)) (sym (from_one lines line slot heap (opens_is slot true is ∙ eq-eqb (number 1 line / (heap_of lines).fields) slot same)))
-        | inr apart ↦
-            ap (without (is_dead lines)) (get_or-set_other (edges_of r) (number 1 line / (heap_of lines).fields) slot (edges_at (edges_of r) (number 1 line / (heap_of lines).fields) ++ edge_of (number 2 line) ∷ []) [] (λ e. apart (sym e)))
-            ∙ are.edges slot
-            ∙ ap (without (is_dead lines)) (sym (from_none lines line slot heap (opens_is slot true is ∙ ne_eqb (number 1 line / (heap_of lines).fields) slot apart)))
+          | inl same ↦
+              ap (λ (k : ℕ). without (is_dead lines) (edges_at (set (edges_of r) (number 1 line / (heap_of lines).fields) (edges_at (edges_of r) (number 1 line / (heap_of lines).fields) ++ edge_of (number 2 line) ∷ [])) k)) (sym same)
+              ∙ ap (without (is_dead lines)) (get_or-set_same (edges_of r) (number 1 line / (heap_of lines).fields) (edges_at (edges_of r) (number 1 line / (heap_of lines).fields) ++ edge_of (number 2 line) ∷ []) [] within)
+              ∙ ap (λ (k : ℕ). without (is_dead lines) (edges_at (edges_of r) k ++ edge_of (number 2 line) ∷ [])) same
+              ∙ alike_push (is_dead lines) (edges_at (edges_of r) slot) (opened_from lines slot) (edge_of (number 2 line)) (are.edges slot)
+              ∙ ap (without (is_dead lines)) (sym (from_one lines line slot heap (opens_is slot true is ∙ eq-eqb (number 1 line / (heap_of lines).fields) slot same)))
+          | inr apart ↦
+              ap (without (is_dead lines)) (get_or-set_other (edges_of r) (number 1 line / (heap_of lines).fields) slot (edges_at (edges_of r) (number 1 line / (heap_of lines).fields) ++ edge_of (number 2 line) ∷ []) [] (λ e. apart (sym e)))
+              ∙ are.edges slot
+              ∙ ap (without (is_dead lines)) (sym (from_none lines line slot heap (opens_is slot true is ∙ ne_eqb (number 1 line / (heap_of lines).fields) slot apart)))
         ]
 
 pub pruned_at : (d : ℕ → Bool) (ess : List (List Edge)) (slot : ℕ) → edges_at (map (without d) ess) slot ≡ without d (edges_at ess slot)
@@ -346,8 +345,8 @@ taken_sweep lines line slot is = at (number 0 line == slot) refl
 pub written_at : (xs : List Bool) (i : ℕ) (b : Bool) (slot : ℕ) → slot < length xs → get_or (set xs i b) slot false ≡ cond (i == slot) b (get_or xs slot false)
 written_at xs i b slot within =
     elim (cases_eq i slot) [
-      inl same ↦ ap (λ (k : ℕ). get_or (set xs k b) slot false) same ∙ get_or-set_same xs slot b false within ∙ sym (ap (λ t. cond t b (get_or xs slot false)) (eq-eqb i slot same))
-    | inr apart ↦ get_or-set_other xs i slot b false (λ e. apart (sym e)) ∙ sym (ap (λ t. cond t b (get_or xs slot false)) (ne_eqb i slot apart))
+      | inl same ↦ ap (λ (k : ℕ). get_or (set xs k b) slot false) same ∙ get_or-set_same xs slot b false within ∙ sym (ap (λ t. cond t b (get_or xs slot false)) (eq-eqb i slot same))
+      | inr apart ↦ get_or-set_other xs i slot b false (λ e. apart (sym e)) ∙ sym (ap (λ t. cond t b (get_or xs slot false)) (ne_eqb i slot apart))
     ]
 
 named_more : (lines : List Line) (line : Line) → is_epoch line.kind ≡ false → named_in (lines ++ line ∷ []) ≡ named_in lines ++ named_by line.kind line.numbers
@@ -606,14 +605,14 @@ pub any_member : (p : ℕ → Bool) (xs : List ℕ) → list_any p xs ≡ true �
 any_member p [] e = absurd (false≢true e)
 any_member p (x ∷ xs) e =
     elim (or_cases (p x) (list_any p xs) e) [
-      inl here ↦ (x, ap (λ b. b || is_in x xs) (eq-eqb x x refl), here)
-    | inr there ↦ let m = any_member p xs there in (m.0, ap (λ b. (x == m.0) || b) m.1 ∙ or-true (x == m.0), m.2)
+      | inl here ↦ (x, ap (λ b. b || is_in x xs) (eq-eqb x x refl), here)
+      | inr there ↦ let m = any_member p xs there in (m.0, ap (λ b. (x == m.0) || b) m.1 ∙ or-true (x == m.0), m.2)
     ]
 
 pub member_any : (p : ℕ → Bool) (xs : List ℕ) (m : ℕ) → is_in m xs ≡ true → p m ≡ true → list_any p xs ≡ true
 member_any p [] m there is = absurd (false≢true there)
 member_any p (x ∷ xs) m there is =
     elim (is_in-cons m x xs there) [
-      inl same ↦ ap (λ b. b || list_any p xs) (ap p same ∙ is)
-    | inr more ↦ ap (λ b. p x || b) (member_any p xs m more is) ∙ or-true (p x)
+      | inl same ↦ ap (λ b. b || list_any p xs) (ap p same ∙ is)
+      | inr more ↦ ap (λ b. p x || b) (member_any p xs m more is) ∙ or-true (p x)
     ]

@@ -1,6 +1,5 @@
 -- What is known of lines, and of one line more.
-use Rattle.std.proofs.Common.{◌≡◌, ◌<◌, ◌≤◌, ◌+◌, ◌==◌, ℕ, Bool, true, false, cond, nat_lt, List, [], ◌∷◌, ◌++◌, length, Option, None, Some, ◌⊎◌, inl, inr, refl, sym, ap, ◌∙◌, subst, arith, append_assoc, length-append, append-nil}
-use Rattle.std.proofs.lemmas.List.{same_from_push}
+use Rattle.std.proofs.Common.{◌≡◌, ◌+◌, ℕ, Bool, true, false, cond, nat_lt, List, [], ◌∷◌, ◌++◌, length, Some, ◌⊎◌, inl, inr, refl, sym, ap, ◌∙◌, subst, arith, length-append}
 use Rattle.rec_audit.specs.declared.kind.Kind.{Kind}
 use Rattle.rec_audit.specs.declared.kind.Kind.TheVariants.{Title, Heap, Epoch, Put, Born, Snap, Out, Free, Sweep, End}
 use Rattle.rec_audit.specs.declared.form.Stage.{Stage}
@@ -23,8 +22,8 @@ split_push (x ∷ xs) (b ∷ bs) after l line e =
     let head : x ≡ b = cc in
     let tail : xs ++ l ∷ [] ≡ bs ++ line ∷ after = cc in
     elim (split_push xs bs after l line tail) [
-      inl same ↦ inl (let first : xs ≡ bs = same.0 in cc, same.1)
-    | inr more ↦ inr (more.0, let rest : xs ≡ bs ++ line ∷ more.0 = more.1 in cc)
+      | inl same ↦ inl (let first : xs ≡ bs = same.0 in cc, same.1)
+      | inr more ↦ inr (more.0, let rest : xs ≡ bs ++ line ∷ more.0 = more.1 in cc)
     ]
 
 pub clean_none : AreClean []
@@ -85,8 +84,8 @@ pub last_view : (lines : List Line) → (lines ≡ []) ⊎ ((before : List Line)
 last_view [] = inl refl
 last_view (x ∷ xs) =
     elim (last_view xs) [
-      inl none ↦ inr ([], x, ap (λ t. x ∷ t) none)
-    | inr more ↦ inr (x ∷ more.0, more.1, ap (λ t. x ∷ t) more.2)
+      | inl none ↦ inr ([], x, ap (λ t. x ∷ t) none)
+      | inr more ↦ inr (x ∷ more.0, more.1, ap (λ t. x ∷ t) more.2)
     ]
 
 leads_to_heap : (m : ℕ) (k : Kind) (n : ℕ) → leads_to m k n ≡ stages.Heap → k ≡ Title
@@ -125,16 +124,16 @@ leads_to_title m End n e = cc
 pub no_line_before : (lines : List Line) → stage_behind lines ≡ stages.Title → lines ≡ []
 no_line_before lines e =
     elim (last_view lines) [
-      inl none ↦ none
-    | inr more ↦ absurd (leads_to_title (heap_of (more.0 ++ more.1 ∷ [])).mutators more.1.kind (number 0 more.1) (sym (stage_more more.0 more.1) ∙ ap stage_behind (sym more.2) ∙ e))
+      | inl none ↦ none
+      | inr more ↦ absurd (leads_to_title (heap_of (more.0 ++ more.1 ∷ [])).mutators more.1.kind (number 0 more.1) (sym (stage_more more.0 more.1) ∙ ap stage_behind (sym more.2) ∙ e))
     ]
 
 -- and the title alone before the heap
 pub title_before : (lines : List Line) → Stand lines → stage_behind lines ≡ stages.Heap → (title : List ℕ) × (let l : Line = record { kind = Title; numbers = title } in lines ≡ l ∷ [])
 title_before lines stand e =
     elim (last_view lines) [
-      inl none ↦ absurd (let at : stage_behind [] ≡ stages.Heap = ap stage_behind (sym none) ∙ e in no_heap at)
-    | inr more ↦ at more.0 more.1 more.2
+      | inl none ↦ absurd (let at : stage_behind [] ≡ stages.Heap = ap stage_behind (sym none) ∙ e in no_heap at)
+      | inr more ↦ at more.0 more.1 more.2
     ]
   where
     no_heap : stages.Title ≡ stages.Heap → ⊥

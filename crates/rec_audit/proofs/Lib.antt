@@ -9,3 +9,4 @@ pub mod Grown
 pub mod Sizes
 pub mod Knowing
 pub mod Telling
+pub mod Concluding

@@ -1,9 +1,9 @@
 -- Marks: what one more leaves, and some more.
-use Rattle.std.proofs.Common.{◌≡◌, ◌≢◌, ◌<◌, ◌≤◌, ◌+◌, ℕ, Bool, true, false, ◌||◌, ◌==◌, List, [], ◌∷◌, ◌++◌, length, get_or, set, take, replicate, refl, sym, ap, ◌∙◌, subst, arith, ⊎_elim, ◌⊎◌, length-append, length-set, append-nil, inl, inr, cond, not, map, filter}
-use Rattle.std.specs.List.{list_any, range_with_len}
+use Rattle.std.proofs.Common.{◌≡◌, ◌<◌, ◌≤◌, ◌+◌, ℕ, Bool, true, false, ◌||◌, ◌==◌, List, [], ◌∷◌, ◌++◌, length, get_or, set, take, replicate, refl, sym, ap, ◌∙◌, subst, arith, ⊎_elim, ◌⊎◌, length-set, append-nil, inl, inr, cond, not, filter}
+use Rattle.std.specs.List.{range_with_len}
 use Rattle.std.proofs.lemmas.List.FromFn.{map-range_with_len_more}
 use Rattle.std.proofs.lemmas.List.Elements.{filter-append}
-use Rattle.std.proofs.lemmas.Bool.{cases_eq, cases_lt, cases_Bool, eq-eqb, ne_eqb, both_ways, or_cases, false≢true}
+use Rattle.std.proofs.lemmas.Bool.{cases_eq, cases_lt, eq-eqb, ne_eqb, or_cases, false≢true}
 use Rattle.std.proofs.lemmas.List.{length-replicate, map-id, take_more, get_or-take, get_or-set_same, get_or-set_other, take_at, take-take, take_all, get_or_past, get_or-replicate, length_push}
 use Rattle.std.proofs.lemmas.List.Folds.{list_any-append, list_any_at}
 use Rattle.std.proofs.Math.Bool.{or_assoc, or-false, or-true}
@@ -75,10 +75,10 @@ more_marked m slot marking marked =
     has : (other : ℕ) → is_in other m.order.items ≡ (is_in other m.order.items || is_in other (slot ∷ []))
     has other =
         elim (cases_eq slot other) [
-          inl same ↦
-            let there : is_in other m.order.items ≡ true = ap (λ s. is_in s m.order.items) (sym same) ∙ sym (marking.listed slot) ∙ marked in
-            there ∙ sym (ap (λ b. b || is_in other (slot ∷ [])) there)
-        | inr apart ↦ sym (ap (λ b. is_in other m.order.items || b) (is_in-one other slot ∙ ne_eqb slot other apart) ∙ or-false (is_in other m.order.items))
+          | inl same ↦
+              let there : is_in other m.order.items ≡ true = ap (λ s. is_in s m.order.items) (sym same) ∙ sym (marking.listed slot) ∙ marked in
+              there ∙ sym (ap (λ b. b || is_in other (slot ∷ [])) there)
+          | inr apart ↦ sym (ap (λ b. is_in other m.order.items || b) (is_in-one other slot ∙ ne_eqb slot other apart) ∙ or-false (is_in other m.order.items))
         ]
 
 -- and one that isn't
@@ -102,21 +102,21 @@ more_one m n slot marking within free marked order =
     inside : (other : ℕ) → is_in other (m.order.items ++ slot ∷ []) ≡ true → other < length m.marked.items
     inside other there =
         elim (is_in-cases other m.order.items (slot ∷ []) there) [
-          inl old ↦ marking.within other old
-        | inr new ↦ elim (is_in-cons other slot [] new) [ inl same ↦ subst (λ (k : ℕ). k < length m.marked.items) same within | inr none ↦ absurd (false≢true none) ]
+          | inl old ↦ marking.within other old
+          | inr new ↦ elim (is_in-cons other slot [] new) [ inl same ↦ subst (λ (k : ℕ). k < length m.marked.items) same within | inr none ↦ absurd (false≢true none) ]
         ]
 
     listed : (other : ℕ) → get_or (set m.marked.items slot true) other false ≡ is_in other (m.order.items ++ slot ∷ [])
     listed other =
         elim (cases_eq slot other) [
-          inl same ↦
-            ap (λ (k : ℕ). get_or (set m.marked.items slot true) k false) (sym same)
-            ∙ get_or-set_same m.marked.items slot true false within
-            ∙ sym (is_in-append other m.order.items (slot ∷ []) ∙ ap (λ b. is_in other m.order.items || b) (is_in-one other slot ∙ ap (λ k. slot == k) (sym same) ∙ eq-eqb slot slot refl) ∙ or-true (is_in other m.order.items))
-        | inr apart ↦
-            get_or-set_other m.marked.items slot other true false (λ e. apart (sym e))
-            ∙ marking.listed other
-            ∙ sym (is_in-append other m.order.items (slot ∷ []) ∙ ap (λ b. is_in other m.order.items || b) (is_in-one other slot ∙ ne_eqb slot other apart) ∙ or-false (is_in other m.order.items))
+          | inl same ↦
+              ap (λ (k : ℕ). get_or (set m.marked.items slot true) k false) (sym same)
+              ∙ get_or-set_same m.marked.items slot true false within
+              ∙ sym (is_in-append other m.order.items (slot ∷ []) ∙ ap (λ b. is_in other m.order.items || b) (is_in-one other slot ∙ ap (λ k. slot == k) (sym same) ∙ eq-eqb slot slot refl) ∙ or-true (is_in other m.order.items))
+          | inr apart ↦
+              get_or-set_other m.marked.items slot other true false (λ e. apart (sym e))
+              ∙ marking.listed other
+              ∙ sym (is_in-append other m.order.items (slot ∷ []) ∙ ap (λ b. is_in other m.order.items || b) (is_in-one other slot ∙ ne_eqb slot other apart) ∙ or-false (is_in other m.order.items))
         ]
 
 -- ---- the slots that aren't taken
@@ -177,8 +177,8 @@ follow_more edges m n o i slot within is follows more =
       kept = λ s there. more.has s ∙ either (is_in s n.order.items) (is_in s (leads_in edges slot)) (follows.kept s there);
       sound = λ s there.
           elim (or_cases (is_in s n.order.items) (is_in s (leads_in edges slot)) (sym (more.has s) ∙ there)) [
-            inl old ↦ follows.sound s old
-          | inr new ↦ child slot s (follows.sound slot (ap (λ (k : ℕ). is_in k n.order.items) is ∙ get_in n.order.items i within)) new
+            | inl old ↦ follows.sound s old
+            | inr new ↦ child slot s (follows.sound slot (ap (λ (k : ℕ). is_in k n.order.items) is ∙ get_in n.order.items i within)) new
           ];
       closed = λ p s there leads. more.has s ∙ from p s (is_in-cases p (take i n.order.items) (slot ∷ []) (sym (ap (is_in p) front) ∙ there)) leads;
     }

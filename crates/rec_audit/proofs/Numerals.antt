@@ -1,5 +1,5 @@
 -- The words that `decimal` writes are those that are read as numerals, and a text has one numeral at its front at most.
-use Rattle.std.proofs.Common.{◌≡◌, ◌≢◌, ℕ, zero, suc, ◌+◌, ◌-◌, ◌*◌, ◌^◌, ◌<◌, ◌≤◌, true, false, List, [], ◌∷◌, ◌++◌, length, get_or, take, drop, refl, sym, ap, subst, ◌∙◌, arith, length-append, append_assoc, ⊎_elim}
+use Rattle.std.proofs.Common.{◌≡◌, ℕ, zero, suc, ◌+◌, ◌-◌, ◌*◌, ◌^◌, ◌<◌, ◌≤◌, true, false, List, [], ◌∷◌, ◌++◌, length, get_or, take, drop, refl, sym, ap, subst, ◌∙◌, arith, ⊎_elim}
 use Rattle.std.specs.Fmt.{decimal}
 use Rattle.std.specs.Int.{IsInRange}
 use Rattle.std.specs.Char.{is_ascii_digit}
@@ -10,7 +10,7 @@ use Rattle.std.proofs.lemmas.Str.{digit_value_digit}
 use Rattle.std.proofs.lemmas.Str.Parse.{IsNumeralModel, numerals_by_value, tells_by_index, digits_value-take-le}
 use Rattle.std.proofs.lemmas.Int.Digits.{digits_value_more}
 use Rattle.std.proofs.lemmas.Fmt.{decimal_digit, decimal_nonempty, first_decimal, digits_decimal, digits_value-decimal, decimal-digits_value, decimal_injective}
-use Rattle.std.proofs.lemmas.List.{get_or_past, take_all, take_at, drop_at, get_or_append_left, get_or_at, get_or-append-add, append_cancel_left}
+use Rattle.std.proofs.lemmas.List.{get_or_past, take_all, take_at, drop_at, get_or_append_left, get_or-append-add}
 use Rattle.rec_audit.specs.Lines.{AreDigits}
 
 -- each byte is in the range of the digits
@@ -109,8 +109,7 @@ has_digits word rest digits apart =
 -- one text has one word of digits at its front
 pub same_digits : (xs ys r s : List ℕ) → AreDigits xs → AreDigits ys → is_ascii_digit (get_or r 0 0) ≡ false → is_ascii_digit (get_or s 0 0) ≡ false → xs ++ r ≡ ys ++ s → (xs ≡ ys) × (r ≡ s)
 same_digits xs ys r s left right apart other e =
-    let count : length xs ≡ length ys = same_count (length xs) (length ys) (xs ++ r) (has_digits xs r left apart) (subst (HasDigits (length ys)) (sym e) (has_digits ys s right other)) in
-    (
+    let count : length xs ≡ length ys = same_count (length xs) (length ys) (xs ++ r) (has_digits xs r left apart) (subst (HasDigits (length ys)) (sym e) (has_digits ys s right other)) in (
       sym (take_at xs r (length xs) refl) ∙ ap (take (length xs)) e ∙ take_at ys s (length xs) (sym count),
       sym (drop_at xs r (length xs) refl) ∙ ap (drop (length xs)) e ∙ drop_at ys s (length xs) (sym count),
     )

@@ -1,11 +1,11 @@
 -- A graph keeps its room for each slot of its heap, and names no other one.
-use Rattle.std.proofs.Common.{◌≡◌, ◌<◌, ◌≤◌, ◌+◌, ◌-◌, ◌==◌, ℕ, zero, suc, Bool, true, false, cond, not, nat_eq, nat_lt, List, [], ◌∷◌, ◌++◌, length, get_or, set, map, filter, refl, sym, ap, ◌∙◌, subst, arith, inl, inr, length-set, Vec, Global}
+use Rattle.std.proofs.Common.{◌≡◌, ◌<◌, ◌≤◌, ◌-◌, ℕ, Bool, true, false, cond, not, nat_eq, nat_lt, List, [], ◌∷◌, ◌++◌, length, set, map, filter, refl, sym, ap, ◌∙◌, subst, arith, inl, inr, length-set, Vec, Global}
 use Rattle.std.specs.List.{All}
 use Rattle.std.specs.HashSet.{contains}
 use Rattle.std.proofs.lemmas.Bool.{cases_eq}
 use Rattle.std.proofs.lemmas.Bool.Decides.{nat_tests}
 use Rattle.std.proofs.lemmas.List.{get_or-set_same, get_or-set_other, length-map, length-replicate}
-use Rattle.std.proofs.lemmas.List.Elements.{All-append, All-push, All-filter, All-head, All-tail, All-cons}
+use Rattle.std.proofs.lemmas.List.Elements.{All-push, All-filter, All-head, All-tail, All-cons}
 use Rattle.rec_word.specs.Word.{target_bits}
 use Rattle.rec_audit.specs.declared.references.Edge.{Edge}
 use Rattle.rec_audit.specs.declared.references.References.{References}
@@ -48,14 +48,14 @@ sized_put g h source new old sized within target puts slots marks =
     kept slot false is = sized.targets slot
     kept slot true is =
         elim (cases_eq source slot) [
-          inl same ↦
-            subst (λ (es : List Edge). All (IsBelow (slots_of g)) es)
-            (sym (ap (λ (k : ℕ). edges_at (set (edges_of g.references) source (edges_at (edges_of g.references) source ++ edge_of new ∷ [])) k) (sym same) ∙ get_or-set_same (edges_of g.references) source (edges_at (edges_of g.references) source ++ edge_of new ∷ []) [] (omega (arith, lists_of g.references, sized.edges))))
-            (All-push (IsBelow (slots_of g)) (edges_at (edges_of g.references) source) (edge_of new) (sized.targets source) (omega (arith, tested (target_bits new) is)))
-        | inr apart ↦
-            subst (λ (es : List Edge). All (IsBelow (slots_of g)) es)
-            (sym (get_or-set_other (edges_of g.references) source slot (edges_at (edges_of g.references) source ++ edge_of new ∷ []) [] (λ e. apart (sym e))))
-            (sized.targets slot)
+          | inl same ↦
+              subst (λ (es : List Edge). All (IsBelow (slots_of g)) es)
+              (sym (ap (λ (k : ℕ). edges_at (set (edges_of g.references) source (edges_at (edges_of g.references) source ++ edge_of new ∷ [])) k) (sym same) ∙ get_or-set_same (edges_of g.references) source (edges_at (edges_of g.references) source ++ edge_of new ∷ []) [] (omega (arith, lists_of g.references, sized.edges))))
+              (All-push (IsBelow (slots_of g)) (edges_at (edges_of g.references) source) (edge_of new) (sized.targets source) (omega (arith, tested (target_bits new) is)))
+          | inr apart ↦
+              subst (λ (es : List Edge). All (IsBelow (slots_of g)) es)
+              (sym (get_or-set_other (edges_of g.references) source slot (edges_at (edges_of g.references) source ++ edge_of new ∷ []) [] (λ e. apart (sym e))))
+              (sized.targets slot)
         ]
 
 pub sized_same : (g h : Graph) → IsSized g → h.references.edges ≡ g.references.edges → h.marks ≡ g.marks → slots_of h ≡ slots_of g → All (λ slot. slot < slots_of g) h.slots.named.items → IsSized h
@@ -106,7 +106,6 @@ sized_open slots g none taken named marking marked =
       targets = λ slot. subst (λ (es : List Edge). All (IsBelow (slots_of g)) es) (sym (ap (λ (es : List (List Edge)). edges_at es slot) none.edges ∙ empty_at slots slot)) (λ k d lt. absurd (omega arith));
       named = subst (λ (ns : List ℕ). All (λ slot. slot < slots_of g) ns) (sym named) (λ k d lt. absurd (omega arith));
     }
-
 
 pub pruned_length : (r s : References) → Prunes r s → length s.edges.items ≡ length r.edges.items
 pruned_length r s prunes = sym (lists_of s) ∙ ap (length {A = List Edge}) prunes.edges ∙ length-map (edges_of r) (without (contains nat_eq r.dead)) ∙ lists_of r

@@ -1,23 +1,21 @@
 -- What a line that may stand tells, by its kind.
-use Rattle.std.proofs.Common.{◌≡◌, ◌<◌, ◌≤◌, ◌+◌, ◌*◌, ◌/◌, ◌&&◌, ◌==◌, ℕ, zero, suc, Bool, true, false, cond, List, [], ◌∷◌, ◌++◌, Some, nat_lt, length, get_or, filter, count_by, length-append, ◌≢◌, refl, sym, ap, ◌∙◌, subst, arith}
+use Rattle.std.proofs.Common.{◌≡◌, ◌<◌, ◌≤◌, ◌+◌, ◌*◌, ◌/◌, ◌&&◌, ℕ, Bool, true, false, cond, List, [], ◌∷◌, ◌++◌, Some, nat_lt, length, get_or, filter, count_by, length-append, ◌≢◌, refl, sym, ap, ◌∙◌, subst, arith}
 use Rattle.std.proofs.Math.Nat.{div-lt_iff_lt-mul}
 use Rattle.std.proofs.lemmas.Bool.{false≢true}
 use Rattle.std.proofs.lemmas.List.Elements.{filter-append}
 use Rattle.std.proofs.lemmas.List.Sums.{length-filter}
-use Rattle.rec_word.specs.Word.{target_bits}
 use Rattle.rec_audit.specs.declared.kind.Kind.{Kind}
 use Rattle.rec_audit.specs.declared.kind.Kind.TheVariants.{Title, Heap, Epoch, Put, Born, Snap, Out, Free, Sweep, End}
 use Rattle.rec_audit.specs.declared.form.Stage.TheVariants as stages
 use Rattle.rec_audit.specs.declared.form.Form.{Form}
-use Rattle.rec_audit.specs.declared.graph.Graph.{Graph}
 use Rattle.rec_audit.specs.declared.checker.Checker.{Checker}
 use Rattle.std.proofs.lemmas.Bool.Decides.{nat_tests}
 use Rattle.rec_audit.specs.Lines.{Line, AreNumbers, name_of, numerals, text_of_line}
 use Rattle.rec_audit.proofs.Texts.{ended, line_text, same_line}
-use Rattle.rec_audit.specs.Form.{HasNumbers, MayStand, Stand, behind, form_of, heap_in, is_heap, number, stage_behind, stage_of}
+use Rattle.rec_audit.specs.Form.{HasNumbers, MayStand, Stand, behind, form_of, heap_in, is_heap, stage_behind, stage_of}
 use Rattle.rec_audit.specs.Graph.{HasReached, has_target, is_free, is_opened, is_put, opens}
 use Rattle.rec_audit.specs.Graphs.{IsGraphOf, TellNothing}
-use Rattle.rec_audit.specs.Verdicts.{GoesOn, HasFault, HasReachFault, HasStampFault, IsClean, IsFaultBy}
+use Rattle.rec_audit.specs.Verdicts.{GoesOn, HasFault, HasStampFault, IsClean, IsFaultBy}
 use Rattle.rec_audit.specs.Verdicts.HasFault.{form as unfit, stamp, reach}
 use Rattle.rec_audit.specs.declared.verdict.Rule.{Rule}
 use Rattle.rec_audit.specs.declared.verdict.Rule.TheVariants.{Long, Form as FormRule, Stamp, Reach}
@@ -157,8 +155,8 @@ pub none_stands : (lines : List Line) (bytes rest : List ℕ) (at : Form) (line 
 none_stands lines bytes rest at line is some text fit shut =
     unfit
     (λ other goes.
-        let same : line ≡ other = (same_line line other rest goes.rest fit goes.stands.fits (sym text ∙ goes.text)).0 in
-        shut (subst (λ (f : Form). MayStand f line) (sym is) (subst (λ (l : Line). MayStand (form_of lines) l) (sym same) goes.stands)))
+    let same : line ≡ other = (same_line line other rest goes.rest fit goes.stands.fits (sym text ∙ goes.text)).0 in
+    shut (subst (λ (f : Form). MayStand f line) (sym is) (subst (λ (l : Line). MayStand (form_of lines) l) (sym same) goes.stands)))
     (λ end. omega (arith, some, ap (length {A = ℕ}) end.0))
 
 pub goes_on : (lines : List Line) (bytes rest : List ℕ) (at : Form) (line : Line) → at ≡ form_of lines → bytes ≡ text_of_line line ++ rest → MayStand at line → GoesOn lines bytes line

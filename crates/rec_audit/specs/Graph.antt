@@ -1,11 +1,11 @@
 -- The graph of a journal at a line: the references there, the roots, and what is on a path of references from a root. Each
 -- is a function of the lines before that line.
-use Rattle.std.specs.Prelude.{◌≡◌, ℕ, ◌+◌, ◌-◌, ◌/◌, ◌==◌, ◌&&◌, ◌||◌, nat_lt, not, Bool, true, false, if◌then◌else◌, List, [], ◌∷◌, ◌++◌, map, filter, drop, Option, None, Some, slice_index}
+use Rattle.std.specs.Prelude.{◌≡◌, ℕ, ◌-◌, ◌/◌, ◌==◌, ◌&&◌, ◌||◌, nat_lt, not, Bool, true, false, if◌then◌else◌, List, [], ◌∷◌, ◌++◌, map, filter, drop, Option, None, Some, slice_index}
 use Rattle.std.specs.List.{flat_map, list_any, range_with_len}
 use Rattle.rec_model.specs.Reach.{is_in, IsReached}
 use Rattle.rec_word.specs.Word.{target_bits}
 use Rattle.rec_audit.specs.declared.kind.Kind.{Kind}
-use Rattle.rec_audit.specs.declared.kind.Kind.TheVariants.{Title, Heap, Epoch, Put, Born, Snap, Out, Free, Sweep, End}
+use Rattle.rec_audit.specs.declared.kind.Kind.TheVariants.{Put, Born, Snap, Out, Free, Sweep}
 use Rattle.rec_audit.specs.Lines.{Line}
 use Rattle.rec_audit.specs.Form.{number, last_that, heap_of, is_epoch}
 

@@ -1,5 +1,5 @@
 -- What a graph is behind some lines, and which line each of its calls takes.
-use Rattle.std.specs.Prelude.{◌≡◌, ◌↔◌, ℕ, ◌/◌, ◌<◌, ◌==◌, nat_eq, Bool, true, false, List, [], ◌∷◌, length, map, filter, drop, slice_index_or, All}
+use Rattle.std.specs.Prelude.{◌≡◌, ◌↔◌, ℕ, ◌/◌, ◌<◌, ◌==◌, nat_eq, true, false, List, [], length, map, filter, drop, slice_index_or, All}
 use Rattle.std.specs.List.{flat_map}
 use Rattle.std.specs.HashSet.{contains}
 use Rattle.rec_model.specs.Reach.{is_in}

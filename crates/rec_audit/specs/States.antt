@@ -1,15 +1,14 @@
 -- What the parts of the checker keep, and what each of their calls changes.
-use Rattle.std.specs.Prelude.{◌≡◌, ◌↔◌, ℕ, ◌+◌, ◌-◌, ◌<◌, ◌≤◌, ◌==◌, ◌&&◌, ◌||◌, nat_eq, nat_lt, not, Bool, true, false, if◌then◌else◌, List, [], ◌∷◌, ◌++◌, length, map, filter, take, replicate, slice_index_or, slice_set, All}
-use Rattle.std.specs.List.{flat_map, list_any}
+use Rattle.std.specs.Prelude.{◌≡◌, ℕ, ◌-◌, ◌<◌, ◌≤◌, ◌==◌, ◌&&◌, ◌||◌, nat_eq, not, Bool, true, false, if◌then◌else◌, List, [], ◌∷◌, ◌++◌, length, map, filter, take, replicate, slice_index_or, slice_set}
+use Rattle.std.specs.List.{list_any}
 use Rattle.std.specs.HashSet.{contains}
-use Rattle.rec_model.specs.Reach.{is_in, IsReached}
+use Rattle.rec_model.specs.Reach.{is_in}
 use Rattle.rec_model.specs.Numbering.{IsDistinct}
 use Rattle.rec_word.specs.Word.{target_bits}
 use Rattle.rec_audit.specs.declared.references.Edge.{Edge}
 use Rattle.rec_audit.specs.declared.references.References.{References}
-use Rattle.rec_audit.specs.declared.slots.Slots.{Slots}
 use Rattle.rec_audit.specs.declared.reach.Marks.{Marks}
-use Rattle.rec_audit.specs.Graph.{has_target, held}
+use Rattle.rec_audit.specs.Graph.{has_target}
 
 -- ---- references
 

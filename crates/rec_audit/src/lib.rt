@@ -12,7 +12,7 @@
 #![tactic(auto)]
 
 mod checker;
-// mod checking;
+mod checking;
 mod form;
 mod graph;
 mod kind;
@@ -22,5 +22,5 @@ mod references;
 mod slots;
 mod verdict;
 
-// pub use checking::check;
+pub use checking::check;
 pub use verdict::{Rule, Verdict};

@@ -91,10 +91,7 @@ fn behind(first: u8, bytes: &[u8]) -> Option<&[u8]>
 
 /// Reads numerals at the front, each with one space before it, up to an LF, and gives what is behind that. They take the place
 /// of the numbers.
-fn read_numbers<'b>(
-    numbers: &mut Vec<u64>,
-    bytes: &'b [u8],
-) -> Result<Option<&'b [u8]>, AllocError>
+fn read_numbers<'b>(numbers: &mut Vec<u64>, bytes: &'b [u8]) -> Result<Option<&'b [u8]>, AllocError>
     ensures found { IfOk result (λ found. IfSome found (λ rest.
         bytes.now ≡ numerals numbers.new.items ++ 10 ∷ rest.now)) }
     ensures fit { IfOk result (λ found. IfSome found (λ rest. AreNumbers numbers.new.items)) }

@@ -1,5 +1,5 @@
 -- The contract of `fault`: the rule by which a line that may stand is at fault.
-use Rattle.std.proofs.Common.{◌≡◌, ◌<◌, ℕ, nat_lt, true, false, List, refl, sym, ap, ◌∙◌, subst, arith}
+use Rattle.std.proofs.Common.{◌<◌, ℕ, nat_lt, refl, sym, ap, ◌∙◌, subst, arith}
 use Rattle.std.specs.List.{All}
 use Rattle.std.proofs.lemmas.Bool.{false≢true}
 use Rattle.rec_audit.specs.declared.kind.Kind.TheVariants.{Put, Free}

@@ -1,5 +1,5 @@
 -- The contract of `tell`: a graph is told of a line that may stand.
-use Rattle.std.proofs.Common.{◌≡◌, ◌≢◌, ◌<◌, ◌≤◌, ◌/◌, ℕ, List, length, get_or, drop, inl, inr, refl, sym, ap, ◌∙◌, subst, arith}
+use Rattle.std.proofs.Common.{◌≢◌, ◌<◌, ◌≤◌, ◌/◌, ℕ, List, get_or, drop, inl, inr, refl, sym, ap, ◌∙◌, subst, arith}
 use Rattle.std.specs.List.{All}
 use Rattle.std.proofs.lemmas.List.{take_rest}
 use Rattle.rec_audit.specs.declared.kind.Kind.TheVariants.{Title, Heap, Epoch, Put, Born, Snap, Out, Free, Sweep, End}
@@ -112,12 +112,12 @@ returns-in-Sweep-clause-graph c = λ lines stand at is. c.sweep.ensures.graph li
 pub returns-in-Title-clause-size : goal.returns-in-Title-clause-size
 returns-in-Title-clause-size c =
     elim c.in-Title.is [
-      inl title ↦ c.requires.size ∙ sym (heap_kept c.args.form c.args.kind Title c.args.numbers.now title refl)
-    | inr more ↦
-      elim more [
-        inl free ↦ c.requires.size ∙ sym (heap_kept c.args.form c.args.kind Free c.args.numbers.now free refl)
-      | inr end ↦ c.requires.size ∙ sym (heap_kept c.args.form c.args.kind End c.args.numbers.now end refl)
-      ]
+      | inl title ↦ c.requires.size ∙ sym (heap_kept c.args.form c.args.kind Title c.args.numbers.now title refl)
+      | inr more ↦
+          elim more [
+            | inl free ↦ c.requires.size ∙ sym (heap_kept c.args.form c.args.kind Free c.args.numbers.now free refl)
+            | inr end ↦ c.requires.size ∙ sym (heap_kept c.args.form c.args.kind End c.args.numbers.now end refl)
+          ]
     ]
 
 pub returns-in-Title-clause-graph : goal.returns-in-Title-clause-graph
@@ -125,8 +125,8 @@ returns-in-Title-clause-graph c = λ lines stand at is.
     let line : Line = line_of c.args.kind c.args.numbers.now in
     let quiet : IsQuiet line =
     elim c.in-Title.is [
-      inl title ↦ quiet_line line Title title refl refl refl refl refl refl refl
-    | inr more ↦ elim more [ inl free ↦ quiet_line line Free free refl refl refl refl refl refl refl | inr end ↦ quiet_line line End end refl refl refl refl refl refl refl ]
+      | inl title ↦ quiet_line line Title title refl refl refl refl refl refl refl
+      | inr more ↦ elim more [ inl free ↦ quiet_line line Free free refl refl refl refl refl refl refl | inr end ↦ quiet_line line End end refl refl refl refl refl refl refl ]
     ]
     in
     graph_quiet lines line c.args.graph.now quiet is

@@ -1,5 +1,5 @@
 -- The contract of `number`: the number of 64 bits that some digits are the numeral of.
-use Rattle.std.proofs.Common.{◌≡◌, ◌<◌, ◌≤◌, ◌+◌, ◌*◌, ◌^◌, length, ◌∙◌, arith}
+use Rattle.std.proofs.Common.{◌≡◌, ◌<◌, length, arith}
 use Rattle.std.proofs.lemmas.Grind.{common_steps}
 use Rattle.rec_audit.proofs.Numerals.{no_empty_numeral, nought, no_leading_zero, one_more, too_large, is_numeral}
 use Rattle.rec_audit.proofs.reading.number.Goals as goal

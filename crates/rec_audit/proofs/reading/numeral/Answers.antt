@@ -1,5 +1,5 @@
 -- The contract of `numeral`: the numeral at the front, and what is behind it.
-use Rattle.std.proofs.Common.{sym, ◌∙◌}
+use Rattle.std.proofs.Common.{◌∙◌}
 use Rattle.rec_audit.proofs.Numerals.{counted, front_word}
 use Rattle.rec_audit.proofs.reading.numeral.Goals as goal
 

@@ -1,5 +1,5 @@
 -- The contract of `read_numbers`: numerals at the front up to an LF.
-use Rattle.std.proofs.Common.{◌≡◌, ◌<◌, ◌^◌, List, ℕ, ◌++◌, arith, subst, sym}
+use Rattle.std.proofs.Common.{◌≡◌, ◌<◌, ◌^◌, List, ℕ, ◌++◌, subst, sym}
 use Rattle.rec_audit.proofs.Options.{IfNone_then}
 use Rattle.std.proofs.lemmas.List.Elements.{All-push}
 use Rattle.rec_audit.specs.Lines.{AreNumbers, numerals}

@@ -1,7 +1,7 @@
 -- The contract of `take`: the line at the front of the bytes is taken, or is at fault.
-use Rattle.std.proofs.Common.{◌≡◌, ◌++◌, ℕ, List, true, false, sym, ap, ◌∙◌, subst}
+use Rattle.std.proofs.Common.{◌≡◌, ◌++◌, ℕ, List, sym, ◌∙◌, subst}
 use Rattle.std.proofs.lemmas.Bool.{false≢true}
-use Rattle.rec_audit.specs.Lines.{Line, AreNumbers, text_of_line}
+use Rattle.rec_audit.specs.Lines.{text_of_line}
 use Rattle.rec_audit.specs.Form.{MayStand}
 use Rattle.rec_audit.proofs.Telling.{fault_of, goes_on, line_of, none_goes, none_stands}
 use Rattle.rec_audit.proofs.checker.Checker.take.Goals as goal

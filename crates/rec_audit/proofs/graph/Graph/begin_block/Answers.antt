@@ -1,5 +1,5 @@
 -- The contract of `begin_block`: a block begins.
-use Rattle.std.proofs.Common.{ℕ, ◌<◌, Bool, List, length, refl, sym, ap, ◌∙◌, subst, arith, Vec, Global}
+use Rattle.std.proofs.Common.{ℕ, ◌<◌, Bool, List, length, refl, sym, ap, subst, arith, Vec, Global}
 use Rattle.std.specs.List.{All}
 use Rattle.rec_audit.specs.Graphs.{slots_of}
 use Rattle.rec_audit.proofs.Grown.{graph_epoch}

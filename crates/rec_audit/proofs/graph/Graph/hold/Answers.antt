@@ -1,5 +1,5 @@
 -- The contract of `hold`: registers hold these slots.
-use Rattle.std.proofs.Common.{ℕ, ◌<◌, Bool, List, length, refl, sym, ap, ◌∙◌, subst, Vec, Global}
+use Rattle.std.proofs.Common.{ℕ, ◌<◌, Bool, List, length, refl, sym, ap, subst, Vec, Global}
 use Rattle.std.specs.List.{All}
 use Rattle.std.proofs.lemmas.List.Elements.{All-append}
 use Rattle.rec_audit.specs.Graph.{held}

@@ -1,5 +1,5 @@
 -- The contract of `mark_reach`: what is reached is marked.
-use Rattle.std.proofs.Common.{◌≡◌, ◌<◌, ◌||◌, ℕ, Bool, true, false, List, length, get_or, map, refl, sym, ap, ◌∙◌, subst, arith, Vec, Global}
+use Rattle.std.proofs.Common.{◌≡◌, ◌<◌, ◌||◌, ℕ, Bool, false, List, length, get_or, map, refl, sym, ap, ◌∙◌, subst, arith, Vec, Global}
 use Rattle.std.specs.List.{All}
 use Rattle.rec_model.specs.Reach.{is_in}
 use Rattle.rec_audit.specs.declared.references.Edge.{Edge}

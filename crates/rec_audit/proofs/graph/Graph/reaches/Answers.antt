@@ -1,5 +1,5 @@
 -- The contract of `reaches`: one of some slots is reached.
-use Rattle.std.proofs.Common.{◌≡◌, ℕ, true, false, get_or, refl, sym, ap, ◌∙◌}
+use Rattle.std.proofs.Common.{false, get_or, sym, ◌∙◌}
 use Rattle.std.proofs.lemmas.Bool.{false≢true}
 use Rattle.rec_audit.proofs.Grown.{any_member, member_any}
 use Rattle.rec_audit.proofs.graph.Graph.reaches.Goals as goal

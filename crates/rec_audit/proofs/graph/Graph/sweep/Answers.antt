@@ -1,5 +1,5 @@
 -- The contract of `sweep`: a slot was swept.
-use Rattle.std.proofs.Common.{ℕ, ◌<◌, Bool, false, List, length, refl, sym, ap, ◌∙◌, subst, length-set, Vec, Global}
+use Rattle.std.proofs.Common.{ℕ, ◌<◌, Bool, false, length, refl, sym, ap, ◌∙◌, subst, length-set, Vec, Global}
 use Rattle.std.specs.List.{All}
 use Rattle.rec_audit.specs.Graphs.{slots_of}
 use Rattle.rec_audit.proofs.Grown.{graph_sweep}

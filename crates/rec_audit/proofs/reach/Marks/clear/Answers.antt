@@ -1,5 +1,4 @@
 -- The contract of `clear`: no slot is marked.
-use Rattle.std.proofs.Common.{length}
 use Rattle.rec_audit.proofs.Marking.{none_marked}
 use Rattle.rec_audit.proofs.reach.Marks.clear.Goals as goal
 

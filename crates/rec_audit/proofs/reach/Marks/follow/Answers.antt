@@ -3,7 +3,6 @@ use Rattle.std.proofs.Common.{◌≡◌, ◌<◌, ◌≤◌, ℕ, List, [], leng
 use Rattle.std.specs.List.{All}
 use Rattle.std.proofs.lemmas.List.{get_or-map, get_or_read}
 use Rattle.rec_audit.specs.declared.references.Edge.{Edge}
-use Rattle.rec_audit.specs.declared.reach.Marks.{Marks}
 use Rattle.rec_audit.specs.States.{MarksMore}
 use Rattle.rec_audit.proofs.Marking.{few_marked, follow_none, follow_more, follow_all, slot_within}
 use Rattle.rec_audit.proofs.reach.Marks.follow.Goals as goal

@@ -1,5 +1,5 @@
 -- The contract of `prune`: the references that are dead are forgotten.
-use Rattle.std.proofs.Common.{◌≡◌, ◌<◌, ◌≤◌, ◌+◌, ℕ, List, [], map, set, get_or, length, nat_eq, refl, sym, ap, ◌∙◌, arith, Vec, Global}
+use Rattle.std.proofs.Common.{◌≡◌, ◌<◌, ℕ, List, [], map, get_or, length, nat_eq, refl, sym, ap, ◌∙◌, arith, Vec, Global}
 use Rattle.std.specs.HashSet.{contains}
 use Rattle.std.specs.Vec.{with_items}
 use Rattle.std.proofs.lemmas.List.{map-set, get_or-map, length-map, with_items_is}

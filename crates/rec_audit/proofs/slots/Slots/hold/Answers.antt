@@ -1,8 +1,6 @@
 -- The contract of `hold`: registers hold these slots.
-use Rattle.std.proofs.Common.{◌≡◌, ◌<◌, ◌≤◌, ◌+◌, ◌-◌, ℕ, true, false, cond, List, [], ◌∷◌, ◌++◌, get_or, take, map, filter, nat_lt, refl, sym, ap, ◌∙◌, arith, append_assoc}
-use Rattle.std.proofs.lemmas.List.{take_all, take_more, append-nil, map-append}
-use Rattle.std.proofs.lemmas.List.Elements.{filter-append}
-use Rattle.std.proofs.lemmas.Bool.Decides.{nat_tests}
+use Rattle.std.proofs.Common.{ℕ, List, ◌++◌, refl, sym, ap, ◌∙◌, arith}
+use Rattle.std.proofs.lemmas.List.{take_all, append-nil}
 use Rattle.rec_audit.specs.declared.slots.Slots.{Slots}
 use Rattle.rec_audit.specs.Graph.{held}
 use Rattle.rec_audit.proofs.Held.{held_more_no, held_more_yes}
@@ -15,11 +13,11 @@ loop-held-init c = record { taken = refl; named = sym (append-nil c.args.self.no
 pub loop-held-preserved : goal.loop-held-preserved
 loop-held-preserved c =
     elim c.if-held-gt0.branch [
-      then-held-gt0+in_ok-push w ↦ record {
+      | then-held-gt0+in_ok-push w ↦ record {
         taken = ap (λ (s : Slots). s.taken) w.self-is ∙ c.loop-held.invariant.taken;
         named = ap (λ (s : Slots). s.named.items) w.self-is ∙ held_more_yes c.args.registers.now c.args.self.now.named.items c.loop-held.self.named.items _ c.loop-held.held-index c.loop-held-test.true w.if-held-gt0.true c.loop-held.invariant.named w.in_ok-push.ensures.items;
       }
-    | else-held-gt0 w ↦ record {
+      | else-held-gt0 w ↦ record {
         taken = ap (λ (s : Slots). s.taken) w.self-is ∙ c.loop-held.invariant.taken;
         named = ap (λ (s : Slots). s.named.items) w.self-is ∙ held_more_no c.args.registers.now c.args.self.now.named.items c.loop-held.self.named.items c.loop-held.held-index c.loop-held-test.true w.if-held-gt0.false c.loop-held.invariant.named;
       }

@@ -1,5 +1,5 @@
 -- The contract of `open`: at the opening slot 0 alone is taken.
-use Rattle.std.proofs.Common.{◌≡◌, ◌<◌, ◌==◌, ℕ, Bool, false, List, [], ◌∷◌, ◌++◌, length, get_or, ap, ◌∙◌, below_more, arith}
+use Rattle.std.proofs.Common.{◌≡◌, ◌==◌, Bool, false, List, [], ◌∷◌, ◌++◌, length, get_or, ap, ◌∙◌, below_more, arith}
 use Rattle.std.proofs.lemmas.List.{get_or_push, get_or_append_left, length_push}
 use Rattle.rec_audit.proofs.slots.Slots.open.Goals as goal
 
