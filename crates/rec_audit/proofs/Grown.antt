@@ -1,0 +1,618 @@
+-- The graph of some lines, and of one line more.
+use Rattle.std.proofs.Common.{◌≡◌, ◌<◌, ◌/◌, ◌==◌, ◌&&◌, ◌||◌, ℕ, zero, suc, Bool, true, false, cond, not, nat_eq, List, [], ◌∷◌, ◌++◌, length, get_or, set, replicate, map, filter, Some, refl, sym, ap, ◌∙◌, subst, arith, ⊎_elim, inl, inr, append-nil, length-set}
+use Rattle.std.specs.List.{find, flat_map, list_any, range_with_len}
+use Rattle.std.specs.HashSet.{contains}
+use Rattle.std.proofs.lemmas.Bool.{cases_eq, cases_lt, or_cases, eq-eqb, ne_eqb, false≢true}
+use Rattle.std.proofs.lemmas.List.{length-replicate, get_or-replicate, get_or_past, reverse-append, map-append, get_or-set_same, get_or-set_other}
+use Rattle.std.proofs.lemmas.List.Concat.{flat_map-append}
+use Rattle.std.specs.List.{All}
+use Rattle.std.proofs.lemmas.List.FromFn.{get_or-range_with_len, length-range_with_len}
+use Rattle.std.proofs.lemmas.List.Elements.{filter-append, All-head, All-tail}
+use Rattle.std.proofs.lemmas.List.Folds.{list_any-append}
+use Rattle.std.proofs.Math.Bool.{or_assoc, or-false, or-true}
+use Rattle.rec_model.specs.Reach.{is_in, IsReached}
+use Rattle.rec_model.specs.Reach.IsReached.{root, child}
+use Rattle.rec_model.proofs.Members.{is_in-cons}
+use Rattle.rec_audit.specs.declared.kind.Kind.{Kind}
+use Rattle.rec_audit.specs.declared.kind.Kind.TheVariants.{Title, Heap, Epoch, Put, Born, Snap, Out, Free, Sweep, End}
+use Rattle.rec_audit.specs.declared.references.Edge.{Edge}
+use Rattle.rec_audit.specs.declared.references.References.{References}
+use Rattle.rec_audit.specs.Lines.{Line}
+use Rattle.rec_audit.specs.Form.{number, last_that, heap_in, heap_of, is_heap, is_epoch}
+use Rattle.rec_audit.specs.Graph.{IsReachedAt, held, closes, earlier_blocks, has_target, is_born, is_dead, is_opened, is_out, is_put, is_sweep, is_taken, named_by, opens, opens_from, roots, taken_by, takes, target_in, targets, tells, this_block}
+use Rattle.rec_audit.specs.States.{HasNoReferences, Puts, TakesOut, EndsBlock, Prunes, edge_of, edges_at, edges_of, without}
+use Rattle.rec_audit.specs.Walks.{free_slots, leads_in}
+use Rattle.rec_audit.specs.declared.slots.Slots.{Slots}
+use Rattle.rec_audit.specs.declared.graph.Graph.{Graph}
+use Rattle.rec_audit.specs.Graphs.{AreReferences, IsGraphOf, IsPutLine, IsBornLine, IsSnapLine, IsOutLine, IsSweepLine, IsEpochLine, TellNothing, closing_in, named_in, opened_from, slots_of}
+
+-- ---- the last line of a kind
+
+pub last_more : (test : Line → Bool) (lines : List Line) (line : Line) → last_that test (lines ++ line ∷ []) ≡ cond (test line) (Some line) (last_that test lines)
+last_more test lines line = ap (find test) (reverse-append lines (line ∷ []))
+
+pub last_same : (test : Line → Bool) (lines : List Line) (line : Line) → test line ≡ false → last_that test (lines ++ line ∷ []) ≡ last_that test lines
+last_same test lines line other = last_more test lines line ∙ ap (λ b. cond b (Some line) (last_that test lines)) other
+
+pub last_new : (test : Line → Bool) (lines : List Line) (line : Line) → test line ≡ true → last_that test (lines ++ line ∷ []) ≡ Some line
+last_new test lines line is = last_more test lines line ∙ ap (λ b. cond b (Some line) (last_that test lines)) is
+
+heap_same : (lines : List Line) (line : Line) → is_heap line.kind ≡ false → heap_of (lines ++ line ∷ []) ≡ heap_of lines
+heap_same lines line other = ap heap_in (last_same (λ l. is_heap l.kind) lines line other)
+
+-- ---- blocks
+
+any_more : {X : Type 0} (test : X → Bool) (xs : List X) (x : X) → list_any test (xs ++ x ∷ []) ≡ (list_any test xs || test x)
+any_more test xs x = list_any-append test xs (x ∷ []) ∙ ap (λ b. list_any test xs || b) (or-false (test x))
+
+abbrev epochs : List Line → Bool
+epochs lines = list_any (λ l. is_epoch l.kind) lines
+
+pub this_more : (lines : List Line) (line : Line) → is_epoch line.kind ≡ false → this_block (lines ++ line ∷ []) ≡ this_block lines ++ line ∷ []
+this_more [] line other = ap (λ b. cond (b || false) [] (line ∷ [])) other
+this_more (x ∷ xs) line other =
+    ap (λ b. cond (is_epoch x.kind || b) (this_block (xs ++ line ∷ [])) (x ∷ (xs ++ line ∷ []))) (any_more (λ (l : Line). is_epoch l.kind) xs line ∙ ap (λ b. epochs xs || b) other ∙ or-false (epochs xs))
+    ∙ ap (λ t. cond (is_epoch x.kind || epochs xs) t (x ∷ (xs ++ line ∷ []))) (this_more xs line other)
+    ∙ both (is_epoch x.kind || epochs xs)
+  where
+    both : (b : Bool) → cond b (this_block xs ++ line ∷ []) (x ∷ (xs ++ line ∷ [])) ≡ cond b (this_block xs) (x ∷ xs) ++ line ∷ []
+    both true = refl
+    both false = refl
+
+pub this_new : (lines : List Line) (line : Line) → is_epoch line.kind ≡ true → this_block (lines ++ line ∷ []) ≡ []
+this_new [] line is = ap (λ b. cond (b || false) [] (line ∷ [])) is
+this_new (x ∷ xs) line is =
+    ap (λ b. cond b (this_block (xs ++ line ∷ [])) (x ∷ (xs ++ line ∷ []))) (ap (λ b. is_epoch x.kind || b) (any_more (λ (l : Line). is_epoch l.kind) xs line ∙ ap (λ b. epochs xs || b) is ∙ or-true (epochs xs)) ∙ or-true (is_epoch x.kind))
+    ∙ this_new xs line is
+
+pub earlier_more : (lines : List Line) (line : Line) → is_epoch line.kind ≡ false → earlier_blocks (lines ++ line ∷ []) ≡ earlier_blocks lines
+earlier_more [] line other = refl
+earlier_more (x ∷ xs) line other =
+    ap (λ b. cond b (x ∷ earlier_blocks (xs ++ line ∷ [])) []) (any_more (λ (l : Line). is_epoch l.kind) xs line ∙ ap (λ b. epochs xs || b) other ∙ or-false (epochs xs))
+    ∙ ap (λ t. cond (epochs xs) (x ∷ t) []) (earlier_more xs line other)
+
+pub earlier_new : (lines : List Line) (line : Line) → is_epoch line.kind ≡ true → earlier_blocks (lines ++ line ∷ []) ≡ lines
+earlier_new [] line is = refl
+earlier_new (x ∷ xs) line is =
+    ap (λ b. cond b (x ∷ earlier_blocks (xs ++ line ∷ [])) []) (any_more (λ (l : Line). is_epoch l.kind) xs line ∙ ap (λ b. epochs xs || b) is ∙ or-true (epochs xs))
+    ∙ ap (λ t. x ∷ t) (earlier_new xs line is)
+
+-- what a test that fails on `epoch` lines finds in all lines it finds in the earlier blocks or in this one
+any_blocks : (test : Line → Bool) (fails : (l : Line) → is_epoch l.kind ≡ true → test l ≡ false) (lines : List Line) → list_any test lines ≡ (list_any test (earlier_blocks lines) || list_any test (this_block lines))
+any_blocks test fails [] = refl
+any_blocks test fails (x ∷ xs) = at (any_blocks test fails xs) (epochs xs) refl (is_epoch x.kind) refl
+  where
+    rest : (a b : Bool) → (a || b) ≡ false → b ≡ false
+    rest true b e = absurd (false≢true (sym e))
+    rest false b e = e
+
+    none : (ls : List Line) → epochs ls ≡ false → earlier_blocks ls ≡ []
+    none [] e = refl
+    none (l ∷ ls) e = ap (λ b. cond b (l ∷ earlier_blocks ls) []) (rest (is_epoch l.kind) (epochs ls) e)
+
+    at : list_any test xs ≡ (list_any test (earlier_blocks xs) || list_any test (this_block xs)) → (a : Bool) → epochs xs ≡ a → (b : Bool) → is_epoch x.kind ≡ b → (list_any test (x ∷ xs)) ≡ (list_any test (cond a (x ∷ earlier_blocks xs) []) || list_any test (cond (b || a) (this_block xs) (x ∷ xs)))
+    at more true e true f = ap (λ b. test x || b) more ∙ sym (or_assoc (test x) (list_any test (earlier_blocks xs)) (list_any test (this_block xs)))
+    at more true e false f = ap (λ b. test x || b) more ∙ sym (or_assoc (test x) (list_any test (earlier_blocks xs)) (list_any test (this_block xs)))
+    at more false e true f = ap (λ b. b || list_any test xs) (fails x f) ∙ more ∙ ap (λ t. list_any test t || list_any test (this_block xs)) (none xs e)
+    at more false e false f = refl
+
+-- ---- references
+
+pub opened_more : (lines : List Line) (line : Line) (word : ℕ) → is_opened (lines ++ line ∷ []) word ≡ (is_opened lines word || (opens line && (number 2 line == word)))
+opened_more lines line word = any_more (λ (l : Line). opens l && (number 2 l == word)) lines line
+
+opened_same : (lines : List Line) (line : Line) (word : ℕ) → is_put line.kind ≡ false → is_opened (lines ++ line ∷ []) word ≡ is_opened lines word
+opened_same lines line word other =
+    opened_more lines line word
+    ∙ ap (λ b. is_opened lines word || ((b && has_target (number 2 line)) && (number 2 line == word))) other
+    ∙ or-false (is_opened lines word)
+
+dead_same : (lines : List Line) (line : Line) (word : ℕ) → is_out line.kind ≡ false → is_epoch line.kind ≡ false → is_dead (lines ++ line ∷ []) word ≡ is_dead lines word
+dead_same lines line word other within =
+    ap (λ b. b || list_any (closes word) (earlier_blocks (lines ++ line ∷ []))) (any_more (takes word) lines line ∙ ap (λ b. list_any (takes word) lines || (b && (number 1 line == word))) other ∙ or-false (list_any (takes word) lines))
+    ∙ ap (λ (ls : List Line). list_any (takes word) lines || list_any (closes word) ls) (earlier_more lines line within)
+
+-- a word that is taken out is dead from then on
+dead_out : (lines : List Line) (line : Line) (word : ℕ) → is_out line.kind ≡ true → is_epoch line.kind ≡ false → is_dead (lines ++ line ∷ []) word ≡ (is_dead lines word || (number 1 line == word))
+dead_out lines line word is within =
+    ap (λ b. b || list_any (closes word) (earlier_blocks (lines ++ line ∷ []))) (any_more (takes word) lines line ∙ ap (λ b. list_any (takes word) lines || (b && (number 1 line == word))) is)
+    ∙ ap (λ (ls : List Line). (list_any (takes word) lines || (number 1 line == word)) || list_any (closes word) ls) (earlier_more lines line within)
+    ∙ swap (list_any (takes word) lines) (number 1 line == word) (list_any (closes word) (earlier_blocks lines))
+  where
+    swap : (a b c : Bool) → ((a || b) || c) ≡ ((a || c) || b)
+    swap true b c = refl
+    swap false true true = refl
+    swap false true false = refl
+    swap false false true = refl
+    swap false false false = refl
+
+-- the words that a block has replaced, as a list
+any_closing : (word : ℕ) (ls : List Line) → list_any (λ v. v == word) (map (number 3) (filter (λ l. is_put l.kind) ls)) ≡ list_any (closes word) ls
+any_closing word [] = refl
+any_closing word (x ∷ xs) = step (is_put x.kind) ∙ ap (λ b. (is_put x.kind && (number 3 x == word)) || b) (any_closing word xs)
+  where
+    step : (b : Bool) → list_any (λ v. v == word) (map (number 3) (cond b (x ∷ filter (λ l. is_put l.kind) xs) (filter (λ l. is_put l.kind) xs))) ≡ ((b && (number 3 x == word)) || list_any (λ v. v == word) (map (number 3) (filter (λ l. is_put l.kind) xs)))
+    step true = refl
+    step false = refl
+
+no_epoch_closes : (word : ℕ) (l : Line) → is_epoch l.kind ≡ true → closes word l ≡ false
+no_epoch_closes word l is = ap (λ b. b && (number 3 l == word)) (not_put l.kind is)
+  where
+    not_put : (k : Kind) → is_epoch k ≡ true → is_put k ≡ false
+    not_put Epoch is = refl
+    not_put Put is = absurd (false≢true is)
+    not_put Title is = refl
+    not_put Heap is = refl
+    not_put Born is = refl
+    not_put Snap is = refl
+    not_put Out is = refl
+    not_put Free is = refl
+    not_put Sweep is = refl
+    not_put End is = refl
+
+-- and so are those that were replaced, once their block has ended
+dead_epoch : (lines : List Line) (line : Line) (word : ℕ) → is_out line.kind ≡ false → is_epoch line.kind ≡ true → is_dead (lines ++ line ∷ []) word ≡ (is_dead lines word || list_any (λ v. v == word) (closing_in lines))
+dead_epoch lines line word other is =
+    ap (λ b. b || list_any (closes word) (earlier_blocks (lines ++ line ∷ []))) (any_more (takes word) lines line ∙ ap (λ b. list_any (takes word) lines || (b && (number 1 line == word))) other ∙ or-false (list_any (takes word) lines))
+    ∙ ap (λ (ls : List Line). list_any (takes word) lines || list_any (closes word) ls) (earlier_new lines line is)
+    ∙ ap (λ b. list_any (takes word) lines || b) (any_blocks (closes word) (no_epoch_closes word) lines)
+    ∙ sym (or_assoc (list_any (takes word) lines) (list_any (closes word) (earlier_blocks lines)) (list_any (closes word) (this_block lines)))
+    ∙ ap (λ b. is_dead lines word || b) (sym (any_closing word (this_block lines)))
+
+closing_more : (lines : List Line) (line : Line) → is_epoch line.kind ≡ false → closing_in (lines ++ line ∷ []) ≡ closing_in lines ++ map (number 3) (filter (λ l. is_put l.kind) (line ∷ []))
+closing_more lines line within =
+    ap (λ (ls : List Line). map (number 3) (filter (λ l. is_put l.kind) ls)) (this_more lines line within)
+    ∙ ap (map (number 3)) (filter-append (λ l. is_put l.kind) (this_block lines) (line ∷ []))
+    ∙ map-append (number 3) (filter (λ l. is_put l.kind) (this_block lines)) (filter (λ l. is_put l.kind) (line ∷ []))
+
+closing_same : (lines : List Line) (line : Line) → is_epoch line.kind ≡ false → is_put line.kind ≡ false → closing_in (lines ++ line ∷ []) ≡ closing_in lines
+closing_same lines line within other =
+    closing_more lines line within
+    ∙ ap (λ b. closing_in lines ++ map (number 3) (cond b (line ∷ []) [])) other
+    ∙ append-nil (closing_in lines)
+
+closing_put : (lines : List Line) (line : Line) → is_epoch line.kind ≡ false → is_put line.kind ≡ true → closing_in (lines ++ line ∷ []) ≡ closing_in lines ++ number 3 line ∷ []
+closing_put lines line within is = closing_more lines line within ∙ ap (λ b. closing_in lines ++ map (number 3) (cond b (line ∷ []) [])) is
+
+-- the references that are opened from a slot
+from_more : (lines : List Line) (line : Line) (slot : ℕ) → is_heap line.kind ≡ false → opened_from (lines ++ line ∷ []) slot ≡ opened_from lines slot ++ map (λ l. edge_of (number 2 l)) (filter (opens_from (heap_of lines).fields slot) (line ∷ []))
+from_more lines line slot other =
+    ap (λ h. map (λ (l : Line). edge_of (number 2 l)) (filter (opens_from h.fields slot) (lines ++ line ∷ []))) (heap_same lines line other)
+    ∙ ap (map (λ (l : Line). edge_of (number 2 l))) (filter-append (opens_from (heap_of lines).fields slot) lines (line ∷ []))
+    ∙ map-append (λ (l : Line). edge_of (number 2 l)) (filter (opens_from (heap_of lines).fields slot) lines) (filter (opens_from (heap_of lines).fields slot) (line ∷ []))
+
+from_none : (lines : List Line) (line : Line) (slot : ℕ) → is_heap line.kind ≡ false → opens_from (heap_of lines).fields slot line ≡ false → opened_from (lines ++ line ∷ []) slot ≡ opened_from lines slot
+from_none lines line slot other shut =
+    from_more lines line slot other
+    ∙ ap (λ b. opened_from lines slot ++ map (λ (l : Line). edge_of (number 2 l)) (cond b (line ∷ []) [])) shut
+    ∙ append-nil (opened_from lines slot)
+
+from_one : (lines : List Line) (line : Line) (slot : ℕ) → is_heap line.kind ≡ false → opens_from (heap_of lines).fields slot line ≡ true → opened_from (lines ++ line ∷ []) slot ≡ opened_from lines slot ++ edge_of (number 2 line) ∷ []
+from_one lines line slot other is =
+    from_more lines line slot other
+    ∙ ap (λ b. opened_from lines slot ++ map (λ (l : Line). edge_of (number 2 l)) (cond b (line ∷ []) [])) is
+
+-- ---- those that are left by a test
+
+pub without_same : (d e : ℕ → Bool) → ((word : ℕ) → d word ≡ e word) → (es : List Edge) → without d es ≡ without e es
+without_same d e same [] = refl
+without_same d e same (x ∷ xs) =
+    ap (λ b. cond (not b) (x ∷ without d xs) (without d xs)) (same x.word)
+    ∙ ap (λ t. cond (not (e x.word)) (x ∷ t) t) (without_same d e same xs)
+
+-- what is dead by a first test is dead by both
+without_both : (d e : ℕ → Bool) → ((word : ℕ) → d word ≡ true → e word ≡ true) → (es : List Edge) → without e (without d es) ≡ without e es
+without_both d e wider [] = refl
+without_both d e wider (x ∷ xs) = at (without_both d e wider xs) (d x.word) refl
+  where
+    at : without e (without d xs) ≡ without e xs → (b : Bool) → d x.word ≡ b → without e (cond (not b) (x ∷ without d xs) (without d xs)) ≡ without e (x ∷ xs)
+    at more true is = more ∙ sym (ap (λ b. cond (not b) (x ∷ without e xs) (without e xs)) (wider x.word is))
+    at more false is = ap (λ t. cond (not (e x.word)) (x ∷ t) t) more
+
+-- two lists that are alike but for dead ones stay alike where more are dead
+pub alike_wider : (d e : ℕ → Bool) → ((word : ℕ) → d word ≡ true → e word ≡ true) → (xs ys : List Edge) → without d xs ≡ without d ys → without e xs ≡ without e ys
+alike_wider d e wider xs ys alike = sym (without_both d e wider xs) ∙ ap (without e) alike ∙ without_both d e wider ys
+
+alike_same : (d e : ℕ → Bool) → ((word : ℕ) → e word ≡ d word) → (xs ys : List Edge) → without d xs ≡ without d ys → without e xs ≡ without e ys
+alike_same d e same xs ys alike = without_same e d same xs ∙ alike ∙ sym (without_same e d same ys)
+
+alike_push : (d : ℕ → Bool) (xs ys : List Edge) (e : Edge) → without d xs ≡ without d ys → without d (xs ++ e ∷ []) ≡ without d (ys ++ e ∷ [])
+alike_push d xs ys e alike = filter-append (λ e. not (d e.word)) xs (e ∷ []) ∙ ap (λ t. t ++ without d (e ∷ [])) alike ∙ sym (filter-append (λ e. not (d e.word)) ys (e ∷ []))
+
+-- ---- the references behind a line more
+
+-- a line that tells nothing of them
+pub references_same : (lines : List Line) (line : Line) (r : References) → is_put line.kind ≡ false → is_out line.kind ≡ false → is_epoch line.kind ≡ false → is_heap line.kind ≡ false → AreReferences lines r → AreReferences (lines ++ line ∷ []) r
+references_same lines line r put out epoch heap are =
+    record {
+      opened = λ w. are.opened w ∙ sym (opened_same lines line w put);
+      dead = λ w. are.dead w ∙ sym (dead_same lines line w out epoch);
+      closing = are.closing ∙ sym (closing_same lines line epoch put);
+      edges = λ s.
+          alike_same (is_dead lines) (is_dead (lines ++ line ∷ [])) (λ w. dead_same lines line w out epoch) (edges_at (edges_of r) s) (opened_from lines s) (are.edges s)
+          ∙ ap (without (is_dead (lines ++ line ∷ []))) (sym (from_none lines line s heap (ap (λ b. (b && has_target (number 2 line)) && (number 1 line / (heap_of lines).fields == s)) put)));
+    }
+
+-- a word that is taken out
+pub references_out : (lines : List Line) (line : Line) (r s : References) → is_put line.kind ≡ false → is_out line.kind ≡ true → is_epoch line.kind ≡ false → is_heap line.kind ≡ false → AreReferences lines r → TakesOut r s (number 1 line) → AreReferences (lines ++ line ∷ []) s
+references_out lines line r s put out epoch heap are more =
+    record {
+      opened = λ w. ap (λ o. contains nat_eq o w) more.opened ∙ are.opened w ∙ sym (opened_same lines line w put);
+      dead = λ w. more.dead w ∙ ap (λ b. b || (number 1 line == w)) (are.dead w) ∙ sym (dead_out lines line w out epoch);
+      closing = ap (λ v. v.items) more.closing ∙ are.closing ∙ sym (closing_same lines line epoch put);
+      edges = λ slot.
+          ap (λ v. without (is_dead (lines ++ line ∷ [])) (edges_at (map (λ v. v.items) v.items) slot)) more.edges
+          ∙ alike_wider (is_dead lines) (is_dead (lines ++ line ∷ [])) (λ w there. dead_out lines line w out epoch ∙ ap (λ b. b || (number 1 line == w)) there) (edges_at (edges_of r) slot) (opened_from lines slot) (are.edges slot)
+          ∙ ap (without (is_dead (lines ++ line ∷ []))) (sym (from_none lines line slot heap (ap (λ b. (b && has_target (number 2 line)) && (number 1 line / (heap_of lines).fields == slot)) put)));
+    }
+
+-- a block that has ended
+pub references_epoch : (lines : List Line) (line : Line) (r s : References) → is_put line.kind ≡ false → is_out line.kind ≡ false → is_epoch line.kind ≡ true → is_heap line.kind ≡ false → AreReferences lines r → EndsBlock r s → AreReferences (lines ++ line ∷ []) s
+references_epoch lines line r s put out epoch heap are more =
+    record {
+      opened = λ w. ap (λ o. contains nat_eq o w) more.opened ∙ are.opened w ∙ sym (opened_same lines line w put);
+      dead = λ w. more.dead w ∙ ap (λ b. b || list_any (λ v. v == w) r.closing.items) (are.dead w) ∙ ap (λ vs. is_dead lines w || list_any (λ v. v == w) vs) are.closing ∙ sym (dead_epoch lines line w out epoch);
+      closing = more.closing ∙ sym (ap (λ (ls : List Line). map (number 3) (filter (λ l. is_put l.kind) ls)) (this_new lines line epoch));
+      edges = λ slot.
+          ap (λ v. without (is_dead (lines ++ line ∷ [])) (edges_at (map (λ v. v.items) v.items) slot)) more.edges
+          ∙ alike_wider (is_dead lines) (is_dead (lines ++ line ∷ [])) (λ w there. dead_epoch lines line w out epoch ∙ ap (λ b. b || list_any (λ v. v == w) (closing_in lines)) there) (edges_at (edges_of r) slot) (opened_from lines slot) (are.edges slot)
+          ∙ ap (without (is_dead (lines ++ line ∷ []))) (sym (from_none lines line slot heap (ap (λ b. (b && has_target (number 2 line)) && (number 1 line / (heap_of lines).fields == slot)) put)));
+    }
+
+-- a word that is put into a field
+pub references_put : (lines : List Line) (line : Line) (r s : References) → is_put line.kind ≡ true → is_out line.kind ≡ false → is_epoch line.kind ≡ false → is_heap line.kind ≡ false → number 1 line / (heap_of lines).fields < length (edges_of r) → AreReferences lines r → Puts r s (number 1 line / (heap_of lines).fields) (number 2 line) (number 3 line) → AreReferences (lines ++ line ∷ []) s
+references_put lines line r s put out epoch heap within are more =
+    record {
+      opened = λ w.
+          more.opened w
+          ∙ ap (λ b. b || (has_target (number 2 line) && (number 2 line == w))) (are.opened w)
+          ∙ sym (opened_more lines line w ∙ ap (λ b. is_opened lines w || ((b && has_target (number 2 line)) && (number 2 line == w))) put);
+      dead = λ w. ap (λ d. contains nat_eq d w) more.dead ∙ are.dead w ∙ sym (dead_same lines line w out epoch);
+      closing = more.closing ∙ ap (λ vs. vs ++ number 3 line ∷ []) are.closing ∙ sym (closing_put lines line epoch put);
+      edges = λ slot.
+          alike_same (is_dead lines) (is_dead (lines ++ line ∷ [])) (λ w. dead_same lines line w out epoch) (edges_at (edges_of s) slot) (opened_from (lines ++ line ∷ []) slot)
+          (ap (λ es. without (is_dead lines) (edges_at es slot)) more.edges ∙ kept slot (has_target (number 2 line)) refl);
+    }
+  where
+    opens_is : (slot : ℕ) (b : Bool) → has_target (number 2 line) ≡ b → opens_from (heap_of lines).fields slot line ≡ (b && (number 1 line / (heap_of lines).fields == slot))
+    opens_is slot b is = ap (λ p. (p && has_target (number 2 line)) && (number 1 line / (heap_of lines).fields == slot)) put ∙ ap (λ t. t && (number 1 line / (heap_of lines).fields == slot)) is
+
+    kept : (slot : ℕ) (b : Bool) → has_target (number 2 line) ≡ b → without (is_dead lines) (edges_at (cond b (set (edges_of r) (number 1 line / (heap_of lines).fields) (edges_at (edges_of r) (number 1 line / (heap_of lines).fields) ++ edge_of (number 2 line) ∷ [])) (edges_of r)) slot) ≡ without (is_dead lines) (opened_from (lines ++ line ∷ []) slot)
+    kept slot false is = are.edges slot ∙ ap (without (is_dead lines)) (sym (from_none lines line slot heap (opens_is slot false is)))
+    kept slot true is =
+        elim (cases_eq (number 1 line / (heap_of lines).fields) slot) [
+          | inl same ↦
+              ap (λ (k : ℕ). without (is_dead lines) (edges_at (set (edges_of r) (number 1 line / (heap_of lines).fields) (edges_at (edges_of r) (number 1 line / (heap_of lines).fields) ++ edge_of (number 2 line) ∷ [])) k)) (sym same)
+              ∙ ap (without (is_dead lines)) (get_or-set_same (edges_of r) (number 1 line / (heap_of lines).fields) (edges_at (edges_of r) (number 1 line / (heap_of lines).fields) ++ edge_of (number 2 line) ∷ []) [] within)
+              ∙ ap (λ (k : ℕ). without (is_dead lines) (edges_at (edges_of r) k ++ edge_of (number 2 line) ∷ [])) same
+              ∙ alike_push (is_dead lines) (edges_at (edges_of r) slot) (opened_from lines slot) (edge_of (number 2 line)) (are.edges slot)
+              ∙ ap (without (is_dead lines)) (sym (from_one lines line slot heap (opens_is slot true is ∙ eq-eqb (number 1 line / (heap_of lines).fields) slot same)))
+          | inr apart ↦
+              ap (without (is_dead lines)) (get_or-set_other (edges_of r) (number 1 line / (heap_of lines).fields) slot (edges_at (edges_of r) (number 1 line / (heap_of lines).fields) ++ edge_of (number 2 line) ∷ []) [] (λ e. apart (sym e)))
+              ∙ are.edges slot
+              ∙ ap (without (is_dead lines)) (sym (from_none lines line slot heap (opens_is slot true is ∙ ne_eqb (number 1 line / (heap_of lines).fields) slot apart)))
+        ]
+
+pub pruned_at : (d : ℕ → Bool) (ess : List (List Edge)) (slot : ℕ) → edges_at (map (without d) ess) slot ≡ without d (edges_at ess slot)
+pruned_at d [] zero = refl
+pruned_at d [] (suc slot) = refl
+pruned_at d (es ∷ ess) zero = refl
+pruned_at d (es ∷ ess) (suc slot) = pruned_at d ess slot
+
+-- references that forgot dead ones
+pub references_pruned : (lines : List Line) (r s : References) → AreReferences lines r → Prunes r s → AreReferences lines s
+references_pruned lines r s are more =
+    record {
+      opened = λ w. ap (λ o. contains nat_eq o w) more.opened ∙ are.opened w;
+      dead = λ w. ap (λ d. contains nat_eq d w) more.dead ∙ are.dead w;
+      closing = ap (λ v. v.items) more.closing ∙ are.closing;
+      edges = λ slot.
+          ap (λ es. without (is_dead lines) (edges_at es slot)) more.edges
+          ∙ ap (without (is_dead lines)) (at slot)
+          ∙ without_both (contains nat_eq r.dead) (is_dead lines) (λ w there. sym (are.dead w) ∙ there) (edges_at (edges_of r) slot)
+          ∙ are.edges slot;
+    }
+  where
+    at : (slot : ℕ) → edges_at (map (without (contains nat_eq r.dead)) (edges_of r)) slot ≡ without (contains nat_eq r.dead) (edges_at (edges_of r) slot)
+    at slot = pruned_at (contains nat_eq r.dead) (edges_of r) slot
+
+-- ---- roots
+
+taken_same : (lines : List Line) (line : Line) (slot : ℕ) → is_born line.kind ≡ false → is_sweep line.kind ≡ false → is_taken (lines ++ line ∷ []) slot ≡ is_taken lines slot
+taken_same lines line slot born sweep = ap (taken_by slot) (last_same (tells slot) lines line (ap (λ b. (b && (number 1 line == slot)) || (is_sweep line.kind && (number 0 line == slot))) born ∙ ap (λ b. b && (number 0 line == slot)) sweep))
+
+taken_born : (lines : List Line) (line : Line) (slot : ℕ) → line.kind ≡ Born → is_taken (lines ++ line ∷ []) slot ≡ cond (number 1 line == slot) true (is_taken lines slot)
+taken_born lines line slot is = at (number 1 line == slot) refl
+  where
+    tell : (b : Bool) → (number 1 line == slot) ≡ b → tells slot line ≡ b
+    tell b e = ap (λ k. (is_born k && (number 1 line == slot)) || (is_sweep k && (number 0 line == slot))) is ∙ or-false (number 1 line == slot) ∙ e
+
+    at : (b : Bool) → (number 1 line == slot) ≡ b → is_taken (lines ++ line ∷ []) slot ≡ cond b true (is_taken lines slot)
+    at true e = ap (taken_by slot) (last_new (tells slot) lines line (tell true e)) ∙ ap is_born is
+    at false e = ap (taken_by slot) (last_same (tells slot) lines line (tell false e))
+
+taken_sweep : (lines : List Line) (line : Line) (slot : ℕ) → line.kind ≡ Sweep → is_taken (lines ++ line ∷ []) slot ≡ cond (number 0 line == slot) false (is_taken lines slot)
+taken_sweep lines line slot is = at (number 0 line == slot) refl
+  where
+    tell : (b : Bool) → (number 0 line == slot) ≡ b → tells slot line ≡ b
+    tell b e = ap (λ k. (is_born k && (number 1 line == slot)) || (is_sweep k && (number 0 line == slot))) is ∙ e
+
+    at : (b : Bool) → (number 0 line == slot) ≡ b → is_taken (lines ++ line ∷ []) slot ≡ cond b false (is_taken lines slot)
+    at true e = ap (taken_by slot) (last_new (tells slot) lines line (tell true e)) ∙ ap is_born is
+    at false e = ap (taken_by slot) (last_same (tells slot) lines line (tell false e))
+
+-- a list of marks for slots, where one slot's mark is written
+pub written_at : (xs : List Bool) (i : ℕ) (b : Bool) (slot : ℕ) → slot < length xs → get_or (set xs i b) slot false ≡ cond (i == slot) b (get_or xs slot false)
+written_at xs i b slot within =
+    elim (cases_eq i slot) [
+      | inl same ↦ ap (λ (k : ℕ). get_or (set xs k b) slot false) same ∙ get_or-set_same xs slot b false within ∙ sym (ap (λ t. cond t b (get_or xs slot false)) (eq-eqb i slot same))
+      | inr apart ↦ get_or-set_other xs i slot b false (λ e. apart (sym e)) ∙ sym (ap (λ t. cond t b (get_or xs slot false)) (ne_eqb i slot apart))
+    ]
+
+named_more : (lines : List Line) (line : Line) → is_epoch line.kind ≡ false → named_in (lines ++ line ∷ []) ≡ named_in lines ++ named_by line.kind line.numbers
+named_more lines line within =
+    ap (flat_map (λ (l : Line). named_by l.kind l.numbers)) (this_more lines line within)
+    ∙ flat_map-append (λ (l : Line). named_by l.kind l.numbers) (this_block lines) (line ∷ [])
+    ∙ ap (λ t. named_in lines ++ t) (append-nil (named_by line.kind line.numbers))
+
+named_same : (lines : List Line) (line : Line) → is_epoch line.kind ≡ false → named_by line.kind line.numbers ≡ [] → named_in (lines ++ line ∷ []) ≡ named_in lines
+named_same lines line within none = named_more lines line within ∙ ap (λ t. named_in lines ++ t) none ∙ append-nil (named_in lines)
+
+-- ---- the graph behind a line more
+
+size_same : (lines : List Line) (line : Line) (n : ℕ) → is_heap line.kind ≡ false → n ≡ (heap_of lines).slots → n ≡ (heap_of (lines ++ line ∷ [])).slots
+size_same lines line n other is = is ∙ ap (λ h. h.slots) (sym (heap_same lines line other))
+
+unmarked : {P : Type 0} (b : Bool) → b ≡ false → b ≡ true → P
+unmarked b shut is = absurd (false≢true (sym shut ∙ is))
+
+pub graph_put : (lines : List Line) (line : Line) (source new old : ℕ) (g h : Graph) → source < length (edges_of g.references) → IsPutLine lines source new old line → Puts g.references h.references source new old → h.slots ≡ g.slots → h.is_marked ≡ false → IsGraphOf lines g → IsGraphOf (lines ++ line ∷ []) h
+graph_put lines line source new old g h within put puts slots marked is =
+    record {
+      size = ap (λ (s : Slots). length s.taken.items) slots ∙ size_same lines line (slots_of g) heap is.size;
+      references = references_put lines line g.references h.references (ap is_put put.kind) (ap is_out put.kind) (ap is_epoch put.kind) heap (subst (λ (n : ℕ). n < length (edges_of g.references)) (sym put.source-is) within) is.references
+          (subst (λ (n : ℕ). Puts g.references h.references n (number 2 line) (number 3 line)) (sym put.source-is) (subst (λ (n : ℕ). Puts g.references h.references source n (number 3 line)) (sym put.new-is) (subst (λ (n : ℕ). Puts g.references h.references source new n) (sym put.old-is) puts)));
+      taken = λ slot lt. ap (λ (s : Slots). get_or s.taken.items slot false) slots ∙ is.taken slot (subst (λ (s : Slots). slot < length s.taken.items) slots lt) ∙ sym (taken_same lines line slot (ap is_born put.kind) (ap is_sweep put.kind));
+      named = ap (λ (s : Slots). s.named.items) slots ∙ is.named ∙ sym (named_same lines line (ap is_epoch put.kind) (ap (λ k. named_by k line.numbers) put.kind));
+      marks = unmarked h.is_marked marked;
+    }
+  where
+    heap : is_heap line.kind ≡ false
+    heap = ap is_heap put.kind
+
+pub graph_born : (lines : List Line) (line : Line) (slot : ℕ) (g h : Graph) → IsBornLine slot line → h.references ≡ g.references → h.slots.taken.items ≡ set g.slots.taken.items slot true → h.slots.named.items ≡ g.slots.named.items ++ slot ∷ [] → h.is_marked ≡ false → IsGraphOf lines g → IsGraphOf (lines ++ line ∷ []) h
+graph_born lines line slot g h born references taken named marked is =
+    record {
+      size = size ∙ size_same lines line (slots_of g) (ap is_heap born.kind) is.size;
+      references = references_same lines line h.references (ap is_put born.kind) (ap is_out born.kind) (ap is_epoch born.kind) (ap is_heap born.kind) (subst (AreReferences lines) (sym references) is.references);
+      taken = λ other lt.
+          ap (λ (t : List Bool). get_or t other false) taken
+          ∙ written_at g.slots.taken.items slot true other (subst (λ (n : ℕ). other < n) size lt)
+          ∙ ap (cond (slot == other) true) (is.taken other (subst (λ (n : ℕ). other < n) size lt))
+          ∙ ap (λ (k : ℕ). cond (k == other) true (is_taken lines other)) (sym born.slot-is)
+          ∙ sym (taken_born lines line other born.kind);
+      named = named ∙ ap (λ (t : List ℕ). t ++ slot ∷ []) is.named ∙ ap (λ (k : ℕ). named_in lines ++ k ∷ []) (sym born.slot-is) ∙ sym (named_more lines line (ap is_epoch born.kind) ∙ ap (λ k. named_in lines ++ named_by k line.numbers) born.kind);
+      marks = unmarked h.is_marked marked;
+    }
+  where
+    size : slots_of h ≡ slots_of g
+    size = ap (length {A = Bool}) taken ∙ length-set g.slots.taken.items slot true
+
+pub graph_snap : (lines : List Line) (line : Line) (registers : List ℕ) (g h : Graph) → IsSnapLine registers line → h.references ≡ g.references → h.slots.taken ≡ g.slots.taken → h.slots.named.items ≡ g.slots.named.items ++ held registers → h.is_marked ≡ false → IsGraphOf lines g → IsGraphOf (lines ++ line ∷ []) h
+graph_snap lines line registers g h snap references taken named marked is =
+    record {
+      size = ap (λ v. length v.items) taken ∙ size_same lines line (slots_of g) (ap is_heap snap.kind) is.size;
+      references = references_same lines line h.references (ap is_put snap.kind) (ap is_out snap.kind) (ap is_epoch snap.kind) (ap is_heap snap.kind) (subst (AreReferences lines) (sym references) is.references);
+      taken = λ slot lt. ap (λ v. get_or v.items slot false) taken ∙ is.taken slot (subst (λ v. slot < length v.items) taken lt) ∙ sym (taken_same lines line slot (ap is_born snap.kind) (ap is_sweep snap.kind));
+      named = named ∙ ap (λ (t : List ℕ). t ++ held registers) is.named ∙ ap (λ (t : List ℕ). named_in lines ++ held t) (sym snap.held) ∙ sym (named_more lines line (ap is_epoch snap.kind) ∙ ap (λ k. named_in lines ++ named_by k line.numbers) snap.kind);
+      marks = unmarked h.is_marked marked;
+    }
+
+pub graph_out : (lines : List Line) (line : Line) (word : ℕ) (g h : Graph) → IsOutLine word line → TakesOut g.references h.references word → h.slots ≡ g.slots → h.is_marked ≡ false → IsGraphOf lines g → IsGraphOf (lines ++ line ∷ []) h
+graph_out lines line word g h out more slots marked is =
+    record {
+      size = ap (λ (s : Slots). length s.taken.items) slots ∙ size_same lines line (slots_of g) (ap is_heap out.kind) is.size;
+      references = references_out lines line g.references h.references (ap is_put out.kind) (ap is_out out.kind) (ap is_epoch out.kind) (ap is_heap out.kind) is.references (subst (λ (w : ℕ). TakesOut g.references h.references w) (sym out.word-is) more);
+      taken = λ slot lt. ap (λ (s : Slots). get_or s.taken.items slot false) slots ∙ is.taken slot (subst (λ (s : Slots). slot < length s.taken.items) slots lt) ∙ sym (taken_same lines line slot (ap is_born out.kind) (ap is_sweep out.kind));
+      named = ap (λ (s : Slots). s.named.items) slots ∙ is.named ∙ sym (named_same lines line (ap is_epoch out.kind) (ap (λ k. named_by k line.numbers) out.kind));
+      marks = unmarked h.is_marked marked;
+    }
+
+pub graph_sweep : (lines : List Line) (line : Line) (slot : ℕ) (g h : Graph) → IsSweepLine slot line → h.references ≡ g.references → h.slots.taken.items ≡ set g.slots.taken.items slot false → h.slots.named ≡ g.slots.named → h.is_marked ≡ false → IsGraphOf lines g → IsGraphOf (lines ++ line ∷ []) h
+graph_sweep lines line slot g h sweep references taken named marked is =
+    record {
+      size = size ∙ size_same lines line (slots_of g) (ap is_heap sweep.kind) is.size;
+      references = references_same lines line h.references (ap is_put sweep.kind) (ap is_out sweep.kind) (ap is_epoch sweep.kind) (ap is_heap sweep.kind) (subst (AreReferences lines) (sym references) is.references);
+      taken = λ other lt.
+          ap (λ (t : List Bool). get_or t other false) taken
+          ∙ written_at g.slots.taken.items slot false other (subst (λ (n : ℕ). other < n) size lt)
+          ∙ ap (cond (slot == other) false) (is.taken other (subst (λ (n : ℕ). other < n) size lt))
+          ∙ ap (λ (k : ℕ). cond (k == other) false (is_taken lines other)) (sym sweep.slot-is)
+          ∙ sym (taken_sweep lines line other sweep.kind);
+      named = ap (λ v. v.items) named ∙ is.named ∙ sym (named_same lines line (ap is_epoch sweep.kind) (ap (λ k. named_by k line.numbers) sweep.kind));
+      marks = unmarked h.is_marked marked;
+    }
+  where
+    size : slots_of h ≡ slots_of g
+    size = ap (length {A = Bool}) taken ∙ length-set g.slots.taken.items slot false
+
+pub graph_epoch : (lines : List Line) (line : Line) (g h : Graph) → IsEpochLine line → EndsBlock g.references h.references → h.slots.taken ≡ g.slots.taken → h.slots.named.items ≡ [] → h.is_marked ≡ false → IsGraphOf lines g → IsGraphOf (lines ++ line ∷ []) h
+graph_epoch lines line g h epoch more taken named marked is =
+    record {
+      size = ap (λ v. length v.items) taken ∙ size_same lines line (slots_of g) (ap is_heap epoch) is.size;
+      references = references_epoch lines line g.references h.references (ap is_put epoch) (ap is_out epoch) (ap is_epoch epoch) (ap is_heap epoch) is.references more;
+      taken = λ slot lt. ap (λ v. get_or v.items slot false) taken ∙ is.taken slot (subst (λ v. slot < length v.items) taken lt) ∙ sym (taken_same lines line slot (ap is_born epoch) (ap is_sweep epoch));
+      named = named ∙ sym (ap (flat_map (λ (l : Line). named_by l.kind l.numbers)) (this_new lines line (ap is_epoch epoch)));
+      marks = unmarked h.is_marked marked;
+    }
+
+-- ---- what is reached
+
+filter_alike : (p q : ℕ → Bool) → ((n : ℕ) → p n ≡ q n) → (xs : List ℕ) → filter p xs ≡ filter q xs
+filter_alike p q same [] = refl
+filter_alike p q same (x ∷ xs) = ap (λ b. cond b (x ∷ filter p xs) (filter p xs)) (same x) ∙ ap (λ t. cond (q x) (x ∷ t) t) (filter_alike p q same xs)
+
+-- two tests that agree on the slots of a heap
+filter_below : (p q : ℕ → Bool) (n : ℕ) → ((k : ℕ) → k < n → p k ≡ q k) → filter p (range_with_len 0 n) ≡ filter q (range_with_len 0 n)
+filter_below p q n same = on (range_with_len 0 n) (λ k d lt. subst (λ (m : ℕ). m < n) (sym (get_or-range_with_len 0 n k d (omega (arith, length-range_with_len 0 n)))) (omega (arith, length-range_with_len 0 n)))
+  where
+    on : (xs : List ℕ) → All (λ k. k < n) xs → filter p xs ≡ filter q xs
+    on [] all = refl
+    on (x ∷ xs) all =
+        ap (λ b. cond b (x ∷ filter p xs) (filter p xs)) (same x (All-head (λ k. k < n) x xs all))
+        ∙ ap (λ t. cond (q x) (x ∷ t) t) (on xs (All-tail (λ k. k < n) x xs all))
+
+abbrev to : Edge → ℕ
+to e = e.to
+
+-- where references lead, by the lines that open them and by themselves
+pub targets_are : (lines : List Line) (slot : ℕ) → targets lines slot ≡ map to (without (is_dead lines) (opened_from lines slot))
+targets_are lines slot = on (filter (opens_from (heap_of lines).fields slot) lines)
+  where
+    on : (xs : List Line) → map target_in (filter (λ line. not (is_dead lines (number 2 line))) xs) ≡ map to (without (is_dead lines) (map (λ line. edge_of (number 2 line)) xs))
+    on [] = refl
+    on (x ∷ xs) = at (is_dead lines (number 2 x)) ∙ ap (λ t. cond (not (is_dead lines (number 2 x))) (target_in x ∷ t) t) (on xs) ∙ sym (beside (is_dead lines (number 2 x)))
+      where
+        at : (b : Bool) → map target_in (cond (not b) (x ∷ filter (λ line. not (is_dead lines (number 2 line))) xs) (filter (λ line. not (is_dead lines (number 2 line))) xs)) ≡ cond (not b) (target_in x ∷ map target_in (filter (λ line. not (is_dead lines (number 2 line))) xs)) (map target_in (filter (λ line. not (is_dead lines (number 2 line))) xs))
+        at true = refl
+        at false = refl
+
+        beside : (b : Bool) → map to (cond (not b) (edge_of (number 2 x) ∷ without (is_dead lines) (map (λ line. edge_of (number 2 line)) xs)) (without (is_dead lines) (map (λ line. edge_of (number 2 line)) xs))) ≡ cond (not b) (target_in x ∷ map to (without (is_dead lines) (map (λ line. edge_of (number 2 line)) xs))) (map to (without (is_dead lines) (map (λ line. edge_of (number 2 line)) xs)))
+        beside true = refl
+        beside false = refl
+
+reached_same : (rs ss : List ℕ) (c d : ℕ → List ℕ) → ((n : ℕ) → is_in n rs ≡ is_in n ss) → ((m : ℕ) → c m ≡ d m) → (n : ℕ) → IsReached rs c n → IsReached ss d n
+reached_same rs ss c d roots-are children-are k (root n there) = root n (sym (roots-are n) ∙ there)
+reached_same rs ss c d roots-are children-are k (child m n from there) = child m n (reached_same rs ss c d roots-are children-are m from) (ap (is_in n) (sym (children-are m)) ∙ there)
+
+-- a line that tells nothing of the graph
+pub record IsQuiet (line : Line) : Type 0 where
+  pub put : is_put line.kind ≡ false
+  pub out : is_out line.kind ≡ false
+  pub epoch : is_epoch line.kind ≡ false
+  pub heap : is_heap line.kind ≡ false
+  pub born : is_born line.kind ≡ false
+  pub sweep : is_sweep line.kind ≡ false
+  pub named : named_by line.kind line.numbers ≡ []
+
+pub quiet_line : (line : Line) (kind : Kind) → line.kind ≡ kind → is_put kind ≡ false → is_out kind ≡ false → is_epoch kind ≡ false → is_heap kind ≡ false → is_born kind ≡ false → is_sweep kind ≡ false → named_by kind line.numbers ≡ [] → IsQuiet line
+quiet_line line kind is a b c d e f g =
+    record {
+      put = ap is_put is ∙ a;
+      out = ap is_out is ∙ b;
+      epoch = ap is_epoch is ∙ c;
+      heap = ap is_heap is ∙ d;
+      born = ap is_born is ∙ e;
+      sweep = ap is_sweep is ∙ f;
+      named = ap (λ k. named_by k line.numbers) is ∙ g;
+    }
+
+roots_quiet : (lines : List Line) (line : Line) → IsQuiet line → roots (lines ++ line ∷ []) ≡ roots lines
+roots_quiet lines line quiet =
+    ap (λ t. t ++ filter (λ slot. not (is_taken (lines ++ line ∷ []) slot)) (range_with_len 0 (heap_of (lines ++ line ∷ [])).slots)) (named_same lines line quiet.epoch quiet.named)
+    ∙ ap (λ h. named_in lines ++ filter (λ slot. not (is_taken (lines ++ line ∷ []) slot)) (range_with_len 0 h.slots)) (heap_same lines line quiet.heap)
+    ∙ ap (λ t. named_in lines ++ t) (filter_alike (λ slot. not (is_taken (lines ++ line ∷ []) slot)) (λ slot. not (is_taken lines slot)) (λ slot. ap not (taken_same lines line slot quiet.born quiet.sweep)) (range_with_len 0 (heap_of lines).slots))
+
+targets_quiet : (lines : List Line) (line : Line) → IsQuiet line → (slot : ℕ) → targets (lines ++ line ∷ []) slot ≡ targets lines slot
+targets_quiet lines line quiet slot =
+    targets_are (lines ++ line ∷ []) slot
+    ∙ ap (map to) (without_same (is_dead (lines ++ line ∷ [])) (is_dead lines) (λ w. dead_same lines line w quiet.out quiet.epoch) (opened_from (lines ++ line ∷ []) slot))
+    ∙ ap (λ es. map to (without (is_dead lines) es)) (from_none lines line slot quiet.heap (ap (λ b. (b && has_target (number 2 line)) && (number 1 line / (heap_of lines).fields == slot)) quiet.put))
+    ∙ sym (targets_are lines slot)
+
+pub reached_quiet : (lines : List Line) (line : Line) → IsQuiet line → (slot : ℕ) → (IsReachedAt lines slot → IsReachedAt (lines ++ line ∷ []) slot) × (IsReachedAt (lines ++ line ∷ []) slot → IsReachedAt lines slot)
+reached_quiet lines line quiet slot = (
+  reached_same (roots lines) (roots (lines ++ line ∷ [])) (targets lines) (targets (lines ++ line ∷ [])) (λ n. ap (is_in n) (sym (roots_quiet lines line quiet))) (λ m. sym (targets_quiet lines line quiet m)) slot,
+  reached_same (roots (lines ++ line ∷ [])) (roots lines) (targets (lines ++ line ∷ [])) (targets lines) (λ n. ap (is_in n) (roots_quiet lines line quiet)) (λ m. targets_quiet lines line quiet m) slot,
+)
+
+pub graph_quiet : (lines : List Line) (line : Line) (g : Graph) → IsQuiet line → IsGraphOf lines g → IsGraphOf (lines ++ line ∷ []) g
+graph_quiet lines line g quiet is =
+    record {
+      size = size_same lines line (slots_of g) quiet.heap is.size;
+      references = references_same lines line g.references quiet.put quiet.out quiet.epoch quiet.heap is.references;
+      taken = λ slot lt. is.taken slot lt ∙ sym (taken_same lines line slot quiet.born quiet.sweep);
+      named = is.named ∙ sym (named_same lines line quiet.epoch quiet.named);
+      marks = λ marked slot. (λ there. (reached_quiet lines line quiet slot).0 ((is.marks marked slot).0 there), λ reached. (is.marks marked slot).1 ((reached_quiet lines line quiet slot).1 reached));
+    }
+
+-- the reach, by the slots that were marked first and the references that were followed
+pub reached_by : (lines : List Line) (r : References) (order named : List ℕ) (taken : List Bool) → AreReferences lines r → (edges : List (List Edge)) → edges ≡ map (without (contains nat_eq r.dead)) (edges_of r)
+    → length taken ≡ (heap_of lines).slots → ((slot : ℕ) → slot < length taken → get_or taken slot false ≡ is_taken lines slot) → named ≡ named_in lines
+    → ((slot : ℕ) → is_in slot order ≡ (is_in slot (free_slots taken) || is_in slot named))
+    → (slot : ℕ) → (IsReached order (leads_in edges) slot → IsReachedAt lines slot) × (IsReachedAt lines slot → IsReached order (leads_in edges) slot)
+reached_by lines r order named taken are edges edges-are size taken-is named-is order-is slot = (
+  reached_same order (roots lines) (leads_in edges) (targets lines) roots-are children-are slot,
+  reached_same (roots lines) order (targets lines) (leads_in edges) (λ n. sym (roots-are n)) (λ m. sym (children-are m)) slot,
+)
+  where
+    children-are : (m : ℕ) → leads_in edges m ≡ targets lines m
+    children-are m =
+        ap (λ es. map to (edges_at es m)) edges-are
+        ∙ ap (map to) (pruned_at (contains nat_eq r.dead) (edges_of r) m)
+        ∙ ap (map to) (without_same (contains nat_eq r.dead) (is_dead lines) are.dead (edges_at (edges_of r) m))
+        ∙ ap (map to) (are.edges m)
+        ∙ sym (targets_are lines m)
+
+    free-are : free_slots taken ≡ filter (λ slot. not (is_taken lines slot)) (range_with_len 0 (heap_of lines).slots)
+    free-are =
+        filter_below (λ slot. not (get_or taken slot false)) (λ slot. not (is_taken lines slot)) (length taken) (λ k lt. ap not (taken-is k lt))
+        ∙ ap (λ (n : ℕ). filter (λ slot. not (is_taken lines slot)) (range_with_len 0 n)) size
+
+    swap : (a b : Bool) → (a || b) ≡ (b || a)
+    swap true true = refl
+    swap true false = refl
+    swap false true = refl
+    swap false false = refl
+
+    roots-are : (n : ℕ) → is_in n order ≡ is_in n (roots lines)
+    roots-are n =
+        order-is n
+        ∙ ap (λ t. is_in n t || is_in n named) free-are
+        ∙ ap (λ t. is_in n (filter (λ slot. not (is_taken lines slot)) (range_with_len 0 (heap_of lines).slots)) || is_in n t) named-is
+        ∙ swap (is_in n (filter (λ slot. not (is_taken lines slot)) (range_with_len 0 (heap_of lines).slots))) (is_in n (named_in lines))
+        ∙ sym (list_any-append (λ m. m == n) (named_in lines) (filter (λ slot. not (is_taken lines slot)) (range_with_len 0 (heap_of lines).slots)))
+
+-- ---- lines that tell nothing yet
+
+pub empty_at : (n slot : ℕ) → edges_at (replicate n []) slot ≡ []
+empty_at n slot = ⊎_elim (λ lt. get_or-replicate n slot [] [] lt) (λ past. get_or_past (replicate n []) slot [] (omega (arith, length-replicate {A = List Edge} n []))) (cases_lt slot n)
+
+pub graph_none : (lines : List Line) (slots : ℕ) (g : Graph) → HasNoReferences slots g.references → length g.slots.taken.items ≡ slots → ((k : ℕ) → k < slots → get_or g.slots.taken.items k false ≡ (k == 0)) → g.slots.named.items ≡ [] → g.is_marked ≡ false → TellNothing lines slots → IsGraphOf lines g
+graph_none lines slots g none size taken named marked tell =
+    record {
+      size = size ∙ sym tell.size;
+      references = record {
+        opened = λ w. ap (list_any (nat_eq w)) none.opened ∙ sym (tell.opened w);
+        dead = λ w. ap (list_any (nat_eq w)) none.dead ∙ sym (tell.dead w);
+        closing = none.closing ∙ sym tell.closing;
+        edges = λ slot. ap (λ es. without (is_dead lines) (edges_at es slot)) none.edges ∙ ap (without (is_dead lines)) (empty_at slots slot ∙ sym (tell.edges slot));
+      };
+      taken = λ slot lt. taken slot (subst (λ (n : ℕ). slot < n) size lt) ∙ sym (tell.taken slot);
+      named = named ∙ sym tell.named;
+      marks = unmarked g.is_marked marked;
+    }
+
+pub told_none : TellNothing [] 0
+told_none = record { size = refl; opened = λ w. refl; dead = λ w. refl; closing = refl; edges = λ slot. refl; taken = λ slot. refl; named = refl }
+
+pub told_heap : (title heap : List ℕ) → let t : Line = record { kind = Title; numbers = title } in let h : Line = record { kind = Heap; numbers = heap } in TellNothing (t ∷ h ∷ []) (get_or heap 0 0)
+told_heap title heap = record { size = refl; opened = λ w. refl; dead = λ w. refl; closing = refl; edges = λ slot. refl; taken = λ slot. refl; named = refl }
+
+-- ---- members
+
+pub any_member : (p : ℕ → Bool) (xs : List ℕ) → list_any p xs ≡ true → (m : ℕ) × (is_in m xs ≡ true) × (p m ≡ true)
+any_member p [] e = absurd (false≢true e)
+any_member p (x ∷ xs) e =
+    elim (or_cases (p x) (list_any p xs) e) [
+      | inl here ↦ (x, ap (λ b. b || is_in x xs) (eq-eqb x x refl), here)
+      | inr there ↦ let m = any_member p xs there in (m.0, ap (λ b. (x == m.0) || b) m.1 ∙ or-true (x == m.0), m.2)
+    ]
+
+pub member_any : (p : ℕ → Bool) (xs : List ℕ) (m : ℕ) → is_in m xs ≡ true → p m ≡ true → list_any p xs ≡ true
+member_any p [] m there is = absurd (false≢true there)
+member_any p (x ∷ xs) m there is =
+    elim (is_in-cons m x xs there) [
+      | inl same ↦ ap (λ b. b || list_any p xs) (ap p same ∙ is)
+      | inr more ↦ ap (λ b. p x || b) (member_any p xs m more is) ∙ or-true (p x)
+    ]

@@ -1,0 +1,12 @@
+-- The modules of the proofs.
+pub mod Numerals
+pub mod Texts
+pub mod Options
+pub mod Edits
+pub mod Held
+pub mod Marking
+pub mod Grown
+pub mod Sizes
+pub mod Knowing
+pub mod Telling
+pub mod Concluding

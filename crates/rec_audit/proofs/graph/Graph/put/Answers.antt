@@ -1,0 +1,19 @@
+-- The contract of `put`: a word is put into a field of a slot, and replaces another one.
+use Rattle.std.proofs.Common.{refl, arith}
+use Rattle.rec_audit.proofs.Grown.{graph_put}
+use Rattle.rec_audit.proofs.Sizes.{lists_of, sized_put}
+use Rattle.rec_audit.proofs.graph.Graph.put.Goals as goal
+
+pub put-requires : goal.put-requires
+put-requires c = omega (arith, c.requires.source, c.requires.sized.edges)
+
+pub returns : goal.returns
+returns c =
+    record {
+      sized = sized_put c.args.self.now _ c.args.source c.args.new c.args.old c.requires.sized c.requires.source c.requires.target c.in_ok-put.ensures refl refl;
+      size = refl;
+      graph = λ lines line is put.
+          graph_put lines line c.args.source c.args.new c.args.old c.args.self.now _
+          (omega (arith, lists_of c.args.self.now.references, c.requires.sized.edges, c.requires.source))
+          put c.in_ok-put.ensures refl refl is;
+    }

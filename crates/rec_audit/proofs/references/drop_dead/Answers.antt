@@ -1,0 +1,7 @@
+-- The contract of `drop_dead`: the references whose words are dead are forgotten.
+use Rattle.std.proofs.Common.{rules}
+use Rattle.std.proofs.lemmas.Fn.{filter_same}
+use Rattle.rec_audit.proofs.references.drop_dead.Goals as goal
+
+pub returns : goal.returns
+returns c = filter_same _ _ _ (λ x b f' k. search rules) _ _ c.retain.ensures.filtered

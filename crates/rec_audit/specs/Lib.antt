@@ -1,0 +1,9 @@
+-- The modules of the definitions.
+pub mod Lines
+pub mod Form
+pub mod Graph
+pub mod Graphs
+pub mod States
+pub mod Verdicts
+pub mod Walks
+pub mod Checkers

@@ -1,0 +1,26 @@
+//! Audit journals, and a checker that trusts nobody.
+//!
+//! A journal tells, block after block, what mutators wrote and what a collector gathered, freed and swept. `check` reads one,
+//! whoever wrote it, and says Yes, with the number of sets that were given up, or which line is at fault by which rule.
+//!
+//! The rule that this crate keeps: a Yes says that each line is in form, that no word names two references, and that no
+//! member of a set that was given up was on a path of references from a root there. A No names the first line that is at
+//! fault, and the first rule that fits.
+//! The layer above may use the contract of `check`, and that a journal has one verdict, which is the contract of the function
+//! in `laws`.
+//! The lines of a journal, its graph and the rules are this project's profile (`docs/AUDIT.md`).
+#![tactic(auto)]
+
+mod checker;
+mod checking;
+mod form;
+mod graph;
+mod kind;
+mod reach;
+mod reading;
+mod references;
+mod slots;
+mod verdict;
+
+pub use checking::check;
+pub use verdict::{Rule, Verdict};

@@ -1,0 +1,119 @@
+//! What is reached from some slots along references.
+
+ghost use Rattle.std.specs.Prelude.{◌≡◌, ◌↔◌, ℕ, ◌<◌, ◌≤◌, ◌+◌, not, true, false, [], ◌∷◌, List, length, map, filter, All, slice_index_or, IfOk, OnOk, IsTrue};
+ghost use Rattle.std.specs.List.{range_with_len};
+ghost use Rattle.rec_model.specs.Reach.{IsReached, is_in};
+ghost use Rattle.rec_audit.specs.States.{IsMarking, MarksMore, edges_at};
+ghost use Rattle.rec_audit.specs.Walks.{free_slots, leads_in, AreWithin};
+
+use crate::references::Edge;
+use std::alloc::{AllocError, Global};
+
+/// Slots that are marked as reached.
+#[derive(Drop)]
+pub struct Marks {
+    /// For each slot whether it is marked.
+    pub marked: Vec<bool>,
+    /// The marked slots, in the order in which they were marked.
+    pub order: Vec<u64>,
+}
+
+impl Marks {
+    /// No marks, of a heap with so many slots.
+    pub fn open(alloc: Global, slots: u16) -> Result<Marks, AllocError>
+        ensures marking { IfOk result IsMarking }
+        ensures size { IfOk result (λ m. length m.marked.items ≡ slots) }
+    {
+        let marked = vec![in alloc; false; usize::from(slots)]?;
+        let order = Vec::with_capacity(alloc, usize::from(slots))?;
+        Ok(Marks { marked, order })
+    }
+
+    /// The slot is marked.
+    pub fn is_marked(&self, slot: u64) -> bool
+        requires { slot < length self.now.marked.items }
+        ensures { result ≡ slice_index_or self.now.marked.items slot false }
+    {
+        self.marked[slot as usize]
+    }
+
+    /// Takes all marks away.
+    pub fn clear(&mut self)
+        ensures marking { IsMarking self.new }
+        ensures size { length self.new.marked.items ≡ length self.old.marked.items }
+        ensures none { self.new.order.items ≡ [] }
+    {
+        self.marked.fill(false);
+        self.order.clear();
+    }
+
+    /// Marks a slot.
+    fn mark(&mut self, slot: u64) -> Result<(), AllocError>
+        requires marking { IsMarking self.old }
+        requires within { slot < length self.old.marked.items }
+        ensures { OnOk result (MarksMore self.old self.new (slot ∷ [])) }
+    {
+        if !self.marked[slot as usize] {
+            self.order.push(slot)?;
+            self.marked[slot as usize] = true;
+        }
+        Ok(())
+    }
+
+    /// Marks each of some slots.
+    pub fn mark_each(&mut self, slots: &[u64]) -> Result<(), AllocError>
+        requires marking { IsMarking self.old }
+        requires within { All (λ slot. slot < length self.old.marked.items) slots.now }
+        ensures { OnOk result (MarksMore self.old self.new slots.now) }
+    {
+        for slot in slots {
+            self.mark(*slot)?;
+        }
+        Ok(())
+    }
+
+    /// Marks the slots that aren't taken.
+    pub fn mark_free(&mut self, taken: &[bool]) -> Result<(), AllocError>
+        requires marking { IsMarking self.old }
+        requires size { length taken.now ≡ length self.old.marked.items }
+        ensures { OnOk result (MarksMore self.old self.new (free_slots taken.now)) }
+    {
+        for (slot, is_taken) in taken.iter().enumerate() {
+            if !*is_taken {
+                self.mark(slot as u64)?;
+            }
+        }
+        Ok(())
+    }
+
+    /// Marks where some references lead.
+    fn mark_targets(&mut self, edges: &[Edge]) -> Result<(), AllocError>
+        requires marking { IsMarking self.old }
+        requires within { All (λ e. e.to < length self.old.marked.items) edges.now }
+        ensures { OnOk result (MarksMore self.old self.new (map (λ e. e.to) edges.now)) }
+    {
+        for edge in edges {
+            self.mark(edge.to)?;
+        }
+        Ok(())
+    }
+
+    /// Marks all that is reached from marked slots along references, which are given for each slot.
+    pub fn follow(&mut self, edges: &[Vec<Edge>]) -> Result<(), AllocError>
+        requires marking { IsMarking self.old }
+        requires size { length edges.now ≡ length self.old.marked.items }
+        requires within { AreWithin (length self.old.marked.items) (map (λ v. v.items) edges.now) }
+        ensures marking { OnOk result (IsMarking self.new) }
+        ensures size { OnOk result (length self.new.marked.items ≡ length self.old.marked.items) }
+        ensures reached { OnOk result ((slot : ℕ) → is_in slot self.new.order.items ≡ true
+            ↔ IsReached self.old.order.items (leads_in (map (λ v. v.items) edges.now)) slot) }
+    {
+        let mut i = 0;
+        while i < self.order.len() {
+            let slot = self.order[i];
+            self.mark_targets(&edges[slot as usize])?;
+            i += 1;
+        }
+        Ok(())
+    }
+}
