@@ -1,0 +1,3 @@
+-- The modules of the definitions.
+pub mod Image
+pub mod Drafts

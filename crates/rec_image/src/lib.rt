@@ -1,0 +1,6 @@
+//! Images of heaps, as text.
+#![tactic(auto)]
+
+mod error;
+
+pub use error::ImageError;
