@@ -12,7 +12,8 @@ use Rattle.rec_model.specs.Heap.{roots}
 use Rattle.rec_model.specs.Numbering.{IsNumbering}
 use Rattle.rec_model.specs.Reach.{named}
 use Rattle.rec_image.specs.Image.{Node, ImageContents, IsPlace, IsNode, AreRegisters, IsSized, IsImage, IsContinued, nothing, children, text, header_line, heap_line, object_line, registers_line, end_line}
-use Rattle.rec_image.specs.Drafts.{Meeting, unmet, meets, begins, meets_all, walks, due_for, names, meeting, naming, least, so_far, IsOpen, CanClose, with_more}
+use Rattle.rec_image.specs.declared.meeting.Meeting.{Meeting}
+use Rattle.rec_image.specs.Drafts.{unmet, meets, begins, meets_all, walks, due_for, names, meeting, naming, least, so_far, IsOpen, CanClose, with_more}
 use Rattle.rec_image.proofs.Growing.{Grows, highest, Follows, highest_all, follows_left, follows_join, follows-length, highest_all-append, AreOf, IsGrown, grown_from, numbered_from, grows_left, grows_right, grows_join, highest-append, highest-most, highest-le, highest_all-le}
 use Rattle.rec_image.proofs.Meetings.{meets_highest, meets_grow, grow_meets, walks_highest, walks_follow, follow_walks, walks_due}
 use Rattle.rec_image.proofs.Padding.{null_node, null_is_node, null_follow, null_highest, all_registers, all_are, all_length, all_grow}
@@ -195,6 +196,26 @@ can_close v open_ = subst (λ (hs : List (List (Option ℕ))). CanClose (record 
       reach = omega (arith, open_.due, ap (λ (k : ℕ). k * v.registers) (let z : v.mutators - 0 ≡ v.mutators = omega arith in z), least_at (meeting (v.objects ++ missing v)) (length (v.objects ++ missing v)) (meeting v.objects).due all_top (follows_due (map names (v.objects ++ missing v)) (meeting v.objects).due all_turns));
     }
 
+-- where no more is met than there is, the registers can name what is due
+pub open_closes : (v : ImageContents) → IsOpen v → v.held ≡ [] → (meeting v.objects).met ≤ length v.objects → CanClose (record v { held = [] })
+open_closes v open_ none met =
+    let turns : Follows (meeting v.objects).due 0 (map names v.objects) = due_follows (map names v.objects) (meeting v.objects).due (omega arith) in
+    let few : length v.objects ≤ max (meeting v.objects).due (meeting v.objects).met = omega (arith, follows-length (meeting v.objects).due 0 (map names v.objects) turns, walk_highest (map names v.objects) (meeting v.objects).due, length-map v.objects names) in
+    record {
+      sized = open_.sized;
+      few = open_.few;
+      objects = open_.objects;
+      registers = All-nil (AreRegisters v.slots v.registers);
+      rows = omega arith;
+      met = met;
+      grow = refl;
+      named = omega arith;
+      reach = omega (arith, least_due (meeting v.objects) (length v.objects) met few, open_.due, ap (λ (k : ℕ). k * v.registers) (let z : v.mutators - 0 ≡ v.mutators = omega arith in z));
+    }
+  where
+    least_due : (m : Meeting) (n : ℕ) → m.met ≤ n → n ≤ max m.due m.met → least m n ≤ m.due
+    least_due m n h f = grind (arith, nat_tests)
+
 -- ---- what every image has that goes on from such lines
 
 pub has_room : (w : ImageContents) → IsImage w → (os more : List Node) → w.objects ≡ os ++ more → (length os ≤ w.slots) × ((meeting os).due ≤ w.mutators * w.registers)
@@ -202,8 +223,7 @@ has_room w image os more e =
     let grown : IsGrown (roots w.held) (map names w.objects) = grown_image w image in
     let turns : Follows (highest 0 (roots w.held)) 0 (map names os) =
     follows_left (highest 0 (roots w.held)) 0 (map names os) (map names more)
-    (subst (Follows (highest 0 (roots w.held)) 0) (ap (map names) e ∙ map-append names os more) grown.follows) in
-    (
+    (subst (Follows (highest 0 (roots w.held)) 0) (ap (map names) e ∙ map-append names os more) grown.follows) in (
       omega (arith, ap (length {A = Node}) e, length-append os more, image.few),
       omega (arith, follows_due (map names os) (highest 0 (roots w.held)) turns, highest-most 0 (roots w.held) grown.roots_grow, roots-most w.slots w.registers w.held image.registers, ap (λ (k : ℕ). k * w.registers) image.mutators),
     )
@@ -241,7 +261,7 @@ has_told w image hs more e =
 
 -- ---- their texts
 
-regroup : (a b c d e : List ℕ) → a ++ (b ++ (c ++ (d ++ e))) ≡ (a ++ (b ++ (c ++ d))) ++ e
+pub regroup : (a b c d e : List ℕ) → a ++ (b ++ (c ++ (d ++ e))) ≡ (a ++ (b ++ (c ++ d))) ++ e
 regroup a b c d e = simp append_assoc
 
 -- the lines up to some registers, and what is behind them
@@ -260,20 +280,21 @@ text_open w os more e =
 
 pub continued_told : (v : ImageContents) → CanClose v → IsContinued (so_far v)
 continued_told v can = (
-  with_more v [] (completing v), flat_map registers_line (completing v) ++ end_line, completed v can,
+  with_more v [] (completing v),
+  flat_map registers_line (completing v) ++ end_line,
+  completed v can,
   text_told (with_more v [] (completing v)) v.held (completing v) refl
-  ∙ ap (λ (os : List Node). so_far (record v { objects = os }) ++ (flat_map registers_line (completing v) ++ end_line)) (append-nil v.objects),
+      ∙ ap (λ (os : List Node). so_far (record v { objects = os }) ++ (flat_map registers_line (completing v) ++ end_line)) (append-nil v.objects),
 )
 
 pub continued_open : (v : ImageContents) → IsOpen v → IsContinued (so_far v)
 continued_open v open_ =
-    let u : ImageContents = with_more v (missing v) [] in
-    (
+    let u : ImageContents = with_more v (missing v) [] in (
       with_more (with_more v (missing v) []) [] (completing (with_more v (missing v) [])),
       flat_map object_line (missing v) ++ (flat_map registers_line ((v.held ++ []) ++ completing (with_more v (missing v) [])) ++ end_line),
       completed (with_more v (missing v) []) (can_close v open_),
       text_open (with_more (with_more v (missing v) []) [] (completing (with_more v (missing v) []))) v.objects (missing v) (append-nil (v.objects ++ missing v))
-      ∙ ap (λ (hs : List (List (Option ℕ))). so_far (record v { held = hs }) ++ (flat_map object_line (missing v) ++ (flat_map registers_line ((v.held ++ []) ++ completing (with_more v (missing v) [])) ++ end_line))) (sym open_.none),
+          ∙ ap (λ (hs : List (List (Option ℕ))). so_far (record v { held = hs }) ++ (flat_map object_line (missing v) ++ (flat_map registers_line ((v.held ++ []) ++ completing (with_more v (missing v) [])) ++ end_line))) (sym open_.none),
     )
 
 -- registers of all mutators: the value is an image

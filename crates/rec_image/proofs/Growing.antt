@@ -246,13 +246,13 @@ numbered_follows roots f m j (c ∷ cs) of of_roots of_children grows reached = 
   ],
   grows_left m c (flat cs) grows,
   numbered_follows roots f (highest m c) (j + 1) cs (of_rest f j c cs of)
-  (λ k there. let lt : k < m = of_roots k there in let up : m ≤ highest m c = highest-le m c in omega arith)
-  (λ i k before there. elim (cases_lt i j) [
-    | inl earlier ↦ let lt : k < m = of_children i k earlier there in let up : m ≤ highest m c = highest-le m c in omega arith
-    | inr now ↦ let same : i ≡ j = omega arith in member_below m k c (subst (λ (ns : List ℕ). is_in k ns ≡ true) (ap f same ∙ of_first f j c cs of) there)
-  ])
-  (grows_right m c (flat cs) grows)
-  (λ k past lt. reached k (omega arith) (omega arith)),
+      (λ k there. let lt : k < m = of_roots k there in let up : m ≤ highest m c = highest-le m c in omega arith)
+      (λ i k before there. elim (cases_lt i j) [
+        | inl earlier ↦ let lt : k < m = of_children i k earlier there in let up : m ≤ highest m c = highest-le m c in omega arith
+        | inr now ↦ let same : i ≡ j = omega arith in member_below m k c (subst (λ (ns : List ℕ). is_in k ns ≡ true) (ap f same ∙ of_first f j c cs of) there)
+      ])
+      (grows_right m c (flat cs) grows)
+      (λ k past lt. reached k (omega arith) (omega arith)),
 )
 
 -- the objects grow as they are numbered

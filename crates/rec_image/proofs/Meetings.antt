@@ -2,7 +2,8 @@
 use Rattle.std.proofs.Common.{◌≡◌, ℕ, suc, ◌+◌, ◌<◌, ◌≤◌, List, [], ◌∷◌, ◌++◌, length, refl, sym, ap, subst, ◌∙◌, arith}
 use Rattle.std.specs.Prelude.{max, nat_le}
 use Rattle.std.proofs.lemmas.Bool.Decides.{nat_tests}
-use Rattle.rec_image.specs.Drafts.{Meeting, due_for, meets, begins, meets_all, walks}
+use Rattle.rec_image.specs.declared.meeting.Meeting.{Meeting}
+use Rattle.rec_image.specs.Drafts.{due_for, meets, begins, meets_all, walks}
 use Rattle.rec_image.proofs.Growing.{Grows, highest, Follows, highest_all}
 
 -- what is due covers what was, and what has to be met

@@ -19,7 +19,7 @@ use Rattle.rec_image.proofs.Growing.{Grows, highest, Follows, highest_all, grows
 abbrev pub null_node : (fields : ℕ) → Node
 null_node fields = record { label = 0; leaf = false; fields = replicate fields None }
 
-null_names : (n : ℕ) → named (replicate n None) ≡ []
+pub null_names : (n : ℕ) → named (replicate n None) ≡ []
 null_names zero = refl
 null_names (suc n) = null_names n
 
@@ -104,13 +104,12 @@ all_grow (suc mutators) registers «from» left h =
     let row : named (next_registers registers «from» left) ≡ range_with_len «from» (min registers left) = some_names (range_with_len «from» (min registers left)) (registers - min registers left) in
     let later : Grows («from» + min registers left) (roots (all_registers mutators registers («from» + min registers left) (left - min registers left)))
     × (highest («from» + min registers left) (roots (all_registers mutators registers («from» + min registers left) (left - min registers left))) ≡ («from» + min registers left) + (left - min registers left))
-    = all_grow mutators registers («from» + min registers left) (left - min registers left) (omega (arith, suc-mul mutators registers)) in
-    (
+    = all_grow mutators registers («from» + min registers left) (left - min registers left) (omega (arith, suc-mul mutators registers)) in (
       subst (λ (ns : List ℕ). Grows «from» (ns ++ roots (all_registers mutators registers («from» + min registers left) (left - min registers left)))) (sym row)
-      (grows_join «from» (range_with_len «from» (min registers left)) (roots (all_registers mutators registers («from» + min registers left) (left - min registers left))) (range_grows «from» (min registers left))
-      (subst (λ (k : ℕ). Grows k (roots (all_registers mutators registers («from» + min registers left) (left - min registers left)))) (sym (range_highest «from» (min registers left))) later.0)),
+          (grows_join «from» (range_with_len «from» (min registers left)) (roots (all_registers mutators registers («from» + min registers left) (left - min registers left))) (range_grows «from» (min registers left))
+          (subst (λ (k : ℕ). Grows k (roots (all_registers mutators registers («from» + min registers left) (left - min registers left)))) (sym (range_highest «from» (min registers left))) later.0)),
       ap (λ (ns : List ℕ). highest «from» (ns ++ roots (all_registers mutators registers («from» + min registers left) (left - min registers left)))) row
-      ∙ highest-append «from» (range_with_len «from» (min registers left)) (roots (all_registers mutators registers («from» + min registers left) (left - min registers left)))
-      ∙ ap (λ (k : ℕ). highest k (roots (all_registers mutators registers («from» + min registers left) (left - min registers left)))) (range_highest «from» (min registers left))
-      ∙ later.1 ∙ (let e : («from» + min registers left) + (left - min registers left) ≡ «from» + left = omega arith in e),
+          ∙ highest-append «from» (range_with_len «from» (min registers left)) (roots (all_registers mutators registers («from» + min registers left) (left - min registers left)))
+          ∙ ap (λ (k : ℕ). highest k (roots (all_registers mutators registers («from» + min registers left) (left - min registers left)))) (range_highest «from» (min registers left))
+          ∙ later.1 ∙ (let e : («from» + min registers left) + (left - min registers left) ≡ «from» + left = omega arith in e),
     )

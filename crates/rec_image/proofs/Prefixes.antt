@@ -10,13 +10,10 @@ use Rattle.std.proofs.lemmas.List.Elements.{All-head, All-tail}
 use Rattle.std.proofs.lemmas.List.Sums.{sum_by-append}
 use Rattle.rec_report.specs.Text.{field_word, line_feed}
 use Rattle.rec_script.proofs.Numerals.{AreDigits, digits_of, same_number}
+use Rattle.rec_image.specs.Drafts.{EndsNumeral}
 use Rattle.rec_image.specs.Image.{Node, ImageContents, IsPlace, IsNode, AreRegisters, word, told_fields, node_head, object_line, registers_line, heap_line, header_line, end_line, feeds}
 
 -- ---- numerals
-
--- bytes that go on with no digit
-abbrev pub EndsNumeral : List ℕ → Type 0
-EndsNumeral bytes = (0 < length bytes) × (IsInRange 48 57 (get_or bytes 0 0) → ⊥)
 
 digits_tail : (d : ℕ) (ds : List ℕ) → AreDigits (d ∷ ds) → AreDigits ds
 digits_tail d ds are = λ i lt. are (suc i) (omega arith)
@@ -99,7 +96,7 @@ node_told slots fields a b p q leaf label told = same a.label b.label a.leaf b.l
     same l k false true fs gs f g e h told = absurd (false≢true e)
     same l k false false fs gs f g e h told = cc
 
-head_front : (x y : Bool) (s t : List ℕ) → node_head x ++ s ≡ node_head y ++ t → (x ≡ y) × (s ≡ t)
+pub head_front : (x y : Bool) (s t : List ℕ) → node_head x ++ s ≡ node_head y ++ t → (x ≡ y) × (s ≡ t)
 head_front true true s t e = (refl, let rest : s ≡ t = cc in rest)
 head_front true false s t e = absurd (let clash : 108 ≡ 111 = ap (λ (bs : List ℕ). get_or bs 0 0) e in omega arith)
 head_front false true s t e = absurd (let clash : 111 ≡ 108 = ap (λ (bs : List ℕ). get_or bs 0 0) e in omega arith)

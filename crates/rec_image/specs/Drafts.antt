@@ -1,15 +1,14 @@
 -- What the lines so far have told, while an image is read: how many objects are met, and how many of them registers have to name.
-use Rattle.std.specs.Prelude.{◌≡◌, ℕ, ◌+◌, ◌-◌, ◌*◌, ◌≤◌, max, nat_le, nat_lt, if◌then◌else◌, List, [], ◌∷◌, ◌++◌, Option, All, length, map}
+use Rattle.std.specs.Prelude.{◌≡◌, ◌≢◌, ◌⊎◌, ℕ, zero, suc, true, Bool, None, take, drop, replicate, ◌+◌, ◌-◌, ◌*◌, ◌<◌, ◌≤◌, max, nat_le, nat_lt, if◌then◌else◌, List, [], ◌∷◌, ◌++◌, Option, All, length, map, slice_index}
+use Rattle.std.specs.Int.{IsInRange}
 use Rattle.std.specs.List.{flat_map}
 use Rattle.rec_model.specs.Heap.{roots}
 use Rattle.rec_model.specs.Reach.{named}
-use Rattle.rec_image.specs.Image.{Node, ImageContents, IsNode, AreRegisters, IsSized, header_line, heap_line, object_line, registers_line}
-
--- The numbers below `met` are met by fields so far. The numbering so far is a listing's exactly where registers, which are told later,
--- name the numbers below one that is at least `due`.
-pub record Meeting : Type 0 where
-  pub met : ℕ
-  pub due : ℕ
+use Rattle.rec_image.specs.declared.held.Held.{Held}
+use Rattle.rec_image.specs.declared.line.Heap.{Heap}
+use Rattle.rec_image.specs.declared.objects.Objects.{Objects}
+use Rattle.rec_image.specs.declared.meeting.Meeting.{Meeting}
+use Rattle.rec_image.specs.Image.{Node, ImageContents, IsPlace, IsImage, word, told_fields, IsNode, AreRegisters, IsSized, header_line, heap_line, object_line, registers_line}
 
 -- nothing is met
 abbrev pub unmet : Meeting
@@ -80,3 +79,120 @@ pub record CanClose (v : ImageContents) : Type 0 where
 -- the same heap with these objects and these registers behind
 abbrev pub with_more : ImageContents → List Node → List (List (Option ℕ)) → ImageContents
 with_more v objects held = record v { objects = v.objects ++ objects; held = v.held ++ held }
+
+-- bytes that go on with no digit
+abbrev pub EndsNumeral : List ℕ → Type 0
+EndsNumeral bytes = (0 < length bytes) × (IsInRange 48 57 (slice_index bytes 0) → ⊥)
+
+-- so many words that end a line were read from the front, added to others and met in order
+pub record AreRead (count slots : ℕ) (bytes rest : List ℕ) (before after : List (Option ℕ)) (met now : Meeting) : Type 0 where
+  pub words : List (Option ℕ)
+  pub number : length words ≡ count
+  pub places : All (IsPlace slots) words
+  pub line : bytes ≡ flat_map word words ++ 10 ∷ rest
+  pub more : after ≡ before ++ words
+  pub meeting : now ≡ meets_all met (named words)
+
+-- there are no such words at the front
+abbrev pub AreUnread : (count slots : ℕ) → (bytes : List ℕ) → Type 0
+AreUnread count slots bytes = (words : List (Option ℕ)) (rest : List ℕ) → length words ≡ count → All (IsPlace slots) words → bytes ≢ flat_map word words ++ 10 ∷ rest
+
+-- the line of a mutator was read from the front, its registers added to others and met in order
+pub record AreRegistersRead (slots registers : ℕ) (bytes rest : List ℕ) (before after : List (Option ℕ)) (met now : Meeting) : Type 0 where
+  pub own : List (Option ℕ)
+  pub are : AreRegisters slots registers own
+  pub line : bytes ≡ registers_line own ++ rest
+  pub more : after ≡ before ++ own
+  pub meeting : now ≡ meets_all met (named own)
+
+-- objects, by their labels and leaf marks, and their fields in one list
+abbrev pub objects_of : (fields : ℕ) → List (ℕ × Bool) → List (Option ℕ) → List Node
+objects_of fields [] targets = []
+objects_of fields (node ∷ nodes) targets = record { label = node.0; leaf = node.1; fields = take fields targets } ∷ objects_of fields nodes (drop fields targets)
+
+-- the registers of so many mutators, that stand in one list
+abbrev pub rows_of : (registers rows : ℕ) → List (Option ℕ) → List (List (Option ℕ))
+rows_of registers zero held = []
+rows_of registers (suc rows) held = take registers held ∷ rows_of registers rows (drop registers held)
+
+-- a heap's numbers with these objects and registers
+abbrev pub draft : Heap → List Node → List (List (Option ℕ)) → ImageContents
+draft heap objects held = record { slots = heap.slots; fields = heap.fields; registers = heap.registers; mutators = heap.mutators; objects = objects; held = held }
+
+-- the objects that were read
+abbrev pub objects_in : Heap → Objects → List Node
+objects_in heap x = objects_of heap.fields x.nodes.items x.targets.items
+
+-- the fields of an object were read from the front, and added to others
+pub record AreFieldsRead (slots fields : ℕ) (leaf : Bool) (bytes rest : List ℕ) (before after : Objects) : Type 0 where
+  pub own : List (Option ℕ)
+  pub number : length own ≡ fields
+  pub places : All (IsPlace slots) own
+  pub null : leaf ≡ true → own ≡ replicate fields None
+  pub line : bytes ≡ flat_map word (told_fields leaf own) ++ 10 ∷ rest
+  pub nodes : after.nodes.items ≡ before.nodes.items
+  pub more : after.targets.items ≡ before.targets.items ++ own
+  pub meeting : after.meeting ≡ meets_all before.meeting (named own)
+
+abbrev pub AreFieldsUnread : (slots fields : ℕ) (leaf : Bool) (bytes : List ℕ) → Type 0
+AreFieldsUnread slots fields leaf bytes = (own : List (Option ℕ)) (rest : List ℕ) → length own ≡ fields → All (IsPlace slots) own → bytes ≢ flat_map word (told_fields leaf own) ++ 10 ∷ rest
+
+-- the line of an object was read from the front, and the object added to others
+pub record IsNodeRead (slots fields : ℕ) (bytes rest : List ℕ) (before after : Objects) : Type 0 where
+  pub node : Node
+  pub is : IsNode slots fields node
+  pub line : bytes ≡ object_line node ++ rest
+  pub nodes : after.nodes.items ≡ before.nodes.items ++ (node.label, node.leaf) ∷ []
+  pub more : after.targets.items ≡ before.targets.items ++ node.fields
+  pub meeting : after.meeting ≡ meets_all before.meeting (names node)
+
+-- what holds of the objects while they are read
+pub record AreObjects (heap : Heap) (x : Objects) : Type 0 where
+  pub size : length x.targets.items ≡ length x.nodes.items * heap.fields
+  pub is_open : IsOpen (draft heap (objects_in heap x) [])
+  pub meeting : x.meeting ≡ meeting (objects_in heap x)
+
+-- an object was read from the front, which joins the others
+pub record IsObjectRead (heap : Heap) (bytes rest : List ℕ) (before after : Objects) : Type 0 where
+  pub node : Node
+  pub line : bytes ≡ object_line node ++ rest
+  pub more : objects_in heap after ≡ objects_in heap before ++ node ∷ []
+  pub less : length rest < length bytes
+  pub are : AreObjects heap after
+
+-- an image's numbers are those of this heap
+pub record IsOfHeap (heap : Heap) (w : ImageContents) : Type 0 where
+  pub slots : w.slots ≡ heap.slots
+  pub fields : w.fields ≡ heap.fields
+  pub registers : w.registers ≡ heap.registers
+  pub mutators : w.mutators ≡ heap.mutators
+
+-- no image with these objects has an object next whose line is at the front
+abbrev pub NoObjectNext : Heap → List Node → (bytes : List ℕ) → Type 0
+NoObjectNext heap objects bytes = (w : ImageContents) (node : Node) (more : List Node) (rest : List ℕ) → IsImage w → IsOfHeap heap w → w.objects ≡ objects ++ node ∷ more → bytes ≢ object_line node ++ rest
+
+-- bytes that begin as the line of an object
+abbrev pub BeginsObject : List ℕ → Type 0
+BeginsObject bytes = (slice_index bytes 0 ≡ 111) ⊎ (slice_index bytes 0 ≡ 108)
+
+-- the registers that were read
+abbrev pub held_in : Heap → Held → List (List (Option ℕ))
+held_in heap x = rows_of heap.registers x.rows x.registers.items
+
+-- what holds of the registers while they are read
+pub record AreHeld (heap : Heap) (objects : List Node) (x : Held) : Type 0 where
+  pub size : length x.registers.items ≡ x.rows * heap.registers
+  pub can : CanClose (draft heap objects (held_in heap x))
+  pub naming : x.naming ≡ naming (held_in heap x)
+
+-- the registers of a mutator were read from the front, and join the others
+pub record IsRowRead (heap : Heap) (objects : List Node) (bytes rest : List ℕ) (before after : Held) : Type 0 where
+  pub own : List (Option ℕ)
+  pub line : bytes ≡ registers_line own ++ rest
+  pub rows : after.rows ≡ before.rows + 1
+  pub more : held_in heap after ≡ held_in heap before ++ own ∷ []
+  pub are : AreHeld heap objects after
+
+-- no image with just these objects and these registers has a mutator next whose line is at the front
+abbrev pub NoRowNext : Heap → List Node → List (List (Option ℕ)) → (bytes : List ℕ) → Type 0
+NoRowNext heap objects held bytes = (w : ImageContents) (own : List (Option ℕ)) (more : List (List (Option ℕ))) (rest : List ℕ) → IsImage w → IsOfHeap heap w → w.objects ≡ objects → w.held ≡ held ++ own ∷ more → bytes ≢ registers_line own ++ rest
