@@ -1,17 +1,15 @@
 -- An object is read and joins the others.
-use Rattle.std.proofs.Common.{◌≡◌, ℕ, zero, suc, ◌+◌, ◌-◌, ◌*◌, ◌^◌, ◌<◌, ◌≤◌, inl, inr, Bool, true, false, List, [], ◌∷◌, ◌++◌, Option, None, Some, All, length, map, replicate, get_or, take, drop, refl, sym, ap, subst, ◌∙◌, arith, length-append, length-drop, append_assoc, append-nil}
-use Rattle.std.specs.Prelude.{IfSome}
+use Rattle.std.proofs.Common.{◌≡◌, ℕ, suc, ◌+◌, ◌*◌, ◌^◌, ◌<◌, ◌≤◌, Bool, true, false, List, [], ◌∷◌, ◌++◌, Option, None, All, length, map, replicate, take, drop, refl, sym, ap, subst, ◌∙◌, arith, length-append, length-drop, append_assoc}
 use Rattle.std.specs.Fmt.{decimal}
 use Rattle.std.specs.List.{flat_map}
 use Rattle.std.proofs.lemmas.List.{take_all, take-append-le, drop-append-le, length-map, length-replicate, map-append}
 use Rattle.std.proofs.lemmas.List.Elements.{All-push, All-head, All-tail, All-replicate}
 use Rattle.std.proofs.Math.Nat.{suc-mul}
-use Rattle.rec_model.specs.Reach.{named}
 use Rattle.rec_image.specs.declared.line.Heap.{Heap}
 use Rattle.rec_image.specs.declared.objects.Objects.{Objects}
 use Rattle.rec_image.specs.declared.meeting.Meeting.{Meeting}
-use Rattle.rec_image.specs.Drafts.{EndsNumeral, unmet, begins, meets_all, walks, names, meeting, objects_of, objects_in, draft, IsOpen, AreFieldsRead, AreFieldsUnread, IsNodeRead, AreObjects, IsObjectRead, IsOfHeap, NoObjectNext}
-use Rattle.rec_image.specs.Image.{Node, ImageContents, IsPlace, IsNode, IsSized, IsImage, word, told_fields, node_head, object_line}
+use Rattle.rec_image.specs.Drafts.{EndsNumeral, unmet, begins, meets_all, walks, names, meeting, objects_of, objects_in, AreFieldsRead, AreFieldsUnread, IsNodeRead, AreObjects, IsObjectRead, IsOfHeap, NoObjectNext}
+use Rattle.rec_image.specs.Image.{Node, ImageContents, IsPlace, IsNode, IsImage, word, told_fields, node_head, object_line}
 use Rattle.rec_image.proofs.Continuing.{has_room}
 use Rattle.rec_image.proofs.Meetings.{walks-append}
 use Rattle.rec_image.proofs.Padding.{null_names}

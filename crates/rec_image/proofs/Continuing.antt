@@ -1,20 +1,19 @@
 -- Lines with which an image goes on: it is completed by objects and registers, or nothing completes it.
-use Rattle.std.proofs.Common.{◌≡◌, ℕ, zero, suc, ◌+◌, ◌-◌, ◌*◌, ◌<◌, ◌≤◌, inl, inr, true, false, List, [], ◌∷◌, ◌++◌, Option, None, Some, All, length, map, replicate, get_or, refl, sym, ap, subst, ◌∙◌, arith, length-append, append-nil, append_assoc}
-use Rattle.std.specs.Prelude.{min, max, IfSome, slice_index_or, nat_lt}
+use Rattle.std.proofs.Common.{◌≡◌, ℕ, zero, suc, ◌+◌, ◌-◌, ◌*◌, ◌<◌, ◌≤◌, List, [], ◌∷◌, ◌++◌, Option, None, Some, All, length, map, replicate, get_or, refl, sym, ap, subst, ◌∙◌, arith, length-append, append-nil, append_assoc}
+use Rattle.std.specs.Prelude.{max}
 use Rattle.std.specs.List.{flat_map, range_with_len}
-use Rattle.std.proofs.lemmas.Bool.{cases_lt}
 use Rattle.std.proofs.lemmas.Bool.Decides.{nat_tests}
 use Rattle.std.proofs.lemmas.Grind.{flat_map-append}
 use Rattle.std.proofs.lemmas.List.{length-map, length-replicate, map-append}
-use Rattle.std.proofs.lemmas.List.Elements.{All-nil, All-cons, All-head, All-tail, All-append, All-replicate}
-use Rattle.std.proofs.Math.Nat.{suc-mul, mul-le-mul_right}
+use Rattle.std.proofs.lemmas.List.Elements.{All-nil, All-head, All-tail, All-append, All-replicate}
+use Rattle.std.proofs.Math.Nat.{suc-mul}
 use Rattle.rec_model.specs.Heap.{roots}
 use Rattle.rec_model.specs.Numbering.{IsNumbering}
 use Rattle.rec_model.specs.Reach.{named}
-use Rattle.rec_image.specs.Image.{Node, ImageContents, IsPlace, IsNode, AreRegisters, IsSized, IsImage, IsContinued, nothing, children, text, header_line, heap_line, object_line, registers_line, end_line}
+use Rattle.rec_image.specs.Image.{Node, ImageContents, IsPlace, IsNode, AreRegisters, IsImage, IsContinued, nothing, children, text, header_line, heap_line, object_line, registers_line, end_line}
 use Rattle.rec_image.specs.declared.meeting.Meeting.{Meeting}
-use Rattle.rec_image.specs.Drafts.{unmet, meets, begins, meets_all, walks, due_for, names, meeting, naming, least, so_far, IsOpen, CanClose, with_more}
-use Rattle.rec_image.proofs.Growing.{Grows, highest, Follows, highest_all, follows_left, follows_join, follows-length, highest_all-append, AreOf, IsGrown, grown_from, numbered_from, grows_left, grows_right, grows_join, highest-append, highest-most, highest-le, highest_all-le}
+use Rattle.rec_image.specs.Drafts.{unmet, meets, begins, meets_all, walks, names, meeting, naming, least, so_far, IsOpen, CanClose, with_more}
+use Rattle.rec_image.proofs.Growing.{Grows, highest, Follows, highest_all, follows_left, follows_join, follows-length, highest_all-append, AreOf, IsGrown, grown_from, numbered_from, grows_left, grows_right, grows_join, highest-append, highest-most, highest-le}
 use Rattle.rec_image.proofs.Meetings.{meets_highest, meets_grow, grow_meets, walks_highest, walks_follow, follow_walks, walks_due}
 use Rattle.rec_image.proofs.Padding.{null_node, null_is_node, null_follow, null_highest, all_registers, all_are, all_length, all_grow}
 

@@ -8,12 +8,12 @@ use Rattle.rec_image.specs.declared.held.Held.{Held}
 use Rattle.rec_image.specs.declared.line.Heap.{Heap}
 use Rattle.rec_image.specs.declared.objects.Objects.{Objects}
 use Rattle.rec_image.specs.declared.meeting.Meeting.{Meeting}
-use Rattle.rec_image.specs.Drafts.{AreHeld, AreObjects, BeginsObject, CanClose, IsObjectRead, IsOpen, IsRowRead, NoObjectNext, NoRowNext, draft, held_in, meeting, naming, objects_in, rows_of, so_far, unmet}
-use Rattle.rec_image.specs.Image.{AreRegisters, AreWhole, ImageContents, IsContinued, IsImage, IsNode, IsSized, IsText, Node, StopsAt, end_line, feeds, header_line, heap_line, object_line, registers_line, text}
+use Rattle.rec_image.specs.Drafts.{AreHeld, AreObjects, BeginsObject, CanClose, IsObjectRead, IsRowRead, NoObjectNext, NoRowNext, draft, held_in, meeting, naming, objects_in, rows_of, so_far, unmet}
+use Rattle.rec_image.specs.Image.{AreRegisters, ImageContents, IsContinued, IsImage, IsNode, IsSized, Node, StopsAt, end_line, header_line, heap_line, object_line, registers_line, text}
 use Rattle.rec_image.proofs.Adding.{length-objects}
 use Rattle.rec_image.proofs.Continuing.{closed, continued_open, continued_told, has_told, open_closes, regroup}
 use Rattle.rec_image.proofs.Rows.{length-rows}
-use Rattle.rec_image.proofs.Stopping.{Misses, end_whole, missed_end, missed_header, missed_heap, missed_object, missed_row, same_image, so_far_whole, stopped}
+use Rattle.rec_image.proofs.Stopping.{end_whole, missed_end, missed_header, missed_heap, missed_object, missed_row, same_image, so_far_whole, stopped}
 
 -- ---- objects
 

@@ -2,12 +2,11 @@
 use Rattle.std.proofs.Common.{◌≡◌, ℕ, zero, suc, ◌+◌, ◌<◌, ◌≤◌, ◌⊎◌, inl, inr, true, false, List, [], ◌∷◌, ◌++◌, length, get_or, refl, sym, ap, subst, ◌∙◌, arith, append_assoc, append-nil, length-append}
 use Rattle.std.specs.Prelude.{max}
 use Rattle.std.specs.List.{flat_map, range_with_len}
-use Rattle.std.proofs.lemmas.Bool.{cases_Bool, cases_lt, both_ways, false≢true}
+use Rattle.std.proofs.lemmas.Bool.{cases_Bool, cases_lt, false≢true}
 use Rattle.std.proofs.lemmas.List.FromFn.{length-range_with_len, get_or-range_with_len}
 use Rattle.rec_model.proofs.Common.{is_in, IsReached, firsts_after, joined, IsNumbering}
 use Rattle.rec_model.specs.Reach.IsReached.{root, child}
-use Rattle.rec_model.proofs.Members.{is_in-head, is_in-cons, is_in-tail, is_in-left, is_in-right, is_in-cases, of_all, all_of}
-use Rattle.rec_model.proofs.Firsts.{joined-cases}
+use Rattle.rec_model.proofs.Members.{is_in-head, is_in-cons, is_in-tail, of_all, all_of}
 
 -- each number is met already or is the next one, where those below m are met
 abbrev pub Grows : (m : ℕ) → List ℕ → Type 0

@@ -1,17 +1,16 @@
 -- A line begins bytes in one way: it tells what it is of, and what is behind it.
-use Rattle.std.proofs.Common.{◌≡◌, ℕ, zero, suc, ◌+◌, ◌-◌, ◌*◌, ◌^◌, ◌<◌, ◌≤◌, ◌==◌, inl, inr, Bool, true, false, cond, List, [], ◌∷◌, ◌++◌, Option, None, Some, All, length, map, replicate, get_or, refl, sym, ap, subst, ◌∙◌, arith, length-append, append-nil, append_assoc}
-use Rattle.std.specs.Prelude.{IfSome, codes, count_by, option_map}
+use Rattle.std.proofs.Common.{◌≡◌, ℕ, suc, ◌+◌, ◌^◌, ◌<◌, ◌≤◌, ◌==◌, Bool, true, false, cond, List, [], ◌∷◌, ◌++◌, Option, None, Some, All, length, replicate, get_or, refl, sym, ap, subst, ◌∙◌, arith, append_assoc}
+use Rattle.std.specs.Prelude.{codes}
 use Rattle.std.specs.Fmt.{decimal}
 use Rattle.std.specs.Int.{IsInRange}
 use Rattle.std.specs.List.{flat_map}
 use Rattle.std.proofs.lemmas.Bool.{ne_eqb, false≢true, true≢false}
-use Rattle.std.proofs.lemmas.Fmt.{decimal_nonempty}
 use Rattle.std.proofs.lemmas.List.Elements.{All-head, All-tail}
 use Rattle.std.proofs.lemmas.List.Sums.{sum_by-append}
-use Rattle.rec_report.specs.Text.{field_word, line_feed}
+use Rattle.rec_report.specs.Text.{line_feed}
 use Rattle.rec_script.proofs.Numerals.{AreDigits, digits_of, same_number}
 use Rattle.rec_image.specs.Drafts.{EndsNumeral}
-use Rattle.rec_image.specs.Image.{Node, ImageContents, IsPlace, IsNode, AreRegisters, word, told_fields, node_head, object_line, registers_line, heap_line, header_line, end_line, feeds}
+use Rattle.rec_image.specs.Image.{Node, IsPlace, IsNode, AreRegisters, word, told_fields, node_head, object_line, registers_line, feeds}
 
 -- ---- numerals
 

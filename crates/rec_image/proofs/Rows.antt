@@ -1,17 +1,16 @@
 -- The registers of a mutator are read and join the others.
-use Rattle.std.proofs.Common.{◌≡◌, ℕ, zero, suc, ◌+◌, ◌-◌, ◌*◌, ◌<◌, ◌≤◌, List, [], ◌∷◌, ◌++◌, Option, None, Some, All, length, map, take, drop, refl, sym, ap, subst, ◌∙◌, arith, length-append, length-drop, append_assoc, append-nil}
-use Rattle.std.specs.List.{flat_map}
+use Rattle.std.proofs.Common.{◌≡◌, ℕ, zero, suc, ◌+◌, ◌-◌, ◌*◌, ◌<◌, ◌≤◌, List, [], ◌∷◌, ◌++◌, Option, All, length, take, drop, refl, sym, ap, subst, ◌∙◌, arith, length-append, length-drop, append_assoc, append-nil}
 use Rattle.std.proofs.lemmas.Grind.{flat_map-append}
 use Rattle.std.proofs.lemmas.List.{take_all, take-append-le, drop-append-le}
 use Rattle.std.proofs.lemmas.List.Elements.{All-push, All-head, All-tail}
-use Rattle.std.proofs.Math.Nat.{suc-mul, mul-le-mul_left, mul-le-mul_right}
+use Rattle.std.proofs.Math.Nat.{suc-mul}
 use Rattle.rec_model.specs.Heap.{roots}
 use Rattle.rec_model.specs.Reach.{named}
 use Rattle.rec_image.specs.declared.held.Held.{Held}
 use Rattle.rec_image.specs.declared.line.Heap.{Heap}
 use Rattle.rec_image.specs.declared.objects.Objects.{Objects}
 use Rattle.rec_image.specs.declared.meeting.Meeting.{Meeting}
-use Rattle.rec_image.specs.Drafts.{unmet, meets_all, meeting, naming, least, rows_of, held_in, draft, objects_in, AreObjects, CanClose, AreRegistersRead, AreHeld, IsRowRead, IsOfHeap, NoRowNext}
+use Rattle.rec_image.specs.Drafts.{unmet, meets_all, meeting, naming, least, rows_of, held_in, draft, objects_in, AreObjects, AreRegistersRead, AreHeld, IsRowRead, IsOfHeap, NoRowNext}
 use Rattle.rec_image.specs.Fields.{IsKept}
 use Rattle.rec_image.specs.Image.{Node, ImageContents, AreRegisters, IsImage, registers_line}
 use Rattle.rec_image.proofs.Continuing.{HasTold, closed, has_told}

@@ -1,14 +1,14 @@
 -- The first line with which no image goes on: an image that goes on from the lines before it has another one there.
-use Rattle.std.proofs.Common.{◌≡◌, ◌⊎◌, ℕ, zero, suc, ◌+◌, ◌-◌, ◌*◌, ◌^◌, ◌<◌, ◌≤◌, inl, inr, Bool, true, false, List, [], ◌∷◌, ◌++◌, Option, None, Some, All, length, get_or, refl, sym, ap, subst, ◌∙◌, arith, length-append, append_assoc, append-nil}
+use Rattle.std.proofs.Common.{◌≡◌, ℕ, ◌+◌, ◌^◌, ◌<◌, inl, inr, Bool, true, false, List, [], ◌∷◌, ◌++◌, Option, All, length, get_or, refl, sym, ap, subst, ◌∙◌, arith, length-append, append_assoc, append-nil}
 use Rattle.std.specs.Prelude.{codes}
 use Rattle.std.specs.Fmt.{decimal}
 use Rattle.std.specs.List.{flat_map}
-use Rattle.std.proofs.lemmas.List.Elements.{All-nil, All-head, All-tail}
+use Rattle.std.proofs.lemmas.List.Elements.{All-head, All-tail}
 use Rattle.rec_report.specs.Text.{line_feed}
 use Rattle.rec_image.specs.declared.line.Heap.{Heap}
-use Rattle.rec_image.specs.Drafts.{BeginsObject, CanClose, IsOfHeap, IsOpen, NoObjectNext, NoRowNext, draft, so_far}
+use Rattle.rec_image.specs.Drafts.{BeginsObject, CanClose, IsOfHeap, NoObjectNext, NoRowNext, draft, so_far}
 use Rattle.rec_image.specs.Image.{AreRegisters, AreWhole, ImageContents, IsContinued, IsImage, IsNode, IsSized, IsText, Node, StopsAt, end_line, feeds, header_line, heap_line, node_head, object_line, registers_line, text}
-use Rattle.rec_image.proofs.Continuing.{continued_open, regroup}
+use Rattle.rec_image.proofs.Continuing.{regroup}
 use Rattle.rec_image.proofs.Prefixes.{IsLine, feed_ends, feeds-append, line_front, lines_front, no_feed_numeral, numeral_front, object_front, object_is_line, object_parts, registers_front, registers_is_line, space_ends}
 
 -- each image that goes on from the lines before has a next line, and it isn't at the front of the rest

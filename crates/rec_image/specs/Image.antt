@@ -1,5 +1,5 @@
 -- An image of a heap: what it holds, which values are images, their text, and the first line of other bytes that no image goes on with.
-use Rattle.std.specs.Prelude.{◌≡◌, ℕ, ◌+◌, ◌<◌, ◌≤◌, ◌^◌, ◌==◌, ◌⊎◌, Bool, true, false, if◌then◌else◌, List, [], ◌∷◌, ◌++◌, Option, None, IfSome, option_map, All, codes, count_by, length, replicate, slice_index_or}
+use Rattle.std.specs.Prelude.{◌≡◌, ℕ, ◌+◌, ◌<◌, ◌≤◌, ◌^◌, ◌==◌, ◌⊎◌, Bool, true, false, List, [], ◌++◌, Option, None, IfSome, option_map, All, codes, count_by, length, replicate, slice_index_or}
 use Rattle.std.specs.Fmt.{decimal}
 use Rattle.std.specs.List.{flat_map, range_with_len}
 use Rattle.rec_model.specs.declared.limits.TheConstants.{MOST_MUTATORS}

@@ -1,5 +1,5 @@
 -- The digits at the front are the numeral, where they fit and something is behind them.
-use Rattle.std.proofs.Common.{◌≡◌, ◌+◌, ◌*◌, ℕ, get_or, refl, sym, ap, ◌∙◌, below_more, arith}
+use Rattle.std.proofs.Common.{◌+◌, ◌*◌, ℕ, get_or, refl, sym, ap, ◌∙◌, below_more, arith}
 use Rattle.rec_script.proofs.Numerals.{digit_range, no_digit, one_more}
 use Rattle.rec_image.proofs.Pieces.{found_numeral, no_first_digit, no_such_numeral, no_end}
 use Rattle.rec_image.proofs.piece.long_numeral.Goals as goal

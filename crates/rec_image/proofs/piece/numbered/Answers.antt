@@ -1,5 +1,5 @@
 -- The numeral is that of an object's number, or there is none.
-use Rattle.std.proofs.Common.{◌≡◌, ◌+◌, ℕ, arith}
+use Rattle.std.proofs.Common.{arith}
 use Rattle.rec_image.proofs.Pieces.{only_number, other_number}
 use Rattle.rec_image.proofs.piece.numbered.Goals as goal
 

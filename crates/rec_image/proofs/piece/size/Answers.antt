@@ -1,5 +1,5 @@
 -- The numeral is of a number within the limit, or there is none.
-use Rattle.std.proofs.Common.{◌≡◌, ◌+◌, ◌∷◌, ℕ, List, sym, ap, subst, ◌∙◌, arith}
+use Rattle.std.proofs.Common.{arith}
 use Rattle.rec_image.proofs.Pieces.{only_size, no_size}
 use Rattle.rec_image.proofs.piece.size.Goals as goal
 

@@ -1,9 +1,9 @@
 -- The first line that no image goes on with, or the image with all its lines.
-use Rattle.std.proofs.Common.{◌≡◌, ◌+◌, ◌++◌, ◌∙◌, ℕ, List, Err, length, sym, ap, subst, arith}
+use Rattle.std.proofs.Common.{◌≡◌, ◌+◌, ◌∙◌, ℕ, List, Err, length, sym, ap, subst, arith}
 use Rattle.std.proofs.lemmas.Grind.{common_steps}
 use Rattle.rec_image.specs.declared.error.ImageError.{ImageError}
 use Rattle.rec_image.specs.declared.error.ImageError.TheVariants.{Bad}
-use Rattle.rec_image.specs.Drafts.{draft, held_in, objects_in}
+use Rattle.rec_image.specs.Drafts.{held_in, objects_in}
 use Rattle.rec_image.specs.Image.{ImageContents, IsImage, StopsAt, text}
 use Rattle.rec_image.proofs.Adding.{length-objects}
 use Rattle.rec_image.proofs.Endings.{behind_objects, behind_rows, behind_two, end_stops, header_stops, heap_stops, more_stops, only_image, read_image, read_text}

@@ -1,10 +1,10 @@
 -- A mutator's line that no image goes on with is the first one; so is the first of them where objects are named that there aren't.
-use Rattle.std.proofs.Common.{◌≡◌, ◌+◌, ◌++◌, ◌∙◌, ℕ, length, sym, ap, arith}
+use Rattle.std.proofs.Common.{◌≡◌, ◌+◌, ◌++◌, ℕ, sym, ap, arith}
 use Rattle.std.specs.List.{flat_map}
 use Rattle.rec_image.specs.Drafts.{rows_of}
 use Rattle.rec_image.specs.Image.{registers_line}
 use Rattle.rec_image.proofs.Adding.{length-objects}
-use Rattle.rec_image.proofs.Endings.{row_stops, rows_first, rows_on, rows_stop}
+use Rattle.rec_image.proofs.Endings.{row_stops, rows_first, rows_stop}
 use Rattle.rec_image.proofs.reading.read_held.Goals as goal
 
 pub count-first-requires : goal.count-first-requires

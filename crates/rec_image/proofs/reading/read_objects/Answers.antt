@@ -1,7 +1,7 @@
 -- An object's line that no image goes on with is the first one.
-use Rattle.std.proofs.Common.{◌≡◌, ◌+◌, ◌∙◌, length, sym, arith}
+use Rattle.std.proofs.Common.{◌≡◌, ◌+◌, arith}
 use Rattle.rec_image.proofs.Adding.{length-objects}
-use Rattle.rec_image.proofs.Endings.{object_stops, objects_on}
+use Rattle.rec_image.proofs.Endings.{object_stops}
 use Rattle.rec_image.proofs.reading.read_objects.Goals as goal
 
 pub count-line-requires : goal.count-line-requires

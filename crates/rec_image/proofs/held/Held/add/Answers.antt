@@ -1,7 +1,6 @@
 -- An image with one mutator more has named enough by then.
-use Rattle.std.proofs.Common.{◌≡◌, ◌+◌, ◌*◌, ◌-◌, ◌≤◌, length, refl, sym, ap, subst, ◌∙◌, arith}
+use Rattle.std.proofs.Common.{◌+◌, refl, sym, ◌∙◌, arith}
 use Rattle.std.proofs.lemmas.Bool.{both_ways}
-use Rattle.rec_image.specs.Drafts.{least, meeting, objects_in}
 use Rattle.rec_image.proofs.Adding.{length-objects}
 use Rattle.rec_image.proofs.Rows.{least_of, row_read, not_enough}
 use Rattle.rec_image.proofs.held.Held.add.Goals as goal

@@ -1,5 +1,5 @@
 -- An image with one object more has room for it, and no more is due than registers can name.
-use Rattle.std.proofs.Common.{◌≡◌, ◌<◌, length, refl, sym, ◌∙◌, arith}
+use Rattle.std.proofs.Common.{◌≡◌, length, refl, ◌∙◌, arith}
 use Rattle.rec_image.proofs.Adding.{length-objects, no_slot, no_node, too_much_due, object_read}
 use Rattle.rec_image.proofs.objects.Objects.add.Goals as goal
 
