@@ -1,0 +1,12 @@
+-- The modules of the proofs.
+pub mod Growing
+pub mod Meetings
+pub mod Padding
+pub mod Continuing
+pub mod Prefixes
+pub mod Pieces
+pub mod Lines
+pub mod Adding
+pub mod Rows
+pub mod Stopping
+pub mod Endings

@@ -1,0 +1,130 @@
+//! The pieces of a line, each read from the front.
+
+ghost use Rattle.std.specs.Prelude.{◌≡◌, ◌≢◌, ℕ, ◌+◌, ◌<◌, ◌≤◌, ◌^◌, ◌++◌, [], ◌∷◌, List, Option, IfSome, IfNone, MatchOption, length, slice_index};
+ghost use Rattle.std.specs.Fmt.{decimal};
+ghost use Rattle.rec_image.specs.Drafts.{EndsNumeral};
+ghost use Rattle.rec_image.specs.Image.{IsPlace, word as word_of};
+
+/// What is behind this piece at the front.
+#[inline(always)]
+pub(crate) fn behind<'b>(piece: &[u8], bytes: &'b [u8]) -> Option<&'b [u8]>
+    ensures { MatchOption result ((t : List ℕ) → bytes.now ≢ piece.now ++ t)
+        (λ rest. bytes.now ≡ piece.now ++ rest.now) }
+{
+    bytes.strip_prefix(piece)
+}
+
+/// What is behind this byte at the front.
+#[inline(always)]
+pub(crate) fn behind_byte(first: u8, bytes: &[u8]) -> Option<&[u8]>
+    ensures { MatchOption result ((t : List ℕ) → bytes.now ≢ first ∷ t)
+        (λ rest. bytes.now ≡ first ∷ rest.now) }
+{
+    match bytes {
+        [byte, rest @ ..] if *byte == first => Some(rest),
+        _ => None,
+    }
+}
+
+/// A numeral at the front whose first digit isn't 0, and what is behind it, which is some byte that is no digit.
+#[inline(always)]
+fn long_numeral(bytes: &[u8]) -> Option<(u32, &[u8])>
+    requires { slice_index bytes.now 0 ≢ 48 }
+    ensures found { IfSome result (λ x. (bytes.now ≡ decimal x.0 ++ x.1.now) × (x.0 < 2 ^ 32) × EndsNumeral x.1.now) }
+    ensures none { IfNone result ((n : ℕ) (t : List ℕ) → n < 2 ^ 32 → EndsNumeral t → bytes.now ≢ decimal n ++ t) }
+{
+    let mut value: u64 = 0;
+    for (i, byte) in bytes.iter().enumerate() {
+        if !byte.is_ascii_digit() {
+            return if i == 0 {
+                None
+            } else {
+                Some((value as u32, &bytes[i..]))
+            };
+        }
+        value = 10 * value + u64::from(*byte - b'0');
+        if value > u64::from(u32::MAX) {
+            return None;
+        }
+    }
+    None
+}
+
+/// A numeral at the front, and what is behind it, which is some byte that is no digit. A numeral has no leading zeros and is
+/// at most 4,294,967,295.
+#[inline(always)]
+pub(crate) fn numeral(bytes: &[u8]) -> Option<(u32, &[u8])>
+    ensures found { IfSome result (λ x. (bytes.now ≡ decimal x.0 ++ x.1.now) × (x.0 < 2 ^ 32) × EndsNumeral x.1.now) }
+    ensures none { IfNone result ((n : ℕ) (t : List ℕ) → n < 2 ^ 32 → EndsNumeral t → bytes.now ≢ decimal n ++ t) }
+{
+    let [first, rest @ ..] = bytes else {
+        return None;
+    };
+    if *first != b'0' {
+        return long_numeral(bytes);
+    }
+    let [second, ..] = rest else {
+        return None;
+    };
+    if second.is_ascii_digit() {
+        return None;
+    }
+    Some((0, rest))
+}
+
+/// A number from 1 to the greatest one at the front, with this byte behind it, and what is behind that.
+pub(crate) fn size(most: u32, end: u8, bytes: &[u8]) -> Option<(u32, &[u8])>
+    requires { end < 48 }
+    ensures found { IfSome result (λ x. (bytes.now ≡ decimal x.0 ++ end ∷ x.1.now) × (1 ≤ x.0) × (x.0 ≤ most)) }
+    ensures only { MatchOption result
+        ((n : ℕ) (t : List ℕ) → 1 ≤ n → n ≤ most → bytes.now ≢ decimal n ++ end ∷ t)
+        (λ x. (n : ℕ) (t : List ℕ) → 1 ≤ n → n ≤ most → bytes.now ≡ decimal n ++ end ∷ t → (n ≡ x.0) × (t ≡ x.1.now)) }
+{
+    let (number, rest) = numeral(bytes)?;
+    let rest = behind_byte(end, rest)?;
+    if number == 0 {
+        return None;
+    }
+    if number > most {
+        return None;
+    }
+    Some((number, rest))
+}
+
+/// What a field or register leads to at the front, where it is null or an object that the heap has room for, and what is
+/// behind it. Objects are numbered from 0 here.
+#[inline(always)]
+pub(crate) fn word(slots: u32, bytes: &[u8]) -> Option<(Option<u16>, &[u8])>
+    requires { slots ≤ 65535 }
+    ensures found { IfSome result (λ x. (bytes.now ≡ word_of x.0 ++ x.1.now) × IsPlace slots x.0) }
+    ensures only { MatchOption result
+        ((x : Option ℕ) (t : List ℕ) → IsPlace slots x → EndsNumeral t → bytes.now ≢ word_of x ++ t)
+        (λ found. (x : Option ℕ) (t : List ℕ) → IsPlace slots x → EndsNumeral t → bytes.now ≡ word_of x ++ t
+        → (x ≡ found.0) × (t ≡ found.1.now)) }
+{
+    match bytes {
+        [b' ', b'-', rest @ ..] => Some((None, rest)),
+        [b' ', b'#', rest @ ..] => numbered(slots, rest),
+        _ => None,
+    }
+}
+
+/// An object's number at the front, and what is behind it.
+#[inline(always)]
+fn numbered(slots: u32, bytes: &[u8]) -> Option<(Option<u16>, &[u8])>
+    requires { slots ≤ 65535 }
+    ensures found { IfSome result (λ x. (32 ∷ 35 ∷ bytes.now ≡ word_of x.0 ++ x.1.now) × IsPlace slots x.0) }
+    ensures only { MatchOption result
+        ((n : ℕ) (t : List ℕ) → n < slots → EndsNumeral t → bytes.now ≢ decimal (n + 1) ++ t)
+        (λ found. (x : Option ℕ) (t : List ℕ) → IsPlace slots x → EndsNumeral t → 32 ∷ 35 ∷ bytes.now ≡ word_of x ++ t
+        → (x ≡ found.0) × (t ≡ found.1.now)) }
+{
+    let (number, rest) = numeral(bytes)?;
+    if number == 0 {
+        return None;
+    }
+    if number > slots {
+        return None;
+    }
+    Some((Some((number - 1) as u16), rest))
+}
