@@ -16,6 +16,8 @@ pub enum Action {
     Settle { live: bool },
     /// The heap is taken apart, and put together again.
     Apart(Piece),
+    /// The heap is traced, and a frontier is cut into so many pieces at most.
+    Trace(u16),
     /// What the heap shows.
     Show(Fact),
     /// The text of an error, for which no heap is needed.

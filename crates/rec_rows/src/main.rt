@@ -14,6 +14,7 @@ mod reading;
 mod running;
 mod settled;
 mod told;
+mod traced;
 mod turning;
 mod words;
 mod wrong;
@@ -24,6 +25,7 @@ use reading::{Row, rows};
 use std::alloc::Global;
 use std::process::ExitCode;
 use std::rt::{Env, Files};
+use std::thread::Threads;
 use std::{env, fs};
 
 fn main(rt: HostRuntime) -> anyhow::Result<ExitCode> {
@@ -41,7 +43,7 @@ fn main(rt: HostRuntime) -> anyhow::Result<ExitCode> {
 }
 
 // Carries out the rows of a file. The answer is 0 where each is as it should be, 1 where one isn't, and 2 where there are none.
-fn carry_out<R: Files + AllocGlobal + Print + Eprint>(
+fn carry_out<R: Files + AllocGlobal + Print + Eprint + Threads + Sync>(
     rt: &R,
     alloc: Global,
     file: &str,
@@ -66,10 +68,15 @@ fn carry_out<R: Files + AllocGlobal + Print + Eprint>(
 }
 
 // How many rows aren't as they should be. Each is told.
-fn failures(rt: &impl Print, alloc: Global, file: &str, rows: &[Row<'_>]) -> anyhow::Result<u32> {
+fn failures<R: Print + Threads + Sync>(
+    rt: &R,
+    alloc: Global,
+    file: &str,
+    rows: &[Row<'_>],
+) -> anyhow::Result<u32> {
     let mut failed = 0u32;
     for row in rows {
-        if let Err(failure) = play(alloc, row) {
+        if let Err(failure) = play(rt, alloc, row) {
             println!(rt; "{file}:{failure}")?;
             failed = failed.saturating_add(1);
         }

@@ -8,28 +8,35 @@ use crate::reading::{Opening, Row, Step};
 use crate::running::run;
 use crate::settled::settled;
 use crate::told::{message, number, refusal};
+use crate::traced::traced;
 use crate::turning::turns;
 use rec_world::{Parts, World};
 use std::alloc::{AllocError as NoMemory, Global};
+use std::thread::Threads;
 
 /// Carries out a row.
-pub fn play(alloc: Global, row: &Row<'_>) -> Result<(), Failure> {
+pub fn play<R: Threads + Sync>(rt: &R, alloc: Global, row: &Row<'_>) -> Result<(), Failure> {
     if row.opening.is_cut {
-        return play_cut(alloc, row);
+        return play_cut(rt, alloc, row);
     }
     match open(alloc, &row.opening)? {
-        Some(world) => play_on(alloc, world, &row.steps),
+        Some(world) => play_on(rt, alloc, world, &row.steps),
         None => Ok(()),
     }
 }
 
 // Makes the steps of a row. Every second stretch is of the heap as it runs.
-fn play_on(alloc: Global, mut world: World, steps: &[Step<'_>]) -> Result<(), Failure> {
+fn play_on<R: Threads + Sync>(
+    rt: &R,
+    alloc: Global,
+    mut world: World,
+    steps: &[Step<'_>],
+) -> Result<(), Failure> {
     let stretches = steps.split(|step| matches!(step.action, Action::TurnOver));
     for (number, steps) in stretches.enumerate() {
         let went;
         (world, went) = if number % 2 == 0 {
-            go_on(alloc, world, steps)
+            go_on(rt, alloc, world, steps)
         } else {
             run(alloc, world, steps)
         };
@@ -39,26 +46,27 @@ fn play_on(alloc: Global, mut world: World, steps: &[Step<'_>]) -> Result<(), Fa
 }
 
 // Carries out a row once for each place at which its heap can be taken apart and put together again.
-fn play_cut(alloc: Global, row: &Row<'_>) -> Result<(), Failure> {
+fn play_cut<R: Threads + Sync>(rt: &R, alloc: Global, row: &Row<'_>) -> Result<(), Failure> {
     for cut in 0..=row.steps.len() {
         if let Some(world) = open(alloc, &row.opening)? {
             let (before, after) = row.steps.split_at(cut);
-            play_apart(alloc, world, before, after)?;
+            play_apart(rt, alloc, world, before, after)?;
         }
     }
     Ok(())
 }
 
 // Takes the heap apart and puts it together again between these steps and those.
-fn play_apart(
+fn play_apart<R: Threads + Sync>(
+    rt: &R,
     alloc: Global,
     world: World,
     before: &[Step<'_>],
     after: &[Step<'_>],
 ) -> Result<(), Failure> {
-    let (world, went) = go_on(alloc, world, before);
+    let (world, went) = go_on(rt, alloc, world, before);
     went?;
-    go_on(alloc, World::of_parts(world.into_parts()), after).1
+    go_on(rt, alloc, World::of_parts(world.into_parts()), after).1
 }
 
 // The heap of a row, or nothing where it is refused as it should be.
@@ -78,10 +86,15 @@ fn open(alloc: Global, opening: &Opening<'_>) -> Result<Option<World>, Failure> 
 
 // Makes these steps of a heap that doesn't run, up to one of which something else is told. The heap is given back then too: so it is
 // let go in one place alone.
-fn go_on(alloc: Global, mut world: World, steps: &[Step<'_>]) -> (World, Result<(), Failure>) {
+fn go_on<R: Threads + Sync>(
+    rt: &R,
+    alloc: Global,
+    mut world: World,
+    steps: &[Step<'_>],
+) -> (World, Result<(), Failure>) {
     for step in steps {
         let told;
-        (world, told) = make(alloc, world, step.action);
+        (world, told) = make(rt, alloc, world, step.action);
         if let Err(failure) = check_told(alloc, step, told) {
             return (world, Err(failure));
         }
@@ -99,11 +112,16 @@ fn check_told(
 }
 
 // Makes a step, and tells what comes of it.
-fn make(alloc: Global, mut world: World, action: Action) -> (World, Result<String, NoMemory>) {
+fn make<R: Threads + Sync>(
+    rt: &R,
+    alloc: Global,
+    mut world: World,
+    action: Action,
+) -> (World, Result<String, NoMemory>) {
     if let Action::Apart(piece) = action {
         return take_apart(alloc, world, piece);
     }
-    let told = happen(alloc, &mut world, action);
+    let told = happen(rt, alloc, &mut world, action);
     (world, told)
 }
 
@@ -115,11 +133,17 @@ fn take_apart(alloc: Global, world: World, piece: Piece) -> (World, Result<Strin
 }
 
 // The same, of a step for which the heap isn't taken apart.
-fn happen(alloc: Global, world: &mut World, action: Action) -> Result<String, NoMemory> {
+fn happen<R: Threads + Sync>(
+    rt: &R,
+    alloc: Global,
+    world: &mut World,
+    action: Action,
+) -> Result<String, NoMemory> {
     match action {
         Action::Mutator { mutator, deed } => done(alloc, world, mutator, deed),
         Action::Collector(asked) => turns(alloc, world, asked),
         Action::Settle { live } => settled(alloc, world, live),
+        Action::Trace(pieces) => traced(rt, alloc, world, pieces),
         Action::Show(fact) => shown(alloc, world, fact),
         Action::Say(asked) => message(alloc, asked),
         Action::Offer => {

@@ -27,6 +27,7 @@ fn collecting(line: &[&str], first: &str, rest: &[&str]) -> Result<Action, Wrong
         "reach" => Ok(Action::Collector(Turns::Reach(stage(rest)?))),
         "apart" => Ok(Action::Apart(piece(rest)?)),
         "says" => Ok(Action::Say(message(rest)?)),
+        "trace" => Ok(Action::Trace(pieces(rest)?)),
         "offer" | "settle" => settling(line),
         _ => Ok(Action::Show(fact(line)?)),
     }
@@ -194,6 +195,14 @@ fn settling(line: &[&str]) -> Result<Action, Wrong> {
         ["offer"] => Ok(Action::Offer),
         ["settle"] => Ok(Action::Settle { live: false }),
         ["settle", "live"] => Ok(Action::Settle { live: true }),
+        _ => Err(Wrong::Unknown),
+    }
+}
+
+// How many pieces a frontier of a trace is cut into.
+fn pieces(line: &[&str]) -> Result<u16, Wrong> {
+    match line {
+        [pieces] => pieces.parse::<u16>().or(Err(Wrong::NoNumber)),
         _ => Err(Wrong::Unknown),
     }
 }
