@@ -49,14 +49,14 @@ clean_more lines l are stands clean =
 
 -- ---- where a journal stands behind a line more
 
-heap_more : (lines : List Line) (line : Line) → heap_of (lines ++ line ∷ []) ≡ cond (is_heap line.kind) (heap_in (Some line)) (heap_of lines)
+pub heap_more : (lines : List Line) (line : Line) → heap_of (lines ++ line ∷ []) ≡ cond (is_heap line.kind) (heap_in (Some line)) (heap_of lines)
 heap_more lines line = ap heap_in (last_more (λ l. is_heap l.kind) lines line) ∙ at (is_heap line.kind)
   where
     at : (b : Bool) → heap_in (cond b (Some line) (last_that (λ l. is_heap l.kind) lines)) ≡ cond b (heap_in (Some line)) (heap_of lines)
     at true = refl
     at false = refl
 
-next_more : (lines : List Line) (line : Line) → next_block (lines ++ line ∷ []) ≡ cond (is_numbering line.kind) (number_behind line.kind line.numbers) (next_block lines)
+pub next_more : (lines : List Line) (line : Line) → next_block (lines ++ line ∷ []) ≡ cond (is_numbering line.kind) (number_behind line.kind line.numbers) (next_block lines)
 next_more lines line = ap next_in (last_more (λ l. is_numbering l.kind) lines line) ∙ at (is_numbering line.kind)
   where
     at : (b : Bool) → next_in (cond b (Some line) (last_that (λ l. is_numbering l.kind) lines)) ≡ cond b (number_behind line.kind line.numbers) (next_block lines)

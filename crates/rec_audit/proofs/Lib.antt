@@ -10,3 +10,5 @@ pub mod Sizes
 pub mod Knowing
 pub mod Telling
 pub mod Concluding
+pub mod Uniqueness
+pub mod Completing

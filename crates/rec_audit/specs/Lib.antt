@@ -4,6 +4,7 @@ pub mod Form
 pub mod Graph
 pub mod Graphs
 pub mod States
+pub mod Said
 pub mod Verdicts
 pub mod Walks
 pub mod Checkers

@@ -16,6 +16,7 @@ mod checking;
 mod form;
 mod graph;
 mod kind;
+mod laws;
 mod reach;
 mod reading;
 mod references;
@@ -23,4 +24,5 @@ mod slots;
 mod verdict;
 
 pub use checking::check;
+pub use laws::{lines_are_a_beginning, no_journal_goes_on, verdicts_are_unique};
 pub use verdict::{Rule, Verdict};

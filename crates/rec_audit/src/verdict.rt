@@ -1,5 +1,7 @@
 //! What the checker says of a journal.
 
+use std::fmt;
+
 /// Why a line is at fault. Of one line the first rule in this order is told that fits.
 #[derive(Clone, Copy, Debug, PartialEq, Eq)]
 pub enum Rule {
@@ -20,4 +22,34 @@ pub enum Verdict {
     Yes { sets: u32 },
     /// This line is the first one at fault, by this rule. Lines are numbered from 1, and 0 is the input as a whole.
     No { line: u32, rule: Rule },
+}
+
+impl fmt::Display for Rule {
+    ghost use Rattle.std.specs.Prelude.{Some};
+    ghost use Rattle.rec_audit.specs.Said.{name_of_rule};
+
+    ghost output = { λ rule. Some (name_of_rule rule) };
+
+    fn fmt<W: fmt::Write>(&self, f: &mut fmt::Formatter<W>) -> fmt::Result {
+        f.write_str(match self {
+            Rule::Long => "long",
+            Rule::Form => "form",
+            Rule::Stamp => "stamp",
+            Rule::Reach => "reach",
+        })
+    }
+}
+
+impl fmt::Display for Verdict {
+    ghost use Rattle.std.specs.Prelude.{Some};
+    ghost use Rattle.rec_audit.specs.Said.{words_of};
+
+    ghost output = { λ verdict. Some (words_of verdict) };
+
+    fn fmt<W: fmt::Write>(&self, f: &mut fmt::Formatter<W>) -> fmt::Result {
+        match self {
+            Verdict::Yes { sets } => write!(f, "yes sets {sets}"),
+            Verdict::No { line, rule } => write!(f, "no line {line} {rule}"),
+        }
+    }
 }
