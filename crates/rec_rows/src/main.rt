@@ -8,7 +8,6 @@
 mod action;
 mod fact;
 mod failure;
-mod imaging;
 mod mutating;
 mod playing;
 mod reading;

@@ -3,7 +3,6 @@
 use crate::action::{Action, Piece};
 use crate::fact::shown;
 use crate::failure::{Failure, check};
-use crate::imaging::{read_back, written};
 use crate::mutating::done;
 use crate::reading::{Opening, Row, Step};
 use crate::running::run;
@@ -82,7 +81,7 @@ fn open(alloc: Global, opening: &Opening<'_>) -> Result<Option<World>, Failure> 
 fn go_on(alloc: Global, mut world: World, steps: &[Step<'_>]) -> (World, Result<(), Failure>) {
     for step in steps {
         let told;
-        (world, told) = make(alloc, world, step);
+        (world, told) = make(alloc, world, step.action);
         if let Err(failure) = check_told(alloc, step, told) {
             return (world, Err(failure));
         }
@@ -100,11 +99,11 @@ fn check_told(
 }
 
 // Makes a step, and tells what comes of it.
-fn make(alloc: Global, mut world: World, step: &Step<'_>) -> (World, Result<String, NoMemory>) {
-    if let Action::Apart(piece) = step.action {
+fn make(alloc: Global, mut world: World, action: Action) -> (World, Result<String, NoMemory>) {
+    if let Action::Apart(piece) = action {
         return take_apart(alloc, world, piece);
     }
-    let told = happen(alloc, &mut world, step);
+    let told = happen(alloc, &mut world, action);
     (world, told)
 }
 
@@ -116,13 +115,11 @@ fn take_apart(alloc: Global, world: World, piece: Piece) -> (World, Result<Strin
 }
 
 // The same, of a step for which the heap isn't taken apart.
-fn happen(alloc: Global, world: &mut World, step: &Step<'_>) -> Result<String, NoMemory> {
-    match step.action {
+fn happen(alloc: Global, world: &mut World, action: Action) -> Result<String, NoMemory> {
+    match action {
         Action::Mutator { mutator, deed } => done(alloc, world, mutator, deed),
         Action::Collector(asked) => turns(alloc, world, asked),
         Action::Settle { live } => settled(alloc, world, live),
-        Action::Write => written(alloc, world),
-        Action::Read => read_back(alloc, step.asked),
         Action::Show(fact) => shown(alloc, world, fact),
         Action::Say(asked) => message(alloc, asked),
         Action::Offer => {

@@ -28,8 +28,6 @@ fn collecting(line: &[&str], first: &str, rest: &[&str]) -> Result<Action, Wrong
         "apart" => Ok(Action::Apart(piece(rest)?)),
         "says" => Ok(Action::Say(message(rest)?)),
         "offer" | "settle" => settling(line),
-        "image" if rest.is_empty() => Ok(Action::Write),
-        "reads" => Ok(Action::Read),
         _ => Ok(Action::Show(fact(line)?)),
     }
 }
@@ -216,7 +214,6 @@ fn message(line: &[&str]) -> Result<Message, Wrong> {
         ["open", "memory"] => Ok(Message::NoMemoryToOpen),
         ["script", "bad"] => Ok(Message::NoScript),
         ["script", "memory"] => Ok(Message::NoMemoryForScript),
-        ["image", "memory"] => Ok(Message::NoMemoryForImage),
         _ => Err(Wrong::Unknown),
     }
 }
