@@ -10,3 +10,7 @@ pub mod Adding
 pub mod Rows
 pub mod Stopping
 pub mod Endings
+pub mod Carrying
+pub mod Digits
+pub mod Written
+pub mod Worlds

@@ -1,4 +1,5 @@
 -- The modules of the definitions.
 pub mod Image
+pub mod Standing
 pub mod Drafts
 pub mod Fields

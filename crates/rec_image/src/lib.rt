@@ -1,4 +1,12 @@
-//! Images of heaps, as text.
+//! Images of heaps: the live objects of a settled heap and what registers name, as a text that is read again.
+//!
+//! The rule that this crate keeps: an image is read exactly from its own text, and what is written is the text of an image that
+//! stands for the world in all but the field words. `specs/Image.antt` says which values are images, by the numbering of a
+//! listing, and which text each has, apart from reader and writer; and of other bytes which line is the first with which no
+//! image goes on.
+//! While an image is read, `Meeting` tells whether some registers can complete the objects so far.
+//! The layer above may use the clauses of `read`, `write` and the readers of `Image`.
+//! The form of an image is this project's profile (`docs/PROFILE.md`).
 #![tactic(auto)]
 
 mod error;
@@ -9,7 +17,10 @@ mod meeting;
 mod objects;
 mod piece;
 mod reading;
+mod spelling;
+mod writing;
 
 pub use error::ImageError;
 pub use image::Image;
 pub use reading::read;
+pub use writing::write;
