@@ -32,10 +32,6 @@ ended_apart (n ∷ ns) rest = refl
 ended-cons : (n : ℕ) (ns rest : List ℕ) → ended (n ∷ ns) rest ≡ 32 ∷ (decimal n ++ ended ns rest)
 ended-cons n ns rest = ap (λ (t : List ℕ). 32 ∷ t) (append_assoc (decimal n) (numerals ns) (10 ∷ rest))
 
--- nothing was read of it
-pub none_read : (bytes : List ℕ) → LeavesTexts bytes bytes
-none_read bytes ns rest fit is = record { numbers = ns; fit = fit; text = is }
-
 -- a space with no numeral behind it
 pub no_more : (bytes left word : List ℕ) → LeavesTexts bytes left → left ≡ 32 ∷ word → ((n : ℕ) (rest : List ℕ) → n < 2 ^ 64 → is_ascii_digit (get_or rest 0 0) ≡ false → word ≡ decimal n ++ rest → ⊥)
     → (ns rest : List ℕ) → AreNumbers ns → bytes ≡ ended ns rest → ⊥
@@ -131,20 +127,3 @@ same_line l m r s left right e =
   where
     both : (k j : Kind) (ms ns : List ℕ) → k ≡ j → ms ≡ ns → let l : Line = record { kind = k; numbers = ms } in l ≡ record { kind = j; numbers = ns }
     both k j ms ns e f = ap (λ (x : Kind). let l : Line = record { kind = x; numbers = ms } in l) e ∙ ap (λ (xs : List ℕ). let l : Line = record { kind = j; numbers = xs } in l) f
-
--- a line was read: its kind, and then its numbers
-pub line_read : (kind : Kind) (numbers bytes behind rest : List ℕ) → bytes ≡ name_of kind ++ behind → behind ≡ ended numbers rest → let line : Line = record { kind = kind; numbers = numbers } in bytes ≡ text_of_line line ++ rest
-line_read kind numbers bytes behind rest named is =
-    let line : Line = record { kind = kind; numbers = numbers } in
-    named ∙ ap (λ (t : List ℕ). name_of kind ++ t) is ∙ sym (line_text line rest)
-
--- no line begins with this name, as none of its numbers follow
-pub no_line : (kind : Kind) (bytes behind : List ℕ) → bytes ≡ name_of kind ++ behind → ((ns rest : List ℕ) → AreNumbers ns → behind ≡ ended ns rest → ⊥) → (line : Line) (rest : List ℕ) → AreNumbers line.numbers → bytes ≡ text_of_line line ++ rest → ⊥
-no_line kind bytes behind named none line rest fit is =
-    let text : name_of kind ++ behind ≡ name_of line.kind ++ ended line.numbers rest = sym named ∙ is ∙ line_text line rest in
-    let same : kind ≡ line.kind = same_kind kind line.kind behind (ended line.numbers rest) text in
-    none line.numbers rest fit (append_cancel_left (name_of line.kind) behind (ended line.numbers rest) (ap (λ (k : Kind). name_of k ++ behind) (sym same) ∙ text))
-
--- nor does any, as no name stands there
-pub no_name : (bytes : List ℕ) → ((kind : Kind) (rest : List ℕ) → bytes ≡ name_of kind ++ rest → ⊥) → (line : Line) (rest : List ℕ) → AreNumbers line.numbers → bytes ≡ text_of_line line ++ rest → ⊥
-no_name bytes none line rest fit is = none line.kind (ended line.numbers rest) (is ∙ line_text line rest)

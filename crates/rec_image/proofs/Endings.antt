@@ -1,14 +1,13 @@
 -- The places where `read` stops, and the image that it reads.
 use Rattle.std.proofs.Common.{◌≡◌, ℕ, zero, suc, ◌+◌, ◌-◌, ◌*◌, ◌<◌, ◌≤◌, List, [], ◌∷◌, ◌++◌, Option, None, Some, All, length, refl, sym, ap, subst, ◌∙◌, arith, length-append, append_assoc, append-nil}
 use Rattle.std.specs.List.{flat_map}
-use Rattle.std.proofs.lemmas.Grind.{flat_map-append}
 use Rattle.std.proofs.lemmas.List.Elements.{All-nil}
 use Rattle.rec_report.specs.Text.{line_feed}
 use Rattle.rec_image.specs.declared.held.Held.{Held}
 use Rattle.rec_image.specs.declared.line.Heap.{Heap}
 use Rattle.rec_image.specs.declared.objects.Objects.{Objects}
 use Rattle.rec_image.specs.declared.meeting.Meeting.{Meeting}
-use Rattle.rec_image.specs.Drafts.{AreHeld, AreObjects, BeginsObject, CanClose, IsObjectRead, IsRowRead, NoObjectNext, NoRowNext, draft, held_in, meeting, naming, objects_in, rows_of, so_far, unmet}
+use Rattle.rec_image.specs.Drafts.{AreHeld, AreObjects, BeginsObject, CanClose, NoObjectNext, NoRowNext, draft, held_in, meeting, naming, objects_in, rows_of, so_far, unmet}
 use Rattle.rec_image.specs.Image.{AreRegisters, ImageContents, IsContinued, IsImage, IsNode, IsSized, Node, StopsAt, end_line, header_line, heap_line, object_line, registers_line, text}
 use Rattle.rec_image.proofs.Adding.{length-objects}
 use Rattle.rec_image.proofs.Continuing.{closed, continued_open, continued_told, has_told, open_closes, regroup}
@@ -16,16 +15,6 @@ use Rattle.rec_image.proofs.Rows.{length-rows}
 use Rattle.rec_image.proofs.Stopping.{end_whole, missed_end, missed_header, missed_heap, missed_object, missed_row, same_image, so_far_whole, stopped}
 
 -- ---- objects
-
-more_lines : {A : Type 0} (line : A → List ℕ) (xs ys : List A) (x : A) (bytes rest behind : List ℕ) → bytes ≡ flat_map line xs ++ rest → rest ≡ line x ++ behind → ys ≡ xs ++ x ∷ [] → bytes ≡ flat_map line ys ++ behind
-more_lines line xs ys x bytes rest behind e next more =
-    e ∙ ap (λ (bs : List ℕ). flat_map line xs ++ bs) next
-    ∙ sym (append_assoc (flat_map line xs) (line x) behind)
-    ∙ ap (λ (bs : List ℕ). (flat_map line xs ++ bs) ++ behind) (sym (append-nil (line x)))
-    ∙ ap (λ (bs : List ℕ). bs ++ behind) (sym (flat_map-append line xs (x ∷ [])) ∙ ap (flat_map line) (sym more))
-
-pub objects_on : (heap : Heap) (before after : Objects) (bytes rest behind : List ℕ) → bytes ≡ flat_map object_line (objects_in heap before) ++ rest → IsObjectRead heap rest behind before after → bytes ≡ flat_map object_line (objects_in heap after) ++ behind
-objects_on heap before after bytes rest behind e read = more_lines object_line (objects_in heap before) (objects_in heap after) read.node bytes rest behind e read.line read.more
 
 so_far_objects : (heap : Heap) (os : List Node) (bytes rest : List ℕ) → bytes ≡ flat_map object_line os ++ rest → so_far (draft heap [] []) ++ bytes ≡ so_far (draft heap os []) ++ rest
 so_far_objects heap os bytes rest e =
@@ -42,9 +31,6 @@ object_stops heap x bytes rest line are e begins none number =
     (missed_object heap (objects_in heap x) rest are.is_open.sized are.is_open.objects none begins)
 
 -- ---- registers
-
-pub rows_on : (heap : Heap) (os : List Node) (before after : Held) (bytes rest behind : List ℕ) → bytes ≡ flat_map registers_line (held_in heap before) ++ rest → IsRowRead heap os rest behind before after → bytes ≡ flat_map registers_line (held_in heap after) ++ behind
-rows_on heap os before after bytes rest behind e read = more_lines registers_line (held_in heap before) (held_in heap after) read.own bytes rest behind e read.line read.more
 
 pub rows_first : (heap : Heap) (x : Objects) (first : Held) → AreObjects heap x → x.meeting.met ≤ length x.nodes.items → first.registers.items ≡ [] → first.rows ≡ 0 → first.naming ≡ unmet → AreHeld heap (objects_in heap x) first
 rows_first heap x first are met items rows none =

@@ -4,10 +4,10 @@ use Rattle.std.specs.Prelude.{IfNone, MatchOption}
 use Rattle.std.specs.List.{flat_map}
 use Rattle.std.proofs.lemmas.Grind.{flat_map-append}
 use Rattle.std.proofs.lemmas.List.{drop_more}
-use Rattle.std.proofs.lemmas.List.Elements.{All-nil, All-push, All-get_or}
+use Rattle.std.proofs.lemmas.List.Elements.{All-push, All-get_or}
 use Rattle.rec_model.specs.Reach.{named}
 use Rattle.rec_image.specs.declared.meeting.Meeting.{Meeting}
-use Rattle.rec_image.specs.Drafts.{EndsNumeral, AreRead, AreUnread, meets, meets_all}
+use Rattle.rec_image.specs.Drafts.{EndsNumeral, AreUnread, meets, meets_all}
 use Rattle.rec_image.specs.Image.{IsPlace, word}
 use Rattle.rec_image.proofs.Prefixes.{words_end, feed_ends}
 
@@ -24,17 +24,6 @@ pub record AreReading (count slots i : ℕ) (bytes rest : List ℕ) (before afte
   pub more : after ≡ before ++ words
   pub meeting : now ≡ meets_all met (named words)
   pub left : (own : List (Option ℕ)) (t : List ℕ) → length own ≡ count → All (IsPlace slots) own → bytes ≡ flat_map word own ++ 10 ∷ t → rest ≡ flat_map word (drop i own) ++ 10 ∷ t
-
-pub reading_first : (count slots : ℕ) (bytes : List ℕ) (before : List (Option ℕ)) (met : Meeting) → AreReading count slots 0 bytes bytes before before met met
-reading_first count slots bytes before met = record {
-  words = [];
-  number = refl;
-  places = All-nil (IsPlace slots);
-  line = refl;
-  more = sym (append-nil before);
-  meeting = refl;
-  left = λ own t size places e. e;
-}
 
 pub meets-append : (m : Meeting) (xs ys : List ℕ) → meets_all m (xs ++ ys) ≡ meets_all (meets_all m xs) ys
 meets-append m [] ys = refl
@@ -76,17 +65,6 @@ pub no_next : (count slots i : ℕ) (bytes rest : List ℕ) (before after : List
 no_next count slots i bytes rest before after met now within so none = λ own t size places e.
     let next = next_left slots i own t rest (omega arith) places (so.left own t size places e) in
     none (get_or own i None) (flat_map word (drop (i + 1) own) ++ 10 ∷ t) next.0 next.1 next.2
-
--- all are read
-pub reading_last : (count slots i : ℕ) (bytes rest behind : List ℕ) (before after : List (Option ℕ)) (met now : Meeting) → i ≡ count → AreReading count slots i bytes rest before after met now → rest ≡ 10 ∷ behind → AreRead count slots bytes behind before after met now
-reading_last count slots i bytes rest behind before after met now all so e = record {
-  words = so.words;
-  number = so.number ∙ all;
-  places = so.places;
-  line = so.line ∙ ap (λ (bs : List ℕ). flat_map word so.words ++ bs) e;
-  more = so.more;
-  meeting = so.meeting;
-}
 
 pub no_feed : (count slots i : ℕ) (bytes rest : List ℕ) (before after : List (Option ℕ)) (met now : Meeting) → i ≡ count → AreReading count slots i bytes rest before after met now → ((t : List ℕ) → rest ≡ 10 ∷ t → ⊥) → AreUnread count slots bytes
 no_feed count slots i bytes rest before after met now all so none = λ own t size places e.

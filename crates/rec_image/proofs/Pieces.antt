@@ -100,9 +100,6 @@ no_nought bytes front long digit n t fits ends e =
           ∙ get_or-append-add (decimal n) t 0 0) digit)
     ]
 
-pub no_numeral_alone : (bytes : List ℕ) → length bytes ≤ 1 → (n : ℕ) (t : List ℕ) → n < 2 ^ 32 → EndsNumeral t → bytes ≡ decimal n ++ t → ⊥
-no_numeral_alone bytes short n t fits ends e = omega (arith, decimal_nonempty n (omega arith), ap (length {A = ℕ}) e, length-append (decimal n) t, ends.0)
-
 -- ---- numbers within limits
 
 pub byte_ends : (b : ℕ) (t : List ℕ) → b < 48 → EndsNumeral (b ∷ t)

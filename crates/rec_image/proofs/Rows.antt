@@ -12,7 +12,7 @@ use Rattle.rec_image.specs.declared.objects.Objects.{Objects}
 use Rattle.rec_image.specs.declared.meeting.Meeting.{Meeting}
 use Rattle.rec_image.specs.Drafts.{unmet, meets_all, meeting, naming, least, rows_of, held_in, draft, objects_in, AreObjects, AreRegistersRead, AreHeld, IsRowRead, IsOfHeap, NoRowNext}
 use Rattle.rec_image.specs.Fields.{IsKept}
-use Rattle.rec_image.specs.Image.{Node, ImageContents, AreRegisters, IsImage, registers_line}
+use Rattle.rec_image.specs.Image.{Node, ImageContents, AreRegisters, IsImage}
 use Rattle.rec_image.proofs.Continuing.{HasTold, closed, has_told}
 use Rattle.rec_image.proofs.Lines.{meets-append}
 use Rattle.rec_image.proofs.Prefixes.{registers_front}
@@ -49,9 +49,6 @@ next_of P (first ∷ held) more own all = next_of P held more own (All-tail P fi
 next_are : (heap : Heap) (w : ImageContents) (held more : List (List (Option ℕ))) (own : List (Option ℕ)) → IsImage w → IsOfHeap heap w → w.held ≡ held ++ own ∷ more → AreRegisters heap.slots heap.registers own
 next_are heap w held more own image of e =
     subst (λ (n : ℕ). AreRegisters n heap.registers own) of.slots (subst (λ (n : ℕ). AreRegisters w.slots n own) of.registers (next_of (AreRegisters w.slots w.registers) held more own (subst (All (AreRegisters w.slots w.registers)) e image.registers)))
-
-pub no_row : (heap : Heap) (objects : List Node) (held : List (List (Option ℕ))) (bytes : List ℕ) → ((own : List (Option ℕ)) (t : List ℕ) → AreRegisters heap.slots heap.registers own → bytes ≡ registers_line own ++ t → ⊥) → NoRowNext heap objects held bytes
-no_row heap objects held bytes none = λ w own more rest image of same e is. none own rest (next_are heap w held more own image of e) is
 
 -- the registers that were read, with those before them
 pub row_more : (heap : Heap) (before after : Held) (bytes rest : List ℕ) (met now : Meeting) → length before.registers.items ≡ before.rows * heap.registers → after.rows ≡ before.rows + 1 → (read : AreRegistersRead heap.slots heap.registers bytes rest before.registers.items after.registers.items met now) → held_in heap after ≡ held_in heap before ++ read.own ∷ []
