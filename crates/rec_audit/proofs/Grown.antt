@@ -24,6 +24,9 @@ use Rattle.rec_audit.specs.States.{HasNoReferences, Puts, TakesOut, EndsBlock, P
 use Rattle.rec_audit.specs.Walks.{free_slots, leads_in}
 use Rattle.rec_audit.specs.declared.slots.Slots.{Slots}
 use Rattle.rec_audit.specs.declared.graph.Graph.{Graph}
+use Rattle.rec_audit.specs.declared.graph.Known.{Known}
+use Rattle.rec_audit.specs.declared.graph.Known.TheVariants.{Nothing, AtLeast, Exactly}
+use Rattle.rec_audit.specs.Marked.{AreMarks, without_reference}
 use Rattle.rec_audit.specs.Graphs.{AreReferences, IsGraphOf, IsPutLine, IsBornLine, IsSnapLine, IsOutLine, IsSweepLine, IsEpochLine, TellNothing, closing_in, named_in, opened_from, slots_of}
 
 -- ---- the last line of a kind
@@ -363,10 +366,10 @@ named_same lines line within none = named_more lines line within ∙ ap (λ t. n
 size_same : (lines : List Line) (line : Line) (n : ℕ) → is_heap line.kind ≡ false → n ≡ (heap_of lines).slots → n ≡ (heap_of (lines ++ line ∷ [])).slots
 size_same lines line n other is = is ∙ ap (λ h. h.slots) (sym (heap_same lines line other))
 
-unmarked : {P : Type 0} (b : Bool) → b ≡ false → b ≡ true → P
-unmarked b shut is = absurd (false≢true (sym shut ∙ is))
+unmarked : (lines : List Line) (g : Graph) → g.known ≡ Nothing → AreMarks g.known lines g.marks
+unmarked lines g known = subst (λ k. AreMarks k lines g.marks) (sym known) tt
 
-pub graph_put : (lines : List Line) (line : Line) (source new old : ℕ) (g h : Graph) → source < length (edges_of g.references) → IsPutLine lines source new old line → Puts g.references h.references source new old → h.slots ≡ g.slots → h.is_marked ≡ false → IsGraphOf lines g → IsGraphOf (lines ++ line ∷ []) h
+pub graph_put : (lines : List Line) (line : Line) (source new old : ℕ) (g h : Graph) → source < length (edges_of g.references) → IsPutLine lines source new old line → Puts g.references h.references source new old → h.slots ≡ g.slots → h.known ≡ Nothing → IsGraphOf lines g → IsGraphOf (lines ++ line ∷ []) h
 graph_put lines line source new old g h within put puts slots marked is =
     record {
       size = ap (λ (s : Slots). length s.taken.items) slots ∙ size_same lines line (slots_of g) heap is.size;
@@ -374,13 +377,13 @@ graph_put lines line source new old g h within put puts slots marked is =
           (subst (λ (n : ℕ). Puts g.references h.references n (number 2 line) (number 3 line)) (sym put.source-is) (subst (λ (n : ℕ). Puts g.references h.references source n (number 3 line)) (sym put.new-is) (subst (λ (n : ℕ). Puts g.references h.references source new n) (sym put.old-is) puts)));
       taken = λ slot lt. ap (λ (s : Slots). get_or s.taken.items slot false) slots ∙ is.taken slot (subst (λ (s : Slots). slot < length s.taken.items) slots lt) ∙ sym (taken_same lines line slot (ap is_born put.kind) (ap is_sweep put.kind));
       named = ap (λ (s : Slots). s.named.items) slots ∙ is.named ∙ sym (named_same lines line (ap is_epoch put.kind) (ap (λ k. named_by k line.numbers) put.kind));
-      marks = unmarked h.is_marked marked;
+      marks = unmarked (lines ++ line ∷ []) h marked;
     }
   where
     heap : is_heap line.kind ≡ false
     heap = ap is_heap put.kind
 
-pub graph_born : (lines : List Line) (line : Line) (slot : ℕ) (g h : Graph) → IsBornLine slot line → h.references ≡ g.references → h.slots.taken.items ≡ set g.slots.taken.items slot true → h.slots.named.items ≡ g.slots.named.items ++ slot ∷ [] → h.is_marked ≡ false → IsGraphOf lines g → IsGraphOf (lines ++ line ∷ []) h
+pub graph_born : (lines : List Line) (line : Line) (slot : ℕ) (g h : Graph) → IsBornLine slot line → h.references ≡ g.references → h.slots.taken.items ≡ set g.slots.taken.items slot true → h.slots.named.items ≡ g.slots.named.items ++ slot ∷ [] → h.known ≡ Nothing → IsGraphOf lines g → IsGraphOf (lines ++ line ∷ []) h
 graph_born lines line slot g h born references taken named marked is =
     record {
       size = size ∙ size_same lines line (slots_of g) (ap is_heap born.kind) is.size;
@@ -392,33 +395,23 @@ graph_born lines line slot g h born references taken named marked is =
           ∙ ap (λ (k : ℕ). cond (k == other) true (is_taken lines other)) (sym born.slot-is)
           ∙ sym (taken_born lines line other born.kind);
       named = named ∙ ap (λ (t : List ℕ). t ++ slot ∷ []) is.named ∙ ap (λ (k : ℕ). named_in lines ++ k ∷ []) (sym born.slot-is) ∙ sym (named_more lines line (ap is_epoch born.kind) ∙ ap (λ k. named_in lines ++ named_by k line.numbers) born.kind);
-      marks = unmarked h.is_marked marked;
+      marks = unmarked (lines ++ line ∷ []) h marked;
     }
   where
     size : slots_of h ≡ slots_of g
     size = ap (length {A = Bool}) taken ∙ length-set g.slots.taken.items slot true
 
-pub graph_snap : (lines : List Line) (line : Line) (registers : List ℕ) (g h : Graph) → IsSnapLine registers line → h.references ≡ g.references → h.slots.taken ≡ g.slots.taken → h.slots.named.items ≡ g.slots.named.items ++ held registers → h.is_marked ≡ false → IsGraphOf lines g → IsGraphOf (lines ++ line ∷ []) h
+pub graph_snap : (lines : List Line) (line : Line) (registers : List ℕ) (g h : Graph) → IsSnapLine registers line → h.references ≡ g.references → h.slots.taken ≡ g.slots.taken → h.slots.named.items ≡ g.slots.named.items ++ held registers → h.known ≡ Nothing → IsGraphOf lines g → IsGraphOf (lines ++ line ∷ []) h
 graph_snap lines line registers g h snap references taken named marked is =
     record {
       size = ap (λ v. length v.items) taken ∙ size_same lines line (slots_of g) (ap is_heap snap.kind) is.size;
       references = references_same lines line h.references (ap is_put snap.kind) (ap is_out snap.kind) (ap is_epoch snap.kind) (ap is_heap snap.kind) (subst (AreReferences lines) (sym references) is.references);
       taken = λ slot lt. ap (λ v. get_or v.items slot false) taken ∙ is.taken slot (subst (λ v. slot < length v.items) taken lt) ∙ sym (taken_same lines line slot (ap is_born snap.kind) (ap is_sweep snap.kind));
       named = named ∙ ap (λ (t : List ℕ). t ++ held registers) is.named ∙ ap (λ (t : List ℕ). named_in lines ++ held t) (sym snap.held) ∙ sym (named_more lines line (ap is_epoch snap.kind) ∙ ap (λ k. named_in lines ++ named_by k line.numbers) snap.kind);
-      marks = unmarked h.is_marked marked;
+      marks = unmarked (lines ++ line ∷ []) h marked;
     }
 
-pub graph_out : (lines : List Line) (line : Line) (word : ℕ) (g h : Graph) → IsOutLine word line → TakesOut g.references h.references word → h.slots ≡ g.slots → h.is_marked ≡ false → IsGraphOf lines g → IsGraphOf (lines ++ line ∷ []) h
-graph_out lines line word g h out more slots marked is =
-    record {
-      size = ap (λ (s : Slots). length s.taken.items) slots ∙ size_same lines line (slots_of g) (ap is_heap out.kind) is.size;
-      references = references_out lines line g.references h.references (ap is_put out.kind) (ap is_out out.kind) (ap is_epoch out.kind) (ap is_heap out.kind) is.references (subst (λ (w : ℕ). TakesOut g.references h.references w) (sym out.word-is) more);
-      taken = λ slot lt. ap (λ (s : Slots). get_or s.taken.items slot false) slots ∙ is.taken slot (subst (λ (s : Slots). slot < length s.taken.items) slots lt) ∙ sym (taken_same lines line slot (ap is_born out.kind) (ap is_sweep out.kind));
-      named = ap (λ (s : Slots). s.named.items) slots ∙ is.named ∙ sym (named_same lines line (ap is_epoch out.kind) (ap (λ k. named_by k line.numbers) out.kind));
-      marks = unmarked h.is_marked marked;
-    }
-
-pub graph_sweep : (lines : List Line) (line : Line) (slot : ℕ) (g h : Graph) → IsSweepLine slot line → h.references ≡ g.references → h.slots.taken.items ≡ set g.slots.taken.items slot false → h.slots.named ≡ g.slots.named → h.is_marked ≡ false → IsGraphOf lines g → IsGraphOf (lines ++ line ∷ []) h
+pub graph_sweep : (lines : List Line) (line : Line) (slot : ℕ) (g h : Graph) → IsSweepLine slot line → h.references ≡ g.references → h.slots.taken.items ≡ set g.slots.taken.items slot false → h.slots.named ≡ g.slots.named → h.known ≡ Nothing → IsGraphOf lines g → IsGraphOf (lines ++ line ∷ []) h
 graph_sweep lines line slot g h sweep references taken named marked is =
     record {
       size = size ∙ size_same lines line (slots_of g) (ap is_heap sweep.kind) is.size;
@@ -430,20 +423,20 @@ graph_sweep lines line slot g h sweep references taken named marked is =
           ∙ ap (λ (k : ℕ). cond (k == other) false (is_taken lines other)) (sym sweep.slot-is)
           ∙ sym (taken_sweep lines line other sweep.kind);
       named = ap (λ v. v.items) named ∙ is.named ∙ sym (named_same lines line (ap is_epoch sweep.kind) (ap (λ k. named_by k line.numbers) sweep.kind));
-      marks = unmarked h.is_marked marked;
+      marks = unmarked (lines ++ line ∷ []) h marked;
     }
   where
     size : slots_of h ≡ slots_of g
     size = ap (length {A = Bool}) taken ∙ length-set g.slots.taken.items slot false
 
-pub graph_epoch : (lines : List Line) (line : Line) (g h : Graph) → IsEpochLine line → EndsBlock g.references h.references → h.slots.taken ≡ g.slots.taken → h.slots.named.items ≡ [] → h.is_marked ≡ false → IsGraphOf lines g → IsGraphOf (lines ++ line ∷ []) h
+pub graph_epoch : (lines : List Line) (line : Line) (g h : Graph) → IsEpochLine line → EndsBlock g.references h.references → h.slots.taken ≡ g.slots.taken → h.slots.named.items ≡ [] → h.known ≡ Nothing → IsGraphOf lines g → IsGraphOf (lines ++ line ∷ []) h
 graph_epoch lines line g h epoch more taken named marked is =
     record {
       size = ap (λ v. length v.items) taken ∙ size_same lines line (slots_of g) (ap is_heap epoch) is.size;
       references = references_epoch lines line g.references h.references (ap is_put epoch) (ap is_out epoch) (ap is_epoch epoch) (ap is_heap epoch) is.references more;
       taken = λ slot lt. ap (λ v. get_or v.items slot false) taken ∙ is.taken slot (subst (λ v. slot < length v.items) taken lt) ∙ sym (taken_same lines line slot (ap is_born epoch) (ap is_sweep epoch));
       named = named ∙ sym (ap (flat_map (λ (l : Line). named_by l.kind l.numbers)) (this_new lines line (ap is_epoch epoch)));
-      marks = unmarked h.is_marked marked;
+      marks = unmarked (lines ++ line ∷ []) h marked;
     }
 
 -- ---- what is reached
@@ -507,11 +500,15 @@ quiet_line line kind is a b c d e f g =
       named = ap (λ k. named_by k line.numbers) is ∙ g;
     }
 
+-- roots stay where a line tells nothing of blocks, of the heap and of slots
+roots_same : (lines : List Line) (line : Line) → is_epoch line.kind ≡ false → is_heap line.kind ≡ false → is_born line.kind ≡ false → is_sweep line.kind ≡ false → named_by line.kind line.numbers ≡ [] → roots (lines ++ line ∷ []) ≡ roots lines
+roots_same lines line epoch heap born sweep named =
+    ap (λ t. t ++ filter (λ slot. not (is_taken (lines ++ line ∷ []) slot)) (range_with_len 0 (heap_of (lines ++ line ∷ [])).slots)) (named_same lines line epoch named)
+    ∙ ap (λ h. named_in lines ++ filter (λ slot. not (is_taken (lines ++ line ∷ []) slot)) (range_with_len 0 h.slots)) (heap_same lines line heap)
+    ∙ ap (λ t. named_in lines ++ t) (filter_alike (λ slot. not (is_taken (lines ++ line ∷ []) slot)) (λ slot. not (is_taken lines slot)) (λ slot. ap not (taken_same lines line slot born sweep)) (range_with_len 0 (heap_of lines).slots))
+
 roots_quiet : (lines : List Line) (line : Line) → IsQuiet line → roots (lines ++ line ∷ []) ≡ roots lines
-roots_quiet lines line quiet =
-    ap (λ t. t ++ filter (λ slot. not (is_taken (lines ++ line ∷ []) slot)) (range_with_len 0 (heap_of (lines ++ line ∷ [])).slots)) (named_same lines line quiet.epoch quiet.named)
-    ∙ ap (λ h. named_in lines ++ filter (λ slot. not (is_taken (lines ++ line ∷ []) slot)) (range_with_len 0 h.slots)) (heap_same lines line quiet.heap)
-    ∙ ap (λ t. named_in lines ++ t) (filter_alike (λ slot. not (is_taken (lines ++ line ∷ []) slot)) (λ slot. not (is_taken lines slot)) (λ slot. ap not (taken_same lines line slot quiet.born quiet.sweep)) (range_with_len 0 (heap_of lines).slots))
+roots_quiet lines line quiet = roots_same lines line quiet.epoch quiet.heap quiet.born quiet.sweep quiet.named
 
 targets_quiet : (lines : List Line) (line : Line) → IsQuiet line → (slot : ℕ) → targets (lines ++ line ∷ []) slot ≡ targets lines slot
 targets_quiet lines line quiet slot =
@@ -533,8 +530,62 @@ graph_quiet lines line g quiet is =
       references = references_same lines line g.references quiet.put quiet.out quiet.epoch quiet.heap is.references;
       taken = λ slot lt. is.taken slot lt ∙ sym (taken_same lines line slot quiet.born quiet.sweep);
       named = is.named ∙ sym (named_same lines line quiet.epoch quiet.named);
-      marks = λ marked slot. (λ there. (reached_quiet lines line quiet slot).0 ((is.marks marked slot).0 there), λ reached. (is.marks marked slot).1 ((reached_quiet lines line quiet slot).1 reached));
+      marks = kept g.known is.marks;
     }
+  where
+    kept : (k : Known) → AreMarks k lines g.marks → AreMarks k (lines ++ line ∷ []) g.marks
+    kept Nothing are = tt
+    kept AtLeast are = λ slot reached. are slot ((reached_quiet lines line quiet slot).1 reached)
+    kept Exactly are = λ slot. (λ there. (reached_quiet lines line quiet slot).0 ((are slot).0 there), λ reached. (are slot).1 ((reached_quiet lines line quiet slot).1 reached))
+
+-- where fewer references count, less is reached
+reached_less : (rs ss : List ℕ) (c d : ℕ → List ℕ) → rs ≡ ss → ((m n : ℕ) → is_in n (c m) ≡ true → is_in n (d m) ≡ true) → (n : ℕ) → IsReached rs c n → IsReached ss d n
+reached_less rs ss c d roots-are fewer k (root n there) = root n (ap (is_in n) (sym roots-are) ∙ there)
+reached_less rs ss c d roots-are fewer k (child m n from there) = child m n (reached_less rs ss c d roots-are fewer m from) (fewer m n there)
+
+-- where more words are dead, fewer references are left
+fewer_left : (d e : ℕ → Bool) → ((word : ℕ) → d word ≡ true → e word ≡ true) → (n : ℕ) (es : List Edge) → is_in n (map to (without e es)) ≡ true → is_in n (map to (without d es)) ≡ true
+fewer_left d e wider n [] there = there
+fewer_left d e wider n (x ∷ xs) there = at (fewer_left d e wider n xs) (d x.word) refl (e x.word) refl there
+  where
+    at : (is_in n (map to (without e xs)) ≡ true → is_in n (map to (without d xs)) ≡ true) → (a : Bool) → d x.word ≡ a → (b : Bool) → e x.word ≡ b → is_in n (map to (cond (not b) (x ∷ without e xs) (without e xs))) ≡ true → is_in n (map to (cond (not a) (x ∷ without d xs) (without d xs))) ≡ true
+    at more true p true q h = more h
+    at more true p false q h = absurd (false≢true (sym q ∙ wider x.word p))
+    at more false p true q h = ap (λ b. (x.to == n) || b) (more h) ∙ or-true (x.to == n)
+    at more false p false q h =
+        elim (or_cases (x.to == n) (is_in n (map to (without e xs))) h) [
+          inl here ↦ ap (λ b. b || is_in n (map to (without d xs))) here
+        | inr there ↦ ap (λ b. (x.to == n) || b) (more there) ∙ or-true (x.to == n)
+        ]
+
+-- a word that is taken out takes nothing into reach
+reached_out : (lines : List Line) (line : Line) → line.kind ≡ Out → (slot : ℕ) → IsReachedAt (lines ++ line ∷ []) slot → IsReachedAt lines slot
+reached_out lines line kind =
+    reached_less (roots (lines ++ line ∷ [])) (roots lines) (targets (lines ++ line ∷ [])) (targets lines)
+    (roots_same lines line (ap is_epoch kind) (ap is_heap kind) (ap is_born kind) (ap is_sweep kind) (ap (λ k. named_by k line.numbers) kind))
+    (λ m n there.
+        ap (is_in n) (targets_are lines m)
+        ∙ fewer_left (is_dead lines) (is_dead (lines ++ line ∷ [])) (λ w dead. dead_out lines line w (ap is_out kind) (ap is_epoch kind) ∙ ap (λ b. b || (number 1 line == w)) dead) n (opened_from lines m)
+        (ap (λ es. is_in n (map to (without (is_dead (lines ++ line ∷ [])) es))) (sym (from_none lines line m (ap is_heap kind) (ap (λ k. (is_put k && has_target (number 2 line)) && (number 1 line / (heap_of lines).fields == m)) kind)))
+        ∙ ap (is_in n) (sym (targets_are (lines ++ line ∷ []) m))
+        ∙ there))
+
+pub graph_out : (lines : List Line) (line : Line) (word : ℕ) (g h : Graph) → IsOutLine word line → TakesOut g.references h.references word → h.slots ≡ g.slots → h.marks ≡ g.marks → h.known ≡ without_reference g.known → IsGraphOf lines g → IsGraphOf (lines ++ line ∷ []) h
+graph_out lines line word g h out more slots marks known is =
+    record {
+      size = ap (λ (s : Slots). length s.taken.items) slots ∙ size_same lines line (slots_of g) (ap is_heap out.kind) is.size;
+      references = references_out lines line g.references h.references (ap is_put out.kind) (ap is_out out.kind) (ap is_epoch out.kind) (ap is_heap out.kind) is.references (subst (λ (w : ℕ). TakesOut g.references h.references w) (sym out.word-is) more);
+      taken = λ slot lt. ap (λ (s : Slots). get_or s.taken.items slot false) slots ∙ is.taken slot (subst (λ (s : Slots). slot < length s.taken.items) slots lt) ∙ sym (taken_same lines line slot (ap is_born out.kind) (ap is_sweep out.kind));
+      named = ap (λ (s : Slots). s.named.items) slots ∙ is.named ∙ sym (named_same lines line (ap is_epoch out.kind) (ap (λ k. named_by k line.numbers) out.kind));
+      marks = subst (λ k. AreMarks k (lines ++ line ∷ []) h.marks) (sym known) (subst (λ m. AreMarks (without_reference g.known) (lines ++ line ∷ []) m) (sym marks) (kept g.known is.marks));
+    }
+  where
+    kept : (k : Known) → AreMarks k lines g.marks → AreMarks (without_reference k) (lines ++ line ∷ []) g.marks
+    kept Nothing are = tt
+    kept AtLeast are = λ slot reached. are slot (reached_out lines line out.kind slot reached)
+    kept Exactly are = λ slot reached. (are slot).1 (reached_out lines line out.kind slot reached)
+
+
 
 -- the reach, by the slots that were marked first and the references that were followed
 pub reached_by : (lines : List Line) (r : References) (order named : List ℕ) (taken : List Bool) → AreReferences lines r → (edges : List (List Edge)) → edges ≡ map (without (contains nat_eq r.dead)) (edges_of r)
@@ -578,7 +629,7 @@ reached_by lines r order named taken are edges edges-are size taken-is named-is 
 pub empty_at : (n slot : ℕ) → edges_at (replicate n []) slot ≡ []
 empty_at n slot = ⊎_elim (λ lt. get_or-replicate n slot [] [] lt) (λ past. get_or_past (replicate n []) slot [] (omega (arith, length-replicate {A = List Edge} n []))) (cases_lt slot n)
 
-pub graph_none : (lines : List Line) (slots : ℕ) (g : Graph) → HasNoReferences slots g.references → length g.slots.taken.items ≡ slots → ((k : ℕ) → k < slots → get_or g.slots.taken.items k false ≡ (k == 0)) → g.slots.named.items ≡ [] → g.is_marked ≡ false → TellNothing lines slots → IsGraphOf lines g
+pub graph_none : (lines : List Line) (slots : ℕ) (g : Graph) → HasNoReferences slots g.references → length g.slots.taken.items ≡ slots → ((k : ℕ) → k < slots → get_or g.slots.taken.items k false ≡ (k == 0)) → g.slots.named.items ≡ [] → g.known ≡ Nothing → TellNothing lines slots → IsGraphOf lines g
 graph_none lines slots g none size taken named marked tell =
     record {
       size = size ∙ sym tell.size;
@@ -590,7 +641,7 @@ graph_none lines slots g none size taken named marked tell =
       };
       taken = λ slot lt. taken slot (subst (λ (n : ℕ). slot < n) size lt) ∙ sym (tell.taken slot);
       named = named ∙ sym tell.named;
-      marks = unmarked g.is_marked marked;
+      marks = unmarked lines g marked;
     }
 
 pub told_none : TellNothing [] 0
@@ -616,3 +667,16 @@ member_any p (x ∷ xs) m there is =
       | inl same ↦ ap (λ b. b || list_any p xs) (ap p same ∙ is)
       | inr more ↦ ap (λ b. p x || b) (member_any p xs m more is) ∙ or-true (p x)
     ]
+
+-- ---- what marks say
+
+pub marked_now : (lines : List Line) (g : Graph) → g.known ≡ Exactly → IsGraphOf lines g → (slot : ℕ) → (is_in slot g.marks.order.items ≡ true → IsReachedAt lines slot) × (IsReachedAt lines slot → is_in slot g.marks.order.items ≡ true)
+marked_now lines g known is = subst (λ k. AreMarks k lines g.marks) known is.marks
+
+pub marked_before : (lines : List Line) (g : Graph) → (g.known ≡ Nothing → ⊥) → IsGraphOf lines g → (slot : ℕ) → IsReachedAt lines slot → is_in slot g.marks.order.items ≡ true
+marked_before lines g some is slot reached = at g.known refl is.marks
+  where
+    at : (k : Known) → g.known ≡ k → AreMarks k lines g.marks → is_in slot g.marks.order.items ≡ true
+    at Nothing e are = absurd (some e)
+    at AtLeast e are = are slot reached
+    at Exactly e are = (are slot).1 reached

@@ -10,6 +10,7 @@ use Rattle.rec_audit.specs.declared.graph.Graph.{Graph}
 use Rattle.rec_audit.specs.Lines.{Line}
 use Rattle.rec_audit.specs.Form.{number, heap_of}
 use Rattle.rec_audit.specs.Graph.{IsReachedAt, is_dead, is_opened, is_put, is_taken, named_by, opens_from, this_block}
+use Rattle.rec_audit.specs.Marked.{AreMarks}
 use Rattle.rec_audit.specs.States.{IsMarking, edge_of, edges_at, edges_of, without}
 use Rattle.rec_audit.specs.Walks.{AreWithin}
 
@@ -50,7 +51,7 @@ pub record IsGraphOf (lines : List Line) (g : Graph) : Type 0 where
   pub references : AreReferences lines g.references
   pub taken : (slot : ℕ) → slot < slots_of g → slice_index_or g.slots.taken.items slot false ≡ is_taken lines slot
   pub named : g.slots.named.items ≡ named_in lines
-  pub marks : g.is_marked ≡ true → (slot : ℕ) → is_in slot g.marks.order.items ≡ true ↔ IsReachedAt lines slot
+  pub marks : AreMarks g.known lines g.marks
 
 -- ---- lines
 

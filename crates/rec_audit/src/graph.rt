@@ -5,6 +5,7 @@ ghost use Rattle.std.specs.List.{list_any};
 ghost use Rattle.rec_word.specs.Word.{target_bits};
 ghost use Rattle.rec_audit.specs.Lines.{Line};
 ghost use Rattle.rec_audit.specs.Graph.{HasReached, is_opened};
+ghost use Rattle.rec_audit.specs.Marked.{without_reference};
 ghost use Rattle.rec_audit.specs.Graphs.{IsGraphOf, IsPutLine, IsBornLine, IsSnapLine, IsOutLine, IsSweepLine, IsEpochLine, IsSized, TellNothing, slots_of};
 
 use crate::reach::Marks;
@@ -12,14 +13,36 @@ use crate::references::References;
 use crate::slots::Slots;
 use std::alloc::{AllocError, Global};
 
+/// What the marks of a graph say of what is reached.
+#[derive(Clone, Copy, PartialEq, Eq)]
+pub enum Known {
+    /// Nothing.
+    Nothing,
+    /// It is marked, and maybe more is: a reference went since.
+    AtLeast,
+    /// Just that is marked.
+    Exactly,
+}
+
+impl Known {
+    /// What they say where a reference went.
+    fn without_reference(self) -> Known
+        ensures { result ≡ without_reference self }
+    {
+        match self {
+            Known::Nothing => Known::Nothing,
+            Known::AtLeast | Known::Exactly => Known::AtLeast,
+        }
+    }
+}
+
 /// The graph of a journal behind some of its lines.
 #[derive(Drop)]
 pub struct Graph {
     pub references: References,
     pub slots: Slots,
-    /// What is reached, where this is known.
     pub marks: Marks,
-    pub is_marked: bool,
+    pub known: Known,
 }
 
 impl Graph {
@@ -33,7 +56,7 @@ impl Graph {
             references: References::open(alloc, slots)?,
             slots: Slots::open(alloc, slots)?,
             marks: Marks::open(alloc, slots)?,
-            is_marked: false,
+            known: Known::Nothing,
         })
     }
 
@@ -53,7 +76,7 @@ impl Graph {
         ensures size { OnOk result (slots_of self.new ≡ slots_of self.old) }
         ensures graph { OnOk result ((lines : List Line) (line : Line) → IsGraphOf lines self.old → IsPutLine lines source new old line → IsGraphOf (lines ++ line ∷ []) self.new) }
     {
-        self.is_marked = false;
+        self.known = Known::Nothing;
         self.references.put(source as usize, new, old)?;
         Ok(())
     }
@@ -66,7 +89,7 @@ impl Graph {
         ensures size { OnOk result (slots_of self.new ≡ slots_of self.old) }
         ensures graph { OnOk result ((lines : List Line) (line : Line) → IsGraphOf lines self.old → IsBornLine slot line → IsGraphOf (lines ++ line ∷ []) self.new) }
     {
-        self.is_marked = false;
+        self.known = Known::Nothing;
         self.slots.bear(slot)?;
         Ok(())
     }
@@ -79,7 +102,7 @@ impl Graph {
         ensures size { OnOk result (slots_of self.new ≡ slots_of self.old) }
         ensures graph { OnOk result ((lines : List Line) (line : Line) → IsGraphOf lines self.old → IsSnapLine registers.now line → IsGraphOf (lines ++ line ∷ []) self.new) }
     {
-        self.is_marked = false;
+        self.known = Known::Nothing;
         self.slots.hold(registers)?;
         Ok(())
     }
@@ -91,7 +114,7 @@ impl Graph {
         ensures size { OnOk result (slots_of self.new ≡ slots_of self.old) }
         ensures graph { OnOk result ((lines : List Line) (line : Line) → IsGraphOf lines self.old → IsOutLine word line → IsGraphOf (lines ++ line ∷ []) self.new) }
     {
-        self.is_marked = false;
+        self.known = self.known.without_reference();
         self.references.take_out(word)?;
         Ok(())
     }
@@ -104,7 +127,7 @@ impl Graph {
         ensures size { slots_of self.new ≡ slots_of self.old }
         ensures graph { (lines : List Line) (line : Line) → IsGraphOf lines self.old → IsSweepLine slot line → IsGraphOf (lines ++ line ∷ []) self.new }
     {
-        self.is_marked = false;
+        self.known = Known::Nothing;
         self.slots.sweep(slot);
     }
 
@@ -115,7 +138,7 @@ impl Graph {
         ensures size { OnOk result (slots_of self.new ≡ slots_of self.old) }
         ensures graph { OnOk result ((lines : List Line) (line : Line) → IsGraphOf lines self.old → IsEpochLine line → IsGraphOf (lines ++ line ∷ []) self.new) }
     {
-        self.is_marked = false;
+        self.known = Known::Nothing;
         self.slots.begin_block();
         self.references.end_block()?;
         Ok(())
@@ -127,9 +150,9 @@ impl Graph {
         ensures sized { OnOk result (IsSized self.new) }
         ensures size { OnOk result (slots_of self.new ≡ slots_of self.old) }
         ensures graph { OnOk result ((lines : List Line) → IsGraphOf lines self.old → IsGraphOf lines self.new) }
-        ensures marked { OnOk result (self.new.is_marked ≡ true) }
+        ensures known { OnOk result (self.new.known ≡ Known.Exactly) }
     {
-        if self.is_marked {
+        if self.known == Known::Exactly {
             return Ok(());
         }
         self.references.prune();
@@ -140,7 +163,7 @@ impl Graph {
         self.marks.mark_each(named)?;
         let edges = self.references.edges.as_slice();
         self.marks.follow(edges)?;
-        self.is_marked = true;
+        self.known = Known::Exactly;
         Ok(())
     }
 
@@ -158,6 +181,18 @@ impl Graph {
         false
     }
 
+    /// It is known that none of some slots is reached: what was marked before references went is enough for that.
+    fn knows_apart(&self, slots: &[u64]) -> bool
+        requires sized { IsSized self.now }
+        requires within { All (λ slot. slot < slots_of self.now) slots.now }
+        ensures { result ≡ true → (lines : List Line) → IsGraphOf lines self.now → ¬ HasReached lines slots.now }
+    {
+        match self.known {
+            Known::Nothing => false,
+            _ => !self.has_marked(slots),
+        }
+    }
+
     /// One of some slots is reached.
     pub fn reaches(&mut self, slots: &[u64]) -> Result<bool, AllocError>
         requires sized { IsSized self.old }
@@ -168,6 +203,9 @@ impl Graph {
         ensures reached { IfOk result (λ found. (lines : List Line) → IsGraphOf lines self.old → found ≡ true → HasReached lines slots.now) }
         ensures unreached { IfOk result (λ found. (lines : List Line) → IsGraphOf lines self.old → found ≡ false → ¬ HasReached lines slots.now) }
     {
+        if self.knows_apart(slots) {
+            return Ok(false);
+        }
         self.mark_reach()?;
         let found = self.has_marked(slots);
         Ok(found)

@@ -7,7 +7,7 @@
 //!
 //! `RoomTube` is a tube in memory. `RingTube` stands over the producer of a wait-free ring of `rtrb`, and a `Listener` over its
 //! consumer hears what was sent, in order; `notices` makes both ends. Whoever holds both asks by `together` how many labels wait.
-//! What the ends promise of each other is what `rtrb` promises of its own; that one sees the other's work in time is tested.
+//! What the ends promise of each other is what `rtrb` promises of its own. No clause says that one sees the other's work in time.
 //!
 //! The rule is this project's own; the papers on the Recycler have no notices.
 #![tactic(auto)]

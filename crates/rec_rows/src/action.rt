@@ -14,6 +14,10 @@ pub enum Action {
     Offer,
     /// The heap is settled. Where `live` is set, only how many objects are left is told.
     Settle { live: bool },
+    /// The heap is settled, and its image is told.
+    Write,
+    /// An image is read, for which no heap is needed.
+    Read,
     /// The heap is taken apart, and put together again.
     Apart(Piece),
     /// The heap is traced, and a frontier is cut into so many pieces at most.
@@ -153,6 +157,8 @@ pub enum Message {
     NoScript,
     /// There is no memory for a script.
     NoMemoryForScript,
+    /// There is no memory for an image.
+    NoMemoryForImage,
 }
 
 impl Action {

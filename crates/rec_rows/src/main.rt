@@ -8,6 +8,7 @@
 mod action;
 mod fact;
 mod failure;
+mod imaging;
 mod mutating;
 mod playing;
 mod reading;

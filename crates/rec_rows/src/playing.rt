@@ -3,6 +3,7 @@
 use crate::action::{Action, Piece};
 use crate::fact::shown;
 use crate::failure::{Failure, check};
+use crate::imaging::{read_back, written};
 use crate::mutating::done;
 use crate::reading::{Opening, Row, Step};
 use crate::running::run;
@@ -94,7 +95,7 @@ fn go_on<R: Threads + Sync>(
 ) -> (World, Result<(), Failure>) {
     for step in steps {
         let told;
-        (world, told) = make(rt, alloc, world, step.action);
+        (world, told) = make(rt, alloc, world, step);
         if let Err(failure) = check_told(alloc, step, told) {
             return (world, Err(failure));
         }
@@ -116,12 +117,12 @@ fn make<R: Threads + Sync>(
     rt: &R,
     alloc: Global,
     mut world: World,
-    action: Action,
+    step: &Step<'_>,
 ) -> (World, Result<String, NoMemory>) {
-    if let Action::Apart(piece) = action {
+    if let Action::Apart(piece) = step.action {
         return take_apart(alloc, world, piece);
     }
-    let told = happen(rt, alloc, &mut world, action);
+    let told = happen(rt, alloc, &mut world, step);
     (world, told)
 }
 
@@ -137,13 +138,15 @@ fn happen<R: Threads + Sync>(
     rt: &R,
     alloc: Global,
     world: &mut World,
-    action: Action,
+    step: &Step<'_>,
 ) -> Result<String, NoMemory> {
-    match action {
+    match step.action {
         Action::Mutator { mutator, deed } => done(alloc, world, mutator, deed),
         Action::Collector(asked) => turns(alloc, world, asked),
         Action::Settle { live } => settled(alloc, world, live),
         Action::Trace(pieces) => traced(rt, alloc, world, pieces),
+        Action::Write => written(alloc, world),
+        Action::Read => read_back(alloc, step.asked),
         Action::Show(fact) => shown(alloc, world, fact),
         Action::Say(asked) => message(alloc, asked),
         Action::Offer => {

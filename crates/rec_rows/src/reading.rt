@@ -31,6 +31,8 @@ pub struct Opening<'a> {
 pub struct Step<'a> {
     pub line: u32,
     pub action: Action,
+    /// The line without what is to be told.
+    pub asked: &'a str,
     pub told: &'a str,
 }
 
@@ -177,6 +179,7 @@ impl<'a> Draft<'a> {
         self.steps.push(Step {
             line,
             action: Action::TurnOver,
+            asked: "",
             told: "",
         })?;
         Ok(())
@@ -212,7 +215,12 @@ impl<'a> Draft<'a> {
         if self.runs && !action.may_run() {
             return Err(Wrong::Running);
         }
-        self.steps.push(Step { line, action, told })?;
+        self.steps.push(Step {
+            line,
+            action,
+            asked,
+            told,
+        })?;
         Ok(())
     }
 }

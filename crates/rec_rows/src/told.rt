@@ -1,6 +1,7 @@
 //! What is told, in words.
 
 use crate::action::Message;
+use rec_image::ImageError;
 use rec_model::{Answer, Told};
 use rec_mutator::Made;
 use rec_script::{Kind, ScriptError};
@@ -100,6 +101,7 @@ pub fn message(alloc: Global, message: Message) -> Result<String, NoMemory> {
         Message::NoMemoryToOpen => refusal(alloc, &OpenError::NoMemory),
         Message::NoScript => format!(in alloc; "{bad}"),
         Message::NoMemoryForScript => format!(in alloc; "{}", ScriptError::NoMemory),
+        Message::NoMemoryForImage => format!(in alloc; "{}", ImageError::NoMemory),
     }
 }
 

@@ -29,6 +29,8 @@ fn collecting(line: &[&str], first: &str, rest: &[&str]) -> Result<Action, Wrong
         "says" => Ok(Action::Say(message(rest)?)),
         "trace" => Ok(Action::Trace(pieces(rest)?)),
         "offer" | "settle" => settling(line),
+        "image" if rest.is_empty() => Ok(Action::Write),
+        "reads" => Ok(Action::Read),
         _ => Ok(Action::Show(fact(line)?)),
     }
 }
@@ -223,6 +225,7 @@ fn message(line: &[&str]) -> Result<Message, Wrong> {
         ["open", "memory"] => Ok(Message::NoMemoryToOpen),
         ["script", "bad"] => Ok(Message::NoScript),
         ["script", "memory"] => Ok(Message::NoMemoryForScript),
+        ["image", "memory"] => Ok(Message::NoMemoryForImage),
         _ => Err(Wrong::Unknown),
     }
 }

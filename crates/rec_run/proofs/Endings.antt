@@ -204,11 +204,22 @@ completes request (statuses.BadScript line kind) source sink ends bytes told tex
     let refused = ends.1 in
     absurd (refused_no_text refused.bytes line kind refused.refused (subst IsText (refused.read bytes told) text))
 
+-- something is said of every journal, unless a call fails or memory runs out
+pub audits : (status : Status) (source sink : Passage) → Ends requests.Audit status source sink → (Failed source → ⊥) → (Failed sink → ⊥)
+    → (status ≡ statuses.Done) ⊎ (status ≡ statuses.NoMemory)
+audits statuses.Done source sink ends no_read no_write = inl refl
+audits statuses.NoMemory source sink ends no_read no_write = inr refl
+audits statuses.Usage source sink ends no_read no_write = absurd ends
+audits statuses.ReadFault source sink ends no_read no_write = absurd (no_read ends.1)
+audits statuses.WriteFault source sink ends no_read no_write = absurd (no_write ends.0)
+audits (statuses.BadScript line kind) source sink ends no_read no_write = absurd ends.0
+
 -- what is answered is the text of a script
 answered_text : (request : Request) (rest left : Option (List ℕ)) (bytes text told : List ℕ) → ReadsScript request → HasRead request rest left bytes → IsAnswer request bytes text
     → rest ≡ Some told → IsText told
 answered_text (requests.Answer how) rest left bytes text told reads read answer is = subst IsText (sym (read.0 told is)) (answer.script, answer.short, answer.spelled)
 answered_text (requests.Make make) rest left bytes text told reads read answer is = absurd reads
+answered_text requests.Audit rest left bytes text told reads read answer is = absurd reads
 
 -- a text that is told and is no script's is refused with its line and kind, unless a read fails or memory runs out
 pub refuses : (request : Request) (status : Status) (source sink : Passage) → Ends request status source sink → ReadsScript request

@@ -8,3 +8,4 @@ pub mod Outcomes
 pub mod Requests
 pub mod Tails
 pub mod Turns
+pub mod Audits

@@ -33,6 +33,10 @@ threads = new_shape (codes "threads")
 abbrev pub make : Shape
 make = record (new_shape (codes "make")) { rules = option (codes "seed") ∷ option (codes "mutators") ∷ option (codes "commands") ∷ [] }
 
+-- the subcommand `audit`, which has no options
+abbrev pub audit : Shape
+audit = new_shape (codes "audit")
+
 -- a command without subcommands
 abbrev pub app_with : Shape → App
 app_with shape = record { top = shape; subs = [] }
@@ -49,7 +53,7 @@ recycler =
             disable_version_flag = true;
             subcommand_required = true;
           };
-      subs = play ∷ threads ∷ make ∷ [];
+      subs = play ∷ threads ∷ make ∷ audit ∷ [];
     }
 
 -- An option says a number up to this most: a plus or none, and then decimal digits. Where it isn't given it says its default.
@@ -82,6 +86,7 @@ AsksBy None request = ⊥
 AsksBy (Some (name, options)) (requests.Answer (hows.Play asked)) = (name ≡ codes "play") × AsksPlay options asked
 AsksBy (Some (name, options)) (requests.Answer hows.Threads) = name ≡ codes "threads"
 AsksBy (Some (name, options)) (requests.Make asked) = (name ≡ codes "make") × AsksMake options asked
+AsksBy (Some (name, options)) requests.Audit = name ≡ codes "audit"
 
 -- The command takes the words, the first of which is the program's name, and they ask for this.
 pub record Asks (words : List Text) (request : Request) : Type 0 where
@@ -97,11 +102,19 @@ HasFewTurns hows.Threads = ⊤
 abbrev pub IsInRange : Request → Type 0
 IsInRange (requests.Answer how) = HasFewTurns how
 IsInRange (requests.Make asked) = (1 ≤ asked.mutators) × (asked.mutators ≤ MOST_SCRIPT_MUTATORS) × (asked.commands ≤ MOST_COMMANDS)
+IsInRange requests.Audit = ⊤
 
 -- a request that a script is read for
 abbrev pub ReadsScript : Request → Type 0
 ReadsScript (requests.Answer how) = ⊤
 ReadsScript (requests.Make asked) = ⊥
+ReadsScript requests.Audit = ⊥
+
+-- a request that a source is read for
+abbrev pub ReadsSource : Request → Type 0
+ReadsSource (requests.Answer how) = ⊤
+ReadsSource (requests.Make asked) = ⊥
+ReadsSource requests.Audit = ⊤
 
 -- The command takes the words, and each number is in its range.
 abbrev pub IsCommandLine : List Text → Type 0
@@ -110,6 +123,14 @@ IsCommandLine words = (request : Request) × Asks words request
 -- The words are a command line that asks for what a script is read for.
 abbrev pub AsksToRead : List Text → Type 0
 AsksToRead words = (request : Request) × Asks words request × ReadsScript request
+
+-- The words are a command line that asks for what a source is read for.
+abbrev pub AsksForSource : List Text → Type 0
+AsksForSource words = (request : Request) × Asks words request × ReadsSource request
+
+-- The words are a command line that asks what is to be said of a journal.
+abbrev pub AsksToAudit : List Text → Type 0
+AsksToAudit words = Asks words requests.Audit
 
 -- The words are a command line that asks for a made script.
 abbrev pub AsksToMake : List Text → Type 0

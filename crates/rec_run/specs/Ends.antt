@@ -4,7 +4,7 @@ use Rattle.rec_io.specs.Faults.{Rose}
 use Rattle.rec_run.specs.declared.command_line.Request.{Request}
 use Rattle.rec_run.specs.declared.status.Status.{Status}
 use Rattle.rec_run.specs.declared.status.Status.TheVariants.{Done, Usage, BadScript, ReadFault, WriteFault, NoMemory}
-use Rattle.rec_run.specs.CommandLine.{AsksToRead, IsCommandLine, ReadsScript}
+use Rattle.rec_run.specs.CommandLine.{AsksForSource, AsksToRead, IsCommandLine, ReadsScript, ReadsSource}
 use Rattle.rec_run.specs.Headline.{WroteAnswer, WroteFront, ReadNoScript}
 
 -- What became of a source or a sink: the bytes that it tells of, and how many of its calls failed, before and after.
@@ -32,16 +32,16 @@ abbrev pub Ends : Request → Status → (source sink : Passage) → Type 0
 Ends request Done source sink = WroteAnswer request source.before source.after sink.before sink.after
 Ends request Usage source sink = ⊥
 Ends request (BadScript line kind) source sink = ReadsScript request × ReadNoScript source.before source.after line kind
-Ends request ReadFault source sink = ReadsScript request × Failed source
+Ends request ReadFault source sink = ReadsSource request × Failed source
 Ends request WriteFault source sink = Failed sink × WroteFront request source.before source.after sink.before sink.after
 Ends request NoMemory source sink = ⊤
 
 -- Why a run of these words ended so, where it isn't done and memory didn't run out. A made script is read from no source, so it is never
--- bad and no read of it fails.
+-- bad and no read of it fails; a journal is never bad, as there is something to say of every text.
 abbrev pub HasCause : (words : List (List ℕ)) → Status → (source sink : Passage) → Type 0
 HasCause words Usage source sink = ¬ IsCommandLine words
 HasCause words (BadScript line kind) source sink = AsksToRead words × ReadNoScript source.before source.after line kind
-HasCause words ReadFault source sink = AsksToRead words × Failed source
+HasCause words ReadFault source sink = AsksForSource words × Failed source
 HasCause words WriteFault source sink = Failed sink
 HasCause words Done source sink = ⊤
 HasCause words NoMemory source sink = ⊤

@@ -41,6 +41,9 @@ use Rattle.rec_script.specs.declared.error.Kind.{Kind}
 use Rattle.rec_script.specs.Made.{made_text}
 use Rattle.rec_report.specs.Summary.{summary_text}
 use Rattle.rec_report.specs.Text.{play_text, trace_line}
+use Rattle.rec_audit.specs.declared.verdict.Verdict.{Verdict}
+use Rattle.rec_audit.specs.Said.{verdict_text}
+use Rattle.rec_audit.specs.Verdicts.{IsVerdict}
 use Rattle.rec_run.specs.Whole.{IsAtEnd}
 
 -- The world is settled and these are its rows: just the slots that registers reach hold objects, a row for each, with its true count.
@@ -173,10 +176,17 @@ pub record AnswersTo (bytes : List ℕ) (how : How) (text : List ℕ) : Type 0 w
   pub spelled : Spells (lines bytes) script
   pub answered : Answers script how text
 
+-- The bytes are a journal's, or none's, and the text says what is to be said of them.
+pub record SaysVerdict (bytes text : List ℕ) : Type 0 where
+  pub verdict : Verdict
+  pub said : IsVerdict bytes verdict
+  pub written : text ≡ verdict_text verdict
+
 -- the answer of the bytes to a request; a made script is that of its seed, whatever the bytes
 abbrev pub IsAnswer : Request → (bytes text : List ℕ) → Type 0
 IsAnswer (requests.Answer how) bytes text = AnswersTo bytes how text
 IsAnswer (requests.Make asked) bytes text = text ≡ made_text asked.seed asked.mutators asked.commands
+IsAnswer requests.Audit bytes text = SaysVerdict bytes text
 
 -- the bytes are those told, where any are told
 abbrev pub Are : Option (List ℕ) → List ℕ → Type 0
@@ -194,10 +204,12 @@ pub record IsReadPast (rest : List ℕ) (left : Option (List ℕ)) : Type 0 wher
 abbrev pub IsReadOut : Option (List ℕ) → Option (List ℕ) → Type 0
 IsReadOut before after = ForSome before (λ rest. (after ≡ Some []) ⊎ IsReadPast rest after)
 
--- what a request reads of a source: all its bytes, and nothing for a made script
+-- what a request reads of a source: all its bytes, and nothing for a made script; a journal may be read past its limit, since of one
+-- that long one thing is said, whatever follows
 abbrev pub HasRead : Request → (rest left : Option (List ℕ)) → (bytes : List ℕ) → Type 0
 HasRead (requests.Answer how) rest left bytes = Are rest bytes × IsAtEnd rest left
 HasRead (requests.Make asked) rest left bytes = (left ≡ rest) × (bytes ≡ [])
+HasRead requests.Audit rest left bytes = Are rest bytes × IsReadOut rest left
 
 -- The bytes that the request reads were read, and the whole answer was written.
 pub record WroteAnswer (request : Request) (rest left before after : Option (List ℕ)) : Type 0 where

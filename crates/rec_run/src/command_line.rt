@@ -35,6 +35,8 @@ pub enum Request {
     Answer(How),
     /// Write a script.
     Make(Make),
+    /// Say what is to be said of the journal that is read.
+    Audit,
 }
 
 /// How a script is run.
@@ -117,7 +119,8 @@ fn command<'a>(alloc: Global) -> Result<Command<'a>, NoMemory>
         .subcommand_required(true)
         .subcommand(play)?
         .subcommand(Command::new(alloc, "threads"))?
-        .subcommand(make)
+        .subcommand(make)?
+        .subcommand(Command::new(alloc, "audit"))
 }
 
 // The subcommand that plays a script.
@@ -161,6 +164,7 @@ fn asked(matches: &ArgMatches) -> Option<Request>
         Some(("play", options)) => play_options(options).map(How::Play).map(Request::Answer),
         Some(("threads", _)) => Some(Request::Answer(How::Threads)),
         Some(("make", options)) => make_options(options).map(Request::Make),
+        Some(("audit", _)) => Some(Request::Audit),
         _ => None,
     }
 }

@@ -2,7 +2,8 @@
 //!
 //! `run` reads a script, carries out its commands on a heap, settles the heap, and writes what was told, the listing of
 //! the settled heap and the totals, or a summary of them. Where a trace is asked for, the heap is traced before it is settled, and a
-//! line behind the text tells of it. Asked to make a script, it writes one that is drawn from a seed.
+//! line behind the text tells of it. Asked to make a script, it writes one that is drawn from a seed; asked to audit, it writes what is
+//! to be said of a journal.
 //! The rule that it keeps: each printed answer is the one that a heap that never frees gives to the same commands in one
 //! order; an allocation is answered full only where no slot was free; and after settling just the objects that registers
 //! reach hold slots, listed with true counts. Leaving is answered `NotYet` only by a step that found the log that the

@@ -1,5 +1,5 @@
-//! The top call: from words, and the bytes of a script, to the bytes of an answer.
-ghost use Rattle.std.specs.Prelude.{◌≡◌, ◌≢◌, ◌⊎◌, ℕ, ◌≤◌, false, List, Option, Some, map, IfOk};
+//! The top call: from words, and the bytes of a script or a journal, to the bytes of an answer.
+ghost use Rattle.std.specs.Prelude.{◌≡◌, ◌≢◌, ◌⊎◌, ℕ, ◌≤◌, false, List, Option, Some, map, string_bytes, IfOk};
 ghost use Rattle.std.specs.List.{flat_map};
 ghost use Rattle.rec_model.specs.declared.limits.TheConstants.{MOST_COMMANDS, MOST_SCRIPT_MUTATORS};
 ghost use Rattle.rec_io.specs.Faults.{Rose};
@@ -7,9 +7,9 @@ ghost use Rattle.rec_io.specs.Source.{Passes};
 ghost use Rattle.rec_io.specs.Told.{KeepsTold};
 ghost use Rattle.rec_script.specs.Script.{IsText, IsRefused};
 ghost use Rattle.rec_script.specs.declared.error.Kind.{Kind};
-ghost use Rattle.rec_run.specs.CommandLine.{Asks, AsksToMake, AsksToRead, HasFewTurns, IsCommandLine, IsInRange, ReadsScript};
+ghost use Rattle.rec_run.specs.CommandLine.{Asks, AsksToAudit, AsksToMake, AsksToRead, HasFewTurns, IsCommandLine, IsInRange, ReadsSource};
 ghost use Rattle.rec_run.specs.Ends.{Ends, HasCause, passage, untouched};
-ghost use Rattle.rec_run.specs.Headline.{AnswersTo, WroteAnswer, WroteFront};
+ghost use Rattle.rec_run.specs.Headline.{AnswersTo, SaysVerdict, WroteAnswer, WroteFront};
 ghost use Rattle.rec_run.specs.Status.{may_write};
 ghost use Rattle.rec_run.specs.declared.command_line.Request.{Request as Asked};
 
@@ -19,11 +19,12 @@ use crate::finish::finish;
 use crate::reading::{ReadStop, read_all};
 use crate::status::Status;
 use crate::writing::{write_lines, write_text};
+use rec_audit::check;
 use rec_io::{Flush, Sink, Source};
 use rec_report::Text;
 use rec_script::{ScriptError, read};
 use rec_threads::Gate;
-use std::alloc::Global;
+use std::alloc::{AllocError as NoMemory, Global};
 use std::sync::Wait;
 use std::thread::Threads;
 
@@ -71,6 +72,10 @@ pub fn run<R: Threads + Wait + Sync, S: Source, K: Flush, G: Gate>(
         → IsRefused bytes line kind → ¬ Rose (S.faults source.old) (S.faults source.new)
         → (result ≡ Status.BadScript line kind) ⊎ (result ≡ Status.NoMemory) }
 
+    // Whatever is read as a journal, what is to be said of it is written, unless a call fails or memory runs out.
+    ensures audited { AsksToAudit (map (λ word. word.now) words.now) → ¬ Rose (S.faults source.old) (S.faults source.new) → ¬ Rose (K.faults sink.old) (K.faults sink.new)
+        → (result ≡ Status.Done) ⊎ (result ≡ Status.NoMemory) }
+
     // A made script is written, unless a write fails or memory runs out.
     ensures made { AsksToMake (map (λ word. word.now) words.now) → ¬ Rose (K.faults sink.old) (K.faults sink.new)
         → (result ≡ Status.Done) ⊎ (result ≡ Status.NoMemory) }
@@ -97,7 +102,7 @@ fn carry_out<R: Threads + Wait + Sync, S: Source, K: Sink, G: Gate>(
     requires { IsInRange request }
     ensures ends { Ends request result (passage S.rest S.faults source.old source.new) (passage K.written K.faults sink.old sink.new) }
     ensures unwritten { may_write result ≡ false → sink.new ≡ sink.old }
-    ensures unread { ¬ ReadsScript request → source.new ≡ source.old }
+    ensures unread { ¬ ReadsSource request → source.new ≡ source.old }
     ensures reads { result ≢ Status.ReadFault → S.faults source.new ≡ S.faults source.old }
     ensures writes { result ≢ Status.WriteFault → K.faults sink.new ≡ K.faults sink.old }
     ensures left { (bytes : List ℕ) × Passes (S.rest source.old) (S.rest source.new) bytes }
@@ -106,6 +111,7 @@ fn carry_out<R: Threads + Wait + Sync, S: Source, K: Sink, G: Gate>(
     match request {
         Request::Answer(how) => answer_source(rt, alloc, how, source, sink, gate),
         Request::Make(make) => write_made(alloc, make, sink),
+        Request::Audit => audit_source(alloc, source, sink),
     }
 }
 
@@ -158,6 +164,38 @@ fn answer<R: Threads + Wait + Sync, G: Gate>(
     // The bytes are needed no more: their room is given back before the journals take theirs.
     drop(bytes);
     answer_script(rt, alloc, &script, how, gate).map_err(|_| ScriptError::NoMemory)
+}
+
+// Reads a journal to its end, or past its limit, and writes what is to be said of it.
+fn audit_source<S: Source, K: Sink>(alloc: Global, source: &mut S, sink: &mut K) -> Status
+    ensures ends { Ends Request.Audit result (passage S.rest S.faults source.old source.new) (passage K.written K.faults sink.old sink.new) }
+    ensures unwritten { may_write result ≡ false → sink.new ≡ sink.old }
+    ensures reads { result ≢ Status.ReadFault → S.faults source.new ≡ S.faults source.old }
+    ensures writes { result ≢ Status.WriteFault → K.faults sink.new ≡ K.faults sink.old }
+    ensures left { (bytes : List ℕ) × Passes (S.rest source.old) (S.rest source.new) bytes }
+    ensures never_falls { K.faults sink.old ≤ K.faults sink.new }
+{
+    let bytes = match read_all(alloc, source) {
+        Ok(bytes) => bytes,
+        Err(ReadStop::Fault) => return Status::ReadFault,
+        Err(ReadStop::NoMemory) => return Status::NoMemory,
+    };
+    let Ok(text) = verdict_text(alloc, &bytes) else {
+        return Status::NoMemory;
+    };
+    match write_text(sink, text.as_bytes()) {
+        Ok(()) => Status::Done,
+        Err(_) => Status::WriteFault,
+    }
+}
+
+// What is to be said of a journal, as a line.
+fn verdict_text(alloc: Global, bytes: &[u8]) -> Result<String, NoMemory>
+    ensures { IfOk result (λ text. SaysVerdict bytes.now (string_bytes text)) }
+{
+    let verdict = check(alloc, bytes)?;
+    let text = format!(in alloc; "{verdict}\n")?;
+    Ok(text)
 }
 
 // Writes a made script. Whatever source there is, nothing is read from it.

@@ -4,7 +4,8 @@ use std::fmt;
 /// How a run of the program ended.
 #[derive(Clone, Copy, Debug, PartialEq, Eq)]
 pub enum Status {
-    /// The script was read to its end, where there is one, and the whole text was written and passed on.
+    /// The script or the journal was read to its end, where there is one, and the whole text was written and passed on. A
+    /// journal may be read past its limit.
     Done,
     /// The words are no command line.
     Usage,

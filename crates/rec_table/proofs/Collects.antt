@@ -59,7 +59,7 @@ turn_makes w None kept = refl
 turn_makes w (Some op) kept = looked_makes w (cell (cells_of w) op) w.collector.phase kept refl
 
 -- so it is after a move that does not offer the slots
-collected_in : (w : Core) (m : Move) → IsKept w → Fits w m → OffersNone m → (after_move w m).collector ≡ gathered_all w.collector (by_actor 0 beats_in w m)
+pub collected_in : (w : Core) (m : Move) → IsKept w → Fits w m → OffersNone m → (after_move w m).collector ≡ gathered_all w.collector (by_actor 0 beats_in w m)
 collected_in w (Move.Begins t work from) kept fits none = ap (gathered_all w.collector) (sym (other_gives 0 beats_in w (Move.Begins t work from) (λ e. omega (arith, e, fits.0.0))))
 collected_in w (Move.Steps t) kept fits none = ap (gathered_all w.collector) (sym (other_gives 0 beats_in w (Move.Steps t) (λ e. omega (arith, e, fits.0.0))))
 collected_in w Move.Turns kept fits none = turn_makes w (next_of w.collector) kept

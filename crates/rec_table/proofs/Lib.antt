@@ -29,3 +29,4 @@ pub mod Turn
 pub mod Turns
 pub mod Within
 pub mod Freeing
+pub mod Named

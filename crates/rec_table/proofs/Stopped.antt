@@ -5,6 +5,7 @@ use Rattle.rec_table.proofs.Common.{Core, fit_first, moves_kept, AllFit, after_m
 use Rattle.rec_core.specs.Worked.{AreIdle}
 use Rattle.rec_table.specs.Ends.{Interleaves, IsStopped}
 use Rattle.rec_table.proofs.Journals.{lists_legal}
+use Rattle.rec_table.proofs.Named.{run_names_freed}
 use Rattle.rec_table.proofs.Safe.{safe}
 
 pub stopped : (s : Started) (g h : CollectorView) (hs : List MutatorView) (w : Core) → IsKept s.world → AreIdle s.world → g.opened ≡ s.world.collector → AreMutatorsOf s hs → PutsBack g h
@@ -25,5 +26,8 @@ stopped s g h hs w kept idle opened mutators back run =
         mutators = run.mutators;
       };
       order = λ heap number unfreed stands are. lists_legal s.world heap number unfreed run.run lists kept idle stands are run.fit many run.mutators;
+      named = λ heap number unfreed stands are.
+          run_names_freed s.world heap number unfreed run.run g.collecting.log back.returned kept idle stands are run.fit run.offerless
+          (ap (λ (x : CollectorView). x.collecting.log) (sym back.grows) ∙ run.collector) back.once (λ none. back.home (ap (λ p. boxes_out (gathered_all p g.collecting.log)) opened ∙ none));
       always = λ before after is. safe (after_moves s.world before) (moves_kept s.world before kept (fit_first s.world before after (subst (AllFit s.world) (sym is) run.fit)));
     }

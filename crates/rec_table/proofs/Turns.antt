@@ -19,7 +19,8 @@ use Rattle.rec_collector.specs.Next.{next_of, next_at}
 use Rattle.rec_collector.specs.Private.{Private, spare}
 use Rattle.rec_collector.specs.declared.phase.Phase.{Phase}
 use Rattle.rec_collector.specs.declared.phase.Phase.TheVariants.{Looking, Returning}
-use Rattle.rec_core.specs.Core.{spare_of}
+use Rattle.rec_model.specs.Sight.{IsTaken}
+use Rattle.rec_core.specs.Core.{sight, spare_of}
 use Rattle.rec_core.specs.Kept.{HasCrossed}
 use Rattle.rec_core.specs.Preconditions.{MayTurn}
 use Rattle.rec_core.specs.declared.config.Config.{Config}
@@ -196,18 +197,19 @@ turns_on key s h id c p op z homes' b fit here does homes_are beat_is =
 plain_boxes : (w : Core) (op : Op) → IsKept w → (left_by w.collector (cell (cells_of w) op) (box w (looked_at w.collector.phase)) w.collector.phase ≡ box w (looked_at w.collector.phase)) → (turned_at w (Some op)).boxes ≡ w.boxes
 plain_boxes w op kept same = ap (set w.boxes (looked_at w.collector.phase - 1)) same ∙ same_boxes w (looked_at w.collector.phase)
 
--- The header of a slot that is freed next is that of a taken slot.
-freed_header : (w : Core) (slot : ℕ) → IsKept w → IsSweep w (turned w) → ◌≡◌ {A = Option Op} (next_of w.collector) (Some (ops.FreeHeader slot)) → IsTakenHeader (get_or w.headers slot 0)
-freed_header w slot kept (IsSweep.rests names h f s) frees = absurd (subst SweepsNothing frees names)
-freed_header w slot kept (IsSweep.marks names h f o s) frees = let not_so : ◌≡◌ {A = Option Op} (Some ops.AddFreed) (Some (ops.FreeHeader slot)) = sym names ∙ frees in absurd (cc)
-freed_header w slot kept (IsSweep.frees x names below taken unreached odd h f) frees =
+-- A slot that is freed next is there, and it is taken.
+pub freed_taken : (w : Core) (slot : ℕ) → IsSweep w (turned w) → ◌≡◌ {A = Option Op} (next_of w.collector) (Some (ops.FreeHeader slot)) → (slot < length w.headers) × IsTaken (sight w) slot
+freed_taken w slot (IsSweep.rests names h f s) frees = absurd (subst SweepsNothing frees names)
+freed_taken w slot (IsSweep.marks names h f o s) frees = let not_so : ◌≡◌ {A = Option Op} (Some ops.AddFreed) (Some (ops.FreeHeader slot)) = sym names ∙ frees in absurd (cc)
+freed_taken w slot (IsSweep.frees x names below taken unreached odd h f) frees =
     let same : x ≡ slot = let one : ◌≡◌ {A = Option Op} (Some (ops.FreeHeader x)) (Some (ops.FreeHeader slot)) = sym names ∙ frees in cc in
-    subst (λ i. IsTakenHeader (get_or w.headers i 0)) same (All-get_or IsHeader w.headers x 0 below kept.labels taken)
+    subst (λ i. (i < length w.headers) × IsTaken (sight w) i) same (below, taken)
 
 finds_header : (w : Core) (op : Op) (p : Private) (n slot : ℕ) → IsKept w → w.collector ≡ p → n ≡ cell (cells_of w) op → ◌≡◌ {A = Option Op} (next_of p) (Some op) → ◌≡◌ {A = Option Op} (next_of p) (Some (ops.FreeHeader slot)) → IsTakenHeader n
 finds_header w op p n slot kept is found next frees =
     let its : op ≡ ops.FreeHeader slot = some_op op (ops.FreeHeader slot) (sym next ∙ frees) in
-    subst IsTakenHeader (sym (found ∙ ap (cell (cells_of w)) its)) (freed_header w slot kept (turned_sweeps w kept) (ap next_of is ∙ frees))
+    let there = freed_taken w slot (turned_sweeps w kept) (ap next_of is ∙ frees) in
+    subst IsTakenHeader (sym (found ∙ ap (cell (cells_of w)) its)) (All-get_or IsHeader w.headers slot 0 there.0 kept.labels there.1)
 
 -- a turn that takes no mailbox and gives none back
 pub turns : (key : Core) (slots id : ℕ) (c : CollectorSeat) (hs : List (ℕ × Option Contents)) (p : Private) (op : Op) (f : ℕ → ℕ) (st : Step (Option Contents))

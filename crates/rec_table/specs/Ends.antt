@@ -15,8 +15,10 @@ use Rattle.rec_table.specs.Beats.{beats_of, told, gathered_all, Offerless}
 use Rattle.rec_table.specs.Homes.{homes_of}
 use Rattle.rec_core.specs.Row.{row}
 use Rattle.rec_table.specs.Journals.{journals_from}
+use Rattle.rec_table.specs.Named.{NameFreed}
 use Rattle.rec_table.specs.Rule.{boxes_out}
 use Rattle.rec_table.specs.Safe.{IsSafe}
+use Rattle.rec_table.specs.Telling.{freed_by_all}
 use Rattle.rec_table.specs.declared.views.Beat.{Beat}
 use Rattle.rec_table.specs.declared.views.CollectorSeat.{CollectorSeat}
 
@@ -55,5 +57,7 @@ pub record IsStopped (key : Core) (collected : List Beat) (lists : List (List Be
   pub run : Interleaves key (collected ++ returned) lists w
   -- whatever heap that never frees stood for the started world, the run is a legal order of the journals that the lists tell
   pub order : (heap : Heap) (number : ℕ → ℕ) (unfreed : List ℕ) → StandsBy heap (sight key) number → AreUnfreed (sight key) number unfreed → HasLegalOrder key heap number unfreed run.run (journals_from key 0 lists)
+  -- the labels that the collector's list frees are those of the objects that this order frees, in its order
+  pub named : (heap : Heap) (number : ℕ → ℕ) (unfreed : List ℕ) → StandsBy heap (sight key) number → AreUnfreed (sight key) number unfreed → NameFreed key heap number unfreed run.run (freed_by_all key.collector collected)
   -- and what every heap promises was so at each moment of it
   pub always : (before after : List Move) → before ++ after ≡ run.run → IsSafe (after_moves key before)

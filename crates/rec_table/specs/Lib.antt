@@ -12,3 +12,4 @@ pub mod Scan
 pub mod Operations
 pub mod Turn
 pub mod Telling
+pub mod Named

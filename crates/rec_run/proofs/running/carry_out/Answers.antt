@@ -1,6 +1,6 @@
 -- What was done is what the request asks, and nothing else.
 use Rattle.std.proofs.Common.{sym, subst}
-use Rattle.rec_run.specs.CommandLine.{ReadsScript}
+use Rattle.rec_run.specs.CommandLine.{ReadsSource}
 use Rattle.rec_run.specs.Ends.{Ends, passage}
 use Rattle.rec_run.proofs.running.carry_out.Goals as goal
 
@@ -10,9 +10,17 @@ returns-in-Answer-clause-ends g c =
     (sym c.in-Answer.is) c.answer_source.ensures.ends
 
 pub returns-in-Answer-clause-unread : goal.returns-in-Answer-clause-unread
-returns-in-Answer-clause-unread g c = λ never. absurd (never (subst ReadsScript (sym c.in-Answer.is) tt))
+returns-in-Answer-clause-unread g c = λ never. absurd (never (subst ReadsSource (sym c.in-Answer.is) tt))
 
 pub returns-in-Make-clause-ends : goal.returns-in-Make-clause-ends
 returns-in-Make-clause-ends g c =
     subst (λ request. Ends request c.write_made.result (passage g.S.Source.rest g.S.Source.faults c.args.source.now c.args.source.now) (passage g.K.Sink.written g.K.Sink.faults c.args.sink.now c.write_made.new.sink))
     (sym c.in-Make.is) (c.write_made.ensures.ends (g.S.Source.rest c.args.source.now) (g.S.Source.faults c.args.source.now))
+
+pub returns-in-Audit-clause-ends : goal.returns-in-Audit-clause-ends
+returns-in-Audit-clause-ends g c =
+    subst (λ request. Ends request c.audit_source.result (passage g.S.Source.rest g.S.Source.faults c.args.source.now c.audit_source.new.source) (passage g.K.Sink.written g.K.Sink.faults c.args.sink.now c.audit_source.new.sink))
+    (sym c.in-Audit.is) c.audit_source.ensures.ends
+
+pub returns-in-Audit-clause-unread : goal.returns-in-Audit-clause-unread
+returns-in-Audit-clause-unread g c = λ never. absurd (never (subst ReadsSource (sym c.in-Audit.is) tt))

@@ -1,8 +1,8 @@
 -- Each clause is read off the end of the request, which stays an end when the sink has passed on what it held.
 use Rattle.std.proofs.Common.{subst}
 use Rattle.rec_run.specs.Ends.{Ends, passage}
-use Rattle.rec_run.proofs.Endings.{caused, completes, finished, none_failed, refuses}
-use Rattle.rec_run.proofs.Requests.{asked_to_read}
+use Rattle.rec_run.proofs.Endings.{audits, caused, completes, finished, none_failed, refuses}
+use Rattle.rec_run.proofs.Requests.{asked_to_audit, asked_to_read}
 use Rattle.rec_run.proofs.running.run.Goals as goal
 
 pub returns-in-Ok-clause-front : goal.returns-in-Ok-clause-front
@@ -36,3 +36,11 @@ returns-in-Ok-clause-cause g c =
     (passage g.S.Source.rest g.S.Source.faults c.args.source.now c.carry_out-status.new.source) c.args.sink.now c.carry_out-status.new.sink c.finish.new.sink
     c.carry_out-status.ensures.ends c.carry_out-status.ensures.never_falls c.finish.ensures.fault c.finish.ensures.written c.finish.ensures.other in
     caused _ c.in-Ok.request c.finish.result (passage g.S.Source.rest g.S.Source.faults c.args.source.now c.carry_out-status.new.source) (passage g.K.Sink.written g.K.Sink.faults c.args.sink.now c.finish.new.sink) c.in-Ok.ensures.asked ends
+
+pub returns-in-Ok-clause-audited : goal.returns-in-Ok-clause-audited
+returns-in-Ok-clause-audited g c = λ asks.
+    let ends = finished g.K.Sink.written g.K.Sink.faults c.in-Ok.request c.carry_out-status.result c.finish.result
+    (passage g.S.Source.rest g.S.Source.faults c.args.source.now c.carry_out-status.new.source) c.args.sink.now c.carry_out-status.new.sink c.finish.new.sink
+    c.carry_out-status.ensures.ends c.carry_out-status.ensures.never_falls c.finish.ensures.fault c.finish.ensures.written c.finish.ensures.other in
+    audits c.finish.result (passage g.S.Source.rest g.S.Source.faults c.args.source.now c.carry_out-status.new.source) (passage g.K.Sink.written g.K.Sink.faults c.args.sink.now c.finish.new.sink)
+    (subst (λ request. Ends request c.finish.result (passage g.S.Source.rest g.S.Source.faults c.args.source.now c.carry_out-status.new.source) (passage g.K.Sink.written g.K.Sink.faults c.args.sink.now c.finish.new.sink)) (asked_to_audit _ c.in-Ok.request c.in-Ok.ensures.asked asks) ends)

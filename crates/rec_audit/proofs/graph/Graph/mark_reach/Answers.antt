@@ -54,7 +54,7 @@ returns c =
             references = references_pruned lines c.args.self.now.references c.prune.new.self is.references c.prune.ensures;
             taken = is.taken;
             named = is.named;
-            marks = λ marked slot. (λ there. (by slot).0 ((c.in_ok-follow.ensures.reached slot).0 there), λ reached. (c.in_ok-follow.ensures.reached slot).1 ((by slot).1 reached));
+            marks = λ slot. (λ there. (by slot).0 ((c.in_ok-follow.ensures.reached slot).0 there), λ reached. (c.in_ok-follow.ensures.reached slot).1 ((by slot).1 reached));
           };
-      marked = refl;
+      known = refl;
     }

@@ -1,0 +1,51 @@
+//! Images of heaps, written and read. In a row each LF of an image is spelled `/`.
+
+use rec_image::{ImageError, read, write};
+use rec_settle::settle;
+use rec_world::World;
+use std::alloc::{AllocError as NoMemory, Global};
+
+/// Settles a heap in which no mutator works, and tells its image.
+pub fn written(alloc: Global, world: &mut World) -> Result<String, NoMemory> {
+    if !world.at_rest() {
+        return String::from_str(alloc, "a mutator works");
+    }
+    match settle(world) {
+        Err(spent) => format!(in alloc; "{spent}"),
+        Ok(_) => in_a_row(alloc, &write(alloc, world)?),
+    }
+}
+
+// A text as it is spelled in a row.
+fn in_a_row(alloc: Global, text: &[u8]) -> Result<String, NoMemory> {
+    let mut row = String::new(alloc);
+    for byte in text {
+        row.push(if *byte == b'\n' { '/' } else { char::from(*byte) })?;
+    }
+    Ok(row)
+}
+
+/// Reads the image that a line spells behind its first word, and tells its numbers, or the line that is refused.
+pub fn read_back(alloc: Global, asked: &str) -> Result<String, NoMemory> {
+    let (_, spelled) = asked.split_once(' ').unwrap_or((asked, ""));
+    let mut bytes = Vec::new(alloc);
+    for byte in spelled.as_bytes() {
+        bytes.push(if *byte == b'/' { b'\n' } else { *byte })?;
+    }
+    told(alloc, read(alloc, &bytes))
+}
+
+fn told(alloc: Global, found: Result<rec_image::Image, ImageError>) -> Result<String, NoMemory> {
+    match found {
+        Ok(image) => {
+            let (slots, fields) = (image.slots(), image.fields());
+            let (registers, mutators) = (image.registers(), image.mutators());
+            format!(in alloc; "slots {slots} fields {fields} registers {registers} mutators {mutators}")
+        }
+        Err(ImageError::Bad { line }) => {
+            let error = ImageError::Bad { line };
+            format!(in alloc; "{error}: line {line}")
+        }
+        Err(ImageError::NoMemory) => format!(in alloc; "{}", ImageError::NoMemory),
+    }
+}
