@@ -1,54 +1,57 @@
-/* What a program becomes before it runs: nodes, in which names are places and most words of the language are gone.
- *
- * A node is simple where its value comes without a call of a closure. Only simple nodes stand where several values are needed at once; a
- * call among them is carried out first, and its value bound by a BIND. So what waits for a call is a scope and a node, and nothing else:
- * that is what a FRAME holds. */
+/* What a program becomes before it runs: nodes, in which names are places and most words of the language are gone. */
 #ifndef CODE_H
 #define CODE_H
 
 #include <stdbool.h>
-#include <stdio.h>
+#include <stddef.h>
 
 typedef enum node_kind {
-    /* simple ones, and parts[] of them simple too, but for LAMBDA */
     ATOM,       /* an object of kind `number`, with number `at` */
-    CONSTANT,   /* the constant number `at` */
-    LOCAL,      /* a variable: `depth` scopes outside, number `at` of `number` there */
+    LOCAL,      /* the variable that `at` others of its environment stand before */
     GLOBAL,     /* the global number `at` */
     SET_LOCAL,  /* as LOCAL, with the value parts[0] */
     SET_GLOBAL, /* as GLOBAL, with the value parts[0] */
     LAMBDA,     /* of `number` parameters, with the body parts[0] */
-    OPERATION,  /* the primitive number `at`, of `number` operands */
-    /* simple where all their parts are. The first one of these three always is */
-    AND,
-    OR,
     CHOICE,     /* parts[1] where parts[0] isn't false, else parts[2] */
     SEQUENCE,   /* parts[0] and then parts[1] */
-    /* not simple */
-    CALL,       /* parts[0] with `number` operands behind it, all of them simple */
-    BIND        /* parts[1], in a scope of one variable, which has the value of parts[0] */
+    OPERATION,  /* the primitive number `at`, of `number` operands: the parts */
+    CALL,       /* `number` operands, and behind them the procedure */
+    VALUED      /* a value is there */
 } node_kind;
 
+/* A node is simple where its value comes without a call of a closure. */
 typedef struct node {
     node_kind kind;
     bool simple;
     int line, place; /* which node it is */
-    int at, depth, number, name;
-    struct node **parts;
+    int at, number, name, part_count;
+    struct node *parts[];
 } node;
 
-/* What is read: parenthesized data. Numbers and texts of ATOMs are as in objects. */
+/* What is read: parenthesized data. Numbers and texts of atoms are as in objects. */
 typedef struct datum {
     int kind, number, line; /* a kind of heap.h: EMPTY, PAIR or an atom's */
     struct datum *head, *tail;
 } datum;
 
-/* A program whole: its code, the node of each place, and its quoted constants. */
+/* A program whole: its code, and the node of each place. */
 typedef struct program {
     node *code, **nodes;
-    datum **constants;
-    int node_count, constant_count, global_count;
+    int node_count, global_count;
 } program;
+
+/* What ends the reading of a text that is wrong; memory that is there; and room for one item more in an array that doubles. */
+_Noreturn void wrong(int line, const char *format, ...);
+void *room(size_t bytes);
+void *grown(void *items, int count, size_t size);
+
+/* Data: the next one of a text, or none at its end, and one made of a text with a % for each datum that follows. */
+void begin_text(const char *text, int line);
+datum *next_datum(void);
+datum *new_datum(int kind, int number, int line);
+datum *form(int line, const char *text, ...);
+int length_of(const datum *list);
+datum *item(datum *list, int which);
 
 /* Reads a text behind what was read before, or ends with the line that is wrong and a sentence. Its lines count from `first`, or not where
  * that is 0. */

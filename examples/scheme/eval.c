@@ -1,18 +1,20 @@
 /* The machine that carries out nodes: a loop over registers. A value is in VALUE, what waits for it is a frame in FRAMES, and C's own stack
- * holds no value. So calls in tail position take nothing, and others a frame on the heap. */
+ * holds no value. So calls in tail position take nothing, and others a frame on the heap.
+ *
+ * An environment is a chain of variables. A call makes one for each operand, one after another, and hangs the first on the environment of
+ * the procedure that it calls. */
 #include "eval.h"
 
-#include <string.h>
-
-enum { POLLS_EACH = 32, FORGETS_EACH = 256 };
+enum { POLLS_EACH = 32, FORGETS_EACH = 256, PARTS = MOST_ARGUMENTS + 2 };
 
 static const program *whole;
+static const node value_is_there = { .kind = VALUED };
 
 void carry_out(const program *all) {
     whole = all;
 }
 
-bool is_true(mutator *m, int reg) {
+static bool is_true(mutator *m, int reg) {
     int number = 1;
     return kind_of(m, reg, &number) != BOOLEAN || number != 0;
 }
@@ -32,264 +34,219 @@ static void at_line(mutator *m, const node *n) {
     }
 }
 
-/* ---- scopes */
-
-/* The register WALK names what holds variable `at` of `count` in the scope that it names, and the answer is the field. */
-static int field_of(mutator *m, int count, int at) {
-    if (at == 0 || count == 2) {
-        return 1 + at;
-    }
-    get(m, WALK, WALK, 2);
-    for (count--, at--; at > 2 || (at == 2 && count > 3); count -= 2, at -= 2) {
-        get(m, WALK, WALK, 2);
-    }
-    return at;
-}
-
-static int find(mutator *m, const node *n) {
-    copy(m, WALK, ENVIRONMENT);
-    for (int depth = n->depth; depth > 0; depth--) {
-        get(m, WALK, WALK, 0);
-    }
-    return field_of(m, n->number, n->at);
-}
-
-static int find_global(mutator *m, const node *n) {
-    get(m, WALK, ROOT, GLOBALS);
-    return branch_of(m, whole->global_count, n->at);
-}
-
-/* A scope with the arguments as its variables becomes the environment. */
-static void enter(mutator *m, int count) {
-    if (count == 0) {
-        return;
-    }
-    make(m, FRESH, SCOPE, count);
-    put(m, FRESH, 0, ENVIRONMENT);
-    put(m, FRESH, 1, ARGUMENTS);
-    if (count == 2) {
-        put(m, FRESH, 2, ARGUMENTS + 1);
-    } else if (count > 2) {
-        int first = count - (count % 2 == 0 ? 3 : 2);
-        make(m, SPARE, MORE, 0);
-        for (int each = first; each < count; each++) {
-            put(m, SPARE, each - first, ARGUMENTS + each);
-        }
-        while ((first -= 2) > 0) {
-            make(m, WALK, MORE, 0);
-            put(m, WALK, 0, ARGUMENTS + first);
-            put(m, WALK, 1, ARGUMENTS + first + 1);
-            put(m, WALK, 2, SPARE);
-            copy(m, SPARE, WALK);
-        }
-        put(m, FRESH, 2, SPARE);
-    }
-    copy(m, ENVIRONMENT, FRESH);
-}
-
 /* ---- simple nodes */
 
-static void evaluate(mutator *m, const node *n, int to, int work);
-
-static void evaluate_all(mutator *m, node *const *parts, int count, int first, int work) {
-    if (work + count >= REGISTERS) {
-        fail(m, "operations nest too deep");
+/* The field of a variable, which hangs on what WALK names then. */
+static int field_of(mutator *m, const node *n) {
+    if (n->kind == GLOBAL || n->kind == SET_GLOBAL) {
+        get(m, WALK, ROOT, GLOBALS);
+        return branch_of(m, whole->global_count, n->at);
     }
-    for (int each = 0; each < count; each++) {
-        evaluate(m, parts[each], first + each, first == work ? work + each + 1 : work);
+    copy(m, WALK, ENVIRONMENT);
+    for (int before = n->at; before > 0; before--) {
+        get(m, WALK, WALK, OUTSIDE);
     }
+    return HELD;
 }
 
-/* The number that a simple node comes to. Numbers within numbers are no objects. */
-static int amount(mutator *m, const node *n, int work) {
-    if (n->kind == ATOM && n->number == NUMBER) {
-        return n->at;
-    }
-    if (n->kind != OPERATION || !is_arithmetic(n->at) || work + n->number >= REGISTERS) {
-        evaluate(m, n, work, work + 1);
-        return number_at(m, work);
-    }
-    int amounts[MOST_ARGUMENTS];
-    for (int each = 0; each < n->number; each++) {
-        amounts[each] = amount(m, n->parts[each], work);
-    }
-    return calculate(m, n->at, amounts, n->number);
-}
-
-/* Whether a simple node comes to a value that isn't false. Tests within tests are no objects. */
-static bool holds(mutator *m, const node *n, int work) {
-    if (n->kind == AND || n->kind == OR) {
-        return holds(m, n->parts[0], work) == (n->kind == AND) ? holds(m, n->parts[1], work) : n->kind == OR;
-    }
-    if (n->kind == OPERATION && is_comparison(n->at)) {
-        int amounts[MOST_ARGUMENTS];
-        for (int each = 0; each < n->number; each++) {
-            amounts[each] = amount(m, n->parts[each], work);
-        }
-        return compares(n->at, amounts, n->number);
-    }
-    if (n->kind == OPERATION && is_test(n->at)) {
-        evaluate_all(m, n->parts, n->number, work, work);
-        return tests(m, n->at, work);
-    }
-    evaluate(m, n, work, work + 1);
-    return is_true(m, work);
-}
-
-static void look_up(mutator *m, const node *n, int field, int to) {
-    get(m, to, WALK, field);
+static void look_up(mutator *m, const node *n, int to) {
     int number;
+    get(m, to, WALK, field_of(m, n));
     if (kind_of(m, to, &number) == NOTHING) {
         fail(m, "`%s` has no value here", text_of(n->name));
     }
 }
 
-static void operation(mutator *m, const node *n, int to, int work) {
-    if (is_arithmetic(n->at)) {
-        make(m, to, NUMBER, amount(m, n, work));
-    } else if (is_comparison(n->at) || is_test(n->at)) {
-        make(m, to, BOOLEAN, holds(m, n, work));
-    } else {
-        evaluate_all(m, n->parts, n->number, work, work);
-        operate(m, n->at, work, n->number, to);
-    }
+static void assign(mutator *m, const node *n, int value, int to) {
+    put(m, WALK, field_of(m, n), value);
+    make(m, to, VOID, 0);
 }
 
+/* Registers from `work` on are free. */
 static void evaluate(mutator *m, const node *n, int to, int work) {
     at_line(m, n);
-    if (work >= REGISTERS) {
+    if (work + n->part_count >= REGISTERS) {
         fail(m, "operations nest too deep");
     }
     switch (n->kind) {
     case ATOM:
         make(m, to, (kind)n->number, n->at);
         break;
-    case CONSTANT:
-        get(m, WALK, ROOT, CONSTANTS);
-        get(m, to, WALK, branch_of(m, whole->constant_count, n->at));
-        break;
-    case LOCAL:
-        look_up(m, n, find(m, n), to);
-        break;
-    case GLOBAL:
-        look_up(m, n, find_global(m, n), to);
-        break;
     case SET_LOCAL:
     case SET_GLOBAL:
         evaluate(m, n->parts[0], to, work);
-        put(m, WALK, n->kind == SET_LOCAL ? find(m, n) : find_global(m, n), to);
-        make(m, to, VOID, 0);
+        assign(m, n, to, to);
         break;
     case LAMBDA:
         make(m, to, CLOSURE, n->place);
-        put(m, to, 0, ENVIRONMENT);
+        put(m, to, OUTSIDE, ENVIRONMENT);
         break;
     case OPERATION:
-        operation(m, n, to, work);
-        break;
-    case AND:
-    case OR:
-        evaluate(m, n->parts[0], to, work);
-        if (is_true(m, to) == (n->kind == AND)) {
-            evaluate(m, n->parts[1], to, work);
+        for (int each = 0; each < n->number; each++) {
+            evaluate(m, n->parts[each], work + each, work + each + 1);
         }
+        at_line(m, n);
+        operate(m, n->at, work, n->number, to);
         break;
     case CHOICE:
-        evaluate(m, n->parts[holds(m, n->parts[0], work) ? 1 : 2], to, work);
+        evaluate(m, n->parts[0], work, work + 1);
+        evaluate(m, n->parts[is_true(m, work) ? 1 : 2], to, work);
         break;
-    default: /* SEQUENCE: no other is simple */
+    case SEQUENCE:
         evaluate(m, n->parts[0], to, work);
         evaluate(m, n->parts[1], to, work);
+        break;
+    default: /* LOCAL and GLOBAL: no other is simple */
+        look_up(m, n, to);
     }
 }
 
-/* ---- the others */
+/* ---- calls */
 
-static void push(mutator *m, const node *n) {
-    make(m, FRESH, FRAME, n->place);
-    put(m, FRESH, 0, FRAMES);
-    put(m, FRESH, 1, ENVIRONMENT);
-    copy(m, FRAMES, FRESH);
+/* One operand more is a variable in front of those that CHAIN names. */
+static void hang(mutator *m) {
+    make(m, FRESH, VARIABLE, 0);
+    put(m, FRESH, OUTSIDE, CHAIN);
+    put(m, FRESH, HELD, VALUE);
+    copy(m, CHAIN, FRESH);
 }
 
-/* With a value in VALUE: the node that goes on, or none where nothing waits for it. */
-static const node *resume(mutator *m) {
-    int place;
-    if (kind_of(m, FRAMES, &place) == NOTHING) {
-        return NULL;
+/* The body of a procedure, where its variables hang on the environment in a register. */
+static const node *enter(mutator *m, const node *lambda, int environment, int count) {
+    if (lambda->number != count) {
+        fail(m, "a procedure of %d parameters is called with %d", lambda->number, count);
     }
-    const node *n = whole->nodes[place];
-    get(m, ENVIRONMENT, FRAMES, 1);
-    get(m, FRAMES, FRAMES, 0);
-    if (n->kind == BIND) {
-        copy(m, ARGUMENTS, VALUE);
-        enter(m, 1);
+    if (count > 0) {
+        copy(m, WALK, CHAIN);
+        for (int each = 1; each < count; each++) {
+            get(m, WALK, WALK, OUTSIDE);
+        }
+        put(m, WALK, OUTSIDE, environment);
     }
-    return n->parts[1];
+    copy(m, ENVIRONMENT, count > 0 ? CHAIN : environment);
+    return lambda->parts[0];
 }
 
-/* What FUNCTION names is called with so many arguments. */
+static const node *apply(mutator *m, int primitive, int count) {
+    if (!primitive_takes(primitive, count)) {
+        fail(m, "`%s` doesn't take %d operands", primitive_name(primitive), count);
+    }
+    for (int each = count - 1; each >= 0; each--) {
+        get(m, ARGUMENTS + each, CHAIN, HELD);
+        get(m, CHAIN, CHAIN, OUTSIDE);
+    }
+    operate(m, primitive, ARGUMENTS, count, VALUE);
+    return &value_is_there;
+}
+
+/* What FUNCTION names is called with the operands on CHAIN. */
 static const node *call_function(mutator *m, int count) {
     int which;
     switch (kind_of(m, FUNCTION, &which)) {
     case CLOSURE:
-        if (whole->nodes[which]->number != count) {
-            fail(m, "a procedure of %d parameters is called with %d", whole->nodes[which]->number, count);
-        }
-        get(m, ENVIRONMENT, FUNCTION, 0);
-        enter(m, count);
-        return whole->nodes[which]->parts[0];
+        get(m, FUNCTION, FUNCTION, OUTSIDE);
+        return enter(m, whole->nodes[which], FUNCTION, count);
     case PRIMITIVE:
-        if (!primitive_takes(which, count)) {
-            fail(m, "`%s` doesn't take %d operands", primitive_name(which), count);
-        }
-        apply_primitive(m, which, ARGUMENTS, count, VALUE);
-        return resume(m);
+        return apply(m, which, count);
     default:
         fail(m, "what is called is no procedure");
     }
 }
 
-static const node *call(mutator *m, const node *n) {
-    int count = n->number - 1;
-    evaluate_all(m, n->parts + 1, count, ARGUMENTS, WORK);
-    if (n->parts[0]->kind == LAMBDA && n->parts[0]->number == count) {
-        enter(m, count);
-        return n->parts[0]->parts[0];
-    }
-    evaluate(m, n->parts[0], FUNCTION, WORK);
-    at_line(m, n);
-    return call_function(m, count);
+/* The value of a part waits: what goes on then are this node, the environment and the operands that are there. */
+static const node *wait_for(mutator *m, const node *n, int part) {
+    make(m, FRESH, FRAME, n->place * PARTS + part);
+    put(m, FRESH, 0, FRAMES);
+    put(m, FRESH, 1, ENVIRONMENT);
+    put(m, FRESH, 2, CHAIN);
+    copy(m, FRAMES, FRESH);
+    return n->parts[part];
 }
 
-static const node *step(mutator *m, const node *n) {
-    at_line(m, n);
-    if (n->simple) {
-        evaluate(m, n, VALUE, WORK);
-        return resume(m);
+/* Goes on with a call at one of its parts: operands, and behind them the procedure. One that is a LAMBDA there needs no closure. */
+static const node *gather(mutator *m, const node *n, int part) {
+    for (; part < n->number; part++) {
+        if (!n->parts[part]->simple) {
+            return wait_for(m, n, part);
+        }
+        evaluate(m, n->parts[part], VALUE, WORK);
+        hang(m);
     }
+    if (n->kind == OPERATION) {
+        at_line(m, n);
+        return apply(m, n->at, n->number);
+    }
+    const node *procedure = n->parts[n->number];
+    if (procedure->kind == LAMBDA) {
+        return enter(m, procedure, ENVIRONMENT, n->number);
+    }
+    if (!procedure->simple) {
+        return wait_for(m, n, part);
+    }
+    evaluate(m, procedure, FUNCTION, WORK);
+    at_line(m, n);
+    return call_function(m, n->number);
+}
+
+/* ---- steps */
+
+/* A node goes on where VALUE has the value of a part. */
+static const node *go_on(mutator *m, const node *n, int part) {
+    at_line(m, n);
     switch (n->kind) {
     case CHOICE:
-        return n->parts[holds(m, n->parts[0], WORK) ? 1 : 2];
-    case AND:
-    case OR:
-        evaluate(m, n->parts[0], VALUE, WORK);
-        return is_true(m, VALUE) == (n->kind == AND) ? n->parts[1] : resume(m);
-    case CALL:
-        return call(m, n);
-    default: /* SEQUENCE and BIND */
-        if (n->kind == SEQUENCE && n->parts[0]->simple) {
-            evaluate(m, n->parts[0], VALUE, WORK);
-            return n->parts[1];
+        return n->parts[is_true(m, VALUE) ? 1 : 2];
+    case SEQUENCE:
+        return n->parts[1];
+    case SET_LOCAL:
+    case SET_GLOBAL:
+        assign(m, n, VALUE, VALUE);
+        return &value_is_there;
+    default: /* OPERATION and CALL: no other waits for a part */
+        if (part == n->number) {
+            copy(m, FUNCTION, VALUE);
+            return call_function(m, n->number);
         }
-        push(m, n);
-        return n->parts[0];
+        hang(m);
+        return gather(m, n, part + 1);
     }
+}
+
+/* The node that waits last goes on, if there is one. */
+static const node *resume(mutator *m) {
+    int waits;
+    if (kind_of(m, FRAMES, &waits) == NOTHING) {
+        return NULL;
+    }
+    get(m, ENVIRONMENT, FRAMES, 1);
+    get(m, CHAIN, FRAMES, 2);
+    get(m, FRAMES, FRAMES, 0);
+    return go_on(m, whole->nodes[waits / PARTS], waits % PARTS);
+}
+
+/* What comes behind a node; none where nothing waits for its value. */
+static const node *step(mutator *m, const node *n) {
+    if (n->kind == VALUED) {
+        return resume(m);
+    }
+    if (n->simple) {
+        evaluate(m, n, VALUE, WORK);
+        return &value_is_there;
+    }
+    clear(m, CHAIN);
+    if (n->kind == CALL || n->kind == OPERATION) {
+        return gather(m, n, 0);
+    }
+    if (!n->parts[0]->simple) {
+        return wait_for(m, n, 0);
+    }
+    evaluate(m, n->parts[0], VALUE, WORK);
+    return go_on(m, n, 0);
 }
 
 /* Between two steps only the environment, the frames and the value count: what else registers name would only keep garbage. */
 static void forget(mutator *m) {
-    for (int reg = FUNCTION; reg < REGISTERS; reg++) {
+    for (int reg = CHAIN; reg < REGISTERS; reg++) {
         clear(m, reg);
     }
 }

@@ -12,24 +12,16 @@ void carry_out(const program *all);
 void run_program(mutator *m);
 void run_thunk(mutator *m);
 
-bool is_true(mutator *m, int reg);
 int number_at(mutator *m, int reg);
+
+/* Carries out a primitive on what the registers from `first` on name. */
+void operate(mutator *m, int which, int first, int count, int to);
 
 /* Trees: an object of so many items below the register WALK. It names the node that holds the item then, and the answer is the field. */
 int branch_of(mutator *m, int count, int at);
 
 /* A vector of so many items, each of them what the register `item` names. */
 void make_vector(mutator *m, int to, int count, int item, int work);
-
-/* Primitives that give numbers; that compare numbers; that test objects in registers from `first` on; and all of them. */
-bool is_arithmetic(int which);
-int calculate(mutator *m, int which, const int *amounts, int count);
-bool is_comparison(int which);
-bool compares(int which, const int *amounts, int count);
-bool is_test(int which);
-bool tests(mutator *m, int which, int first);
-void operate(mutator *m, int which, int first, int count, int to);
-void apply_primitive(mutator *m, int which, int first, int count, int to);
 
 /* The threads of a program. A thread that it starts has a mutator of its own; the answer is its number. What it came to is `to` then. */
 void open_threads(mutator *m, int threads);

@@ -27,18 +27,20 @@ typedef enum kind {
     CLOSURE,   /* which code. Field: its environment */
     VECTOR,    /* how many items, in a tree of three branches at each node */
     NODE,      /* a node of such a tree */
-    SCOPE,     /* how many variables. Fields: the scope outside, and the variables; of more than two all but the first hang on a MORE */
-    MORE,
-    FRAME      /* which code is to go on. Fields: the frame behind it, and its environment */
+    VARIABLE,  /* fields: the variables outside, and its value */
+    FRAME      /* which part of which node has its value then. Fields: the frame behind it, its environment, and its operands so far */
 } kind;
 
 enum { FIELDS = 3, LEAST_NUMBER = -(1 << 27), MOST_NUMBER = (1 << 27) - 1 };
 
 /* Registers. ROOT is never written: it names the object that all mutators share, with the items below. */
-enum { ROOT, ENVIRONMENT, FRAMES, VALUE, FUNCTION, FRESH, WALK, SPARE, ARGUMENTS, MOST_ARGUMENTS = 16, WORK = ARGUMENTS + MOST_ARGUMENTS, REGISTERS = 64 };
+enum { ROOT, ENVIRONMENT, FRAMES, VALUE, CHAIN, FUNCTION, FRESH, WALK, SPARE, ARGUMENTS, MOST_ARGUMENTS = 16, WORK = ARGUMENTS + MOST_ARGUMENTS, REGISTERS = 64 };
 
-/* The fields of the shared object: the globals, the constants, and what is handed to each thread and comes back from it. */
-enum { GLOBALS, CONSTANTS, HANDED };
+/* The fields of a variable. */
+enum { OUTSIDE, HELD };
+
+/* The fields of the shared object: the globals, and what is handed to each thread and comes back from it. */
+enum { GLOBALS, HANDED };
 
 typedef struct mutator {
     int number; /* from 0 */

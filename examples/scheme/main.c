@@ -40,42 +40,10 @@ static char *whole_file(const char *name) {
     return text == NULL ? "" : text;
 }
 
-/* The objects of a quoted datum. */
-static void build(mutator *m, const datum *d, int to, int work) {
-    if (work + 1 >= REGISTERS) {
-        fail(m, "a quoted datum nests too deep");
-    }
-    if (d->kind != PAIR) {
-        make(m, to, (kind)d->kind, d->number);
-        return;
-    }
-    make(m, to, PAIR, 0);
-    copy(m, work, to);
-    for (;;) {
-        build(m, d->head, work + 1, work + 2);
-        put(m, work, 0, work + 1);
-        d = d->tail;
-        make(m, work + 1, (kind)d->kind, d->number);
-        put(m, work, 1, work + 1);
-        if (d->kind != PAIR) {
-            return;
-        }
-        copy(m, work, work + 1);
-    }
-}
-
 /* What all threads share hangs on the object that register ROOT names. */
 static void share(mutator *m, const program *all, int threads) {
     make_vector(m, SPARE, all->global_count, VALUE, WORK);
     put(m, ROOT, GLOBALS, SPARE);
-    make_vector(m, SPARE, all->constant_count, VALUE, WORK);
-    put(m, ROOT, CONSTANTS, SPARE);
-    for (int each = 0; each < all->constant_count; each++) {
-        build(m, all->constants[each], VALUE, WORK);
-        get(m, WALK, ROOT, CONSTANTS);
-        put(m, WALK, branch_of(m, all->constant_count, each), VALUE);
-    }
-    clear(m, VALUE);
     open_threads(m, threads);
 }
 

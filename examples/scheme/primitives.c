@@ -9,46 +9,10 @@
 
 enum { MOST_SHOWN = 1000, MOST_BRANCHES = 11 };
 
-typedef enum primitive {
-    /* numbers of numbers */
-    ADD, SUBTRACT, MULTIPLY, QUOTIENT, REMAINDER, LAST_ARITHMETIC = REMAINDER,
-    /* comparisons of numbers */
-    EQUALS, LESS, GREATER, AT_MOST, AT_LEAST, LAST_COMPARISON = AT_LEAST,
-    /* tests of objects */
-    IS_SAME, NOT, IS_NULL, IS_PAIR, IS_NUMBER, IS_SYMBOL, IS_STRING, IS_BOOLEAN, IS_VECTOR, IS_PROCEDURE, LAST_TEST = IS_PROCEDURE,
-    /* others */
-    CONS, CAR, CDR, SET_CAR, SET_CDR, LIST, VECTOR_OF, MAKE_VECTOR, VECTOR_LENGTH, VECTOR_REF, VECTOR_SET,
-    STRING_APPEND, STRING_LENGTH, NUMBER_TO_STRING, SYMBOL_TO_STRING, DISPLAY, WRITE, NEWLINE, ERROR, SPAWN, JOIN, ACQUIRE, RELEASE
-} primitive;
-
-/* In the order of the enum: how many operands each takes. */
-static const struct { const char *name; int least, most; } PRIMITIVES[] = {
-    { "+", 0, MOST_ARGUMENTS }, { "-", 1, MOST_ARGUMENTS }, { "*", 0, MOST_ARGUMENTS }, { "quotient", 2, 2 }, { "remainder", 2, 2 },
-    { "=", 2, MOST_ARGUMENTS }, { "<", 2, MOST_ARGUMENTS }, { ">", 2, MOST_ARGUMENTS }, { "<=", 2, MOST_ARGUMENTS }, { ">=", 2, MOST_ARGUMENTS },
-    { "eq?", 2, 2 }, { "not", 1, 1 }, { "null?", 1, 1 }, { "pair?", 1, 1 }, { "number?", 1, 1 }, { "symbol?", 1, 1 }, { "string?", 1, 1 },
-    { "boolean?", 1, 1 }, { "vector?", 1, 1 }, { "procedure?", 1, 1 },
-    { "cons", 2, 2 }, { "car", 1, 1 }, { "cdr", 1, 1 }, { "set-car!", 2, 2 }, { "set-cdr!", 2, 2 }, { "list", 0, MOST_ARGUMENTS },
-    { "vector", 0, MOST_ARGUMENTS }, { "make-vector", 2, 2 }, { "vector-length", 1, 1 }, { "vector-ref", 2, 2 }, { "vector-set!", 3, 3 },
-    { "string-append", 0, MOST_ARGUMENTS }, { "string-length", 1, 1 }, { "number->string", 1, 1 }, { "symbol->string", 1, 1 },
-    { "display", 1, 1 }, { "write", 1, 1 }, { "newline", 0, 0 }, { "error", 1, MOST_ARGUMENTS }, { "spawn", 1, 1 }, { "join", 1, 1 }, { "acquire", 0, 0 }, { "release", 0, 0 }
-};
-
-int primitive_named(const char *name) {
-    for (int each = 0; each < (int)(sizeof PRIMITIVES / sizeof *PRIMITIVES); each++) {
-        if (strcmp(PRIMITIVES[each].name, name) == 0) {
-            return each;
-        }
-    }
-    return -1;
-}
-
-const char *primitive_name(int which) {
-    return PRIMITIVES[which].name;
-}
-
-bool primitive_takes(int which, int count) {
-    return PRIMITIVES[which].least <= count && count <= PRIMITIVES[which].most;
-}
+/* A primitive is carried out on `count` operands in registers from `first` on. `of` is what it has of its own. */
+typedef struct call {
+    int of, first, count, to;
+} call;
 
 /* ---- texts */
 
@@ -63,11 +27,8 @@ int number_of_text(const char *text) {
         number++;
     }
     if (number == text_count) {
-        texts = realloc(texts, (size_t)(text_count + 1) * sizeof *texts);
-        if (texts == NULL || (texts[text_count++] = strdup(text)) == NULL) {
-            fputs("scheme: no memory\n", stderr);
-            exit(2);
-        }
+        texts = grown(texts, text_count, sizeof *texts);
+        texts[text_count++] = strcpy(room(strlen(text) + 1), text);
     }
     pthread_mutex_unlock(&texts_lock);
     return number;
@@ -80,113 +41,77 @@ const char *text_of(int number) {
     return text;
 }
 
-/* ---- numbers */
+/* ---- numbers. Operators are told by a letter: / for quotient, % for remainder, [ for <=, ] for >= */
 
-bool is_arithmetic(int which) {
-    return which <= LAST_ARITHMETIC;
-}
-
-bool is_comparison(int which) {
-    return which > LAST_ARITHMETIC && which <= LAST_COMPARISON;
-}
-
-bool is_test(int which) {
-    return which > LAST_COMPARISON && which <= LAST_TEST;
-}
-
-static long long with_next(mutator *m, int which, long long all, int next) {
-    switch (which) {
-    case ADD:
+static long long with_next(mutator *m, int operator, long long all, int next) {
+    if ((operator == '/' || operator == '%') && next == 0) {
+        fail(m, "a division by zero");
+    }
+    switch (operator) {
+    case '+':
         return all + next;
-    case SUBTRACT:
+    case '-':
         return all - next;
-    case MULTIPLY:
+    case '*':
         return all * next;
+    case '/':
+        return all / next;
     default:
-        if (next == 0) {
-            fail(m, "a division by zero");
-        }
-        return which == QUOTIENT ? all / next : all % next;
+        return all % next;
     }
 }
 
-int calculate(mutator *m, int which, const int *amounts, int count) {
-    bool from_first = count > 1 || (count == 1 && which != SUBTRACT);
-    long long all = count == 0 || !from_first ? which == MULTIPLY : amounts[0];
-    for (int each = from_first ? 1 : 0; each < count; each++) {
-        all = with_next(m, which, all, amounts[each]);
+static void calculate(mutator *m, const call *c) {
+    bool alone = c->count == 0 || (c->count == 1 && c->of == '-');
+    long long all = alone ? c->of == '*' : number_at(m, c->first);
+    for (int each = alone ? 0 : 1; each < c->count; each++) {
+        all = with_next(m, c->of, all, number_at(m, c->first + each));
         if (all < LEAST_NUMBER || all > MOST_NUMBER) {
             fail(m, "a number isn't from %d to %d", LEAST_NUMBER, MOST_NUMBER);
         }
     }
-    return (int)all;
+    make(m, c->to, NUMBER, (int)all);
 }
 
-static bool compares_two(int which, int a, int b) {
-    switch (which) {
-    case EQUALS:
-        return a == b;
-    case LESS:
-        return a < b;
-    case GREATER:
-        return a > b;
-    case AT_MOST:
-        return a <= b;
-    default:
-        return a >= b;
-    }
+static bool holds(int operator, int a, int b) {
+    return a < b ? operator == '<' || operator == '[' : a > b ? operator == '>' || operator == ']' : operator != '<' && operator != '>';
 }
 
-bool compares(int which, const int *amounts, int count) {
-    for (int each = 0; each + 1 < count; each++) {
-        if (!compares_two(which, amounts[each], amounts[each + 1])) {
-            return false;
-        }
+static void compare(mutator *m, const call *c) {
+    bool all = true;
+    for (int each = c->first; each + 1 < c->first + c->count; each++) {
+        int before = number_at(m, each), behind = number_at(m, each + 1);
+        all = all && holds(c->of, before, behind);
     }
-    return true;
+    make(m, c->to, BOOLEAN, all);
 }
 
 /* ---- objects */
 
-static void want(mutator *m, int reg, kind of, const char *what) {
-    int number;
+static int want(mutator *m, int reg, kind of, const char *what) {
+    int number = 0;
     if (kind_of(m, reg, &number) != of) {
         fail(m, "%s is wanted", what);
     }
+    return number;
 }
 
 /* Two leaves are the same where they look the same. */
-static bool is_same(mutator *m, int a, int b) {
-    int a_number, b_number;
-    kind a_kind = kind_of(m, a, &a_number), b_kind = kind_of(m, b, &b_number);
-    return a_kind == b_kind && (a_kind <= THREAD ? a_number == b_number : same(m, a, b));
+static void is_same(mutator *m, const call *c) {
+    int a = 0, b = 0;
+    kind a_kind = kind_of(m, c->first, &a), b_kind = kind_of(m, c->first + 1, &b);
+    make(m, c->to, BOOLEAN, a_kind == b_kind && (a_kind <= THREAD ? a == b : same(m, c->first, c->first + 1)));
 }
 
-bool tests(mutator *m, int which, int first) {
+static void is_false(mutator *m, const call *c) {
+    int number = 0;
+    make(m, c->to, BOOLEAN, kind_of(m, c->first, &number) == BOOLEAN && number == 0);
+}
+
+static void is_of_kind(mutator *m, const call *c) {
     int number;
-    kind of = kind_of(m, first, &number);
-    switch (which) {
-    case IS_SAME:
-        return is_same(m, first, first + 1);
-    case NOT:
-        return of == BOOLEAN && number == 0;
-    case IS_NULL:
-        return of == EMPTY;
-    case IS_PAIR:
-        return of == PAIR;
-    case IS_NUMBER:
-        return of == NUMBER;
-    case IS_SYMBOL:
-        return of == SYMBOL;
-    case IS_STRING:
-        return of == STRING;
-    case IS_BOOLEAN:
-        return of == BOOLEAN;
-    case IS_VECTOR:
-        return of == VECTOR;
-    default:
-        return of == CLOSURE || of == PRIMITIVE;
-    }
+    kind is = kind_of(m, c->first, &number);
+    make(m, c->to, BOOLEAN, is == (kind)c->of || (c->of == CLOSURE && is == PRIMITIVE));
 }
 
 static void cons(mutator *m, int to, int head, int tail) {
@@ -194,6 +119,29 @@ static void cons(mutator *m, int to, int head, int tail) {
     put(m, FRESH, 0, head);
     put(m, FRESH, 1, tail);
     copy(m, to, FRESH);
+}
+
+static void make_pair(mutator *m, const call *c) {
+    cons(m, c->to, c->first, c->first + 1);
+}
+
+static void part(mutator *m, const call *c) {
+    want(m, c->first, PAIR, "a pair");
+    get(m, c->to, c->first, c->of);
+}
+
+static void set_part(mutator *m, const call *c) {
+    want(m, c->first, PAIR, "a pair");
+    put(m, c->first, c->of, c->first + 1);
+    make(m, c->to, VOID, 0);
+}
+
+static void list(mutator *m, const call *c) {
+    make(m, SPARE, EMPTY, 0);
+    for (int each = c->count; each > 0; each--) {
+        cons(m, SPARE, c->first + each - 1, SPARE);
+    }
+    copy(m, c->to, SPARE);
 }
 
 /* ---- vectors */
@@ -248,12 +196,33 @@ static int item_of(mutator *m, int vector, int at) {
     return branch_of(m, count, at);
 }
 
-static void vector_of(mutator *m, int first, int count, int to) {
-    make_vector(m, SPARE, count, ROOT, first + count);
-    for (int each = 0; each < count; each++) {
-        put(m, WALK, item_of(m, SPARE, each), first + each);
+static void vector(mutator *m, const call *c) {
+    make_vector(m, SPARE, c->count, ROOT, c->first + c->count);
+    for (int each = 0; each < c->count; each++) {
+        put(m, WALK, item_of(m, SPARE, each), c->first + each);
     }
-    copy(m, to, SPARE);
+    copy(m, c->to, SPARE);
+}
+
+static void filled_vector(mutator *m, const call *c) {
+    int length = number_at(m, c->first);
+    if (length < 0) {
+        fail(m, "a vector has no %d items", length);
+    }
+    make_vector(m, c->to, length, c->first + 1, c->first + c->count);
+}
+
+static void vector_length(mutator *m, const call *c) {
+    make(m, c->to, NUMBER, want(m, c->first, VECTOR, "a vector"));
+}
+
+static void vector_item(mutator *m, const call *c) {
+    get(m, c->to, WALK, item_of(m, c->first, number_at(m, c->first + 1)));
+}
+
+static void set_vector_item(mutator *m, const call *c) {
+    put(m, WALK, item_of(m, c->first, number_at(m, c->first + 1)), c->first + 2);
+    make(m, c->to, VOID, 0);
 }
 
 /* ---- texts of objects */
@@ -316,12 +285,6 @@ static void show(mutator *m, FILE *out, int reg, int work, bool quotes) {
     }
 }
 
-static void display(mutator *m, int reg, int work, bool quotes) {
-    flockfile(stdout);
-    show(m, stdout, reg, work, quotes);
-    funlockfile(stdout);
-}
-
 /* The items one after another, as a text. The caller frees it. */
 static char *joined(mutator *m, int first, int count, const char *between) {
     char *text = NULL;
@@ -337,132 +300,93 @@ static char *joined(mutator *m, int first, int count, const char *between) {
     return text;
 }
 
-static void make_string(mutator *m, int to, int first, int count) {
-    char *text = joined(m, first, count, "");
+static void text(mutator *m, const call *c) {
+    char *text = joined(m, c->first, c->count, "");
     int number = number_of_text(text);
     free(text);
-    make(m, to, STRING, number);
+    make(m, c->to, STRING, number);
 }
 
-_Noreturn static void error(mutator *m, int first, int count) {
-    char sentence[160], *text = joined(m, first, count, " ");
+static void text_length(mutator *m, const call *c) {
+    make(m, c->to, NUMBER, (int)strlen(text_of(want(m, c->first, STRING, "a string"))));
+}
+
+static void display(mutator *m, const call *c) {
+    flockfile(stdout);
+    show(m, stdout, c->first, c->first + c->count, c->of);
+    funlockfile(stdout);
+    make(m, c->to, VOID, 0);
+}
+
+static void new_line(mutator *m, const call *c) {
+    putchar('\n');
+    make(m, c->to, VOID, 0);
+}
+
+static void error(mutator *m, const call *c) {
+    char sentence[160], *text = joined(m, c->first, c->count, " ");
     snprintf(sentence, sizeof sentence, "%s", text);
     free(text);
     fail(m, "%s", sentence);
 }
 
+/* ---- threads */
+
+static void start_thread(mutator *m, const call *c) {
+    make(m, c->to, THREAD, spawn(m, c->first));
+}
+
+static void join_thread(mutator *m, const call *c) {
+    join(m, want(m, c->first, THREAD, "a thread"), c->to);
+}
+
+static void use_lock(mutator *m, const call *c) {
+    c->of ? acquire(m) : release(m);
+    make(m, c->to, VOID, 0);
+}
+
 /* ---- all */
 
-static void change(mutator *m, int object, int field, int value, int to) {
-    want(m, object, PAIR, "a pair");
-    put(m, object, field, value);
-    make(m, to, VOID, 0);
-}
+static const struct {
+    const char *name;
+    int least, most;
+    void (*carry_out)(mutator *m, const call *c);
+    int of;
+} PRIMITIVES[] = {
+    { "+", 0, MOST_ARGUMENTS, calculate, '+' }, { "-", 1, MOST_ARGUMENTS, calculate, '-' }, { "*", 0, MOST_ARGUMENTS, calculate, '*' },
+    { "quotient", 2, 2, calculate, '/' }, { "remainder", 2, 2, calculate, '%' },
+    { "=", 2, MOST_ARGUMENTS, compare, '=' }, { "<", 2, MOST_ARGUMENTS, compare, '<' }, { ">", 2, MOST_ARGUMENTS, compare, '>' },
+    { "<=", 2, MOST_ARGUMENTS, compare, '[' }, { ">=", 2, MOST_ARGUMENTS, compare, ']' },
+    { "eq?", 2, 2, is_same, 0 }, { "not", 1, 1, is_false, 0 }, { "null?", 1, 1, is_of_kind, EMPTY }, { "pair?", 1, 1, is_of_kind, PAIR },
+    { "number?", 1, 1, is_of_kind, NUMBER }, { "symbol?", 1, 1, is_of_kind, SYMBOL }, { "string?", 1, 1, is_of_kind, STRING },
+    { "boolean?", 1, 1, is_of_kind, BOOLEAN }, { "vector?", 1, 1, is_of_kind, VECTOR }, { "procedure?", 1, 1, is_of_kind, CLOSURE },
+    { "cons", 2, 2, make_pair, 0 }, { "car", 1, 1, part, 0 }, { "cdr", 1, 1, part, 1 }, { "set-car!", 2, 2, set_part, 0 },
+    { "set-cdr!", 2, 2, set_part, 1 }, { "list", 0, MOST_ARGUMENTS, list, 0 },
+    { "vector", 0, MOST_ARGUMENTS, vector, 0 }, { "make-vector", 2, 2, filled_vector, 0 }, { "vector-length", 1, 1, vector_length, 0 },
+    { "vector-ref", 2, 2, vector_item, 0 }, { "vector-set!", 3, 3, set_vector_item, 0 },
+    { "string-append", 0, MOST_ARGUMENTS, text, 0 }, { "number->string", 1, 1, text, 0 }, { "symbol->string", 1, 1, text, 0 },
+    { "string-length", 1, 1, text_length, 0 }, { "display", 1, 1, display, false }, { "write", 1, 1, display, true }, { "newline", 0, 0, new_line, 0 },
+    { "error", 1, MOST_ARGUMENTS, error, 0 },
+    { "spawn", 1, 1, start_thread, 0 }, { "join", 1, 1, join_thread, 0 }, { "acquire", 0, 0, use_lock, true }, { "release", 0, 0, use_lock, false }
+};
 
-static void part(mutator *m, int object, int field, int to) {
-    want(m, object, PAIR, "a pair");
-    get(m, to, object, field);
-}
-
-static void operate_on_vector(mutator *m, primitive which, int first, int count, int to) {
-    int length = 0;
-    switch (which) {
-    case VECTOR_OF:
-        vector_of(m, first, count, to);
-        break;
-    case MAKE_VECTOR:
-        length = number_at(m, first);
-        if (length < 0) {
-            fail(m, "a vector has no %d items", length);
+int primitive_named(const char *name) {
+    for (int each = 0; each < (int)(sizeof PRIMITIVES / sizeof *PRIMITIVES); each++) {
+        if (strcmp(PRIMITIVES[each].name, name) == 0) {
+            return each;
         }
-        make_vector(m, to, length, first + 1, first + 2);
-        break;
-    case VECTOR_LENGTH:
-        want(m, first, VECTOR, "a vector");
-        kind_of(m, first, &length);
-        make(m, to, NUMBER, length);
-        break;
-    case VECTOR_REF:
-        get(m, to, WALK, item_of(m, first, number_at(m, first + 1)));
-        break;
-    default:
-        put(m, WALK, item_of(m, first, number_at(m, first + 1)), first + 2);
-        make(m, to, VOID, 0);
     }
+    return -1;
+}
+
+const char *primitive_name(int which) {
+    return PRIMITIVES[which].name;
+}
+
+bool primitive_takes(int which, int count) {
+    return PRIMITIVES[which].least <= count && count <= PRIMITIVES[which].most;
 }
 
 void operate(mutator *m, int which, int first, int count, int to) {
-    int number = 0;
-    switch (which) {
-    case CONS:
-        cons(m, to, first, first + 1);
-        break;
-    case CAR:
-    case CDR:
-        part(m, first, which == CDR, to);
-        break;
-    case SET_CAR:
-    case SET_CDR:
-        change(m, first, which == SET_CDR, first + 1, to);
-        break;
-    case LIST:
-        make(m, SPARE, EMPTY, 0);
-        while (count > 0) {
-            cons(m, SPARE, first + --count, SPARE);
-        }
-        copy(m, to, SPARE);
-        break;
-    case STRING_APPEND:
-    case NUMBER_TO_STRING:
-    case SYMBOL_TO_STRING:
-        make_string(m, to, first, count);
-        break;
-    case STRING_LENGTH:
-        want(m, first, STRING, "a string");
-        kind_of(m, first, &number);
-        make(m, to, NUMBER, (int)strlen(text_of(number)));
-        break;
-    case DISPLAY:
-    case WRITE:
-        display(m, first, first + 1, which == WRITE);
-        make(m, to, VOID, 0);
-        break;
-    case NEWLINE:
-        putchar('\n');
-        make(m, to, VOID, 0);
-        break;
-    case ERROR:
-        error(m, first, count);
-    case SPAWN:
-        make(m, to, THREAD, spawn(m, first));
-        break;
-    case JOIN:
-        want(m, first, THREAD, "a thread");
-        kind_of(m, first, &number);
-        join(m, number, to);
-        break;
-    case ACQUIRE:
-    case RELEASE:
-        which == ACQUIRE ? acquire(m) : release(m);
-        make(m, to, VOID, 0);
-        break;
-    default:
-        operate_on_vector(m, (primitive)which, first, count, to);
-    }
-}
-
-void apply_primitive(mutator *m, int which, int first, int count, int to) {
-    int amounts[MOST_ARGUMENTS];
-    for (int each = 0; which <= LAST_COMPARISON && each < count; each++) {
-        amounts[each] = number_at(m, first + each);
-    }
-    if (is_arithmetic(which)) {
-        make(m, to, NUMBER, calculate(m, which, amounts, count));
-    } else if (is_comparison(which)) {
-        make(m, to, BOOLEAN, compares(which, amounts, count));
-    } else if (is_test(which)) {
-        make(m, to, BOOLEAN, tests(m, which, first));
-    } else {
-        operate(m, which, first, count, to);
-    }
+    PRIMITIVES[which].carry_out(m, &(call){ PRIMITIVES[which].of, first, count, to });
 }
