@@ -84,14 +84,6 @@ in_range_counted s x h =
       | inr l ↦ absurd (omega (arith, h, ap (λ (w : Slot). w.count) (get_or_past s.slots x absent l)))
     ]
 
--- one decrement, of a slot that is counted
-pub decremented_count : (s : State) (x y : ℕ) → 0 < (slot_at s x).count → (slot_at (decremented s x) y).count + one (eqb y x) ≡ (slot_at s y).count
-decremented_count s x y h =
-    elim (eqb_tells y x) [
-      | inl q ↦ let n : one (eqb y x) ≡ 1 = ap one q.0 in let o : (slot_at s y).count ≡ (slot_at s x).count = ap (λ z. (slot_at s z).count) q.1 in omega (arith, decremented_less s x y, n, o, h)
-      | inr q ↦ let n : one (eqb y x) ≡ 0 = ap one q.0 in omega (arith, decremented_less s x y, n)
-    ]
-
 -- the zeros after a decrement: those before, and the slot where its last reference went
 pub record ZerosFrom (s : State) (x : ℕ) : Type 0 where
   pub more : List ℕ
@@ -124,12 +116,6 @@ zeros_from s x = go (due_of (slot_at s x)) refl
       where
         it : (y : ℕ) → 0 < times y (x ∷ []) → (eqb y x ≡ true) × (y ≡ x)
         it y h = elim (eqb_tells y x) [ inl q ↦ (q.0, q.1) | inr q ↦ let n : one (eqb y x) ≡ 0 = ap one q.0 in absurd (omega (arith, h, n, times-cons y x [], times-nil y)) ]
-
--- where there are no zeros, all of them are zeros
-pub no_zeros : (s : State) → s.zeros ≡ [] → AreZeros s
-no_zeros s z =
-    let n : (x : ℕ) → times x s.zeros ≡ 0 = λ x. ap (times x) z ∙ times-nil x in
-    record { once = λ x. omega (arith, n x); none = λ x h. absurd (omega (arith, h, n x)); unreleased = λ x h. absurd (omega (arith, h, n x)) }
 
 -- the zeros stay zeros
 pub zeros_kept : (s : State) (x : ℕ) → AreZeros s → AreZeros (decremented s x)

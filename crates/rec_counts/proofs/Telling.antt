@@ -10,17 +10,13 @@ use Rattle.std.proofs.lemmas.Bool.Decides.{eqb_tells}
 use Rattle.rec_counts.specs.declared.slot.Slot.{Slot}
 use Rattle.rec_counts.specs.declared.touched.Mark.{Mark}
 use Rattle.rec_counts.specs.declared.touched.Mark.TheVariants.{Untouched, Taken}
-use Rattle.rec_counts.specs.declared.colour.Colour.TheVariants.{Green}
+
 use Rattle.rec_counts.specs.Batched.{batched_at, batched_slots, counted_at}
 use Rattle.rec_counts.specs.Lists.{one, times}
 use Rattle.rec_counts.specs.Slot.{absent}
-use Rattle.rec_counts.specs.Touched.{Told, Touching, counted_less, counted_more, firsts, greened_if, is_taken, mark_added, mark_at, mark_of, settled_at, untouched, with_added, with_taken}
+use Rattle.rec_counts.specs.Touched.{Told, Touching, counted_less, firsts, greened_if, is_taken, mark_added, mark_at, mark_of, settled_at, untouched, with_taken}
 use Rattle.rec_counts.proofs.Times.{times-cons, times-nil, times_push}
 use Rattle.rec_counts.proofs.Marking.{unmarked_at}
-
--- Counts that wrap.
-wrap_more : (c t o a : ℕ) → (c + t) % 2 ^ 64 ≡ (o + a) % 2 ^ 64 → ((c + 1) % 2 ^ 64 + t) % 2 ^ 64 ≡ (o + (a + 1)) % 2 ^ 64
-wrap_more c t o a h = omega arith
 
 wrap_less : (c t o a : ℕ) → (c + t) % 2 ^ 64 ≡ (o + a) % 2 ^ 64 → ((c + (2 ^ 64 - 1)) % 2 ^ 64 + (t + 1)) % 2 ^ 64 ≡ (o + a) % 2 ^ 64
 wrap_less c t o a h = omega arith
@@ -101,13 +97,6 @@ count_here slots x y n l e = ap (λ z. (get_or (set slots x (record (get_or slot
 count_there : (slots : List Slot) (x y n : ℕ) → y ≢ x → (get_or (set slots x (record (get_or slots x absent) { count = n })) y absent).count ≡ (get_or slots y absent).count
 count_there slots x y n e = ap (λ (w : Slot). w.count) (get_or-set_other slots x y (record (get_or slots x absent) { count = n }) absent e)
 
--- marks
-mark_added_of : (added taken : Bool) → mark_added (mark_of added taken) ≡ mark_of true taken
-mark_added_of true true = refl
-mark_added_of false true = refl
-mark_added_of true false = refl
-mark_added_of false false = refl
-
 pub taken_of : (added taken : Bool) → is_taken (mark_of added taken) ≡ taken
 taken_of true true = refl
 taken_of false true = refl
@@ -135,72 +124,6 @@ told_open before touched e f = subst (λ (t : Touching). Told before (λ x. 0) (
   marks = λ x. rw (times-nil x) (unmarked_at (length before) x);
   taken_first = refl;
 })
-
--- a leaf was born
-pub told_born : {before slots : List Slot} {born added : ℕ → ℕ} {taken : List ℕ} {touched : Touching} → Told before born added taken slots touched → (x : ℕ) → x < length slots →
-    Told before (λ y. born y + one (eqb y x)) added taken (set slots x (record (get_or slots x absent) { colour = Green })) touched
-told_born {before = before} {slots = slots} {born = born} {added = added} {taken = taken} {touched = touched} k x l = record {
-  many = length-set slots x v ∙ k.many;
-  marked = k.marked;
-  slot = λ y. elim (eqb_tells y x) [
-    | inl q ↦ here y q.1 ∙ ap (λ (w : Slot). record w { colour = Green }) (k.slot y) ∙ green (ltb 0 (born y)) (get_or before y absent) (get_or slots y absent).count
-        ∙ ap (λ b. record (greened_if b (get_or before y absent)) { count = (get_or slots y absent).count }) (sym (some_more (born y) (one (eqb y x)) (ap one q.0)))
-        ∙ ap {A = ℕ} {B = Slot} (λ m. record (greened_if (ltb 0 (born y + one (eqb y x))) (get_or before y absent)) { count = m }) (sym (ap (λ (w : Slot). w.count) (here y q.1)))
-    | inr q ↦ there y q.1 ∙ k.slot y
-        ∙ ap (λ n. record (greened_if (ltb 0 n) (get_or before y absent)) { count = (get_or slots y absent).count }) (sym (none_more (born y) (one (eqb y x)) (ap one q.0)))
-        ∙ ap {A = ℕ} {B = Slot} (λ m. record (greened_if (ltb 0 (born y + one (eqb y x))) (get_or before y absent)) { count = m }) (sym (ap (λ (w : Slot). w.count) (there y q.1)))
-  ];
-  fits = λ y. omega (arith, same y, k.fits y);
-  count = λ y. ap (λ n. (n + times y taken) % 2 ^ 64) (same y) ∙ k.count y;
-  marks = k.marks;
-  taken_first = k.taken_first;
-}
-  where
-    v : Slot
-    v = record (get_or slots x absent) { colour = Green }
-
-    here : (y : ℕ) → y ≡ x → get_or (set slots x v) y absent ≡ record (get_or slots y absent) { colour = Green }
-    here y e = ap (λ z. get_or (set slots x v) z absent) e ∙ get_or-set_same slots x v absent l ∙ ap (λ z. record (get_or slots z absent) { colour = Green }) (sym e)
-
-    there : (y : ℕ) → y ≢ x → get_or (set slots x v) y absent ≡ get_or slots y absent
-    there y e = get_or-set_other slots x y v absent e
-
-    green : (b : Bool) (w : Slot) (n : ℕ) → ◌≡◌ {A = Slot} (record (record (greened_if b w) { count = n }) { colour = Green }) (record (greened_if true w) { count = n })
-    green true w n = refl
-    green false w n = refl
-
-    same : (y : ℕ) → (get_or (set slots x v) y absent).count ≡ (get_or slots y absent).count
-    same y = elim (eqb_tells y x) [ inl q ↦ ap (λ (w : Slot). w.count) (here y q.1) | inr q ↦ ap (λ (w : Slot). w.count) (there y q.1) ]
-
--- there is one reference to the slot more
-pub told_added : {before slots : List Slot} {born added : ℕ → ℕ} {taken : List ℕ} {touched : Touching} → Told before born added taken slots touched → (x : ℕ) → x < length slots →
-    Told before born (λ y. added y + one (eqb y x)) taken (counted_more slots x) (with_added touched x)
-told_added {before = before} {slots = slots} {born = born} {added = added} {taken = taken} {touched = touched} k x l = record {
-  many = length-set slots x _ ∙ k.many;
-  marked = length-set touched.marks x _ ∙ k.marked;
-  slot = recounted before slots born x n l k.slot;
-  fits = λ y. elim (eqb_tells y x) [
-    | inl q ↦ omega (arith, count_here slots x y n l q.1)
-    | inr q ↦ omega (arith, count_there slots x y n q.1, k.fits y)
-  ];
-  count = λ y. elim (eqb_tells y x) [
-    | inl q ↦ ap (λ m. (m + times y taken) % 2 ^ 64) (count_here slots x y n l q.1) ∙ ap (λ z. (((get_or slots z absent).count + 1) % 2 ^ 64 + times y taken) % 2 ^ 64) (sym q.1)
-        ∙ wrap_more _ _ _ (added y) (k.count y) ∙ ap (λ m. ((get_or before y absent).count + (added y + m)) % 2 ^ 64) (sym (ap one q.0))
-    | inr q ↦ ap (λ m. (m + times y taken) % 2 ^ 64) (count_there slots x y n q.1) ∙ k.count y ∙ ap (λ m. ((get_or before y absent).count + m) % 2 ^ 64) (sym (none_more (added y) (one (eqb y x)) (ap one q.0)))
-  ];
-  marks = λ y. elim (eqb_tells y x) [
-    | inl q ↦ ap (mark_at (set touched.marks x m)) q.1 ∙ get_or-set_same touched.marks x m Untouched (omega (arith, l, k.many, k.marked)) ∙ ap (λ z. mark_added (mark_at touched.marks z)) (sym q.1)
-        ∙ ap mark_added (k.marks y) ∙ mark_added_of (ltb 0 (added y)) (ltb 0 (times y taken)) ∙ ap (λ b. mark_of b (ltb 0 (times y taken))) (sym (some_more (added y) (one (eqb y x)) (ap one q.0)))
-    | inr q ↦ get_or-set_other touched.marks x y m Untouched q.1 ∙ k.marks y ∙ ap (λ j. mark_of (ltb 0 j) (ltb 0 (times y taken))) (sym (none_more (added y) (one (eqb y x)) (ap one q.0)))
-  ];
-  taken_first = k.taken_first;
-}
-  where
-    n : ℕ
-    n = ((get_or slots x absent).count + 1) % 2 ^ 64
-
-    m : Mark
-    m = mark_added (mark_at touched.marks x)
 
 -- the marks and the list once something was taken off
 taken_marks : {before slots : List Slot} {born added : ℕ → ℕ} {taken : List ℕ} {touched : Touching} → Told before born added taken slots touched → (x : ℕ) → x < length slots → (more : ℕ → ℕ) → ((y : ℕ) → y ≢ x → more y ≡ added y) →

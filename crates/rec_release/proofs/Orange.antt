@@ -2,7 +2,7 @@
 use Rattle.std.proofs.Common.{◌≡◌, ℕ, ◌+◌, ◌-◌, ◌<◌, ◌⊎◌, Bool, true, false, eqb, ltb, Option, Some, None, IfSome, List, [], ◌∷◌, ◌++◌, length, map, get_or, refl, arith, sym, ◌∙◌, ap, subst, inl, inr}
 use Rattle.std.specs.List.{concat}
 use Rattle.std.proofs.lemmas.Bool.{cases_lt, false≢true}
-use Rattle.std.proofs.lemmas.List.{get_or-set_same, length-set, set_past, get_or_past}
+use Rattle.std.proofs.lemmas.List.{length-set}
 use Rattle.rec_counts.specs.declared.colour.Colour.{Colour}
 use Rattle.rec_counts.specs.declared.colour.Colour.TheVariants.{Black, Orange}
 use Rattle.rec_counts.specs.declared.slot.Slot.{Slot}
@@ -23,16 +23,6 @@ use Rattle.rec_release.specs.TakenOff.{down_if, is_lowered, taken_off, AllZerosB
 use Rattle.rec_release.proofs.Giving.{given_slot}
 use Rattle.rec_release.proofs.Keeping.{each_next, first_released, ready_emptied}
 use Rattle.rec_release.proofs.TakenOff.{down_most, off_most, ready_off, written, KeepsMost}
-
--- what is written isn't Orange
-pub not_orange_at : (s : State) (x : ℕ) (v : Slot) → (v.colour ≡ Orange → ⊥) → (slot_at (with_slot s x v) x).colour ≡ Orange → ⊥
-not_orange_at s x v h o = elim (cases_lt x (length s.slots)) [
-  | inl l ↦ h (ap (λ (w : Slot). w.colour) (sym (get_or-set_same s.slots x v absent l)) ∙ o)
-  | inr l ↦
-      let past : slot_at (with_slot s x v) x ≡ absent = ap (λ ss. get_or ss x absent) (set_past s.slots x v l) ∙ get_or_past s.slots x absent l in
-      let black : Black ≡ Orange = ap (λ (w : Slot). w.colour) (sym past) ∙ o in
-      cc
-]
 
 -- What each move keeps. One of a machine that lowers leaves the orange slots as they are, and one of a machine that doesn't
 -- leaves all zeros in the zeros.
