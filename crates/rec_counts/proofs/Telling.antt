@@ -14,10 +14,11 @@ use Rattle.rec_counts.specs.declared.touched.Mark.TheVariants.{Untouched, Taken}
 use Rattle.rec_counts.specs.Batched.{batched_at, batched_slots, counted_at}
 use Rattle.rec_counts.specs.Lists.{one, times}
 use Rattle.rec_counts.specs.Slot.{absent}
-use Rattle.rec_counts.specs.Touched.{Told, Touching, counted_less, firsts, greened_if, is_taken, mark_added, mark_at, mark_of, settled_at, untouched, with_taken}
+use Rattle.rec_counts.specs.Touched.{Told, Touching, counted_less, firsts, greened_if, is_taken, mark_at, mark_of, settled_at, untouched, with_taken}
 use Rattle.rec_counts.proofs.Times.{times-cons, times-nil, times_push}
 use Rattle.rec_counts.proofs.Marking.{unmarked_at}
 
+-- Counts that wrap.
 wrap_less : (c t o a : ℕ) → (c + t) % 2 ^ 64 ≡ (o + a) % 2 ^ 64 → ((c + (2 ^ 64 - 1)) % 2 ^ 64 + (t + 1)) % 2 ^ 64 ≡ (o + a) % 2 ^ 64
 wrap_less c t o a h = omega arith
 
