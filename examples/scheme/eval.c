@@ -251,10 +251,30 @@ static void forget(mutator *m) {
     }
 }
 
+/* Calls what FUNCTION names between two steps. */
+static void interrupt(mutator *m) {
+    make(m, FRESH, NODE, 0);
+    for (int reg = ENVIRONMENT; reg <= VALUE; reg++) {
+        put(m, FRESH, reg - ENVIRONMENT, reg);
+    }
+    copy(m, INTERRUPTED, FRESH);
+    clear(m, FRAMES);
+    m->finalizes = true;
+    run_thunk(m);
+    m->finalizes = false;
+    for (int reg = ENVIRONMENT; reg <= VALUE; reg++) {
+        get(m, reg, INTERRUPTED, reg - ENVIRONMENT);
+    }
+    clear(m, INTERRUPTED);
+}
+
 static void run(mutator *m, const node *n) {
     for (unsigned steps = 0; n != NULL; steps++) {
         if (steps % POLLS_EACH == 0) {
             poll(m);
+            if (!m->finalizes && take_finalizer(m)) {
+                interrupt(m);
+            }
         }
         if (steps % FORGETS_EACH == 0) {
             forget(m);

@@ -1,5 +1,6 @@
 /* The heap, over the calls of recycler.h. */
 #define _POSIX_C_SOURCE 200809L
+#include "code.h"
 #include "heap.h"
 
 #include <pthread.h>
@@ -9,15 +10,17 @@
 #include <stdlib.h>
 #include <time.h>
 
-enum { KIND_BITS = 4, LOG_ENTRIES = 1024, PATIENCE = 200, ROUNDS = 8 };
+enum { KIND_BITS = 4, LOG_ENTRIES = 1024, PATIENCE = 200, ROUNDS = 8, NOTICES = 256 };
 
 static recycler heap = RECYCLER_CLOSED;
 static pthread_t collector;
 static int mutators;
-/* Which handles are given out, and whether the collector is to end. */
+/* Which handles are given out, whether the collector is to end, how many tokens there were, and which were freed and not told yet. */
 static pthread_mutex_t lock = PTHREAD_MUTEX_INITIALIZER;
 static bool given[RECYCLER_MOST_MUTATORS];
 static bool ends;
+static int token_count, freed_count;
+static int *freed_tokens;
 
 static void must(uint32_t code, const char *call) {
     if (code != RECYCLER_OK) {
@@ -49,11 +52,39 @@ static bool has_ended(void) {
     return ended;
 }
 
+int new_token(void) {
+    pthread_mutex_lock(&lock);
+    int number = ++token_count;
+    pthread_mutex_unlock(&lock);
+    return number;
+}
+
+int freed_token(void) {
+    pthread_mutex_lock(&lock);
+    int number = freed_count > 0 ? freed_tokens[--freed_count] : 0;
+    pthread_mutex_unlock(&lock);
+    return number;
+}
+
+/* Of the labels of all objects that were freed, those of tokens count. */
+static void hear(void) {
+    recycler_heard heard;
+    for (must(recycler_hear(&heap.listener, &heard), "hear"); heard.any; must(recycler_hear(&heap.listener, &heard), "hear")) {
+        if ((heard.label & ((1u << KIND_BITS) - 1)) == NOTHING && heard.label >> KIND_BITS > 0) {
+            pthread_mutex_lock(&lock);
+            freed_tokens = grown(freed_tokens, freed_count, sizeof *freed_tokens);
+            freed_tokens[freed_count++] = (int)(heard.label >> KIND_BITS);
+            pthread_mutex_unlock(&lock);
+        }
+    }
+}
+
 /* Each collection spends an epoch, so one that freed nothing is followed by a rest. */
 static void *collect(void *nothing) {
     recycler_turned told;
     while (!has_ended()) {
         must(recycler_collect(&heap.collector, 200, &told), "collect");
+        hear();
         if (told.what == RECYCLER_WAITING) {
             wait_for((int)told.mutator - 1);
         } else if (told.what == RECYCLER_COLLECTED && told.freed == 0) {
@@ -68,6 +99,7 @@ static void *collect(void *nothing) {
 void open_heap(uint32_t slots, int threads) {
     mutators = threads;
     must(recycler_open(&heap, slots, FIELDS, REGISTERS, (uint32_t)threads, LOG_ENTRIES, 1), "open");
+    must(recycler_notices(&heap, NOTICES), "notices");
     must(recycler_start(&heap), "start");
     if (pthread_create(&collector, NULL, collect, NULL) != 0) {
         fprintf(stderr, "scheme: no thread can be started\n");

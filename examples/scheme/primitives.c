@@ -341,7 +341,17 @@ static void join_thread(mutator *m, const call *c) {
 }
 
 static void use_lock(mutator *m, const call *c) {
-    c->of ? acquire(m) : release(m);
+    c->of ? acquire(m, OF_PROGRAM) : release(m, OF_PROGRAM);
+    make(m, c->to, VOID, 0);
+}
+
+static void add_finalizer(mutator *m, const call *c) {
+    int number;
+    if (kind_of(m, c->first, &number) != PAIR) {
+        want(m, c->first, CLOSURE, "a pair or a procedure");
+    }
+    want(m, c->first + 1, CLOSURE, "a procedure");
+    finalize(m, c->first, c->first + 1);
     make(m, c->to, VOID, 0);
 }
 
@@ -367,7 +377,8 @@ static const struct {
     { "string-append", 0, MOST_ARGUMENTS, text, 0 }, { "number->string", 1, 1, text, 0 }, { "symbol->string", 1, 1, text, 0 },
     { "string-length", 1, 1, text_length, 0 }, { "display", 1, 1, display, false }, { "write", 1, 1, display, true }, { "newline", 0, 0, new_line, 0 },
     { "error", 1, MOST_ARGUMENTS, error, 0 },
-    { "spawn", 1, 1, start_thread, 0 }, { "join", 1, 1, join_thread, 0 }, { "acquire", 0, 0, use_lock, true }, { "release", 0, 0, use_lock, false }
+    { "spawn", 1, 1, start_thread, 0 }, { "join", 1, 1, join_thread, 0 }, { "acquire", 0, 0, use_lock, true }, { "release", 0, 0, use_lock, false },
+    { "finalize", 2, 2, add_finalizer, 0 }
 };
 
 int primitive_named(const char *name) {

@@ -16,8 +16,8 @@ typedef struct worker {
 static pthread_mutex_t lock = PTHREAD_MUTEX_INITIALIZER;
 static worker workers[RECYCLER_MOST_MUTATORS];
 static int count;
-/* Whose mutator has the program's lock: none's where it is -1. */
-static int holder = -1;
+/* Whose mutator has each lock: none's where it is -1. */
+static int holders[LOCKS] = { -1, -1 };
 
 void open_threads(mutator *m, int threads) {
     count = threads;
@@ -43,6 +43,12 @@ static int state_of(const worker *w) {
     return state;
 }
 
+static void release_all(mutator *m) {
+    for (int which = 0; which < LOCKS; which++) {
+        release(m, (program_lock)which);
+    }
+}
+
 static void *work(void *given) {
     worker *w = given;
     mutator *m = &w->mutator;
@@ -52,7 +58,7 @@ static void *work(void *given) {
         run_thunk(m);
         put(m, WALK, hand(m, m->number), VALUE);
     }
-    release(m);
+    release_all(m);
     leave(m);
     set_state(w, failed ? HAS_FAILED : IS_DONE);
     return NULL;
@@ -98,29 +104,29 @@ void join(mutator *m, int number, int to) {
     put(m, WALK, hand(m, number), ROOT);
 }
 
-/* Hands the lock on from one to another, where that one has it. */
-static bool hands_on(int from, int to) {
+/* Hands a lock on from one to another, where that one has it. */
+static bool hands_on(program_lock which, int from, int to) {
     pthread_mutex_lock(&lock);
-    bool has = holder == from;
-    holder = has ? to : holder;
+    bool has = holders[which] == from;
+    holders[which] = has ? to : holders[which];
     pthread_mutex_unlock(&lock);
     return has;
 }
 
-void acquire(mutator *m) {
-    while (!hands_on(-1, m->number)) {
+void acquire(mutator *m, program_lock which) {
+    while (!hands_on(which, -1, m->number)) {
         poll(m);
         sched_yield();
     }
 }
 
-void release(mutator *m) {
-    hands_on(m->number, -1);
+void release(mutator *m, program_lock which) {
+    hands_on(which, m->number, -1);
 }
 
 bool join_all(mutator *m) {
     bool well = true;
-    release(m);
+    release_all(m);
     for (int number = 0; number < count; number++) {
         worker *w = &workers[number];
         if (state_of(w) != UNUSED && state_of(w) != JOINED) {
