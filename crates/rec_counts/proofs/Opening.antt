@@ -33,6 +33,15 @@ each_counted P Q more (count ∷ counts) own new past all (suc x) = each_counted
 pub each_opened : (P : Slot → Type 0) (Q : ℕ → Type 0) (slots : ℕ) (counts : List ℕ) → ((count : ℕ) → Q count → P (counted count)) → P fresh → P absent → All Q counts → (x : ℕ) → P (slot_at (opened_from slots counts) x)
 each_opened P Q slots counts = each_counted P Q (slots - length counts) counts
 
+-- no slot is released
+pub unreleased_from : (slots : ℕ) (counts : List ℕ) (x : ℕ) → x < length (opened_from slots counts).slots → (slot_at (opened_from slots counts) x).released ≡ false
+unreleased_from slots counts x there = go counts x there
+  where
+    go : (ns : List ℕ) (y : ℕ) → y < length (map counted ns ++ replicate (slots - length counts) fresh) → (get_or (map counted ns ++ replicate (slots - length counts) fresh) y absent).released ≡ false
+    go [] y inside = ap (λ (v : Slot). v.released) (get_or-replicate (slots - length counts) y fresh absent (omega (arith, inside, length-replicate (slots - length counts) fresh)))
+    go (n ∷ ns) zero inside = refl
+    go (n ∷ ns) (suc y) inside = go ns y (omega arith)
+
 -- what no count changes
 each_same : {A : Type 0} (f : Slot → A) (a : A) (slots : ℕ) (counts : List ℕ) → ((count : ℕ) → f (counted count) ≡ a) → f fresh ≡ a → f absent ≡ a → (x : ℕ) → f (get_or (counted_slots slots counts) x absent) ≡ a
 each_same f a slots counts own new past = each_counted (λ (v : Slot). f v ≡ a) (λ (n : ℕ). n ≡ n) (slots - length counts) counts (λ count _. own count) new past (all_same counts)

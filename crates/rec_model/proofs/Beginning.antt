@@ -1,5 +1,5 @@
 -- A heap as it is opened keeps what every heap that counts late keeps.
-use Rattle.std.proofs.Common.{◌+◌, ◌≡◌, ◌≢◌, inl, inr, ℕ, ◌*◌, ◌<◌, ◌≤◌, eqb, ltb, leb, not, Bool, true, false, cond, sum_by, sym, ap, subst, ◌∙◌, arith, ◌-◌, ◌++◌, replicate, refl}
+use Rattle.std.proofs.Common.{◌+◌, ◌≡◌, ◌≢◌, inl, inr, ℕ, ◌*◌, ◌<◌, ◌≤◌, eqb, ltb, leb, not, Bool, true, cond, sum_by, sym, ap, subst, ◌∙◌, arith, ◌-◌, ◌++◌, replicate, refl}
 use Rattle.std.proofs.lemmas.Bool.Decides.{nat_tests}
 use Rattle.std.proofs.lemmas.List.Folds.{sum_by-replicate}
 use Rattle.std.proofs.lemmas.List.Sums.{sum_by-append, sum_by-le-sum_by}
