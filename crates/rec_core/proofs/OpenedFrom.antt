@@ -1,10 +1,9 @@
 -- What every heap with its collector keeps holds as it is opened from objects.
-use Rattle.std.proofs.Common.{◌≡◌, inl, inr, ℕ, zero, suc, ◌+◌, ◌-◌, ◌*◌, ◌<◌, ◌≤◌, ◌==◌, Bool, true, false, if◌then◌else◌, Option, None, Some, List, [], ◌∷◌, All, count_by, length, map, take, drop, replicate, slice_index_or, refl, sym, ap, subst, ◌∙◌, arith}
-use Rattle.std.specs.List.{flat_map, sum_by, zip}
-use Rattle.std.specs.Prelude.{slice_range}
-use Rattle.std.proofs.lemmas.Bool.{cases_Bool, cases_lt, eq-eqb, false≢true, ne_eqb}
+use Rattle.std.proofs.Common.{◌≡◌, inl, inr, ℕ, ◌+◌, ◌-◌, ◌*◌, ◌<◌, ◌≤◌, ◌==◌, Bool, true, false, if◌then◌else◌, Option, None, Some, List, [], ◌∷◌, All, count_by, length, take, drop, replicate, slice_index_or, refl, sym, ap, subst, ◌∙◌, arith}
+use Rattle.std.specs.List.{flat_map, sum_by}
+use Rattle.std.proofs.lemmas.Bool.{cases_lt, eq-eqb, false≢true, ne_eqb}
 use Rattle.std.proofs.lemmas.Bool.Decides.{nat_tests}
-use Rattle.std.proofs.lemmas.List.{get_or-map, get_or-replicate, get_or_default, length-map, length-replicate}
+use Rattle.std.proofs.lemmas.List.{get_or-map, get_or-replicate, length-replicate}
 use Rattle.std.proofs.lemmas.List.Elements.{All-from_get_or, All-head, All-nil, All-tail}
 use Rattle.std.proofs.lemmas.List.FromFn.{get_or-map-range_with_len, length-map-range_with_len}
 use Rattle.std.proofs.lemmas.List.Sums.{sum_by-cons, sum_by-take-drop}
@@ -23,18 +22,18 @@ use Rattle.rec_collector.specs.Private as collectors
 use Rattle.rec_collector.proofs.Following.{none_released}
 use Rattle.rec_collector.proofs.Opening.{opened_from_keeps}
 use Rattle.rec_collector.proofs.Rows.{length-rows, row_width}
-use Rattle.rec_core.proofs.Common.{Config, Contents, Core, Dated, Filed, Handshake, HasCollector, HasLearnt, IsActor, IsBufferOf, IsConfig, IsHeader, IsKept, IsMachine, IsMadeIn, IsMutator, IsOwn, IsReached, IsTarget, Private, Slot, Spare, Write, births_in, buffers, code, crossing_word, dated, dated_all, dated_names, dated_registers, fresh, header_word, is_green, is_late_snapshot, is_node, is_slot, is_wrong_register, names, nobody, one, one_if_same, only_if, pending, slot_at, slot_of, spare_of, sum_at, sum_by-flat_map, sum_by-map, sum_by_same, times-nil, writes_in}
+use Rattle.rec_core.proofs.Common.{Config, Contents, Core, Dated, Filed, Handshake, HasCollector, HasLearnt, IsActor, IsBufferOf, IsConfig, IsHeader, IsKept, IsMachine, IsMadeIn, IsMutator, IsOwn, IsReached, IsTarget, Private, Slot, Spare, births_in, buffers, code, crossing_word, dated, dated_all, dated_names, dated_registers, fresh, is_green, is_late_snapshot, is_node, is_slot, is_wrong_register, names, nobody, one, one_if_same, only_if, pending, spare_of, sum_at, sum_by-flat_map, sum_by-map, sum_by_same, times-nil, writes_in}
 use Rattle.rec_core.proofs.Actors.{spare_buffer}
 use Rattle.rec_core.proofs.Batches.{same_name}
 use Rattle.rec_core.proofs.CyclesWait.{sets_wait_none}
 use Rattle.rec_core.proofs.EarlyWords.{early_names, early_none_late, one_if_slot}
 use Rattle.rec_core.proofs.Opening.{all_done}
-use Rattle.rec_core.proofs.OpenedFromSeen.{all_targets, below_targets, below_taken, count_at, few_fields, free_past, header_at, headers_many, label_fits, seen_sound, taken_below}
+use Rattle.rec_core.proofs.OpenedFromSeen.{all_targets, below_targets, below_taken, few_fields, free_past, header_at, headers_many, label_fits, seen_sound, taken_below}
 use Rattle.rec_core.proofs.Seated.{All-rows, holding_at, holding_sum, length-holding, rows_sum}
-use Rattle.rec_core.proofs.Sums.{box_share, buffers_sum, log_share, names_all, share}
+use Rattle.rec_core.proofs.Sums.{buffers_sum, log_share, names_all, share}
 use Rattle.rec_core.proofs.Turns.{AddsNothing, births_nothing, snapshots_nothing, spare_boxes, spare_row, writes_nothing}
 use Rattle.rec_core.specs.Objects.{AreObjects, HaveLabels, IsOneOf, Objects, counts_of, fields_at, holders, node_at, rows_of}
-use Rattle.rec_core.specs.OpenedFrom.{holding_mutator, holding_mutators, opened_from}
+use Rattle.rec_core.specs.OpenedFrom.{holding_mutator, opened_from}
 
 -- what is named is held,
 named_held : (n : ℕ) (xs : List (Option ℕ)) → is_in n (named_of xs) ≡ true → 0 < count_by (is_slot n) xs

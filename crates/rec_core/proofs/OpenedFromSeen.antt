@@ -1,10 +1,9 @@
 -- What is seen of a heap that is opened from objects: it is sound and settled, and the heap that they describe stands for it.
-use Rattle.std.proofs.Common.{◌≡◌, ◌↔◌, inl, inr, ℕ, zero, suc, ◌+◌, ◌-◌, ◌*◌, ◌^◌, ◌<◌, ◌≤◌, Bool, true, false, if◌then◌else◌, Option, None, Some, List, [], ◌∷◌, ◌++◌, All, count_by, sum_by, length, map, take, drop, replicate, slice_index_or, refl, sym, ap, subst, ◌∙◌, arith, length-append, length-drop}
-use Rattle.std.specs.List.{range_with_len}
-use Rattle.std.specs.Option.{IfSome, option_map}
+use Rattle.std.proofs.Common.{◌≡◌, inl, inr, ℕ, zero, suc, ◌+◌, ◌-◌, ◌*◌, ◌^◌, ◌<◌, ◌≤◌, Bool, true, false, if◌then◌else◌, Option, None, Some, List, [], ◌∷◌, ◌++◌, All, count_by, sum_by, length, map, take, drop, replicate, slice_index_or, refl, sym, ap, subst, ◌∙◌, arith, length-append, length-drop}
+use Rattle.std.specs.Option.{option_map}
 use Rattle.std.proofs.Math.Nat.{mul-le-mul, mul-le-mul_right}
 use Rattle.std.proofs.Math.Seq.{drop-append-add}
-use Rattle.std.proofs.lemmas.Bool.{cases_lt, false≢true}
+use Rattle.std.proofs.lemmas.Bool.{cases_lt}
 use Rattle.std.proofs.lemmas.List.{drop-append-le, drop-replicate, get_or-replicate, get_or_past, length-map, length-replicate, take-append-le, take-replicate}
 use Rattle.std.proofs.lemmas.Iterator.Adapters.{option_map_id}
 use Rattle.std.proofs.lemmas.List.Elements.{All-cons, All-drop, All-get_or, All-head, All-nil, All-tail, All-take}
@@ -14,9 +13,8 @@ use Rattle.rec_word.specs.Header.{IsHeaderOf}
 use Rattle.rec_model.specs.Heap.{Object, nothing, roots}
 use Rattle.rec_model.specs.Reach.{is_in, named}
 use Rattle.rec_model.specs.Reach.IsReached.{child, root}
-use Rattle.rec_model.proofs.Words.{named-nulls}
 use Rattle.rec_counts.proofs.Opening.{counted_at}
-use Rattle.rec_core.proofs.Common.{Config, Core, IsConfig, IsReached, IsSound, IsTaken, IsTarget, Reaches, Sight, StandsBy, field_of, header_word, is_leaf, is_slot, reached_is_taken, sight, slot_at, target_of, targets_of, words_of, absent}
+use Rattle.rec_core.proofs.Common.{Config, Core, IsConfig, IsReached, IsSound, IsTaken, IsTarget, Reaches, StandsBy, field_of, header_word, is_leaf, is_slot, reached_is_taken, sight, slot_at, target_of, words_of, absent}
 use Rattle.rec_core.proofs.EarlyWords.{drop-early, early-nulls, early_are, early_holding, early_targets, length-early, take-early}
 use Rattle.rec_core.proofs.Seated.{named_has, registers_held, roots-rows, rows_sum}
 use Rattle.rec_core.specs.Objects.{AreObjects, HaveLabels, IsOneOf, Objects, counts_of, described, early_words, fields_at, holders, node_at, object_at, rows_of}
