@@ -1,13 +1,16 @@
 -- A machine as it is opened.
-use Rattle.std.proofs.Common.{◌≡◌, ◌⊎◌, ℕ, ◌≤◌, ◌-◌, ◌^◌, ◌<◌, false, Option, None, length, replicate, refl, arith, sym, subst, ap, ◌∙◌, inl, inr}
+use Rattle.std.proofs.Common.{◌≡◌, ◌⊎◌, ℕ, ◌≤◌, ◌-◌, ◌*◌, ◌^◌, ◌<◌, false, Option, None, List, [], All, length, replicate, refl, arith, sym, subst, ap, ◌∙◌, inl, inr}
 use Rattle.std.proofs.lemmas.Bool.{cases_lt, false≢true}
-use Rattle.std.proofs.lemmas.List.{get_or-replicate, get_or_past, length-replicate, length-set}
-use Rattle.rec_collector.proofs.Common.{Slot, slot_at, absent, fresh, times-nil, written, AreTried, IsMachine, Private, blank, first_registers, opened, retired}
-use Rattle.rec_counts.specs.Counts.{opened as opened_counts, IsKept as IsKeptCounts}
+use Rattle.std.proofs.lemmas.List.{get_or-replicate, get_or_past, length-map, length-replicate, length-set}
+use Rattle.rec_collector.proofs.Common.{Black, Contents, Slot, State, slot_at, absent, fresh, times-nil, written, AreSized, AreTried, IsMachine, Private, blank, first_registers, opened, retired}
+use Rattle.rec_counts.specs.Counts.{counted_slots, opened as opened_counts, opened_from as counted_from, IsKept as IsKeptCounts}
+use Rattle.rec_counts.proofs.Opening.{each_opened, unreleased_from}
 use Rattle.rec_counts.specs.Colour.{is_gray, is_white, is_orange}
 use Rattle.rec_trial.specs.Trial.{next_of}
 use Rattle.rec_collector.proofs.Outside.{none_outside}
-use Rattle.rec_collector.proofs.Rows.{row_sized}
+use Rattle.rec_collector.specs.Private.{opened_from, opened_with, retired_rows}
+use Rattle.rec_collector.specs.Rows.{rows_of}
+use Rattle.rec_collector.proofs.Rows.{length-rows, row_sized, rows_sized}
 
 -- a slot of the counts is the first one, a fresh one, or past the others
 opened_at : (slots first x : ℕ) → (slot_at (opened_counts slots first) x ≡ record fresh { count = first }) ⊎ (slot_at (opened_counts slots first) x ≡ fresh) ⊎ ((slot_at (opened_counts slots first) x ≡ absent) × (slots ≤ x))
@@ -27,30 +30,32 @@ opened_each slots first P a b c x = elim (opened_at slots first x) [
   | inr (inr e) ↦ subst P (sym e.0) c
 ]
 
--- no slot is released
-opened_none : (slots first x : ℕ) → x < length (opened_counts slots first).slots → (slot_at (opened_counts slots first) x).released ≡ false
-opened_none slots first x l = elim (opened_at slots first x) [
-  | inl e ↦ ap (λ (v : Slot). v.released) e
-  | inr (inl e) ↦ ap (λ (v : Slot). v.released) e
-  | inr (inr e) ↦ absurd (omega (arith, e.1, l, length-replicate slots fresh, length-set (replicate slots fresh) 0 (record fresh { count = first })))
-]
+-- the slots of counts with nothing in any list
+abbrev bare : List Slot → State
+bare slots = record { slots = slots; roots = []; sets = []; marked = []; work = []; zeros = []; free = [] }
 
--- a machine as it is opened is one
-pub opened_keeps : (slots fields registers mutators capacity epoch : ℕ) → 0 < fields → fields < 2 ^ 8 → 0 < registers → 0 < mutators → mutators < 2 ^ 8 → epoch < 2 ^ 24
-    → IsKeptCounts (opened_counts slots mutators) → IsMachine (opened slots fields registers mutators capacity epoch)
+-- what is known of each slot as counts are opened
+record AreNew (s : State) : Type 0 where
+  pub black : (x : ℕ) → (slot_at s x).colour ≡ Black
+  pub counted : (x : ℕ) → (slot_at s x).released ≡ false → 0 < (slot_at s x).count
+  pub unreleased : (x : ℕ) → x < length s.slots → (slot_at s x).released ≡ false
+  pub alone : (x : ℕ) → (slot_at s x).set ≡ None
+
+-- a machine that is opened with such counts, and with older buffers of its sizes, is one
+opened_machine : (fields registers mutators capacity epoch : ℕ) (slots : List Slot) (older : List Contents) → 0 < fields → fields < 2 ^ 8 → 0 < mutators → mutators < 2 ^ 8 → epoch < 2 ^ 24
+    → length older ≡ mutators → AreSized registers capacity older → IsKeptCounts (bare slots) → AreNew (bare slots) → IsMachine (opened_with fields registers mutators capacity epoch (bare slots) older)
 unfolding next_of
-opened_keeps slots fields registers mutators capacity epoch f few r m small e k =
-    let p : Private = opened slots fields registers mutators capacity epoch in
+opened_machine fields registers mutators capacity epoch slots older f few m small e many sized k new =
+    let p : Private = opened_with fields registers mutators capacity epoch (bare slots) older in
     let newer : length (replicate mutators (blank registers capacity)) ≡ mutators = length-replicate mutators (blank registers capacity) in
-    let older : length (replicate mutators (retired (first_registers registers) capacity)) ≡ mutators = length-replicate mutators (retired (first_registers registers) capacity) in
     let tried : AreTried p.counts = record {
-      untried = record { marked = refl; no_gray = opened_each slots mutators (λ (v : Slot). is_gray v.colour ≡ false) refl refl refl; no_white = opened_each slots mutators (λ (v : Slot). is_white v.colour ≡ false) refl refl refl };
-      apart = λ x o. absurd (false≢true (sym (opened_each slots mutators (λ (v : Slot). is_orange v.colour ≡ false) refl refl refl x) ∙ ap is_orange o));
-      counted = opened_each slots mutators (λ (v : Slot). v.released ≡ false → 0 < v.count) (λ r. m) (λ r. omega arith) (λ r. absurd (false≢true (sym r)));
+      untried = record { marked = refl; no_gray = λ x. ap is_gray (new.black x); no_white = λ x. ap is_white (new.black x) };
+      apart = λ x o. absurd (false≢true (sym (ap is_orange (new.black x)) ∙ ap is_orange o));
+      counted = new.counted;
       zeros = refl;
       roots = refl;
       work = refl;
-      listed = λ x l r. absurd (false≢true (sym (opened_none slots mutators x l) ∙ r));
+      listed = λ x l r. absurd (false≢true (sym (new.unreleased x l) ∙ r));
       unbuffered = λ x h. absurd (omega (arith, h, times-nil x));
     } in
     record {
@@ -62,19 +67,58 @@ opened_keeps slots fields registers mutators capacity epoch f few r m small e k 
       rows = record {
         mutators = omega (arith, m, newer);
         few = omega (arith, small, newer);
-        both = older ∙ sym newer;
+        both = many ∙ sym newer;
         newer = row_sized registers capacity mutators (blank registers capacity) (length-replicate registers None, refl);
-        older = row_sized registers capacity mutators (retired (first_registers registers) capacity) (omega (arith, r, length-replicate {A = Option ℕ} (registers - 1) None), refl);
+        older = sized;
       };
       left = length-replicate mutators false ∙ sym newer;
       counts = k;
       told = omega arith;
       now = (
         record {
-          prepared = record { tried = tried; outside = none_outside fields (opened_counts slots mutators) refl (opened_each slots mutators (λ (v : Slot). v.set ≡ None) refl refl refl) };
+          prepared = record { tried = tried; outside = none_outside fields (bare slots) refl new.alone };
           free = refl;
         },
         λ i from l. get_or-replicate mutators i (blank registers capacity) (blank 0 0) (omega (arith, l, newer)),
         refl,
       );
     }
+
+-- no slot is released
+opened_none : (slots first x : ℕ) → x < length (opened_counts slots first).slots → (slot_at (opened_counts slots first) x).released ≡ false
+opened_none slots first x l = elim (opened_at slots first x) [
+  | inl e ↦ ap (λ (v : Slot). v.released) e
+  | inr (inl e) ↦ ap (λ (v : Slot). v.released) e
+  | inr (inr e) ↦ absurd (omega (arith, e.1, l, length-replicate slots fresh, length-set (replicate slots fresh) 0 (record fresh { count = first })))
+]
+
+-- a machine as it is opened is one
+pub opened_keeps : (slots fields registers mutators capacity epoch : ℕ) → 0 < fields → fields < 2 ^ 8 → 0 < registers → 0 < mutators → mutators < 2 ^ 8 → epoch < 2 ^ 24
+    → IsKeptCounts (opened_counts slots mutators) → IsMachine (opened slots fields registers mutators capacity epoch)
+opened_keeps slots fields registers mutators capacity epoch f few r m small e k =
+    opened_machine fields registers mutators capacity epoch (opened_counts slots mutators).slots (replicate mutators (retired (first_registers registers) capacity)) f few m small e
+    (length-replicate mutators (retired (first_registers registers) capacity))
+    (row_sized registers capacity mutators (retired (first_registers registers) capacity) (omega (arith, r, length-replicate {A = Option ℕ} (registers - 1) None), refl))
+    k
+    (record {
+      black = opened_each slots mutators (λ (v : Slot). v.colour ≡ Black) refl refl refl;
+      counted = opened_each slots mutators (λ (v : Slot). v.released ≡ false → 0 < v.count) (λ r. m) (λ r. omega arith) (λ r. absurd (false≢true (sym r)));
+      unreleased = opened_none slots mutators;
+      alone = opened_each slots mutators (λ (v : Slot). v.set ≡ None) refl refl refl;
+    })
+
+-- so is one where the first slots have these counts, and registers named these slots
+pub opened_from_keeps : (slots fields registers mutators capacity epoch : ℕ) (counts : List ℕ) (held : List (Option ℕ)) → 0 < fields → fields < 2 ^ 8 → 0 < mutators → mutators < 2 ^ 8 → epoch < 2 ^ 24
+    → All (λ count. 0 < count) counts → length held ≡ mutators * registers
+    → IsKeptCounts (counted_from slots counts) → IsMachine (opened_from slots fields registers mutators capacity epoch counts held)
+opened_from_keeps slots fields registers mutators capacity epoch counts held f few m small e some size k =
+    opened_machine fields registers mutators capacity epoch (counted_slots slots counts) (retired_rows registers mutators capacity held) f few m small e
+    (length-map (rows_of registers mutators held) (λ own. retired own capacity) ∙ length-rows registers mutators held)
+    (rows_sized registers mutators capacity held size)
+    k
+    (record {
+      black = each_opened (λ (v : Slot). v.colour ≡ Black) (λ count. 0 < count) slots counts (λ count _. refl) refl refl some;
+      counted = each_opened (λ (v : Slot). v.released ≡ false → 0 < v.count) (λ count. 0 < count) slots counts (λ count positive r. positive) (λ r. omega arith) (λ r. absurd (false≢true (sym r))) some;
+      unreleased = unreleased_from slots counts;
+      alone = each_opened (λ (v : Slot). v.set ≡ None) (λ count. 0 < count) slots counts (λ count _. refl) refl refl some;
+    })

@@ -1,7 +1,10 @@
 -- Rows of buffers.
-use Rattle.std.proofs.Common.{◌≡◌, ℕ, suc, zero, ◌+◌, ◌-◌, ◌<◌, None, Some, List, [], ◌∷◌, ◌++◌, length, map, take, drop, get_or, set, replicate, refl, arith, ◌∙◌, ap}
-use Rattle.std.proofs.lemmas.List.{get_or-map, get_or-replicate, length-map, length-replicate}
-use Rattle.rec_collector.proofs.Common.{Contents, IsSized, AreSized, AreSpare, Private, blank, first_registers, spare, buffer_at, cleared, ended}
+use Rattle.std.proofs.Common.{◌≡◌, ℕ, suc, zero, ◌+◌, ◌-◌, ◌*◌, ◌<◌, Option, None, Some, List, [], ◌∷◌, ◌++◌, length, map, take, drop, get_or, set, replicate, refl, arith, sym, ◌∙◌, ap, append_assoc, length-drop}
+use Rattle.std.proofs.Math.Nat.{suc-mul}
+use Rattle.std.proofs.lemmas.List.{get_or-map, get_or-replicate, length-map, length-replicate, length-take}
+use Rattle.rec_collector.proofs.Common.{Contents, IsSized, AreSized, AreSpare, Private, blank, first_registers, retired, spare, buffer_at, cleared, ended}
+use Rattle.rec_collector.specs.Private.{retired_rows}
+use Rattle.rec_collector.specs.Rows.{rows_of}
 
 -- the first of these are cleared
 abbrev pub cleared_to : List Contents → ℕ → List Contents
@@ -40,3 +43,30 @@ row_sized registers capacity n b k = λ i l.
 pub first_row : (n : ℕ) → 0 < n → set (replicate n None) 0 (Some 0) ≡ first_registers n
 first_row zero l = absurd (omega (arith, l))
 first_row (suc n) l = let e : n ≡ suc n - 1 = omega arith in ap (λ m. Some 0 ∷ replicate m None) e
+
+-- so many rows
+pub length-rows : {X : Type 0} (width many : ℕ) (xs : List X) → length (rows_of width many xs) ≡ many
+length-rows width zero xs = refl
+length-rows width (suc many) xs = ap suc (length-rows width many (drop width xs))
+
+-- as long as the list that is cut is wide enough, each has this width
+pub row_width : {X : Type 0} (width many : ℕ) (xs : List X) → length xs ≡ many * width → (i : ℕ) → i < many → length (get_or (rows_of width many xs) i []) ≡ width
+row_width width zero xs size i there = absurd (omega arith)
+row_width width (suc many) xs size zero there = omega (arith, size, suc-mul many width, length-take width xs)
+row_width width (suc many) xs size (suc i) there = row_width width many (drop width xs) (omega (arith, size, suc-mul many width, length-drop width xs)) i (omega arith)
+
+-- buffers with such rows as snapshots are of this size
+pub rows_sized : (registers mutators capacity : ℕ) (held : List (Option ℕ)) → length held ≡ mutators * registers → AreSized registers capacity (retired_rows registers mutators capacity held)
+rows_sized registers mutators capacity held size = λ i l.
+    let there : i < mutators = omega (arith, l, length-map (rows_of registers mutators held) (λ own. retired own capacity), length-rows registers mutators held) in
+    let e : buffer_at (retired_rows registers mutators capacity held) i ≡ retired (get_or (rows_of registers mutators held) i []) capacity
+    = get_or-map (λ own. retired own capacity) (rows_of registers mutators held) i [] (blank 0 0) (omega (arith, there, length-rows registers mutators held)) in
+    (ap (λ (c : Contents). length c.snapshot) e ∙ row_width registers mutators held size i there, ap (λ (c : Contents). c.capacity) e)
+
+-- the next row is filed behind those so far
+pub rows_more : (registers capacity more left : ℕ) (rest own others : List (Option ℕ)) (row : List Contents) → more ≡ suc left → own ≡ take registers rest → others ≡ drop registers rest
+    → row ++ map (λ own. retired own capacity) (rows_of registers more rest) ≡ (row ++ retired own capacity ∷ []) ++ map (λ own. retired own capacity) (rows_of registers left others)
+rows_more registers capacity more left rest own others row is front behind =
+    ap (λ n. row ++ map (λ own. retired own capacity) (rows_of registers n rest)) is
+    ∙ (λ i. row ++ retired (sym front i) capacity ∷ map (λ own. retired own capacity) (rows_of registers left (sym behind i)))
+    ∙ sym (append_assoc row (retired own capacity ∷ []) (map (λ own. retired own capacity) (rows_of registers left others)))

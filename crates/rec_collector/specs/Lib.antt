@@ -13,6 +13,7 @@ pub mod Parts
 pub mod Present
 pub mod Private
 pub mod Shown
+pub mod Rows
 pub mod Step
 pub mod Testing
 pub mod Took

@@ -1,8 +1,9 @@
 -- The collector's machine as a whole: plain data.
-use Rattle.std.specs.Prelude.{ℕ, ◌-◌, Bool, false, Option, None, Some, List, [], ◌∷◌, replicate, slice_index_or as item_at}
+use Rattle.std.specs.Prelude.{ℕ, ◌-◌, Bool, false, Option, None, Some, List, [], ◌∷◌, map, replicate, slice_index_or as item_at}
 use Rattle.rec_log.specs.declared.contents.Contents.{Contents}
-use Rattle.rec_counts.specs.Counts.{State, opened as opened_counts}
+use Rattle.rec_counts.specs.Counts.{State, opened as opened_counts, opened_from as counted_from}
 use Rattle.rec_collector.specs.Parts.{Parts, no_sets}
+use Rattle.rec_collector.specs.Rows.{rows_of}
 use Rattle.rec_collector.specs.declared.sets.Sets.{Sets}
 use Rattle.rec_collector.specs.declared.phase.Phase.{Phase}
 use Rattle.rec_collector.specs.declared.phase.Phase.TheVariants.{Idle}
@@ -43,9 +44,9 @@ spare p = blank p.registers p.capacity
 abbrev pub first_registers : (registers : ℕ) → List (Option ℕ)
 first_registers registers = Some 0 ∷ replicate (registers - 1) None
 
--- a machine as it is opened: the collection of the epoch before counts as done
-abbrev pub opened : (slots fields registers mutators capacity first_epoch : ℕ) → Private
-opened slots fields registers mutators capacity first_epoch =
+-- a machine as it is opened, with these counts and older buffers: the collection of the epoch before counts as done
+abbrev pub opened_with : (fields registers mutators capacity first_epoch : ℕ) → State → (older : List Contents) → Private
+opened_with fields registers mutators capacity first_epoch counts older =
     record {
       epoch = first_epoch;
       collections = 0;
@@ -55,13 +56,27 @@ opened slots fields registers mutators capacity first_epoch =
       registers = registers;
       capacity = capacity;
       fields = fields;
-      counts = opened_counts slots mutators;
+      counts = counts;
       newer = replicate mutators (blank registers capacity);
-      older = replicate mutators (retired (first_registers registers) capacity);
+      older = older;
       left = replicate mutators false;
       sets = no_sets;
       offers = false;
     }
+
+-- a machine as it is opened with one object, which every mutator names
+abbrev pub opened : (slots fields registers mutators capacity first_epoch : ℕ) → Private
+opened slots fields registers mutators capacity first_epoch =
+    opened_with fields registers mutators capacity first_epoch (opened_counts slots mutators) (replicate mutators (retired (first_registers registers) capacity))
+
+-- the older buffers where registers named these slots, mutator after mutator
+abbrev pub retired_rows : (registers mutators capacity : ℕ) → List (Option ℕ) → List Contents
+retired_rows registers mutators capacity held = map (λ own. retired own capacity) (rows_of registers mutators held)
+
+-- a machine as it is opened where the first slots have these counts, and registers named these slots
+abbrev pub opened_from : (slots fields registers mutators capacity first_epoch : ℕ) → (counts : List ℕ) → (held : List (Option ℕ)) → Private
+opened_from slots fields registers mutators capacity first_epoch counts held =
+    opened_with fields registers mutators capacity first_epoch (counted_from slots counts) (retired_rows registers mutators capacity held)
 
 -- the buffer of the mutator of this number, which is one more than its place
 abbrev pub buffer_at : List Contents → (place : ℕ) → Contents

@@ -1,6 +1,6 @@
 //! Rows of buffers, one for each mutator.
-ghost use Rattle.std.specs.Prelude.{◌≡◌, IfOk, None, Option, map, length, replicate, List};
-ghost use Rattle.rec_collector.specs.Private.{retired};
+ghost use Rattle.std.specs.Prelude.{◌≡◌, ◌*◌, IfOk, None, Option, map, length, replicate, List};
+ghost use Rattle.rec_collector.specs.Private.{retired, retired_rows};
 ghost use Rattle.rec_collector.specs.Took.{cleared};
 
 use rec_log::{Buffer, Frame};
@@ -22,6 +22,31 @@ pub(crate) fn open_row(
         let mut buffer = Buffer::open(alloc, capacity, registers)?;
         buffer.retire(frame);
         row.push(buffer)?;
+    }
+    Ok(row)
+}
+
+/// A buffer for each mutator, with room for so many entries, and its registers as its snapshot. The registers stand mutator
+/// after mutator.
+pub(crate) fn open_rows(
+    alloc: Global,
+    mutators: u8,
+    capacity: u32,
+    registers: u8,
+    held: &[Option<u16>],
+) -> Result<Vec<Buffer>, NoMemory>
+    requires { length held.now ≡ mutators * registers }
+    ensures { IfOk result (λ row. row.items ≡ retired_rows registers mutators capacity held.now) }
+{
+    let mut row = Vec::with_capacity(alloc, usize::from(mutators))?;
+    let mut rest = held;
+    for _ in 0..mutators {
+        let (own, others) = rest.split_at(usize::from(registers));
+        let frame = Frame::of(alloc, own)?;
+        let mut buffer = Buffer::open(alloc, capacity, registers)?;
+        buffer.retire(&frame);
+        row.push(buffer)?;
+        rest = others;
     }
     Ok(row)
 }

@@ -1,4 +1,4 @@
-ghost use Rattle.std.specs.Prelude.{◌≡◌, ◌≢◌, ◌+◌, ◌*◌, ◌^◌, ◌<◌, ◌≤◌, ◌↔◌, ℕ, None, length, IfOk, IsNone, true};
+ghost use Rattle.std.specs.Prelude.{◌≡◌, ◌≢◌, ◌+◌, ◌*◌, ◌^◌, ◌<◌, ◌≤◌, ◌↔◌, ℕ, None, All, length, IfOk, IsNone, true};
 ghost use Rattle.rec_word.specs.Mailbox.{crossing_word};
 ghost use Rattle.rec_word.specs.declared.mailbox.Mailbox.TheVariants.{Retired};
 ghost use Rattle.rec_counts.specs.Counts.{slot_at};
@@ -9,10 +9,10 @@ ghost use Rattle.rec_collector.specs.Gathering.{MayGatherBehind};
 ghost use Rattle.rec_collector.specs.Kept.{IsMachine, KeepsSizes, limit_of};
 ghost use Rattle.rec_collector.specs.Next.{next_of};
 ghost use Rattle.rec_collector.specs.Present.{HaveLeft};
-ghost use Rattle.rec_collector.specs.Private.{Private, opened};
+ghost use Rattle.rec_collector.specs.Private.{Private, opened, opened_from};
 ghost use Rattle.rec_collector.specs.Took.{behind, behind_turn, came_turn, ended_if, left_of, swapped_of, took_at, took_of, turn_at, turn_of};
 
-use crate::buffers::{clear_all, open_row};
+use crate::buffers::{clear_all, open_row, open_rows};
 use crate::parts::Parts;
 use crate::phase::Phase;
 use crate::present::next_present;
@@ -86,6 +86,51 @@ impl Machine {
         let older = open_row(alloc, mutators, cap, regs, &frame)?;
         let left = vec![in alloc; false; usize::from(mutators)]?;
         let counts = Counts::open(alloc, slots, u64::from(mutators))?;
+        counts.rules();
+        Ok(Machine {
+            epoch: first_epoch,
+            collections: 0,
+            freed: 0,
+            turns: 0,
+            phase: Phase::Idle,
+            registers: regs,
+            capacity: cap,
+            parts: Parts::of(counts, fields),
+            newer,
+            older,
+            left,
+        })
+    }
+
+    /// The collector of a heap with so many slots, and fields per object, and so many mutators, each with `regs` registers and
+    /// buffers for `cap` entries. The first slots have these true counts. The requested epoch is `first_epoch`, and the
+    /// collection of the epoch before counts as done: the registers named these slots then, mutator after mutator.
+    pub fn open_from(
+        alloc: Global,
+        slots: u16,
+        fields: u8,
+        regs: u8,
+        mutators: u8,
+        cap: u32,
+        first_epoch: u32,
+        counts: &[u64],
+        registers: &[Option<u16>],
+    ) -> Result<Machine, NoMemory>
+        requires fields { 0 < fields }
+        requires mutators { 0 < mutators }
+        requires epoch { first_epoch < 2 ^ 24 }
+        requires few { length counts.now ≤ slots }
+        requires some { All (λ count. 0 < count) counts.now }
+        requires registers { length registers.now ≡ mutators * regs }
+
+        ensures opened { IfOk result (λ machine. machine ≡ opened_from slots fields regs mutators cap first_epoch counts.now registers.now) }
+        ensures kept { IfOk result IsMachine }
+    {
+        let frame = Frame::open(alloc, regs)?;
+        let newer = open_row(alloc, mutators, cap, regs, &frame)?;
+        let older = open_rows(alloc, mutators, cap, regs, registers)?;
+        let left = vec![in alloc; false; usize::from(mutators)]?;
+        let counts = Counts::open_from(alloc, slots, counts)?;
         counts.rules();
         Ok(Machine {
             epoch: first_epoch,

@@ -17,7 +17,7 @@ buffer_there config epoch row many each i below =
     subst (λ n. IsBufferOf config epoch (slice_index_or row n (collectors.blank 0 0))) at (each (i + 1) (omega arith, omega (arith, many)))
 
 -- one name of a slot is one of its node
-same_name : (x : ℕ) (target : Option ℕ) → one_if_same (x + 1) (code target) ≡ one (is_slot x target)
+pub same_name : (x : ℕ) (target : Option ℕ) → one_if_same (x + 1) (code target) ≡ one (is_slot x target)
 same_name x None = none_if_differs (x + 1) 0 (λ e. omega arith)
 same_name x (Some y) = elim (cases_eq x y) [
   | inl is ↦ ap (λ n. one_if_same (x + 1) (n + 1)) (sym is) ∙ one_if_self (x + 1) ∙ sym (ap one (eq-eqb x y is))
@@ -25,7 +25,7 @@ same_name x (Some y) = elim (cases_eq x y) [
 ]
 
 -- so of a word
-same_word : (x word : ℕ) → one_if_same (x + 1) (node_of word) ≡ one (is_slot x (target_of word))
+pub same_word : (x word : ℕ) → one_if_same (x + 1) (node_of word) ≡ one (is_slot x (target_of word))
 same_word x word = ap (one_if_same (x + 1)) (sym (code_target word)) ∙ same_name x (target_of word)
 
 -- the new targets of a log of this epoch

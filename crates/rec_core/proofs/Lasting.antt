@@ -154,17 +154,17 @@ module _ {p q : Private} {word : ℕ} {box left : Contents} {op : Op} (leaves : 
 load_leaves : (place word : ℕ) → LeavesWords word (ops.LoadField place)
 load_leaves place word cells e = ap (slice_set cells.words place) (sym e) ∙ set-get_or cells.words place 0
 
-step_logs : {p q : Private} {word : ℕ} {box left : Contents} {op : Op} → IsMachine p → Step p word box op q → LeavesBox p box left → IsPlain op word p q box left ⊎ IsPut op word p q box left
-step_logs m (Step.null reg d) b = inl (plain_decides b d (λ cells e. refl) (λ e. e))
-step_logs m (Step.copy dst src d) b = inl (plain_decides b d (λ cells e. refl) (λ e. e))
-step_logs m (Step.compare x y d) b = inl (plain_decides b d (λ cells e. refl) (λ e. e))
-step_logs m (Step.get_of_null dst src f none d) b = inl (plain_decides b d (λ cells e. refl) (λ e. e))
-step_logs {word = word} m (Step.get dst src f slot is d) b = inl (plain_decides b d (load_leaves _ word) (λ e. e))
-step_logs m (Step.put_of_null src f val none d) b = inl (plain_decides b d (λ cells e. refl) (λ e. e))
-step_logs m (Step.put_refused src f val slot is full d) b = inl (plain_decides b d (λ cells e. refl) (λ e. e))
-step_logs m (Step.put_into_leaf src f val slot is room leaf d) b = inl (plain_decides b d (λ cells e. refl) (λ e. e))
-step_logs m (Step.put_begins src f val slot is room unmarked d) b = inl (plain_goes b d (λ cells e. refl) (λ e. e))
-step_logs {p} {q} {word} {box} {left} m (Step.put src f val slot d) b =
+step_logs : {p q : Private} {word : ℕ} {box left : Contents} {op : Op} → 0 < p.number → IsMachine p → Step p word box op q → LeavesBox p box left → IsPlain op word p q box left ⊎ IsPut op word p q box left
+step_logs some m (Step.null reg d) b = inl (plain_decides b d (λ cells e. refl) (λ e. e))
+step_logs some m (Step.copy dst src d) b = inl (plain_decides b d (λ cells e. refl) (λ e. e))
+step_logs some m (Step.compare x y d) b = inl (plain_decides b d (λ cells e. refl) (λ e. e))
+step_logs some m (Step.get_of_null dst src f none d) b = inl (plain_decides b d (λ cells e. refl) (λ e. e))
+step_logs {word = word} some m (Step.get dst src f slot is d) b = inl (plain_decides b d (load_leaves _ word) (λ e. e))
+step_logs some m (Step.put_of_null src f val none d) b = inl (plain_decides b d (λ cells e. refl) (λ e. e))
+step_logs some m (Step.put_refused src f val slot is full d) b = inl (plain_decides b d (λ cells e. refl) (λ e. e))
+step_logs some m (Step.put_into_leaf src f val slot is room leaf d) b = inl (plain_decides b d (λ cells e. refl) (λ e. e))
+step_logs some m (Step.put_begins src f val slot is room unmarked d) b = inl (plain_goes b d (λ cells e. refl) (λ e. e))
+step_logs {p} {q} {word} {box} {left} some m (Step.put src f val slot d) b =
     let store : IsStore p src f val slot = (at_phase p (at.Storing src f val slot) m d.phase).0 in
     let room : HasRoom p = λ full. omega (arith, store.room, full) in
     let other : TakesBox p.phase → ⊥ = subst TakesBox d.phase in
@@ -173,25 +173,25 @@ step_logs {p} {q} {word} {box} {left} m (Step.put src f val slot d) b =
       place = place_of slot f p.fields;
       new = word_for p val;
       operation = d.operation;
-      stamp = epoch_of_stamp (word_for p val) (next_stamp p) (word_stamp p val m store.stamp room);
+      stamp = epoch_of_stamp (word_for p val) (next_stamp p) some (word_stamp p val m store.stamp room);
       here = other;
       settled = settled;
       more = λ g. omega (arith, ap (λ (x : Private). wrote g x.log) d.after, writes_more g p.log.entries (place_of slot f p.fields) (word_for p val) word, ap (wrote g) (box_stays b other));
     })
-step_logs m (Step.value_of_null reg none d) b = inl (plain_decides b d (λ cells e. refl) (λ e. e))
-step_logs m (Step.value reg slot is d) b = inl (plain_decides b d (λ cells e. refl) (λ e. e))
-step_logs m (Step.new_refused reg label leaf full d) b = inl (plain_decides b d (λ cells e. refl) (λ e. e))
-step_logs m (Step.new_begins reg label leaf room d) b = inl (plain_goes b d (λ cells e. refl) (λ e. e))
-step_logs {p} {q} m (Step.new_wins reg label leaf before probed free d) b =
+step_logs some m (Step.value_of_null reg none d) b = inl (plain_decides b d (λ cells e. refl) (λ e. e))
+step_logs some m (Step.value reg slot is d) b = inl (plain_decides b d (λ cells e. refl) (λ e. e))
+step_logs some m (Step.new_refused reg label leaf full d) b = inl (plain_decides b d (λ cells e. refl) (λ e. e))
+step_logs some m (Step.new_begins reg label leaf room d) b = inl (plain_goes b d (λ cells e. refl) (λ e. e))
+step_logs {p} {q} some m (Step.new_wins reg label leaf before probed free d) b =
     let other : TakesBox p.phase → ⊥ = subst TakesBox d.phase in
     inl (plain_as b (ops.ClaimHeader (probe_of p probed) (header_word leaf label)) d.operation (λ cells e. refl) other (λ g. ap (λ (x : Private). wrote g x.log) d.after ∙ writes_same g p.log.entries (probe_of p probed) leaf))
-step_logs m (Step.new_goes_on reg label leaf before probed taken next d) b = inl (plain_goes b d (λ cells e. refl) (λ e. e))
-step_logs m (Step.new_finds_none reg label leaf before probed taken last d) b = inl (plain_goes b d (λ cells e. refl) (λ e. e))
-step_logs m (Step.new_is_full reg label leaf before still d) b = inl (plain_decides b d (λ cells e. refl) (λ e. e))
-step_logs m (Step.new_is_busy reg label leaf before swept d) b = inl (plain_decides b d (λ cells e. refl) (λ e. e))
-step_logs m (Step.leave_refused uncollected d) b = inl (plain_decides b d (λ cells e. refl) (λ e. e))
-step_logs m (Step.leave_begins collected d) b = inl (plain_goes b d (λ cells e. refl) (λ e. e))
-step_logs {p} {q} {word} {box} {left} m (Step.leave l) b = inl (record {
+step_logs some m (Step.new_goes_on reg label leaf before probed taken next d) b = inl (plain_goes b d (λ cells e. refl) (λ e. e))
+step_logs some m (Step.new_finds_none reg label leaf before probed taken last d) b = inl (plain_goes b d (λ cells e. refl) (λ e. e))
+step_logs some m (Step.new_is_full reg label leaf before still d) b = inl (plain_decides b d (λ cells e. refl) (λ e. e))
+step_logs some m (Step.new_is_busy reg label leaf before swept d) b = inl (plain_decides b d (λ cells e. refl) (λ e. e))
+step_logs some m (Step.leave_refused uncollected d) b = inl (plain_decides b d (λ cells e. refl) (λ e. e))
+step_logs some m (Step.leave_begins collected d) b = inl (plain_goes b d (λ cells e. refl) (λ e. e))
+step_logs {p} {q} {word} {box} {left} some m (Step.leave l) b = inl (record {
   words = subst (LeavesWords word) (sym l.operation) (λ cells e. refl);
   same = λ g. omega (arith, ap (λ (x : Private). wrote g x.log) l.after, gives g b);
 })
@@ -200,10 +200,10 @@ step_logs {p} {q} {word} {box} {left} m (Step.leave l) b = inl (record {
     gives g (LeavesBox.retires phase is) = ap (wrote g) is
     gives g (LeavesBox.lets_go phase is) = ap (wrote g) is
     gives g (LeavesBox.keeps other is) = absurd (other (subst TakesBox (sym l.phase) tt))
-step_logs {p} {q} m (Step.leave_ends l) b = inl (plain_as b _ l.operation (λ cells e. refl) (subst TakesBox l.phase) (λ g. ap (λ (x : Private). wrote g x.log) l.after))
-step_logs m (Step.poll_stays own d) b = inl (plain_goes b d (λ cells e. refl) (λ e. e))
-step_logs m (Step.poll_crosses other d) b = inl (plain_goes b d (λ cells e. refl) (λ e. e))
-step_logs {p} {q} {word} {box} {left} m (Step.take_box d) b = inl (record {
+step_logs {p} {q} some m (Step.leave_ends l) b = inl (plain_as b _ l.operation (λ cells e. refl) (subst TakesBox l.phase) (λ g. ap (λ (x : Private). wrote g x.log) l.after))
+step_logs some m (Step.poll_stays own d) b = inl (plain_goes b d (λ cells e. refl) (λ e. e))
+step_logs some m (Step.poll_crosses other d) b = inl (plain_goes b d (λ cells e. refl) (λ e. e))
+step_logs {p} {q} {word} {box} {left} some m (Step.take_box d) b = inl (record {
   words = subst (LeavesWords word) (sym d.operation) (λ cells e. refl);
   same = λ g. omega (arith, ap (λ (x : Private). wrote g x.log) d.after, gives g b);
 })
@@ -212,7 +212,7 @@ step_logs {p} {q} {word} {box} {left} m (Step.take_box d) b = inl (record {
     gives g (LeavesBox.retires phase is) = ap (wrote g) is
     gives g (LeavesBox.lets_go phase is) = ap (wrote g) is
     gives g (LeavesBox.keeps other is) = absurd (other (subst TakesBox (sym d.phase) tt))
-step_logs {p} {q} m (Step.give_box d) b =
+step_logs {p} {q} some m (Step.give_box d) b =
     let other : TakesBox p.phase → ⊥ = subst TakesBox d.phase in
     inl (plain_as b _ d.operation (λ cells e. refl) other (λ g. ap (λ (x : Private). wrote g x.log) d.after))
 
@@ -287,7 +287,8 @@ module _ (w : Core) (t : ℕ) (kept : IsKept w) (is : IsMutator w.config t) (bus
   step_keeps =
       let actor = actor_of w t kept is in
       let whole = whole_made p word own_box busy actor.own.between in
-      logged_keeps (step_logs actor.own.machine whole.own whole.mailbox)
+      let numbered : 0 < p.number = omega (arith, actor.own.number, is.0) in
+      logged_keeps (step_logs numbered actor.own.machine whole.own whole.mailbox)
 
 -- what a turn of the collector does to its buffers: nothing, or the older ones are cleared and become the newer ones
 data Rows (p q : collectors.Private) : Type 0 where

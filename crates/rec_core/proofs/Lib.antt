@@ -15,6 +15,7 @@ pub mod CyclesTest
 pub mod CyclesTrial
 pub mod CyclesWait
 pub mod Cycling
+pub mod EarlyWords
 pub mod Freed
 pub mod Freeing
 pub mod Gathering
@@ -25,6 +26,8 @@ pub mod Leaving
 pub mod Loads
 pub mod Moves
 pub mod Offering
+pub mod OpenedFrom
+pub mod OpenedFromSeen
 pub mod OpenedMutators
 pub mod Opening
 pub mod Outside
@@ -38,6 +41,7 @@ pub mod Row
 pub mod Rules
 pub mod Runs
 pub mod Scans
+pub mod Seated
 pub mod SetTests
 pub mod Shapes
 pub mod Showing

@@ -255,7 +255,7 @@ in_no_set s k none x = go (slot_at s x).set refl
         absurd (omega (arith, k.numbers number x, in_it, out))
 
 -- none has left, and no gathering is under way
-all_done : (config : Config) (t : ℕ) → stand_at (opened config).collector.left (opened config).collector.phase t ≡ Handshake.Done
+pub all_done : (config : Config) (t : ℕ) → stand_at (opened config).collector.left (opened config).collector.phase t ≡ Handshake.Done
 all_done config t = cond-false (has_left (opened config).collector.left t) Handshake.Gone Handshake.Done (get_or_any config.mutators (t - 1))
   where
     get_or_any : (n i : ℕ) → slice_index_or (replicate n false) i false ≡ false

@@ -1,6 +1,6 @@
 -- Each step of a mutator keeps what every heap with its collector keeps.
-use Rattle.std.proofs.Common.{◌≡◌, inl, inr, ℕ, ◌+◌, ◌-◌, ◌*◌, ◌^◌, ◌<◌, ◌≤◌, false, List, [], ◌∷◌, ◌++◌, Option, None, Some, length, slice_index_or, slice_set, refl, sym, ap, subst, ◌∙◌, arith, length-append, add-zero, Bool, true}
-use Rattle.std.proofs.lemmas.Bool.{false≢true, cases_eq}
+use Rattle.std.proofs.Common.{◌≡◌, inl, inr, ℕ, ◌+◌, ◌-◌, ◌*◌, ◌^◌, ◌<◌, ◌≤◌, false, List, [], ◌∷◌, ◌++◌, Option, None, Some, length, slice_index_or, slice_set, refl, sym, ap, subst, ◌∙◌, arith, length-append, add-zero, Bool, true, ◌==◌, if◌then◌else◌}
+use Rattle.std.proofs.lemmas.Bool.{cond-false, false≢true, cases_eq, ne_eqb}
 use Rattle.std.proofs.lemmas.List.{length-set, get_or-set_same, get_or-set_other}
 use Rattle.std.proofs.lemmas.List.Elements.{All-set}
 use Rattle.std.proofs.lemmas.Option.{same_Some}
@@ -31,10 +31,10 @@ use Rattle.rec_word.proofs.Packing.{target_of-packed}
 use Rattle.rec_core.proofs.Steps.{Makes, stand_of, actor_of, in_list, register_taken, target_taken, taken_slot, held_stays, emptied_stays, changed_kept, moved_accounts, answers, answered_actor, unchanged, sets, goes_on, about_to_cross, registers_stay, registers_set, Answers}
 use Rattle.rec_word.proofs.Headers.{header_is, header_taken}
 
--- the epoch of a word is that of its stamp
-pub epoch_of_stamp : (x : ℕ) (s : Stamp) → stamp_of x ≡ s → epoch_of x ≡ s.epoch
+-- the epoch of a word that a mutator put is that of its stamp
+pub epoch_of_stamp : (x : ℕ) (s : Stamp) → 0 < s.writer → stamp_of x ≡ s → epoch_of x ≡ s.epoch
 unfolding epoch_of
-epoch_of_stamp x s is = ap (λ (y : Stamp). y.epoch) is
+epoch_of_stamp x s some is = ap (λ (y : Stamp). if y.writer == 0 then 0 else y.epoch) is ∙ cond-false (s.writer == 0) 0 s.epoch (ne_eqb s.writer 0 (λ none. omega (arith, none, some)))
 
 -- a field's word, where its place was reckoned by the mutator
 pub word_found : (w : Core) (t word slot f : ℕ) (op : Op) → IsKept w → IsMutator w.config t → word ≡ cell (cells_of w) op → op ≡ ops.LoadField (place_of slot f (mutator w t).fields) → word ≡ word_at (sight w) slot f
@@ -99,7 +99,7 @@ module _ {w : Core} {t word : ℕ} {op : Op} {q : Private} (m : Makes w t word o
       let room : HasRoom p = λ full. omega (arith, free, full) in
       let stamp : stamp_of left ≡ next_stamp p = word_stamp p val actor.own.machine store.stamp room in
       let here : epoch_at p ≡ p.epoch = epoch_here p a.here in
-      let in_epoch : epoch_of left ≡ epoch_at p = epoch_of_stamp left (next_stamp p) stamp ∙ sym here in
+      let in_epoch : epoch_of left ≡ epoch_at p = epoch_of_stamp left (next_stamp p) (omega (arith, actor.own.number, m.is.0)) stamp ∙ sym here in
       let leads : target_of left ≡ register p val = leads_to w t val m.kept m.is a.stays room in
       let node : node_of left ≡ code (register p val) = sym (code_target left) ∙ ap code leads in
       let there : t - 1 < length w.mutators = in_list w t m.kept m.is in

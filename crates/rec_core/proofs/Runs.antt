@@ -1,9 +1,9 @@
 -- Every move of a heap with its collector keeps what every such heap keeps, and so does every run.
-use Rattle.std.proofs.Common.{◌≡◌, ◌≢◌, ℕ, ◌+◌, ◌-◌, ◌^◌, ◌<◌, ◌==◌, if◌then◌else◌, true, false, Option, None, Some, IfSome, List, [], ◌∷◌, ◌++◌, flat_map, length, slice_index_or, refl, sym, ap, subst, ◌∙◌, arith}
+use Rattle.std.proofs.Common.{◌≡◌, ◌≢◌, ◌⊎◌, inl, inr, ℕ, ◌+◌, ◌-◌, ◌^◌, ◌<◌, ◌==◌, if◌then◌else◌, true, false, Option, None, Some, IfSome, List, [], ◌∷◌, ◌++◌, flat_map, length, slice_index_or, refl, sym, ap, subst, ◌∙◌, arith}
 use Rattle.std.proofs.lemmas.Bool.{cond-true, cond-false, eq-eqb, eqb-false, ne_eqb}
 use Rattle.std.proofs.lemmas.Grind.{flat_map-append}
 use Rattle.std.proofs.lemmas.List.{get_or-set_other, length-set}
-use Rattle.rec_core.proofs.Common.{place_of, target_of, Op, Contents, slot_at, At, Member, LeadsToUnreleased, begun_of, IsBetween, step_of, turn_of, buffer_at, noted, HaveLeft, Phase, Idle, Looking, Swapping, Returning, Releasing, Freeing, Trying, Preparing, cell, IsConfig, IsMutator, Core, cells_of, box, mutator, nobody, opened, IsKept, looked_at, found_by, turned, Move, after_move, after_moves, Fits, AllFit, IsStart, IsRun, EndsRun, Config}
+use Rattle.rec_core.proofs.Common.{place_of, target_of, Op, Contents, slot_at, At, Member, LeadsToUnreleased, begun_of, IsBetween, step_of, turn_of, buffer_at, noted, HaveLeft, Phase, Idle, Looking, Swapping, Returning, Releasing, Freeing, Trying, Preparing, cell, IsConfig, IsMutator, Core, cells_of, box, mutator, nobody, opened, IsKept, looked_at, found_by, turned, Move, after_move, after_moves, Fits, AllFit, IsStart, IsRun, EndsRun, RunsFrom, Config}
 use Rattle.rec_word.specs.declared.op.Op.TheVariants as ops
 use Rattle.rec_release.specs.CycleFree.{op_at as freeing_op_at, next_of as freeing_next}
 use Rattle.rec_release.specs.Release.{op_at as release_op_at, next_of as release_next}
@@ -22,6 +22,9 @@ use Rattle.rec_core.proofs.Freeing as freeing
 use Rattle.rec_core.proofs.Gathering.{awaits_kept}
 use Rattle.rec_core.proofs.Offering.{offering_kept}
 use Rattle.rec_core.proofs.Opening.{opened_kept}
+use Rattle.rec_core.proofs.OpenedFrom.{opened_from_kept}
+use Rattle.rec_core.specs.Objects.{Objects, AreObjects, HaveLabels}
+use Rattle.rec_core.specs.OpenedFrom.{opened_from}
 use Rattle.rec_core.proofs.Preparing.{loads_due, seen_there}
 use Rattle.rec_core.proofs.Releasing as releasing
 use Rattle.rec_core.proofs.Trying.{loads_child, loaded_leads}
@@ -129,6 +132,7 @@ moves_kept w (m ∷ ms) kept fit = moves_kept (after_move w m) ms (move_kept w m
 -- so does every start
 start_kept : (start : Core) → IsConfig start.config → IsStart start → IsKept start
 start_kept start is (IsStart.opens opens) = subst IsKept (sym opens) (opened_kept start.config is)
+start_kept start is (IsStart.opens_from o are labels opens) = subst IsKept (sym opens) (opened_from_kept start.config o is are labels)
 
 -- and the end of every run
 pub run_kept : (start : Core) (moves : List Move) (end : Core) → IsConfig start.config → IsRun start moves end → IsKept end
@@ -209,11 +213,20 @@ run_more w m (start, moves, run) fits = (
 pub run_opened : (config : Config) → EndsRun (opened config)
 run_opened config = (opened config, [], record { starts = IsStart.opens refl; fit = tt; ends = refl })
 
--- a run began as a heap is opened with the numbers of its end
-pub run_opens : (w : Core) → EndsRun w → (moves : List Move) × AllFit (opened w.config) moves × (after_moves (opened w.config) moves ≡ w)
+-- so is such an opening from objects
+pub run_opened_from : (config : Config) (o : Objects) → AreObjects config o → HaveLabels o.nodes → EndsRun (opened_from config o)
+run_opened_from config o are labels = (opened_from config o, [], record { starts = IsStart.opens_from o are labels refl; fit = tt; ends = refl })
+
+-- a run began as a heap is opened with the numbers of its end, with one object or from objects
+pub run_opens : (w : Core) → EndsRun w → RunsFrom (opened w.config) w ⊎ ((o : Objects) × AreObjects w.config o × HaveLabels o.nodes × RunsFrom (opened_from w.config o) w)
 run_opens w (start, moves, run) = by run.starts
   where
-    by : IsStart start → (moves : List Move) × AllFit (opened w.config) moves × (after_moves (opened w.config) moves ≡ w)
-    by (IsStart.opens opens) =
-        let same : start ≡ opened w.config = opens ∙ ap opened (sym (config_after start moves) ∙ ap (λ (v : Core). v.config) run.ends) in
-        (moves, subst (λ v. AllFit v moves) same run.fit, ap (λ v. after_moves v moves) (sym same) ∙ run.ends)
+    numbers : start.config ≡ w.config
+    numbers = sym (config_after start moves) ∙ ap (λ (v : Core). v.config) run.ends
+
+    from : (first : Core) → start ≡ first → RunsFrom first w
+    from first same = (moves, subst (λ v. AllFit v moves) same run.fit, ap (λ v. after_moves v moves) (sym same) ∙ run.ends)
+
+    by : IsStart start → RunsFrom (opened w.config) w ⊎ ((o : Objects) × AreObjects w.config o × HaveLabels o.nodes × RunsFrom (opened_from w.config o) w)
+    by (IsStart.opens opens) = inl (from (opened w.config) (opens ∙ ap opened numbers))
+    by (IsStart.opens_from o are labels opens) = inr (o, subst (λ (config : Config). AreObjects config o) numbers are, labels, from (opened_from w.config o) (opens ∙ ap (λ config. opened_from config o) numbers))

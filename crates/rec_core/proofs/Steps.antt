@@ -161,7 +161,7 @@ learnt_stays w t q headers kept is learnt still s there = elim (cases_eq s t) [
     grown from _ here is = tt
 
 -- what the entries that were made come to, where one mutator goes on
-pub entries_stay : (w : Core) (t births : ℕ) (q : Private) → IsKept w → IsMutator w.config t → entries_made w.config (mutator w t) + births ≤ entries_made w.config q → w.made + births ≤ 1 + sum_by (entries_made w.config) (slice_set w.mutators (t - 1) q)
+pub entries_stay : (w : Core) (t births : ℕ) (q : Private) → IsKept w → IsMutator w.config t → entries_made w.config (mutator w t) + births ≤ entries_made w.config q → w.made + births ≤ w.config.slots + sum_by (entries_made w.config) (slice_set w.mutators (t - 1) q)
 entries_stay w t births q kept is more = omega (arith, kept.made, more, sum_by-set (entries_made w.config) w.mutators (t - 1) q nobody (in_list w t kept is))
 
 -- While a mailbox is held, the buffer that was taken from it is marked just where its mutator has left, whatever a mutator does that leaves

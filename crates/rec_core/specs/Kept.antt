@@ -261,7 +261,7 @@ pub record IsKeptBy (stands : (t : ℕ) → Handshake) (w : Core) : Type 0 where
   pub collector : HasCollector w.config w.epoch w.words w.collector
   pub sweeps : HasSweeps w.freed w.collector.collections w.collector.phase
   pub learnt : HaveLearnt w.config w.headers w.freed w.mutators
-  pub made : w.made ≤ 1 + sum_by (entries_made w.config) w.mutators
+  pub made : w.made ≤ w.config.slots + sum_by (entries_made w.config) w.mutators
   pub sound : IsSound (sight w)
   pub greens : HasGreens w.headers w.collector.counts
   pub accounted : IsAccounted (pending w)

@@ -8,6 +8,8 @@ pub mod Freed
 pub mod Kept
 pub mod Loads
 pub mod Moves
+pub mod Objects
+pub mod OpenedFrom
 pub mod Pending
 pub mod Preconditions
 pub mod Quiet

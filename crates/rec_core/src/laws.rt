@@ -1,6 +1,6 @@
 //! What holds of every run, each law as the contract of a function that does nothing.
 
-ghost use Rattle.std.specs.Prelude.{◌≡◌, ℕ, ◌+◌, ◌<◌, ◌≤◌, Bool, List, Some, IfSome, false, true, map, slice_index_or};
+ghost use Rattle.std.specs.Prelude.{◌≡◌, ◌⊎◌, ℕ, ◌+◌, ◌<◌, ◌≤◌, Bool, List, Some, IfSome, false, true, map, slice_index_or};
 ghost use Rattle.std.specs.List.{concat, Contains};
 ghost use Rattle.rec_model.specs.Asking.{allocation};
 ghost use Rattle.rec_model.specs.Heap.{Heap};
@@ -26,7 +26,9 @@ ghost use Rattle.rec_core.specs.Freed.{AreGone, IsForgotten, IsProvenGarbage, Pa
 ghost use Rattle.rec_core.specs.Kept.{IsKept};
 ghost use Rattle.rec_core.specs.Loads.{BeginsPreparing, cleared_over, fields_loaded, IsReferenceStill, IsSameTrial, Loaded, loaded_over, named_over};
 ghost use Rattle.rec_core.specs.Preconditions.{MayStep, MayTurn};
-ghost use Rattle.rec_core.specs.Moves.{Move, AllFit, Fits, after_move, after_moves, IsRun, EndsRun, stepped, turned};
+ghost use Rattle.rec_core.specs.Moves.{Move, AllFit, Fits, after_move, after_moves, IsRun, EndsRun, RunsFrom, stepped, turned};
+ghost use Rattle.rec_core.specs.Objects.{AreObjects, HaveLabels, Objects};
+ghost use Rattle.rec_core.specs.OpenedFrom.{opened_from};
 ghost use Rattle.rec_core.specs.Pending.{pending};
 ghost use Rattle.rec_core.specs.Reach.{KeepsReached};
 ghost use Rattle.rec_core.specs.Scans.{BeginsNone, FailsByProbes};
@@ -38,9 +40,9 @@ pub fn runs_keep()
     ensures { (start : Core) (moves : List Move) (end : Core) → IsConfig start.config → IsRun start moves end → IsKept end }
 {}
 
-/// Where a run ends, one from the opening with its numbers ends too.
+/// Where a run ends, one from an opening with its numbers ends too: from the opening with one object, or from one from objects.
 pub fn runs_begin_with_an_opening()
-    ensures { (w : Core) → EndsRun w → (moves : List Move) × AllFit (opened w.config) moves × (after_moves (opened w.config) moves ≡ w) }
+    ensures { (w : Core) → EndsRun w → RunsFrom (opened w.config) w ⊎ ((o : Objects) × AreObjects w.config o × HaveLabels o.nodes × RunsFrom (opened_from w.config o) w) }
 {}
 
 /// A run goes on with every move that fits its end.

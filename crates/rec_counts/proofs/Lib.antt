@@ -7,6 +7,7 @@ pub mod Keeping
 pub mod Leaving
 pub mod Lessening
 pub mod Marking
+pub mod Opening
 pub mod Parts
 pub mod Settling
 pub mod Telling

@@ -38,6 +38,18 @@ opened_slots slots first = changed_at (replicate slots fresh) 0 (record fresh { 
 abbrev pub opened : ℕ → ℕ → State
 opened slots first = record { slots = opened_slots slots first; roots = []; sets = []; marked = []; work = []; zeros = []; free = [] }
 
+-- a slot at opening that has this count
+abbrev pub counted : ℕ → Slot
+counted count = record fresh { count = count }
+
+-- the slots at opening: the first have these counts, every other one
+abbrev pub counted_slots : ℕ → List ℕ → List Slot
+counted_slots slots counts = map counted counts ++ replicate (slots - length counts) fresh
+
+-- at such an opening all lists are empty
+abbrev pub opened_from : ℕ → List ℕ → State
+opened_from slots counts = record { slots = counted_slots slots counts; roots = []; sets = []; marked = []; work = []; zeros = []; free = [] }
+
 -- the slot goes where it is due
 abbrev pub sent : Due → State → ℕ → State
 sent Nothing s x = s

@@ -1,7 +1,7 @@
 //! The counts, colours, flags, buffers and lists of all slots.
 ghost use Rattle.std.specs.Prelude.{IfOk, ◌≡◌, ℕ, ◌+◌, ◌-◌, ◌<◌, ◌≤◌, ◌^◌, true, false, Some, None, List, [], ◌∷◌, ◌++◌, length, drop, map, slice_get, slice_index_or as item_at};
 ghost use Rattle.rec_counts.specs.Batched.{batched};
-ghost use Rattle.rec_counts.specs.Counts.{IsKept, IsLastSetNew, decremented, opened, opened_slots, slot_at, with_joined, with_slot, without_last_set, without_root};
+ghost use Rattle.rec_counts.specs.Counts.{IsKept, IsLastSetNew, counted_slots as counted_slots_of, decremented, opened, opened_from, opened_slots, slot_at, with_joined, with_slot, without_last_set, without_root};
 ghost use Rattle.rec_counts.specs.Groups.{last_set};
 ghost use Rattle.rec_counts.specs.Lists.{EachOnce, times};
 ghost use Rattle.rec_counts.specs.Slot.{absent, lowered, raised, swept_clean, unbuffered_if, unrooted};
@@ -64,6 +64,23 @@ fn opening_slots(alloc: Global, number: usize, first: u64) -> Result<Vec<Slot>, 
     Ok(slots)
 }
 
+/// The slots at opening, of which the first have these counts.
+fn counted_slots(alloc: Global, number: u16, counts: &[u64]) -> Result<Vec<Slot>, NoMemory>
+    requires { length counts.now ≤ number }
+    ensures { IfOk result (λ slots. slots.items ≡ counted_slots_of number counts.now) }
+{
+    let mut slots = Vec::with_capacity(alloc, usize::from(number))?;
+    for count in counts {
+        let mut slot = Slot::new();
+        slot.count = *count;
+        slots.push(slot)?;
+    }
+    for _ in counts.len()..usize::from(number) {
+        slots.push(Slot::new())?;
+    }
+    Ok(slots)
+}
+
 impl Counts {
     /// Counts for this many slots. Slot 0 has the true count `first`, every other slot one; all slots are Black and in no
     /// buffer, and all lists are empty. All memory is taken here.
@@ -73,6 +90,25 @@ impl Counts {
         let room = slots as usize * 2;
         Ok(Counts {
             slots: opening_slots(alloc, slots as usize, first)?,
+            roots: Queue::open(alloc, room)?,
+            sets: CycleBuffer::open(alloc, slots)?,
+            marked: Queue::open(alloc, room)?,
+            work: Queue::open(alloc, room)?,
+            zeros: Queue::open(alloc, room)?,
+            free: Queue::open(alloc, room)?,
+            touched: Touched::open(alloc, slots)?,
+        })
+    }
+
+    /// Counts for this many slots, of which the first have these true counts, and every other one. All slots are Black and in
+    /// no buffer, and all lists are empty. All memory is taken here.
+    pub fn open_from(alloc: Global, slots: u16, counts: &[u64]) -> Result<Counts, NoMemory>
+        requires { length counts.now ≤ slots }
+        ensures { IfOk result (λ made. made ≡ opened_from slots counts.now) }
+    {
+        let room = slots as usize * 2;
+        Ok(Counts {
+            slots: counted_slots(alloc, slots, counts)?,
             roots: Queue::open(alloc, room)?,
             sets: CycleBuffer::open(alloc, slots)?,
             marked: Queue::open(alloc, room)?,

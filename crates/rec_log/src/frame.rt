@@ -27,6 +27,15 @@ impl Frame {
         })
     }
 
+    /// Registers that name these slots, in order. All their memory is taken here.
+    pub fn of(alloc: Global, registers: &[Option<u16>]) -> Result<Frame, NoMemory>
+        ensures { IfOk result (λ frame. frame ≡ registers.now) }
+    {
+        let mut own = vec![in alloc; None; registers.len()]?;
+        own.copy_from_slice(registers);
+        Ok(Frame { registers: own })
+    }
+
     /// The slot that register `r` names, or `None` where it is null.
     pub fn read(&self, r: u8) -> Option<u16>
         requires { r < length self.now }

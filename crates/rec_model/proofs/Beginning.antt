@@ -1,13 +1,13 @@
 -- A heap as it is opened keeps what every heap that counts late keeps.
-use Rattle.std.proofs.Common.{◌+◌, ◌≡◌, ◌≢◌, inl, inr, ℕ, ◌*◌, ◌<◌, eqb, ltb, leb, not, Bool, true, false, cond, sum_by, sym, ap, subst, ◌∙◌, arith, ◌-◌, ◌++◌, replicate, refl}
+use Rattle.std.proofs.Common.{◌+◌, ◌≡◌, ◌≢◌, inl, inr, ℕ, ◌*◌, ◌<◌, ◌≤◌, eqb, ltb, leb, not, Bool, true, cond, sum_by, sym, ap, subst, ◌∙◌, arith, ◌-◌, ◌++◌, replicate, refl}
 use Rattle.std.proofs.lemmas.Bool.Decides.{nat_tests}
 use Rattle.std.proofs.lemmas.List.Folds.{sum_by-replicate}
-use Rattle.std.proofs.lemmas.List.Sums.{sum_by-append}
+use Rattle.std.proofs.lemmas.List.Sums.{sum_by-append, sum_by-le-sum_by}
 use Rattle.std.proofs.lemmas.Bool.{cases_eq, true≢false}
 use Rattle.rec_model.proofs.Common.{only_if, one_if_same, sum_at, node_of, epoch_of, home, dated, Pending, is_at, Dated, is_late_word, is_wrong_write, is_wrong_register, is_late_snapshot, HasEpochs, names, puts_after, replaces_from, is_from, is_leaf_from, is_after, is_node, HasLedger, late, put_late, replaced_late, touches, IsHeld, is_dead, names_unreleased, IsUnnamed, IsAccounted}
-use Rattle.rec_model.specs.Opened.{IsOpening, opening}
-use Rattle.rec_model.proofs.Sums.{sum_at-replicate_none}
-use Rattle.rec_model.proofs.Weights.{only_if-le, none_if_not_lt, none_if_differs}
+use Rattle.rec_model.specs.Opened.{IsBeginning, IsOpening, opening}
+use Rattle.rec_model.proofs.Sums.{sum_at-le-sum_at, sum_at-replicate_none, sum_by_same}
+use Rattle.rec_model.proofs.Weights.{only_if-le, only_if_le, only_if_self, none_if_not_lt, none_if_differs}
 use Rattle.rec_model.proofs.Reaching.{root_in_reach}
 use Rattle.rec_model.proofs.Ledgers.{node_of_null, epoch_of_null}
 
@@ -18,6 +18,73 @@ null_differs x pos = none_if_differs x 0 (omega (arith, pos))
 null_weightless : (b : Bool) (x : ℕ) → 0 < x → only_if b (one_if_same x 0) ≡ 0
 null_weightless b x pos = omega (arith, null_differs x pos, only_if-le b (one_if_same x 0))
 
+-- what begins so keeps it all
+module _ (w : Pending) (s : IsBeginning w) where
+  -- what is late as a word was put after the requested epoch is late after the applied one
+  beginning_epochs : HasEpochs w
+  beginning_epochs = record {
+    behind = omega (arith, s.near);
+    near = omega (arith, s.near);
+    words = omega (arith, s.early (λ place word. 1), sum_at-le-sum_at (is_late_word w.requested) (late w.applied (λ place word. 1)) w.words (λ place word. later (epoch_of word)));
+    writes = s.writes (is_wrong_write w.requested);
+    registers = s.entered;
+    snapshots = s.left;
+  }
+    where
+      later : (n : ℕ) → only_if (ltb w.requested n) 1 ≤ only_if (ltb w.applied n) 1
+      later n = let less : w.applied < w.requested = omega (arith, s.near) in grind (arith, nat_tests, less)
+
+  -- how often registers name a node, as the snapshots of the applied epoch do
+  snapshots_at : (x : ℕ) → 0 < x → sum_by (is_at w.applied x) w.snapshots ≡ sum_by (is_node x) w.registers
+  snapshots_at x pos =
+      s.snapshots (is_at w.applied x) (λ d. null_weightless (eqb w.applied d) x pos)
+      ∙ sum_by_same (λ d. is_at w.applied x (dated w.applied d.node)) (is_node x) w.registers (λ d. only_if_self w.applied (one_if_same x d.node))
+
+  snapshots_from : (x : ℕ) → 0 < x → sum_by (is_from w.applied x) w.snapshots ≡ sum_by (is_node x) w.registers
+  snapshots_from x pos =
+      s.snapshots (is_from w.applied x) (λ d. null_weightless (leb w.applied d) x pos)
+      ∙ sum_by_same (λ d. is_from w.applied x (dated w.applied d.node)) (is_node x) w.registers (λ d. only_if_le w.applied w.applied (one_if_same x d.node) (omega arith))
+
+  beginning_ledger : HasLedger w
+  beginning_ledger x pos = omega (arith, s.counted x pos, snapshots_at x pos, s.writes (puts_after w.applied x), s.writes (replaces_from w.applied x), s.births (is_from w.applied x))
+
+  beginning_held : IsHeld w
+  beginning_held j from below x pos h =
+      let here : w.applied ≡ j = omega (arith, from, below, s.near) in
+      let most : sum_by (is_after j x) w.registers ≤ sum_by (is_node x) w.registers = sum_by-le-sum_by (is_after j x) (is_node x) w.registers (λ d. only_if-le (ltb j d.epoch) (one_if_same x d.node)) in
+      let named : sum_by (is_at j x) w.snapshots ≡ sum_by (is_node x) w.registers = subst (λ k. sum_by (is_at k x) w.snapshots ≡ sum_by (is_node x) w.registers) here (snapshots_at x pos) in
+      root_in_reach w j x pos (omega (arith, h, most, named, s.writes (touches w.fields j x)))
+
+  -- nothing was given up, so what is dead is a free slot
+  dead_free : (x : ℕ) → 0 < x → is_dead w x ≡ true → w.free x ≡ true
+  dead_free x pos d = grind (arith, d, s.released x pos)
+
+  beginning_unnamed : IsUnnamed w
+  beginning_unnamed x pos d =
+      omega (
+        arith,
+        s.unnamed x pos (dead_free x pos d),
+        snapshots_from x pos,
+        sum_at-le-sum_at (names_unreleased w.fields w.released x) (names x) w.words (λ place word. only_if-le (not (w.released (home w.fields place))) (one_if_same x (node_of word))),
+        s.writes (puts_after w.applied x),
+        s.writes (replaces_from w.applied x),
+        s.births (is_from w.applied x),
+      )
+
+  pub beginning_accounted : IsAccounted w
+  beginning_accounted = record {
+    epochs = beginning_epochs;
+    ledger = beginning_ledger;
+    late = λ q. omega (arith, s.early q, s.writes (put_late w.applied q), s.writes (replaced_late w.applied q));
+    held = beginning_held;
+    unnamed = beginning_unnamed;
+    apart = λ x pos e. s.released x pos;
+    single = λ x pos e. omega (arith, s.counted x pos, s.unnamed x pos e, ap (λ b. only_if b 1) e);
+    born = λ x pos. omega (arith, s.births (is_from w.applied x));
+    leaves = λ x pos some. absurd (omega (arith, some, s.births (is_leaf_from w.applied x)));
+  }
+
+-- a heap as it is opened begins so
 module _ (w : Pending) (epoch mutators : ℕ) (s : IsOpening w epoch mutators) where
   -- what a null word names, and what it weighs as a late word
   no_names : (x : ℕ) → 0 < x → sum_at (names x) w.words ≡ 0
@@ -26,80 +93,38 @@ module _ (w : Pending) (epoch mutators : ℕ) (s : IsOpening w epoch mutators) w
   none_late : (weight : ℕ → ℕ → ℕ) → sum_at (late w.applied weight) w.words ≡ 0
   none_late weight = s.words (late w.applied weight) (λ place. none_if_not_lt w.applied (epoch_of 0) (weight place 0) (omega (arith, epoch_of_null)))
 
-  opening_epochs : HasEpochs w
-  opening_epochs = record {
-    behind = omega (arith, s.applied, s.requested);
-    near = omega (arith, s.applied, s.requested);
-    words = s.words (is_late_word w.requested) (λ place. none_if_not_lt w.requested (epoch_of 0) 1 (omega (arith, epoch_of_null)));
-    writes = s.writes (is_wrong_write w.requested);
-    registers = s.entered;
-    snapshots = s.left;
+  -- how often registers name a node: each mutator names node 1
+  registers_name : (x : ℕ) → 0 < x → sum_by (is_node x) w.registers ≡ mutators * one_if_same x 1
+  registers_name x pos = s.registers (is_node x) (λ d. null_differs x pos)
+
+  opening_begins : IsBeginning w
+  opening_begins = record {
+    near = s.applied ∙ sym s.requested;
+    early = none_late;
+    writes = s.writes;
+    births = s.births;
+    snapshots = λ weight null. s.snapshots weight null ∙ sym (s.registers (λ d. weight (dated w.applied d.node)) (λ d. null w.applied));
+    left = s.left;
+    entered = s.entered;
+    counted = λ x pos. elim (cases_eq x 1) [
+      | inl e ↦
+          let product : mutators * one_if_same x 1 ≡ mutators * 1 = ap (λ k. mutators * one_if_same k 1) e in
+          let taken : only_if (w.free x) 1 ≡ 0 = ap (λ k. only_if (w.free k) 1) e ∙ ap (λ b. only_if b 1) s.taken in
+          omega (arith, ap w.count e, s.count, product, taken, no_names x pos, registers_name x pos)
+      | inr e ↦
+          let product : mutators * one_if_same x 1 ≡ mutators * 0 = ap (λ k. mutators * k) (none_if_differs x 1 e) in
+          let free : only_if (w.free x) 1 ≡ 1 = ap (λ b. only_if b 1) (s.free x (omega (arith, pos, e))) in
+          omega (arith, s.counts x (omega (arith, pos, e)), product, free, no_names x pos, registers_name x pos)
+    ];
+    unnamed = λ x pos free.
+        let other : x ≢ 1 = λ is. true≢false (sym free ∙ ap w.free is ∙ s.taken) in
+        let product : mutators * one_if_same x 1 ≡ mutators * 0 = ap (λ k. mutators * k) (none_if_differs x 1 other) in
+        omega (arith, product, no_names x pos, registers_name x pos);
+    released = s.released;
   }
-
-  opening_ledger : HasLedger w
-  opening_ledger x pos =
-      let snaps : sum_by (is_at w.applied x) w.snapshots ≡ mutators * is_at w.applied x (dated w.applied 1) = s.snapshots (is_at w.applied x) (λ d. null_weightless (eqb w.applied d) x pos) in
-      elim (cases_eq x 1) [
-        | inl e ↦
-            let one : is_at w.applied x (dated w.applied 1) ≡ 1 = (grind (arith, nat_tests, e)) in
-            let product : mutators * is_at w.applied x (dated w.applied 1) ≡ mutators * 1 = ap (λ k. mutators * k) one in
-            let counted : w.count x ≡ mutators = ap w.count e ∙ s.count in
-            let taken : only_if (w.free x) 1 ≡ 0 = ap (λ k. only_if (w.free k) 1) e ∙ ap (λ b. only_if b 1) s.taken in
-            omega (arith, snaps, product, counted, taken, no_names x pos, s.writes (puts_after w.applied x), s.writes (replaces_from w.applied x), s.births (is_from w.applied x))
-        | inr e ↦
-            let none : is_at w.applied x (dated w.applied 1) ≡ 0 = omega (arith, none_if_differs x 1 e, only_if-le (eqb w.applied w.applied) (one_if_same x 1)) in
-            let product : mutators * is_at w.applied x (dated w.applied 1) ≡ mutators * 0 = ap (λ k. mutators * k) none in
-            let free : only_if (w.free x) 1 ≡ 1 = ap (λ b. only_if b 1) (s.free x (omega (arith, pos, e))) in
-            omega (arith, snaps, product, free, s.counts x (omega (arith, pos, e)), no_names x pos, s.writes (puts_after w.applied x), s.writes (replaces_from w.applied x), s.births (is_from w.applied x))
-      ]
-
-  opening_held : IsHeld w
-  opening_held j from below x pos h =
-      let here : j ≡ w.applied = omega (arith, from, below, s.applied, s.requested) in
-      let regs : sum_by (is_after j x) w.registers ≡ mutators * is_after j x (dated epoch 1) = s.registers (is_after j x) (λ d. null_weightless (ltb j d) x pos) in
-      let snaps : sum_by (is_at j x) w.snapshots ≡ mutators * is_at j x (dated w.applied 1) = s.snapshots (is_at j x) (λ d. null_weightless (eqb j d) x pos) in
-      let late : j < epoch = omega (arith, here, s.applied) in
-      let same : is_after j x (dated epoch 1) ≡ is_at j x (dated w.applied 1) = (grind (arith, nat_tests, here, late)) in
-      let product : mutators * is_after j x (dated epoch 1) ≡ mutators * is_at j x (dated w.applied 1) = ap (λ k. mutators * k) same in
-      root_in_reach w j x pos (omega (arith, h, regs, snaps, product, s.writes (touches w.fields j x)))
-
-  -- what is free isn't node 1
-  dead_other : (x : ℕ) → 0 < x → is_dead w x ≡ true → x ≢ 1
-  dead_other x pos d e =
-      let alive : is_dead w 1 ≡ false = ap (λ b. cond b true (w.released 1)) s.taken ∙ s.released 1 (omega arith) in
-      true≢false (sym (subst (λ k. is_dead w k ≡ true) e d) ∙ alive)
-
-  opening_unnamed : IsUnnamed w
-  opening_unnamed x pos d =
-      let a : ℕ = w.applied in
-      let other : one_if_same x 1 ≡ 0 = none_if_differs x 1 (dead_other x pos d) in
-      let snaps : sum_by (is_from a x) w.snapshots ≡ mutators * is_from a x (dated a 1) = s.snapshots (is_from a x) (λ d. null_weightless (leb a d) x pos) in
-      let none : is_from a x (dated a 1) ≡ 0 = omega (arith, other, only_if-le (leb a a) (one_if_same x 1)) in
-      let regs : sum_by (is_node x) w.registers ≡ mutators * is_node x (dated epoch 1) = s.registers (is_node x) (λ d. null_differs x pos) in
-      omega (
-        arith,
-        snaps,
-        regs,
-        ap (λ k. mutators * k) none,
-        ap (λ k. mutators * k) other,
-        s.words (names_unreleased w.fields w.released x) (λ place. omega (arith, only_if-le (not (w.released (home w.fields place))) (one_if_same x (node_of 0)), none_if_differs x (node_of 0) (omega (arith, pos, node_of_null)))),
-        s.writes (puts_after a x),
-        s.writes (replaces_from a x),
-        s.births (is_from a x),
-      )
 
   pub opening_accounted : IsAccounted w
-  opening_accounted = record {
-    epochs = opening_epochs;
-    ledger = opening_ledger;
-    late = λ q. omega (arith, none_late q, s.writes (put_late w.applied q), s.writes (replaced_late w.applied q));
-    held = opening_held;
-    unnamed = opening_unnamed;
-    apart = λ x pos e. s.released x pos;
-    single = λ x pos e. s.counts x (omega (arith, pos, dead_other x pos (grind (arith, e))));
-    born = λ x pos. omega (arith, s.births (is_from w.applied x));
-    leaves = λ x pos some. absurd (omega (arith, some, s.births (is_leaf_from w.applied x)));
-  }
+  opening_accounted = beginning_accounted w opening_begins
 
 -- there is such a heap
 named_sum : (weight : Dated → ℕ) (mutators nulls epoch : ℕ) → sum_by weight (replicate mutators (dated epoch 1) ++ replicate (mutators * nulls) (dated epoch 0)) ≡ mutators * weight (dated epoch 1) + mutators * nulls * weight (dated epoch 0)

@@ -27,21 +27,25 @@ pub record Private : Type 0 where
   pub steps : ℕ
   pub left : Bool
 
--- a machine as it is opened: register 0 names slot 0, all else is null or empty
-abbrev pub opened : (number epoch slots fields regs cap : ℕ) → Private
-opened number epoch slots fields regs cap =
+-- a machine as it is opened with these registers: its log is empty, and so is the snapshot of `regs` registers in it
+abbrev pub opened_with : (number epoch slots fields : ℕ) (registers : List (Option ℕ)) (regs cap : ℕ) → Private
+opened_with number epoch slots fields registers regs cap =
     record {
       number = number;
       epoch = epoch;
       slots = slots;
       fields = fields;
-      registers = Some 0 ∷ replicate (regs - 1) None;
+      registers = registers;
       log = record { entries = []; snapshot = replicate regs None; capacity = cap; last = false };
       from = 0;
       phase = Idle;
       steps = 0;
       left = false;
     }
+
+-- a machine as it is opened: register 0 names slot 0, all else is null or empty
+abbrev pub opened : (number epoch slots fields regs cap : ℕ) → Private
+opened number epoch slots fields regs cap = opened_with number epoch slots fields (Some 0 ∷ replicate (regs - 1) None) regs cap
 
 -- what a register names
 abbrev pub register : Private → ℕ → Option ℕ

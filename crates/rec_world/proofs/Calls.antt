@@ -126,7 +126,8 @@ made_small w kept =
     let all : sum_by (entries_made w.config) w.mutators ≤ length w.mutators * 2 ^ 58 = sum_by-le (entries_made w.config) (2 ^ 58) w.mutators each in
     let many : length w.mutators ≡ w.config.mutators = kept.mutators.many in
     let few : w.config.mutators ≤ 63 = kept.config.few_mutators in
-    let made : w.made ≤ 1 + sum_by (entries_made w.config) w.mutators = kept.made in
+    let made : w.made ≤ w.config.slots + sum_by (entries_made w.config) w.mutators = kept.made in
+    let slots : w.config.slots ≤ 65535 = kept.config.few_slots in
     let product : length w.mutators * 2 ^ 58 ≤ 63 * 2 ^ 58 = mul-le-mul {n₂ = 63} {m₂ = 2 ^ 58} (omega arith) (omega arith) in
     omega arith
 

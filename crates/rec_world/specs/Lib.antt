@@ -20,6 +20,8 @@ pub use Rattle.rec_core.specs.Kept
 pub use Rattle.rec_core.specs.Loads
 pub use Rattle.rec_core.specs.Preconditions
 pub use Rattle.rec_core.specs.Moves
+pub use Rattle.rec_core.specs.Objects
+pub use Rattle.rec_core.specs.OpenedFrom
 pub use Rattle.rec_core.specs.Pending
 pub use Rattle.rec_core.specs.Quiet
 pub use Rattle.rec_core.specs.Reach

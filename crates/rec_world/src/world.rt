@@ -25,6 +25,8 @@ ghost use Rattle.rec_world.specs.Mailbox.{held};
 ghost use Rattle.rec_world.specs.Stepping.{MakesStep};
 ghost use Rattle.rec_world.specs.World.{IsWorld, MayAsk, label_of, Refuses, Changes, Stays, IsFinished, IsCrossed};
 
+mod opening;
+
 use crate::mailbox::{gather, open_boxes, swap_own};
 use crate::memory::Memory;
 use crate::{Config, Numbering, OpenError, Parts};

@@ -1,0 +1,25 @@
+-- The next row is opened, and is left no more.
+use Rattle.std.proofs.Common.{◌≡◌, ℕ, suc, ◌+◌, ◌-◌, ◌*◌, ◌++◌, ◌∷◌, List, [], length, map, take, drop, ap, sym, ◌∙◌, arith, length-drop}
+use Rattle.std.proofs.Math.Nat.{suc-mul}
+use Rattle.rec_collector.proofs.Common.{Contents, retired}
+use Rattle.rec_collector.specs.Rows.{rows_of}
+use Rattle.rec_collector.proofs.Rows.{rows_more}
+use Rattle.rec_collector.proofs.buffers.open_rows.Goals as goal
+
+pub loop-preserved : goal.loop-preserved
+loop-preserved c =
+    let left : ℕ = c.args.mutators - (c.loop.counter + 1) in
+    let more : c.args.mutators - c.loop.counter ≡ suc left = omega arith in
+    let front : c.split_at.result.0.now ≡ take c.args.registers c.loop.rest.now = c.split_at.ensures.front ∙ ap (λ n. take n c.loop.rest.now) c.from-in-loop.ensures in
+    let behind : c.split_at.result.1.now ≡ drop c.args.registers c.loop.rest.now = c.split_at.ensures.back ∙ ap (λ n. drop n c.loop.rest.now) c.from-in-loop.ensures in
+    let filed : c.retire.new.self ≡ retired c.split_at.result.0.now c.args.capacity
+    = c.retire.ensures ∙ (λ i. let b : Contents = c.in_ok-buffer.ensures i in record b { snapshot = c.in_ok-frame.ensures i }) in
+    let pushed : c.push.new.self.items ≡ c.loop.row.items ++ retired c.split_at.result.0.now c.args.capacity ∷ [] = c.in_ok-push.ensures.items ∙ ap (λ b. c.loop.row.items ++ b ∷ []) filed in
+    let rest : List Contents = map (λ own. retired own c.args.capacity) (rows_of c.args.registers left c.split_at.result.1.now) in
+    let size : length c.loop.rest.now ≡ left * c.args.registers + c.args.registers = c.loop.invariant.left ∙ ap (λ n. n * c.args.registers) more ∙ suc-mul left c.args.registers in
+    record {
+      rows = c.loop.invariant.rows
+          ∙ rows_more c.args.registers c.args.capacity (c.args.mutators - c.loop.counter) left c.loop.rest.now c.split_at.result.0.now c.split_at.result.1.now c.loop.row.items more front behind
+          ∙ ap (λ row. row ++ rest) (sym pushed);
+      left = ap length behind ∙ length-drop c.args.registers c.loop.rest.now ∙ omega (arith, size);
+    }
