@@ -12,6 +12,7 @@ pub mod Outside
 pub mod Parts
 pub mod Present
 pub mod Private
+pub mod Shown
 pub mod Step
 pub mod Testing
 pub mod Took

@@ -1,0 +1,77 @@
+-- What a watch is shown of a step of the collector: functions of its operation, of the word that this found, and of the private record
+-- behind the step.
+use Rattle.std.specs.Prelude.{ℕ, ◌+◌, ◌-◌, ◌==◌, if◌then◌else◌, Option, None, Some, List}
+use Rattle.rec_word.specs.declared.op.Op.{Op}
+use Rattle.rec_word.specs.declared.op.Op.TheVariants.{StoreEpoch, ReturnBox}
+use Rattle.rec_log.specs.declared.contents.Contents.{Contents}
+use Rattle.rec_walk.specs.declared.member.Member.{Member}
+use Rattle.rec_collector.specs.Private.{Private}
+use Rattle.rec_collector.specs.declared.phase.Phase.{Phase}
+use Rattle.rec_collector.specs.declared.phase.Phase.TheVariants.{Idle, Looking, Freeing}
+
+-- a batch that was applied: the epoch in which the entries of its newer buffers were made, and these buffers, one for each mutator
+pub record Batch : Type 0 where
+  pub epoch : ℕ
+  pub newer : List Contents
+
+-- the step's operation and the word that it found; the batch that it applied; the members of the set that passed both tests in it; and
+-- the epoch whose collection it completed
+pub record Shown : Type 0 where
+  pub op : Op
+  pub word : ℕ
+  pub batch : Option Batch
+  pub passed : Option (List ℕ)
+  pub completed : Option ℕ
+
+-- the newer buffers of the batch that the last step applied: where it completed the collection too, they are the older ones by now
+abbrev pub applied_newer_in : Private → Phase → List Contents
+applied_newer_in p Idle = p.older
+applied_newer_in p _ = p.newer
+
+abbrev pub applied_newer : Private → List Contents
+applied_newer p = applied_newer_in p p.phase
+
+-- Behind a request, or a mailbox that was given back, the batch is applied unless another mailbox is looked at. Its entries are those of
+-- the epoch before the requested one.
+abbrev pub applied_in : Private → Phase → Option ℕ
+applied_in p (Looking t) = None
+applied_in p phase = Some (p.epoch - 1)
+
+-- the epoch of the batch that the step of this operation applied, if it applied one
+abbrev pub applied_of : Op → Private → Option ℕ
+applied_of (StoreEpoch e) p = applied_in p p.phase
+applied_of (ReturnBox t e) p = applied_in p p.phase
+applied_of op p = None
+
+abbrev pub batch_with : List Contents → Option ℕ → Option Batch
+batch_with newer None = None
+batch_with newer (Some epoch) = Some (record { epoch = epoch; newer = newer })
+
+-- the batch that it applied
+abbrev pub batch_of : Op → Private → Option Batch
+batch_of op p = batch_with (applied_newer p) (applied_of op p)
+
+-- at the first field of the first member the freeing of these members has just begun, since each of its steps goes on to another field
+abbrev pub begun_at : List ℕ → Option Member → Option (List ℕ)
+begun_at members None = None
+begun_at members (Some a) = if a.index + a.field == 0 then Some members else None
+
+abbrev pub passed_in : Private → Phase → Option (List ℕ)
+passed_in p (Freeing m) = begun_at p.counts.work m.at
+passed_in p _ = None
+
+-- the members of the set that passed both tests in the last step, if one did
+abbrev pub passed_of : Private → Option (List ℕ)
+passed_of p = passed_in p p.phase
+
+abbrev pub completed_in : Private → Phase → Option ℕ
+completed_in p Idle = Some (p.epoch - 1)
+completed_in p _ = None
+
+-- the epoch whose collection the last step completed, if it completed one
+abbrev pub completed_of : Private → Option ℕ
+completed_of p = completed_in p p.phase
+
+-- what is shown of a step with this operation, which found this word and left this record
+abbrev pub shown_of : Op → (word : ℕ) → Private → Shown
+shown_of op word p = record { op = op; word = word; batch = batch_of op p; passed = passed_of p; completed = completed_of p }
