@@ -19,6 +19,7 @@ pub mod Outside
 pub mod Presence
 pub mod Rows
 pub mod Sends
+pub mod ShownSteps
 pub mod Steps
 pub mod Sweeping
 pub mod Testing

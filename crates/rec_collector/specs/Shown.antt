@@ -1,13 +1,19 @@
 -- What a watch is shown of a step of the collector: functions of its operation, of the word that this found, and of the private record
--- behind the step.
-use Rattle.std.specs.Prelude.{ℕ, ◌+◌, ◌-◌, ◌==◌, if◌then◌else◌, Option, None, Some, List}
+-- behind the step. And what the step did, read off the rule by which it was made.
+use Rattle.std.specs.Prelude.{◌≡◌, ℕ, ◌+◌, ◌-◌, ◌==◌, if◌then◌else◌, Option, None, Some, List, [], ◌∷◌}
 use Rattle.rec_word.specs.declared.op.Op.{Op}
 use Rattle.rec_word.specs.declared.op.Op.TheVariants.{StoreEpoch, ReturnBox}
 use Rattle.rec_log.specs.declared.contents.Contents.{Contents}
+use Rattle.rec_counts.specs.Groups.{last_set}
 use Rattle.rec_walk.specs.declared.member.Member.{Member}
+use Rattle.rec_collector.specs.Parts.{Parts}
 use Rattle.rec_collector.specs.Private.{Private}
+use Rattle.rec_collector.specs.Step.{ClearsOn, IsTested, Step}
+use Rattle.rec_collector.specs.Testing.{Begun}
 use Rattle.rec_collector.specs.declared.phase.Phase.{Phase}
 use Rattle.rec_collector.specs.declared.phase.Phase.TheVariants.{Idle, Looking, Freeing}
+use Rattle.rec_collector.specs.declared.turn.Turn.{Turn}
+use Rattle.rec_collector.specs.declared.turn.Turn.TheVariants.{Collected}
 
 -- a batch that was applied: the epoch in which the entries of its newer buffers were made, and these buffers, one for each mutator
 pub record Batch : Type 0 where
@@ -75,3 +81,45 @@ completed_of p = completed_in p p.phase
 -- what is shown of a step with this operation, which found this word and left this record
 abbrev pub shown_of : Op → (word : ℕ) → Private → Shown
 shown_of op word p = record { op = op; word = word; batch = batch_of op p; passed = passed_of p; completed = completed_of p }
+
+-- ---- what the step did
+
+-- the batch that a step applied, by its rule: the one whose zeros it released
+abbrev pub batch_made : {p q : Private} {word : ℕ} {box : Contents} {op : Option Op} {turn : Turn} → Step p word box op q turn → Option Batch
+batch_made {p} (Step.request_alone idle last is alone applies) = Some (record { epoch = p.epoch; newer = p.newer })
+batch_made {p} (Step.apply t returning is left applies) = Some (record { epoch = p.epoch - 1; newer = p.newer })
+batch_made _ = None
+
+-- a set that has members, or else what comes later
+abbrev pub members_or : List ℕ → Option (List ℕ) → Option (List ℕ)
+members_or [] later = later
+members_or (x ∷ members) later = Some (x ∷ members)
+
+-- the last set where it passed both tests, or else what comes later
+abbrev pub if_passes : {w : Parts} {v : Begun} → IsTested w v → Option (List ℕ) → Option (List ℕ)
+if_passes {w} (IsTested.passes orange none is) later = members_or (last_set w.counts.sets) later
+if_passes _ later = later
+
+-- the set that passed both tests, of those that were tested one after another
+abbrev pub passed_among : {p q : Private} {turn : Turn} {b : Begun} → ClearsOn p q turn b → Option (List ℕ)
+passed_among (ClearsOn.tests c none some test on) = if_passes test (passed_among on)
+passed_among _ = None
+
+-- the set that passed both tests in a step, by its rule
+abbrev pub set_passed : {p q : Private} {word : ℕ} {box : Contents} {op : Option Op} {turn : Turn} → Step p word box op q turn → Option (List ℕ)
+set_passed (Step.request_alone idle last is alone applies) = passed_among applies
+set_passed (Step.apply t returning is left applies) = passed_among applies
+set_passed (Step.release m releasing is clears) = passed_among clears
+set_passed (Step.freeing m freeing is clears) = passed_among clears
+set_passed _ = None
+
+-- the epoch of a collection that a turn tells to be complete
+abbrev pub epoch_told : Turn → Option ℕ
+epoch_told (Collected epoch freed) = Some epoch
+epoch_told _ = None
+
+-- What is shown of a step is what it did.
+pub record IsShownAsMade {p q : Private} {word : ℕ} {box : Contents} {turn : Turn} (op : Op) (s : Step p word box (Some op) q turn) : Type 0 where
+  pub batch : batch_of op q ≡ batch_made s
+  pub passed : passed_of q ≡ set_passed s
+  pub completed : completed_of q ≡ epoch_told turn

@@ -15,10 +15,13 @@ ghost use Rattle.rec_collector.specs.Offered.{AreOffered};
 ghost use Rattle.rec_collector.specs.Outside.{AreOutside, HasSets};
 ghost use Rattle.rec_collector.specs.Parts.{Parts};
 ghost use Rattle.rec_collector.specs.Private.{Private};
-ghost use Rattle.rec_collector.specs.Step.{IsBetween, NamesWord, WholeStep};
+ghost use Rattle.rec_collector.specs.Shown.{IsShownAsMade};
+ghost use Rattle.rec_collector.specs.Step.{IsBetween, NamesWord, Step, WholeStep};
 ghost use Rattle.rec_collector.specs.Took.{left_of, step_of, took_of, turn_of};
 ghost use Rattle.rec_collector.specs.Touched.{IsOrangeIn, named_by, tried_at, WasUntouched};
 ghost use Rattle.rec_collector.specs.Zeros.{AreTheZeros};
+ghost use Rattle.rec_collector.specs.declared.turn.Turn.{Turn};
+ghost use Rattle.rec_word.specs.declared.op.Op.{Op};
 
 /// What comes next, what is learnt, what is answered and what is left in the mailbox is one of the steps of the collector, whatever the word found and
 /// whatever is in the mailbox, as long as the word is what a machine may be given.
@@ -67,4 +70,11 @@ pub fn batches_colour_what_they_name()
 /// while no true count and no other list changes. It is offered once: the next trial begins as ever, unless that is asked for again.
 pub fn offers_are_whole()
     ensures { (w : Parts) → w.offers ≡ true → IsKeptCounts w.counts → w.counts.sets ≡ [] → AreOffered w.counts (with_offers w).counts × ((with_offers w).offers ≡ false) }
+{}
+
+/// What a watch is shown of a step is what the step did, by whichever of the rules it was made. It was shown a batch exactly where the
+/// step's counts went through one of these newer buffers, and a set exactly where that was the last one, and passed both tests in the step.
+/// A collection was completed exactly where the step's turn tells so.
+pub fn what_is_shown_was_done()
+    ensures { (p q : Private) (word : ℕ) (box : Contents) (op : Op) (turn : Turn) (s : Step p word box (Some op) q turn) → IsMachine p → IsGiven p word → IsShownAsMade op s }
 {}

@@ -26,13 +26,14 @@ mod parts;
 mod phase;
 mod present;
 mod sets;
+mod shown;
 mod turn;
 mod verdict;
 
 pub use laws::{
     batches_colour_what_they_name, machine_makes_steps, machine_names_words,
     machines_stay_machines, offers_are_whole, orange_members_are_untouched,
-    orange_members_have_outside_counts, zeros_are_exact,
+    orange_members_have_outside_counts, what_is_shown_was_done, zeros_are_exact,
 };
 pub use machine::Machine;
 pub use phase::Phase;

@@ -19,6 +19,7 @@ pub mod RunAnswers
 pub mod Scans
 pub mod Settled
 pub mod Settling
+pub mod Shown
 pub mod Step
 pub mod StepAnswers
 pub mod Swept

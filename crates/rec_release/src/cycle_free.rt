@@ -80,6 +80,13 @@ impl CycleFree {
         Some(Op::ClearField(place(at.slot, at.field, self.fields)))
     }
 
+    /// Where it stands: the field that is exchanged next, of a member in the work list. None where the work is done.
+    pub fn at(&self) -> Option<Member>
+        ensures { result ≡ self.now.at }
+    {
+        self.at
+    }
+
     /// Learns the word that came out of the field: its target has one reference less. An orange target is lowered, any
     /// other is decremented.
     pub fn took(&mut self, counts: &mut Counts, word: u64)

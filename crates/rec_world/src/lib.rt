@@ -27,6 +27,7 @@ mod numbering;
 mod open_error;
 mod order;
 mod parts;
+mod watch;
 mod world;
 
 pub use journal::Journal;
@@ -46,4 +47,5 @@ pub use rec_core::{
 };
 pub use rec_model::{Cmd, Told};
 pub use rec_mutator::{Made, Work};
+pub use watch::{Unwatched, Watch};
 pub use world::World;
