@@ -1,4 +1,5 @@
 -- The modules of the proofs.
+pub mod Written
 pub mod Numerals
 pub mod Texts
 pub mod Options

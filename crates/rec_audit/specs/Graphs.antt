@@ -1,15 +1,14 @@
 -- What a graph is behind some lines, and which line each of its calls takes.
-use Rattle.std.specs.Prelude.{◌≡◌, ◌↔◌, ℕ, ◌/◌, ◌<◌, ◌==◌, nat_eq, true, false, List, [], length, map, filter, drop, slice_index_or, All}
+use Rattle.std.specs.Prelude.{◌≡◌, ℕ, ◌/◌, ◌<◌, ◌==◌, nat_eq, false, List, [], length, map, filter, drop, slice_index_or, All}
 use Rattle.std.specs.List.{flat_map}
 use Rattle.std.specs.HashSet.{contains}
-use Rattle.rec_model.specs.Reach.{is_in}
 use Rattle.rec_audit.specs.declared.kind.Kind.TheVariants.{Epoch, Put, Born, Snap, Out, Sweep}
 use Rattle.rec_audit.specs.declared.references.Edge.{Edge}
 use Rattle.rec_audit.specs.declared.references.References.{References}
 use Rattle.rec_audit.specs.declared.graph.Graph.{Graph}
 use Rattle.rec_audit.specs.Lines.{Line}
 use Rattle.rec_audit.specs.Form.{number, heap_of}
-use Rattle.rec_audit.specs.Graph.{IsReachedAt, is_dead, is_opened, is_put, is_taken, named_by, opens_from, this_block}
+use Rattle.rec_audit.specs.Graph.{is_dead, is_opened, is_put, is_taken, named_by, opens_from, this_block}
 use Rattle.rec_audit.specs.Marked.{AreMarks}
 use Rattle.rec_audit.specs.States.{IsMarking, edge_of, edges_at, edges_of, without}
 use Rattle.rec_audit.specs.Walks.{AreWithin}

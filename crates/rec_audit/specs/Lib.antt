@@ -9,3 +9,4 @@ pub mod Said
 pub mod Verdicts
 pub mod Walks
 pub mod Checkers
+pub mod Journal

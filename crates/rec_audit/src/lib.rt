@@ -11,18 +11,22 @@
 //! The lines of a journal, its graph and the rules are this project's profile (`docs/AUDIT.md`).
 #![tactic(auto)]
 
+mod audit;
 mod checker;
 mod checking;
 mod form;
 mod graph;
 mod kind;
 mod laws;
+mod lines;
 mod reach;
 mod reading;
 mod references;
 mod slots;
+mod steps;
 mod verdict;
 
+pub use audit::Audit;
 pub use checking::check;
 pub use laws::{lines_are_a_beginning, no_journal_goes_on, verdicts_are_unique};
 pub use verdict::{Rule, Verdict};

@@ -15,7 +15,7 @@ use Rattle.rec_run.proofs.Endings.{all_read, some_same}
 -- of bytes past the limit the same is said as of all that follow
 past : (bytes more rest : List ℕ) (verdict : Verdict) → 16777216 < length bytes → rest ≡ bytes ++ more → IsVerdict bytes verdict → IsVerdict rest verdict
 past bytes more rest verdict many is (yes lines few text clean whole) = absurd (omega arith)
-past bytes more rest verdict many is (long past) = long (omega (arith, ap (length {A = ℕ}) is, length-append bytes more))
+past bytes more rest verdict many is (long beyond) = long (omega (arith, ap (length {A = ℕ}) is, length-append bytes more))
 past bytes more rest verdict many is (first_fault lines behind rule few text clean fault) = absurd (omega arith)
 
 -- all bytes that a source told, of which what is said is that of the bytes that were read

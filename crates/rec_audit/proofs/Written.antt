@@ -1,0 +1,78 @@
+-- Text that is written piece by piece.
+use Rattle.std.proofs.Common.{◌≡◌, ◌∙◌, ℕ, ◌+◌, ◌<◌, ◌≤◌, ◌^◌, List, [], ◌∷◌, ◌++◌, length, take, map, get_or, decimal, arith, refl, sym, ap, append_assoc, append-nil}
+use Rattle.std.specs.List.{flat_map, enumerate_from}
+use Rattle.std.proofs.lemmas.Fmt.{length-decimal-le}
+use Rattle.std.proofs.lemmas.List.{take_more, flat_map_more, map_more, length-take-le}
+use Rattle.std.proofs.lemmas.Grind.{flat_map-append}
+use Rattle.rec_log.specs.declared.contents.Contents.{Contents}
+use Rattle.rec_collector.specs.Shown.{Shown}
+use Rattle.rec_audit.specs.declared.form.Heap.{Heap}
+use Rattle.rec_audit.specs.Lines.{Line, text_of, text_of_line}
+use Rattle.rec_audit.specs.Journal.{HasNoted, journal, lines_of, opening_lines, part_lines, parts_lines}
+
+-- a number of 64 bits has at most 20 digits
+pub twenty_digits : (n : ℕ) → n < 2 ^ 64 → length (decimal n) ≤ 20
+twenty_digits n small = length-decimal-le 20 n (omega arith) (omega arith) small
+
+-- one piece more
+pub pieces_more : {X : Type 0} (f : X → List ℕ) (d : X) (before text more : List ℕ) (xs : List X) (i : ℕ) → i < length xs → text ≡ before ++ flat_map f (take i xs) → more ≡ text ++ f (get_or xs i d) → more ≡ before ++ flat_map f (take (i + 1) xs)
+pieces_more f d before text more xs i lt is e =
+    e ∙ ap (λ t. t ++ f (get_or xs i d)) is ∙ flat_map_more f before (take i xs) (get_or xs i d) ∙ ap (λ ys. before ++ flat_map f ys) (sym (take_more xs i d lt))
+
+-- one piece more of what something becomes
+pub mapped_more : {X Y : Type 0} (f : Y → List ℕ) (g : X → Y) (d : X) (before text more : List ℕ) (xs : List X) (i : ℕ) → i < length xs → text ≡ before ++ flat_map f (map g (take i xs)) → more ≡ text ++ f (g (get_or xs i d)) → more ≡ before ++ flat_map f (map g (take (i + 1) xs))
+mapped_more f g d before text more xs i lt is e =
+    e ∙ ap (λ t. t ++ f (g (get_or xs i d))) is ∙ flat_map_more f before (map g (take i xs)) (g (get_or xs i d)) ∙ ap (λ ys. before ++ flat_map f ys) (sym (map_more g xs i d lt))
+
+-- the text of lines, and of more behind them
+pub text_more : (lines more : List Line) → text_of (lines ++ more) ≡ text_of lines ++ text_of more
+text_more lines more = flat_map-append text_of_line lines more
+
+enumerate_from-push : {X : Type 0} (n : ℕ) (xs : List X) (x : X) → enumerate_from n (xs ++ x ∷ []) ≡ enumerate_from n xs ++ (n + length xs, x) ∷ []
+enumerate_from-push n [] x = let e : n ≡ n + 0 = omega arith in ap (λ k. (k, x) ∷ []) e
+enumerate_from-push n (y ∷ ys) x =
+    let e : n + 1 + length ys ≡ n + length (y ∷ ys) = omega arith in
+    ap (λ ps. (n, y) ∷ ps) (enumerate_from-push (n + 1) ys x ∙ ap (λ k. enumerate_from (n + 1) ys ++ (k, x) ∷ []) e)
+
+-- the part of one mutator more
+part_more : (buffers : List Contents) (i : ℕ) (d : Contents) → i < length buffers → parts_lines (take (i + 1) buffers) ≡ parts_lines (take i buffers) ++ part_lines (i + 1) (get_or buffers i d)
+part_more buffers i d lt =
+    let f : ℕ × Contents → List Line = λ p. part_lines p.0 p.1 in
+    let size : length (take i buffers) ≡ i = length-take-le i buffers (omega arith) in
+    let next : 1 + length (take i buffers) ≡ i + 1 = omega arith in
+    ap parts_lines (take_more buffers i d lt)
+    ∙ ap (flat_map f) (enumerate_from-push 1 (take i buffers) (get_or buffers i d))
+    ∙ flat_map-append f (enumerate_from 1 (take i buffers)) ((1 + length (take i buffers), get_or buffers i d) ∷ [])
+    ∙ ap (λ ls. parts_lines (take i buffers) ++ ls) (append-nil (part_lines (1 + length (take i buffers)) (get_or buffers i d)))
+    ∙ ap (λ k. parts_lines (take i buffers) ++ part_lines k (get_or buffers i d)) next
+
+pub parts_more : (before text more : List ℕ) (buffers : List Contents) (i : ℕ) (d : Contents) → i < length buffers → text ≡ before ++ text_of (parts_lines (take i buffers)) → more ≡ text ++ text_of (part_lines (i + 1) (get_or buffers i d)) → more ≡ before ++ text_of (parts_lines (take (i + 1) buffers))
+parts_more before text more buffers i d lt is e =
+    let part : List Line = part_lines (i + 1) (get_or buffers i d) in
+    e
+    ∙ ap (λ t. t ++ text_of part) is
+    ∙ append_assoc before (text_of (parts_lines (take i buffers))) (text_of part)
+    ∙ ap (λ t. before ++ t) (sym (text_more (parts_lines (take i buffers)) part) ∙ ap text_of (sym (part_more buffers i d lt)))
+
+-- lines behind lines
+pub behind_lines : (before text more : List ℕ) (lines others : List Line) → text ≡ before ++ text_of lines → more ≡ text ++ text_of others → more ≡ before ++ text_of (lines ++ others)
+behind_lines before text more lines others is e =
+    e ∙ ap (λ t. t ++ text_of others) is ∙ append_assoc before (text_of lines) (text_of others) ∙ ap (λ t. before ++ t) (sym (text_more lines others))
+
+-- a line is the text of lines that are one
+pub one_line : (before more : List ℕ) (line : Line) → more ≡ before ++ text_of_line line → more ≡ before ++ text_of (line ∷ [])
+one_line before more line e = e ∙ ap (λ t. before ++ t) (sym (append-nil (text_of_line line)))
+
+-- a step is noted behind others
+pub noted_more : (heap : Heap) (steps : List Shown) (step : Shown) (text more : List ℕ) → HasNoted heap steps text → more ≡ text ++ text_of (lines_of step) → HasNoted heap (steps ++ step ∷ []) more
+noted_more heap steps step text more is e =
+    let lines : List Line = flat_map lines_of steps in
+    e
+    ∙ ap (λ t. t ++ text_of (lines_of step)) is
+    ∙ sym (text_more (opening_lines heap ++ lines) (lines_of step))
+    ∙ ap text_of (flat_map_more lines_of (opening_lines heap) steps step)
+
+-- four parts one after the other
+pub four_parts : (before one two three four : List ℕ) (a b c d : List Line) → one ≡ before ++ text_of a → two ≡ one ++ text_of b → three ≡ two ++ text_of c → four ≡ three ++ text_of d → four ≡ before ++ text_of (a ++ (b ++ (c ++ d)))
+four_parts before one two three four a b c d e f g h =
+    behind_lines before one four a (b ++ (c ++ d)) e (behind_lines one two four b (c ++ d) f (behind_lines two three four c d g h))
