@@ -111,7 +111,7 @@ module _ (config : Config) (o : Objects) (is : IsConfig config) (are : AreObject
   row_long : (t : ℕ) → IsMutator config t → length (row t) ≡ config.registers
   row_long t there = row_width config.registers config.mutators o.registers are.registers (t - 1) (place_there t there)
 
-  one_of : (t : ℕ) → IsMutator config t → slice_index_or w.mutators (t - 1) nobody ≡ holding_mutator config t (row t)
+  pub one_of : (t : ℕ) → IsMutator config t → slice_index_or w.mutators (t - 1) nobody ≡ holding_mutator config t (row t)
   one_of t there =
       let number : 1 + (t - 1) ≡ t = omega (arith, there.0) in
       holding_at config 1 rows (t - 1) (omega (arith, place_there t there, rows_many)) ∙ ap (λ n. holding_mutator config n (row t)) number

@@ -22,7 +22,7 @@ use Rattle.rec_core.specs.OpenedFrom.{opened_from}
 use Rattle.rec_core.specs.Settled.{IsSettled, fields_holding, registers_holding}
 
 -- under no new numbering
-rows_same : (rss : List (List (Option ℕ))) → map (map (option_map (λ s. s))) rss ≡ rss
+pub rows_same : (rss : List (List (Option ℕ))) → map (map (option_map (λ s. s))) rss ≡ rss
 rows_same [] = refl
 rows_same (rs ∷ rss) =
     let first : map (option_map (λ s. s)) rs ≡ rs = row_same rs in
@@ -165,7 +165,7 @@ module _ (config : Config) (o : Objects) (is : IsConfig config) (are : AreObject
       length-take-le (suc n) [] = omega arith
       length-take-le (suc n) (x ∷ xs) = omega (arith, length-take-le n xs)
 
-  targets_at : (s : ℕ) → s < many → map target_of (words_of (sight w) s) ≡ fields_at width o.fields s
+  pub targets_at : (s : ℕ) → s < many → map target_of (words_of (sight w) s) ≡ fields_at width o.fields s
   targets_at s below = ap (map target_of) (words_at s below) ∙ early_targets (s * width) (fields_at width o.fields s) (own_few s below) (below_targets many few (fields_at width o.fields s) (own_targets s))
 
   -- what registers name
@@ -222,6 +222,11 @@ module _ (config : Config) (o : Objects) (is : IsConfig config) (are : AreObject
     counted = λ s taken. omega (arith, count_at s (taken_below s taken), held_by_fields s, held_by_registers s);
   }
 
+  -- what an object's header tells
+  pub header_taken_is : (s : ℕ) → s < many → IsHeaderOf (node_at o s).1 (node_at o s).0 (slice_index_or w.headers s 0)
+  header_taken_is s below =
+      subst (λ n. IsHeaderOf (node_at o s).1 (node_at o s).0 n) (sym (header_at o.nodes (replicate (config.slots - many) 0) s below)) (header_is (node_at o s).1 (node_at o s).0 (label_fits s below))
+
   -- The heap that they describe stands for it.
   heap_object : (s : ℕ) → s < many → slice_index_or (described config o).objects s nothing ≡ object_at width o s
   heap_object s below = get_or-map-range_with_len (object_at width o) 0 many s s nothing below (let e : 0 + s ≡ s = omega arith in e)
@@ -232,9 +237,7 @@ module _ (config : Config) (o : Objects) (is : IsConfig config) (are : AreObject
     there = λ s taken. omega (arith, taken_below s taken, length-map-range_with_len (object_at width o) 0 many);
     header = λ s taken.
         let below : s < many = taken_below s taken in
-        let own = header_is (node_at o s).1 (node_at o s).0 (label_fits s below) in
-        subst (λ (x : Object). IsHeaderOf x.leaf x.label (slice_index_or w.headers s 0)) (sym (heap_object s below))
-        (subst (λ n. IsHeaderOf (node_at o s).1 (node_at o s).0 n) (sym (header_at o.nodes (replicate (config.slots - many) 0) s below)) own);
+        subst (λ (x : Object). IsHeaderOf x.leaf x.label (slice_index_or w.headers s 0)) (sym (heap_object s below)) (header_taken_is s below);
     registers = sym registers_are ∙ sym (rows_same (sight w).registers);
     fields = λ s from.
         let below : s < many = taken_below s (reached_is_taken (sight w) seen_sound s from) in

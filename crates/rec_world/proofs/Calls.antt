@@ -40,7 +40,7 @@ pub world_kept : (w : Core) → IsWorld w → IsKept w
 world_kept w world = end_kept w world.shaped.config world.run
 
 -- what such a heap keeps tells of its words and registers
-shaped_of : (w : Core) → IsKept w → IsShaped w
+pub shaped_of : (w : Core) → IsKept w → IsShaped w
 shaped_of w kept =
     record {
       config = kept.config;

@@ -13,6 +13,8 @@ pub mod Mailboxes
 pub mod Names
 pub mod Numbers
 pub mod OneStep
+pub mod OpenedObjects
+pub mod Openings
 pub mod Skipping
 pub mod Turnings
 pub mod Sends
