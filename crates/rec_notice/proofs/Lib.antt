@@ -1,2 +1,3 @@
 -- The modules of the proofs.
+pub mod Sends
 pub mod Waiting

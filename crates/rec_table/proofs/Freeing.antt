@@ -9,7 +9,7 @@ use Rattle.rec_core.proofs.Turning.{some_op}
 use mathlib.Core.List.{IsPrefix}
 use Rattle.rec_notice.specs.Telling.{as_list, told}
 use Rattle.rec_notice.specs.declared.teller.Teller.{Teller}
-use Rattle.rec_table.specs.Telling.{Frees, IsFreeOp, TellsTurn, freed_by, freed_by_all, freed_labels}
+use Rattle.rec_table.specs.Telling.{Frees, IsFreeOp, TellsTurn, TellsTurns, freed_by, freed_by_all, freed_labels}
 use Rattle.rec_table.specs.Turn.{MakesTurn}
 
 -- the operation frees this slot
@@ -77,3 +77,23 @@ none_kept (Some label) is = absurd (true≢false is)
 -- one that has sent its label keeps none
 pub emptied : {T : Type 0} (now new : Teller T) → now ≡ new → IsNone new.kept → now.kept ≡ None
 emptied now new same none = ap (λ t. t.kept) same ∙ none_kept new.kept none
+
+-- no turn tells nothing
+pub tells_none : (g : CollectorView) (was : List ℕ) → TellsTurns g g was was
+tells_none g was = record { labels = []; told = sym (append-nil was); all = sym (append-nil (freed_labels g)) }
+
+-- and one more tells what it frees
+pub tells_more : (a b c : CollectorView) (was mid now : List ℕ) → TellsTurns a b was mid → TellsTurn b c mid now → TellsTurns a c was now
+tells_more a b c was mid now some one = record {
+  labels = some.labels ++ as_list one.label;
+  told = one.told ∙ ap (λ l. l ++ as_list one.label) some.told ∙ append_assoc was some.labels (as_list one.label);
+  all = one.all ∙ ap (λ l. l ++ as_list one.label) some.all ∙ append_assoc (freed_labels a) some.labels (as_list one.label);
+}
+
+-- what was told before all turns is sent, where what was told before the last one is
+pub sent_first : (a b : CollectorView) (was mid sent : List ℕ) → TellsTurns a b was mid → IsPrefix mid sent → IsPrefix was sent
+sent_first a b was mid sent some begins = (some.labels ++ begins.0, sym (append_assoc was some.labels begins.0) ∙ ap (λ l. l ++ begins.0) (sym some.told) ∙ begins.1)
+
+-- a label that is held was told before
+pub held_told : {T : Type 0} (sent : T → List ℕ) (old now : Teller T) (label : ℕ) → old.kept ≡ Some label → now.kept ≡ Some label → sent now.tube ≡ sent old.tube → told sent now ≡ told sent old
+held_told sent old now label was is same = ap (λ l. l ++ as_list now.kept) same ∙ ap (λ o. sent old.tube ++ as_list o) (is ∙ sym was)

@@ -5,12 +5,12 @@ use native.Mathlib.Decide.{ℕ_discrete}
 use Rattle.std.specs.List.{filter_map}
 use Rattle.std.proofs.lemmas.Grind.{flat_map-append}
 use Rattle.std.proofs.lemmas.List.{get_or_append_left, get_or_push, length_push, length-set, map-append}
-use Rattle.rec_table.proofs.Common.{Op, Core, box, cells_of, cell, mutator, sight, IsKept, Move, after_move, after_moves, stepped, AllFit, move_kept, fit_first, other_gives, boxes_at, boxes_out, Offerless, OffersNone, beats_in, beats_of, looked, turn_at, gathered, gathered_all, word_of, Beat, Saw, Took, Fits}
+use Rattle.rec_table.proofs.Common.{Op, Core, box, cells_of, cell, mutator, sight, IsKept, Move, after_move, after_moves, stepped, AllFit, move_kept, fit_first, other_gives, boxes_at, boxes_out, Offerless, beats_in, beats_of, looked, turn_at, gathered, gathered_all, word_of, Beat, Saw, Took, Fits}
 use Rattle.rec_word.specs.Header.{label_of, IsHeaderOf}
 use Rattle.rec_word.specs.Mailbox.{crossing_word}
 use Rattle.rec_word.specs.declared.mailbox.Mailbox.TheVariants.{Retired}
 use Rattle.rec_word.specs.declared.op.Op.TheVariants as ops
-use Rattle.rec_model.specs.Asking.{asked, asks, is_done, got, put, put_to, bear, leave}
+use Rattle.rec_model.specs.Asking.{asks, is_done, got, put, put_to, bear, leave}
 use Rattle.rec_model.specs.Heap.{Heap, Object, Field, object, nothing, register, born, with_field, with_object}
 use Rattle.rec_model.specs.LegalOrder.{Event, Limits, Line, Moment, after, after_all, line_by}
 use Rattle.rec_model.specs.Sight.{StandsBy, IsTaken}
@@ -29,7 +29,7 @@ use Rattle.rec_collector.specs.Private.{Private}
 use Rattle.rec_collector.specs.declared.phase.Phase.{Phase}
 use Rattle.rec_collector.specs.declared.phase.Phase.TheVariants.{Looking, Returning}
 use Rattle.rec_core.specs.Run.{by_actor, over}
-use Rattle.rec_core.specs.RunAnswers.{answered_by, told_by, told_in, told_in_all}
+use Rattle.rec_core.specs.RunAnswers.{answered_by, told_by, told_in_all}
 use Rattle.rec_core.specs.Worked.{AreIdle}
 use Rattle.rec_core.proofs.Swept.{turned_sweeps}
 use Rattle.rec_order.specs.Events.{events_in, events_of, swept_by}

@@ -56,3 +56,9 @@ pub record TellsTurn (before after : CollectorView) (was now : List ℕ) : Type 
   pub freed : Frees before after label
   pub told : now ≡ was ++ as_list label
   pub all : freed_labels after ≡ freed_labels before ++ as_list label
+
+-- What was told grew just by the labels that turns between these views freed, in their order.
+pub record TellsTurns (before after : CollectorView) (was now : List ℕ) : Type 0 where
+  pub labels : List ℕ
+  pub told : now ≡ was ++ labels
+  pub all : freed_labels after ≡ freed_labels before ++ labels

@@ -39,3 +39,9 @@ pub data MovesTo (before : CollectorView) : ℕ → CollectorView → Type 0 whe
 pub data MakesTurns (before after : CollectorView) (most : ℕ) (answer : Turn) : Type 0 where
   moved : answer ≡ turns.Moved → MovesTo before most after → MakesTurns before after most answer
   ended : (moves : ℕ) (last : CollectorView) → moves < most → MovesTo before moves last → MakesTurn last after answer → answer ≢ turns.Moved → MakesTurns before after most answer
+
+-- the collector made turns, fewer than so many, and each moved
+pub record MovesToFewer (before after : CollectorView) (most : ℕ) : Type 0 where
+  pub moves : ℕ
+  pub fewer : moves < most
+  pub moved : MovesTo before moves after

@@ -9,8 +9,8 @@ ghost use Rattle.rec_collector.specs.declared.phase.Phase.TheVariants as phases;
 ghost use Rattle.rec_table.specs.Beats.{gathered, gathered_all, births_told};
 ghost use Rattle.rec_table.specs.Views.{collector_view, collector_now, mutator_now, IsCollectorOf, IsOwn, PutsBack};
 ghost use Rattle.rec_core.specs.Row.{index_of};
-ghost use Rattle.rec_table.specs.Turn.{MakesTurn, MakesTurns};
-ghost use Rattle.rec_table.specs.Telling.{Frees, IfHeld, IfTurned, IsFreeOp, TellsTurn};
+ghost use Rattle.rec_table.specs.Turn.{MakesTurn, MakesTurns, MovesToFewer};
+ghost use Rattle.rec_table.specs.Telling.{Frees, IfHeld, IfTurned, IsFreeOp, TellsTurn, TellsTurns};
 ghost use Rattle.rec_io.specs.Faults.{Rose};
 ghost use Rattle.rec_notice.specs.Telling.{told};
 ghost use mathlib.Core.List.{IsPrefix};
@@ -317,6 +317,46 @@ impl Collector {
             teller.tell(label);
         }
         Telling::Turned(turn)
+    }
+
+    /// Makes turns as `turn_telling` does until one comes to something else than `Moved` or a label is held, and at most so many. It
+    /// answers what the last one came to, and `Moved` where none was to be made.
+    pub fn turns_telling<T: Tube>(
+        &mut self,
+        heap: &Heap,
+        most: u32,
+        teller: &mut Teller<T>,
+    ) -> Telling
+        requires own { IsCollectorOf heap.now self.old }
+
+        ensures turns { IfTurned result (λ turn. MakesTurns self.old self.new most turn) }
+        // What was told grows by all that the turns free, be they cut short by a label that is held or not.
+        ensures told { TellsTurns self.old self.new (told T.sent teller.old) (told T.sent teller.new) }
+        // A label that was kept is sent by then, where a turn was to be made.
+        ensures first { 1 ≤ most → IfTurned result (λ _. IsPrefix (told T.sent teller.old) (T.sent teller.new.tube)) }
+
+        // Where a label is held fewer turns were made than were asked for, and each of them moved.
+        ensures held { IfHeld result (λ label. teller.new.kept ≡ Some label) }
+        ensures fewer { IfHeld result (λ _. MovesToFewer self.old self.new most) }
+
+        // A label is held, or kept at the end of a turn, only where one was refused in this call.
+        ensures refused { 1 ≤ most → IsSome teller.new.kept → Rose (T.refusals teller.old.tube) (T.refusals teller.new.tube) }
+        ensures never_falls { T.refusals teller.old.tube ≤ T.refusals teller.new.tube }
+
+        // It stays the collector of this heap, and the teller's tube the same.
+        ensures own { IsCollectorOf heap.now self.new }
+        ensures same { T.SameTube teller.old.tube teller.new.tube }
+    {
+        for moves in 0..most {
+            match self.turn_telling(heap, teller) {
+                Telling::Held { label } => return Telling::Held { label },
+                Telling::Turned(turn) => match turn {
+                    Turn::Moved => (),
+                    _ => return Telling::Turned(turn),
+                },
+            }
+        }
+        Telling::Turned(Turn::Moved)
     }
 
     /// What became of the sets of possible garbage cycles that were tested since the opening.
