@@ -10,7 +10,6 @@ use Rattle.std.proofs.lemmas.Bool.Decides.{eqb_tells}
 use Rattle.rec_counts.specs.declared.slot.Slot.{Slot}
 use Rattle.rec_counts.specs.declared.touched.Mark.{Mark}
 use Rattle.rec_counts.specs.declared.touched.Mark.TheVariants.{Untouched, Taken}
-
 use Rattle.rec_counts.specs.Batched.{batched_at, batched_slots, counted_at}
 use Rattle.rec_counts.specs.Lists.{one, times}
 use Rattle.rec_counts.specs.Slot.{absent}
