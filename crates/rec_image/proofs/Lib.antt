@@ -4,6 +4,8 @@ pub mod Meetings
 pub mod Padding
 pub mod Continuing
 pub mod Prefixes
+pub mod Restoring
+pub mod Returning
 pub mod Pieces
 pub mod Lines
 pub mod Adding

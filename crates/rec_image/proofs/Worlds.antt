@@ -123,22 +123,29 @@ fields_count w words slots wide world all is same =
     let over : wide ≡ w.config.slots = same ∙ is in
     ap (λ (k : ℕ). k / wide) size ∙ ap (λ (k : ℕ). (w.config.slots * w.config.fields) / k) over ∙ mul-div_cancel_left w.config.fields world.shaped.config.some_slots
 
-pub written : (w : Core) (slots : List ℕ) (a b c d : ℕ) (none first second third fourth last line : List ℕ) → IsWorld w → IsSettled w → NumbersSlots (sight w) slots → length slots ≤ w.config.slots
+-- the lines are its text
+pub written_text : (w : Core) (slots : List ℕ) (a b c d : ℕ) (none first second third fourth last line : List ℕ)
     → a ≡ w.config.slots → b ≡ w.config.fields → c ≡ w.config.registers → d ≡ w.config.mutators
     → none ≡ [] → first ≡ none ++ header_line → line ≡ heap_line a b c d → second ≡ first ++ line → third ≡ second ++ flat_map object_line (map (node_of (sight w) slots) slots) → fourth ≡ third ++ flat_map registers_line (held_of (sight w) slots) → last ≡ fourth ++ end_line
-    → (v : ImageContents) × IsImage v × (text v ≡ last) × IsOfWorld w v × StandsFor v (sight w)
-written w slots a b c d none first second third fourth last line world settled numbers few sa sb sc sd n f l s t u e = (
-  image_of w slots,
-  is_image w slots world settled numbers few,
-  sym (e ∙ ap (λ (bs : List ℕ). bs ++ end_line) (u ∙ ap (λ (bs : List ℕ). bs ++ flat_map registers_line (held_of (sight w) slots)) (t ∙ ap (λ (bs : List ℕ). bs ++ flat_map object_line (map (node_of (sight w) slots) slots)) (s ∙ ap (λ (bs : List ℕ). bs ++ line) (f ∙ ap (λ (bs : List ℕ). bs ++ header_line) n)
-      ∙ ap (λ (bs : List ℕ). header_line ++ bs) (l ∙ ap (λ (k : ℕ). heap_line k b c d) sa ∙ ap (λ (k : ℕ). heap_line w.config.slots k c d) sb ∙ ap (λ (k : ℕ). heap_line w.config.slots w.config.fields k d) sc ∙ ap (λ (k : ℕ). heap_line w.config.slots w.config.fields w.config.registers k) sd))))
-      ∙ groups header_line (heap_line w.config.slots w.config.fields w.config.registers w.config.mutators) (flat_map object_line (map (node_of (sight w) slots) slots)) (flat_map registers_line (held_of (sight w) slots)) end_line),
-  record { slots = refl; fields = refl; registers = refl; mutators = refl },
-  stands w slots world settled numbers few,
-)
+    → text (image_of w slots) ≡ last
+written_text w slots a b c d none first second third fourth last line sa sb sc sd n f l s t u e =
+    sym (e ∙ ap (λ (bs : List ℕ). bs ++ end_line) (u ∙ ap (λ (bs : List ℕ). bs ++ flat_map registers_line (held_of (sight w) slots)) (t ∙ ap (λ (bs : List ℕ). bs ++ flat_map object_line (map (node_of (sight w) slots) slots)) (s ∙ ap (λ (bs : List ℕ). bs ++ line) (f ∙ ap (λ (bs : List ℕ). bs ++ header_line) n)
+        ∙ ap (λ (bs : List ℕ). header_line ++ bs) (l ∙ ap (λ (k : ℕ). heap_line k b c d) sa ∙ ap (λ (k : ℕ). heap_line w.config.slots k c d) sb ∙ ap (λ (k : ℕ). heap_line w.config.slots w.config.fields k d) sc ∙ ap (λ (k : ℕ). heap_line w.config.slots w.config.fields w.config.registers k) sd))))
+        ∙ groups header_line (heap_line w.config.slots w.config.fields w.config.registers w.config.mutators) (flat_map object_line (map (node_of (sight w) slots) slots)) (flat_map registers_line (held_of (sight w) slots)) end_line)
   where
     groups : (a b c d e : List ℕ) → (((a ++ b) ++ c) ++ d) ++ e ≡ a ++ (b ++ (c ++ (d ++ e)))
     groups a b c d e = simp append_assoc
+
+-- so they are the text of an image that stands for the world
+pub written : (w : Core) (slots bytes : List ℕ) → IsWorld w → IsSettled w → NumbersSlots (sight w) slots → length slots ≤ w.config.slots → text (image_of w slots) ≡ bytes
+    → (v : ImageContents) × IsImage v × (text v ≡ bytes) × IsOfWorld w v × StandsFor v (sight w)
+written w slots bytes world settled numbers few is = (
+  image_of w slots,
+  is_image w slots world settled numbers few,
+  is,
+  record { slots = refl; fields = refl; registers = refl; mutators = refl },
+  stands w slots world settled numbers few,
+)
 
 -- the number of a mutator's registers
 pub registers_count : (w : Core) (own : List (Option ℕ)) → IsWorld w → own ≡ registers_of (sight w).registers 1 → length own ≡ w.config.registers

@@ -2,4 +2,5 @@
 pub mod Image
 pub mod Standing
 pub mod Drafts
+pub mod Restored
 pub mod Fields

@@ -1,12 +1,22 @@
 //! An image that was read.
 
-ghost use Rattle.std.specs.Prelude.{◌≡◌};
+ghost use Rattle.std.specs.Prelude.{◌≡◌, IfErr, IfOk, length};
+ghost use Rattle.rec_core.specs.Objects.{described};
+ghost use Rattle.rec_core.specs.Settled.{IsSettled};
+ghost use Rattle.rec_core.specs.Worked.{AreIdle};
+ghost use Rattle.rec_model.specs.Sight.{Represents};
+ghost use Rattle.rec_world.specs.OpenError.{IsRefused};
+ghost use Rattle.rec_world.specs.World.{IsWorld, sight};
+ghost use Rattle.rec_image.specs.Restored.{config_of, objects_in as objects_of_image, restored};
+ghost use Rattle.rec_image.specs.Standing.{StandsFor};
 ghost use Rattle.rec_image.specs.Drafts.{AreHeld, AreObjects, draft, held_in, objects_in};
 ghost use Rattle.rec_image.specs.Image.{IsImage};
 
 use crate::held::Held;
 use crate::line::Heap;
 use crate::objects::Objects;
+use rec_world::{Config, OpenError, World};
+use std::alloc::Global;
 use std::marker::Model;
 
 /// An image. Contracts see the numbers of its heap, its live objects, and what each mutator's registers name.
@@ -76,5 +86,42 @@ impl Image {
         ensures valid { IsImage self.now }
     {
         self.heap.mutators
+    }
+}
+
+/// The settled heap that the image is of, with logs for so many entries and epochs from 1: object n stands in slot n - 1. All its
+/// memory is taken here.
+pub fn restore(alloc: Global, image: &Image, log_entries: u32) -> Result<World, OpenError>
+    // An image's numbers are in their ranges, so no other one than the log's is refused.
+    ensures refused { IfErr result (λ error. IsRefused (config_of image.now log_entries) error) }
+    ensures opened { IfOk result (λ world. world ≡ restored image.now log_entries) }
+    // Its births are the image's objects.
+    ensures made { IfOk result (λ world. world.made ≡ length image.now.objects) }
+    // The image stands for it in all but the field words, and the heap that the image describes does with those that are written.
+    ensures stands { IfOk result (λ world. StandsFor image.now (sight world)) }
+    ensures heap { IfOk result (λ world. Represents (described (config_of image.now log_entries) (objects_of_image image.now)) (sight world)) }
+    // Just what registers reach is taken, with true counts; and no mutator works.
+    ensures settled { IfOk result IsSettled }
+    ensures idle { IfOk result AreIdle }
+    ensures kept { IfOk result IsWorld }
+{
+    let config = Config {
+        slots: image.heap.slots,
+        fields: image.heap.fields,
+        registers: image.heap.registers,
+        mutators: image.heap.mutators,
+        log_entries,
+        first_epoch: 1,
+    };
+    let opened = World::open_from(
+        alloc,
+        config,
+        image.nodes.as_slice(),
+        image.fields.as_slice(),
+        image.registers.as_slice(),
+    );
+    match opened {
+        Ok(world) => Ok(world),
+        Err(error) => Err(error),
     }
 }

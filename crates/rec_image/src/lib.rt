@@ -5,13 +5,15 @@
 //! listing, and which text each has, apart from reader and writer; and of other bytes which line is the first with which no
 //! image goes on.
 //! While an image is read, `Meeting` tells whether some registers can complete the objects so far.
-//! The layer above may use the clauses of `read`, `write` and the readers of `Image`.
+//! A heap that is restored from an image is settled and has that image again.
+//! The layer above may use the clauses of `read`, `write`, `restore` and the readers of `Image`, and the law in `laws`.
 //! The form of an image is this project's profile (`docs/PROFILE.md`).
 #![tactic(auto)]
 
 mod error;
 mod held;
 mod image;
+mod laws;
 mod line;
 mod meeting;
 mod objects;
@@ -21,6 +23,7 @@ mod spelling;
 mod writing;
 
 pub use error::ImageError;
-pub use image::Image;
+pub use image::{Image, restore};
+pub use laws::restored_heaps_have_their_image;
 pub use reading::read;
 pub use writing::write;

@@ -1,12 +1,13 @@
 //! Writing the image of a settled world.
 
-ghost use Rattle.std.specs.Prelude.{◌≡◌, ◌≤◌, ◌++◌, map, length, IfOk, OnOk};
+ghost use Rattle.std.specs.Prelude.{◌≡◌, ◌≤◌, ◌++◌, ℕ, List, map, length, IfOk, OnOk};
 ghost use Rattle.std.specs.List.{flat_map};
 ghost use Rattle.rec_core.specs.Settled.{IsSettled};
+ghost use Rattle.rec_model.specs.Sight.{NumbersSlots};
 ghost use Rattle.rec_world.specs.World.{sight};
 ghost use Rattle.rec_report.specs.Report.{IsNumbered};
 ghost use Rattle.rec_image.specs.Image.{ImageContents, IsImage, heap_line, object_line, registers_line, text};
-ghost use Rattle.rec_image.specs.Standing.{IsOfWorld, StandsFor, held_of, node_of};
+ghost use Rattle.rec_image.specs.Standing.{IsOfWorld, StandsFor, held_of, image_of, node_of};
 
 use crate::spelling::Line;
 use rec_world::{Numbering, World};
@@ -78,6 +79,9 @@ pub fn write(alloc: Global, world: &World) -> Result<Vec<u8>, NoMemory>
     // The bytes are the text of an image. It is of the world's numbers, and stands for its heap in all but the field words.
     ensures image { IfOk result (λ bytes. (v : ImageContents) × IsImage v × (text v ≡ bytes.items)
         × IsOfWorld world.now v × StandsFor v (sight world.now)) }
+    // Its objects are the slots in the order of a listing.
+    ensures listed { IfOk result (λ bytes. (slots : List ℕ) × NumbersSlots (sight world.now) slots
+        × (text (image_of world.now slots) ≡ bytes.items)) }
 {
     let slots = world.slots();
     let fields = world.words().len() / usize::from(slots);

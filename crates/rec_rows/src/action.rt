@@ -18,6 +18,8 @@ pub enum Action {
     Write,
     /// An image is read, for which no heap is needed.
     Read,
+    /// An image is read, and its heap comes in place of the row's.
+    Restore,
     /// The heap is taken apart, and put together again.
     Apart(Piece),
     /// The heap is traced, and a frontier is cut into so many pieces at most.

@@ -1,9 +1,13 @@
 //! Images of heaps, written and read. In a row each LF of an image is spelled `/`.
 
-use rec_image::{ImageError, read, write};
+use crate::told::refusal;
+use rec_image::{ImageError, read, restore, write};
 use rec_settle::settle;
 use rec_world::World;
 use std::alloc::{AllocError as NoMemory, Global};
+
+// How many entries a log of a heap has that an image makes.
+const LOG_ENTRIES: u32 = 16;
 
 /// Settles a heap in which no mutator works, and tells its image.
 pub fn written(alloc: Global, world: &mut World) -> Result<String, NoMemory> {
@@ -25,14 +29,41 @@ fn in_a_row(alloc: Global, text: &[u8]) -> Result<String, NoMemory> {
     Ok(row)
 }
 
-/// Reads the image that a line spells behind its first word, and tells its numbers, or the line that is refused.
-pub fn read_back(alloc: Global, asked: &str) -> Result<String, NoMemory> {
+// The bytes that a line spells behind its first word.
+fn spelled(alloc: Global, asked: &str) -> Result<Vec<u8>, NoMemory> {
     let (_, spelled) = asked.split_once(' ').unwrap_or((asked, ""));
     let mut bytes = Vec::new(alloc);
     for byte in spelled.as_bytes() {
         bytes.push(if *byte == b'/' { b'\n' } else { *byte })?;
     }
+    Ok(bytes)
+}
+
+/// Reads the image that a line spells behind its first word, and tells its numbers, or the line that is refused.
+pub fn read_back(alloc: Global, asked: &str) -> Result<String, NoMemory> {
+    let bytes = spelled(alloc, asked)?;
     told(alloc, read(alloc, &bytes))
+}
+
+/// The heap of the image that a line spells behind its first word, with logs for 16 entries. Where there is none it is this one, and
+/// what is told is why.
+pub fn restored(
+    alloc: Global,
+    world: World,
+    asked: &str,
+) -> (World, Result<String, NoMemory>) {
+    let bytes = match spelled(alloc, asked) {
+        Ok(bytes) => bytes,
+        Err(error) => return (world, Err(error)),
+    };
+    let image = match read(alloc, &bytes) {
+        Ok(image) => image,
+        Err(error) => return (world, told(alloc, Err(error))),
+    };
+    match restore(alloc, &image, LOG_ENTRIES) {
+        Ok(heap) => (heap, Ok(String::new(alloc))),
+        Err(error) => (world, refusal(alloc, &error)),
+    }
 }
 
 fn told(alloc: Global, found: Result<rec_image::Image, ImageError>) -> Result<String, NoMemory> {

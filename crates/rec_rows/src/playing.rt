@@ -3,7 +3,7 @@
 use crate::action::{Action, Piece};
 use crate::fact::shown;
 use crate::failure::{Failure, check};
-use crate::imaging::{read_back, written};
+use crate::imaging::{read_back, restored, written};
 use crate::mutating::done;
 use crate::reading::{Opening, Row, Step};
 use crate::running::run;
@@ -122,6 +122,9 @@ fn make<R: Threads + Sync>(
     if let Action::Apart(piece) = step.action {
         return take_apart(alloc, world, piece);
     }
+    if let Action::Restore = step.action {
+        return restored(alloc, world, step.asked);
+    }
     let told = happen(rt, alloc, &mut world, step);
     (world, told)
 }
@@ -153,8 +156,8 @@ fn happen<R: Threads + Sync>(
             world.offer_all();
             Ok(String::new(alloc))
         }
-        // Neither of these comes here.
-        Action::Apart(_) | Action::TurnOver => Ok(String::new(alloc)),
+        // None of these comes here.
+        Action::Apart(_) | Action::Restore | Action::TurnOver => Ok(String::new(alloc)),
     }
 }
 

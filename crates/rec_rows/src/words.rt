@@ -31,6 +31,7 @@ fn collecting(line: &[&str], first: &str, rest: &[&str]) -> Result<Action, Wrong
         "offer" | "settle" => settling(line),
         "image" if rest.is_empty() => Ok(Action::Write),
         "reads" => Ok(Action::Read),
+        "restores" => Ok(Action::Restore),
         _ => Ok(Action::Show(fact(line)?)),
     }
 }
