@@ -9,6 +9,7 @@ pub mod Orders
 pub mod Ready
 pub mod Room
 pub mod Rounds
+pub mod Shows
 mod There
 pub mod Turns
 pub mod Unfinished

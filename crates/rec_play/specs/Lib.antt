@@ -9,4 +9,5 @@ pub mod Numbers
 pub mod Played
 pub mod Playing
 pub mod Run
+pub mod Shown
 pub mod Watched

@@ -38,4 +38,4 @@ pub use player::Playing;
 pub use schedule::{MOST_MUTATORS, Schedule};
 pub use stage::Stage;
 pub use walk::Walk;
-pub use whole::play;
+pub use whole::{play, play_watched};

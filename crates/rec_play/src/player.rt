@@ -1,17 +1,23 @@
 //! The run of a script by the playing rule, turn by turn.
 
-ghost use Rattle.std.specs.Prelude.{◌≡◌, ◌≢◌, ℕ, ◌+◌, ◌<◌, ◌≤◌, false, [], IfSome, IsNone, length, replicate};
+ghost use Rattle.std.specs.Prelude.{◌≡◌, ◌≢◌, ℕ, ◌+◌, ◌<◌, ◌≤◌, false, [], ◌∷◌, IfErr, IfOk, IfSome, IsNone, length, replicate};
 ghost use Rattle.rec_model.specs.declared.limits.TheConstants.{MOST_MUTATORS};
-ghost use Rattle.rec_core.specs.Core.{mutator};
+ghost use Rattle.rec_io.specs.Faults.{Rose};
+ghost use Rattle.rec_collector.specs.declared.turn.Turn as answers;
+ghost use Rattle.rec_core.specs.Config.{IsMutator};
+ghost use Rattle.rec_core.specs.Core.{Core, mutator};
+ghost use Rattle.rec_core.specs.Moves.{turned};
+ghost use Rattle.rec_core.specs.Shown.{turn_shown};
 ghost use Rattle.rec_core.specs.Worked.{AreIdle};
 ghost use Rattle.rec_settle.specs.Collecting.{HasStepped};
-ghost use Rattle.rec_core.specs.Turn.{step_seen};
+ghost use Rattle.rec_core.specs.Turn.{IsTurn, step_seen};
 ghost use Rattle.rec_world.specs.World.{IsWorld};
 ghost use Rattle.rec_play.specs.Moves.{AreDue, AreThere, Carries, IsSpent, Makes};
 ghost use Rattle.rec_play.specs.Numbers.{config_of};
 ghost use Rattle.rec_play.specs.Played.{lengths_of};
 ghost use Rattle.rec_play.specs.Playing.{generator_of, to_come};
 ghost use Rattle.rec_play.specs.Run.{commands_of};
+ghost use Rattle.rec_play.specs.Shown.{told_shown};
 
 use crate::opening::lengths_of;
 use crate::schedule::{MOST_MUTATORS, Schedule};
@@ -19,7 +25,8 @@ use crate::{Actor, Move};
 use rec_collector::Turn;
 use rec_script::Script;
 use rec_word::Op;
-use rec_world::{Cmd, Told, World};
+use rec_world::{Cmd, Told, Unwatched, Watch, World};
+use std::alloc::AllocError as NoMemory;
 use std::marker::Model;
 
 /// A run of a script in the middle. It is seen as its script, what the rule still has, and how many commands each mutator has made.
@@ -76,7 +83,43 @@ impl<'a> Playing<'a> {
         ensures config { world.new.config ≡ config_of self.new.script }
         ensures kept { IsWorld world.new }
     {
-        let told = self.turn(world);
+        match self.next_watched(world, &mut Unwatched) {
+            Ok(told) => told,
+            Err(_) => unreachable!(),
+        }
+    }
+
+    /// Makes the next turn of the rule, as `next` does, and shows a step of the collector to the watch, right behind it and before
+    /// anyone polls. Where the watch refuses it, nothing follows that step.
+    #[inline(always)]
+    pub fn next_watched<W: Watch>(
+        &mut self,
+        world: &mut World,
+        watch: &mut W,
+    ) -> Result<Option<Move>, NoMemory>
+        requires config { world.old.config ≡ config_of self.old.script }
+        requires idle { AreIdle world.old }
+        requires present { AreThere self.old.script self.old.made world.old }
+
+        // What is told is what was done.
+        ensures told { IfOk result (λ told. IfSome told (Makes self.old self.new world.old world.new)) }
+        ensures ended { IfOk result (λ told. IsNone told → to_come self.old.rest ≡ []) }
+        ensures stays { IfOk result (λ told. IsNone told → (self.new ≡ self.old) × (world.new ≡ world.old)) }
+        ensures shown { IfOk result (λ told. W.WasShown watch.old (told_shown world.old told) watch.new) }
+
+        ensures refused { IfErr result (λ error. (to_come self.old.rest ≡ Actor.Collector ∷ to_come self.new.rest) × (world.new ≡ turned world.old)) }
+        ensures unshown { IfErr result (λ error. W.WasShown watch.old [] watch.new) }
+        ensures rose { IfErr result (λ error. Rose (W.refused watch.old) (W.refused watch.new)) }
+        ensures never_falls { W.refused watch.old ≤ W.refused watch.new }
+
+        ensures script { self.new.script ≡ self.old.script }
+        ensures due { AreDue self.old × AreDue self.new }
+        ensures idle { AreIdle world.new }
+        ensures present { AreThere self.new.script self.new.made world.new }
+        ensures config { world.new.config ≡ config_of self.new.script }
+        ensures kept { IsWorld world.new }
+    {
+        let told = self.turn(world, watch);
         self.rules();
         // A clause of the call: the world is kept.
         let _epoch = world.epoch();
@@ -85,14 +128,23 @@ impl<'a> Playing<'a> {
 
     // The next turn.
     #[inline(always)]
-    fn turn(&mut self, world: &mut World) -> Option<Move>
+    fn turn<W: Watch>(
+        &mut self,
+        world: &mut World,
+        watch: &mut W,
+    ) -> Result<Option<Move>, NoMemory>
         requires config { world.old.config ≡ config_of self.old.script }
         requires idle { AreIdle world.old }
         requires present { AreThere self.old.script self.old.made world.old }
 
-        ensures told { IfSome result (Makes self.old self.new world.old world.new) }
-        ensures ended { IsNone result → to_come self.old.rest ≡ [] }
-        ensures stays { IsNone result → (self.new ≡ self.old) × (world.new ≡ world.old) }
+        ensures told { IfOk result (λ told. IfSome told (Makes self.old self.new world.old world.new)) }
+        ensures ended { IfOk result (λ told. IsNone told → to_come self.old.rest ≡ []) }
+        ensures stays { IfOk result (λ told. IsNone told → (self.new ≡ self.old) × (world.new ≡ world.old)) }
+        ensures shown { IfOk result (λ told. W.WasShown watch.old (told_shown world.old told) watch.new) }
+        ensures refused { IfErr result (λ error. (to_come self.old.rest ≡ Actor.Collector ∷ to_come self.new.rest) × (world.new ≡ turned world.old)) }
+        ensures unshown { IfErr result (λ error. W.WasShown watch.old [] watch.new) }
+        ensures rose { IfErr result (λ error. Rose (W.refused watch.old) (W.refused watch.new)) }
+        ensures never_falls { W.refused watch.old ≤ W.refused watch.new }
         ensures script { self.new.script ≡ self.old.script }
         ensures due { AreDue self.old }
         ensures idle { AreIdle world.new }
@@ -104,13 +156,13 @@ impl<'a> Playing<'a> {
                 let made = &mut self.made[usize::from(mutator) - 1];
                 let (cmd, told) = give_turn(self.script, mutator, *made, world);
                 *made += 1;
-                Some(Move::Command { mutator, cmd, told })
+                Ok(Some(Move::Command { mutator, cmd, told }))
             }
             Some(Actor::Collector) => {
-                let (turn, seen) = turn_collector(self.script, &self.made, world);
-                Some(Move::Step { seen, turn })
+                let (turn, seen) = turn_collector(self.script, &self.made, world, watch)?;
+                Ok(Some(Move::Step { seen, turn }))
             }
-            None => None,
+            None => Ok(None),
         }
     }
 
@@ -159,29 +211,55 @@ fn give_turn(script: &Script, t: u8, made: usize, world: &mut World) -> (Cmd, To
 // which it could cross. Whoever has left isn't waited for. The answer is that of the step, with its operation and the word that this
 // found.
 #[inline(always)]
-fn turn_collector(
+fn turn_collector<W: Watch>(
     script: &Script,
     made: &[usize; MOST_MUTATORS],
     world: &mut World,
-) -> (Turn, Option<(Op, u64)>)
+    watch: &mut W,
+) -> Result<(Turn, Option<(Op, u64)>), NoMemory>
     requires few { length script.now.commands ≤ MOST_MUTATORS }
     requires config { world.old.config ≡ config_of script.now }
     requires idle { AreIdle world.old }
     requires present { AreThere script.now made.now world.old }
 
-    ensures seen { result.1 ≡ step_seen world.old }
-    ensures stepped { HasStepped (IsSpent script.now made.now) world.old result.0 world.new }
+    ensures seen { IfOk result (λ told. told.1 ≡ step_seen world.old) }
+    ensures stepped { IfOk result (λ told. HasStepped (IsSpent script.now made.now) world.old told.0 world.new) }
+    ensures shown { IfOk result (λ told. W.WasShown watch.old (turn_shown world.old) watch.new) }
+    ensures refused { IfErr result (λ error. world.new ≡ turned world.old) }
+    ensures unshown { IfErr result (λ error. W.WasShown watch.old [] watch.new) }
+    ensures rose { IfErr result (λ error. Rose (W.refused watch.old) (W.refused watch.new)) }
+    ensures never_falls { W.refused watch.old ≤ W.refused watch.new }
     ensures requested { world.new.epoch ≤ world.old.epoch + 1 }
     ensures idle { AreIdle world.new }
     ensures present { AreThere script.now made.now world.new }
     ensures config { world.new.config ≡ config_of script.now }
     ensures kept { IsWorld world.new }
 {
-    let (turn, seen) = world.turn_seen();
+    let (turn, seen) = world.turn_watched(watch)?;
+    follow(script, made, world, turn);
+    Ok((turn, seen))
+}
+
+// Where the collector waits behind its step for a mutator that has no command left, that mutator polls.
+#[inline(always)]
+fn follow(script: &Script, made: &[usize; MOST_MUTATORS], world: &mut World, turn: Turn)
+    requires few { length script.now.commands ≤ MOST_MUTATORS }
+    requires config { world.old.config ≡ config_of script.now }
+    requires idle { AreIdle world.old }
+    requires present { AreThere script.now made.now world.old }
+    requires awaited { (t : ℕ) → turn ≡ answers.Turn.Waiting t → IsMutator world.old.config t × ((mutator world.old t).left ≡ false) }
+    requires kept { IsWorld world.old }
+
+    ensures stepped { (before : Core) → IsTurn before world.old turn → HasStepped (IsSpent script.now made.now) before turn world.new }
+    ensures requested { world.new.epoch ≡ world.old.epoch }
+    ensures idle { AreIdle world.new }
+    ensures present { AreThere script.now made.now world.new }
+    ensures config { world.new.config ≡ config_of script.now }
+    ensures kept { IsWorld world.new }
+{
     if let Turn::Waiting { mutator } = turn {
         if made[usize::from(mutator) - 1] >= script.commands(mutator).len() {
             world.poll(mutator);
         }
     }
-    (turn, seen)
 }

@@ -1,17 +1,22 @@
 //! The commands of a script, carried out in the order of the playing rule.
 
-ghost use Rattle.std.specs.Prelude.{◌≡◌, ◌+◌, ◌≤◌, List, [], length};
+ghost use Rattle.std.specs.Prelude.{◌≡◌, ◌+◌, ◌≤◌, List, [], IfErr, IfOk, length};
 ghost use Rattle.std.specs.List.{sum};
+ghost use Rattle.rec_io.specs.Faults.{Rose};
 ghost use Rattle.rec_model.specs.LegalOrder.{Event};
 ghost use Rattle.rec_model.specs.Sight.{Represents};
+ghost use Rattle.rec_collector.specs.Shown.{Shown};
 ghost use Rattle.rec_core.specs.Core.{sight, opened};
 ghost use Rattle.rec_order.specs.Legal.{AreIdle};
 ghost use Rattle.rec_play.specs.Played.{AreReady, IsPlayed, config_of, last_moment, lengths_of, lines_of};
 ghost use Rattle.rec_play.specs.Playing.{order as order_of};
+ghost use Rattle.rec_play.specs.Shown.{IsShownWhole, StopsBehind};
+ghost use Rattle.rec_world.specs.World.{IsWorld};
 
 use crate::{Move, Playing};
 use rec_script::Script;
-use rec_world::{Journal, Order, World};
+use rec_world::{Journal, Order, Unwatched, Watch, World};
+use std::alloc::AllocError as NoMemory;
 
 /// Runs the commands of a script on the heap that was opened for it, by the playing rule with this seed and at most so many
 /// drawn turns; a turn of the collector is one step of its collection. Each mutator's journal gets its commands with what was
@@ -44,11 +49,51 @@ pub fn play(
     // Each of the collector's turns requests one epoch more at most.
     ensures epochs { world.new.epoch ≤ 1 + turns }
 {
+    match play_watched(script, seed, turns, world, journals, order, &mut Unwatched) {
+        Ok(()) => {}
+        Err(_) => unreachable!(),
+    }
+}
+
+/// Runs the commands of a script, as `play` does, and shows the watch every step of the collector, once, in order, and right behind it.
+/// Where the watch refuses one, the heap is as that step left it.
+pub fn play_watched<W: Watch>(
+    script: &Script,
+    seed: u64,
+    turns: u32,
+    world: &mut World,
+    journals: &mut [Journal],
+    order: &mut Order,
+    watch: &mut W,
+) -> Result<(), NoMemory>
+    requires opened { world.old ≡ opened (config_of script.now) }
+    requires journals { AreReady script.now.commands journals.old }
+    requires order { order.old.list ≡ [] }
+    requires room { sum (lengths_of script.now) ≤ order.old.room }
+
+    // What `play` promises.
+    ensures played { IfOk result (λ done. (events : List Event)
+        × IsPlayed script.now seed turns (lines_of journals.new) events world.new
+        × Represents (last_moment script.now events).heap (sight world.new)
+        × (world.new.made ≡ length (last_moment script.now events).heap.objects)) }
+    ensures order { IfOk result (λ done. order.new.list ≡ order_of (lengths_of script.now) seed turns) }
+    ensures config { world.new.config ≡ config_of script.now }
+    ensures idle { AreIdle world.new }
+    ensures epochs { IfOk result (λ done. world.new.epoch ≤ 1 + turns) }
+    ensures kept { IsWorld world.new }
+
+    // What the watch was shown: all of the collector's steps, or, where it refused one, those before it.
+    ensures shown { IfOk result (λ done. (shown : List Shown) × IsShownWhole script.now seed turns world.old shown world.new × W.WasShown watch.old shown watch.new) }
+    ensures refused { IfErr result (λ error. (shown : List Shown) × StopsBehind script.now seed turns world.old shown world.new × W.WasShown watch.old shown watch.new) }
+    ensures rose { IfErr result (λ error. Rose (W.refused watch.old) (W.refused watch.new)) }
+    ensures never_falls { W.refused watch.old ≤ W.refused watch.new }
+{
     let mut playing = Playing::start(script, seed, turns);
-    while let Some(made) = playing.next(world) {
+    while let Some(made) = playing.next_watched(world, watch)? {
         if let Move::Command { mutator, cmd, told } = made {
             journals[usize::from(mutator) - 1].note(cmd, told);
             order.note(mutator);
         }
     }
+    Ok(())
 }

@@ -1,6 +1,7 @@
 -- The modules of the proofs.
 pub mod Amid
 pub mod Coming
+pub mod Goes
 pub mod Settles
 pub mod Stays
 pub mod Waiting

@@ -16,4 +16,4 @@ mod turns;
 mod whole;
 
 pub use turns::{EpochsSpent, Settling};
-pub use whole::{Settled, count_taken, settle};
+pub use whole::{Settled, count_taken, settle, settle_watched};

@@ -1,18 +1,24 @@
 //! Settling, turn by turn.
 
-ghost use Rattle.std.specs.Prelude.{◌≡◌, ◌+◌, ◌<◌, ◌≤◌, IfErr, IfOk, IfSome, IsNone};
+ghost use Rattle.std.specs.Prelude.{◌≡◌, ℕ, ◌+◌, ◌<◌, ◌≤◌, false, [], IfErr, IfOk, IfSome, IsNone};
 ghost use Rattle.rec_word.specs.declared.word.TheConstants.{LAST_EPOCH};
-ghost use Rattle.rec_core.specs.Core.{Core};
-ghost use Rattle.rec_core.specs.Turn.{step_seen};
+ghost use Rattle.rec_io.specs.Faults.{Rose};
+ghost use Rattle.rec_collector.specs.declared.turn.Turn as answers;
+ghost use Rattle.rec_core.specs.Config.{IsMutator};
+ghost use Rattle.rec_core.specs.Core.{Core, mutator};
+ghost use Rattle.rec_core.specs.Moves.{turned};
+ghost use Rattle.rec_core.specs.Turn.{IsTurn, step_seen};
 ghost use Rattle.rec_world.specs.World.{IsWorld};
 ghost use Rattle.rec_settle.specs.Collecting.{Anyone, AreIdle, HasStepped};
 ghost use Rattle.rec_settle.specs.Left.{left_in};
+ghost use Rattle.rec_settle.specs.Shown.{Goes, told_shown};
 ghost use Rattle.rec_settle.specs.Stages.{HasCome, begun, offered, stage_after, stage_turned};
 ghost use Rattle.rec_settle.specs.declared.turns.Settling as stages;
 
 use rec_collector::Turn;
 use rec_word::{LAST_EPOCH, Op};
-use rec_world::World;
+use rec_world::{Unwatched, Watch, World};
+use std::alloc::AllocError as NoMemory;
 use thiserror::Error;
 
 // The epochs that settling may ask for.
@@ -74,15 +80,43 @@ impl Settling {
         ensures config { world.new.config ≡ world.old.config }
         ensures kept { IsWorld world.new }
     {
+        match self.next_watched(world, &mut Unwatched) {
+            Ok(told) => told,
+            Err(_) => unreachable!(),
+        }
+    }
+
+    /// Makes the next turn, as `next` does, and shows it to the watch, right behind the collector's step and before anyone polls. Where the
+    /// watch refuses it, nothing follows that step.
+    #[inline(always)]
+    pub fn next_watched<W: Watch>(
+        &mut self,
+        world: &mut World,
+        watch: &mut W,
+    ) -> Result<Option<(Turn, Option<(Op, u64)>)>, NoMemory>
+        requires idle { AreIdle world.old }
+
+        ensures goes { IfOk result (λ told. Goes self.old world.old told self.new world.new) }
+        ensures shown { IfOk result (λ told. W.WasShown watch.old (told_shown self.old world.old told) watch.new) }
+
+        ensures refused { IfErr result (λ error. (self.old ≡ stages.Settling.Settled → ⊥) × (world.new ≡ turned (offered self.old world.old))) }
+        ensures unshown { IfErr result (λ error. W.WasShown watch.old [] watch.new) }
+        ensures rose { IfErr result (λ error. Rose (W.refused watch.old) (W.refused watch.new)) }
+        ensures never_falls { W.refused watch.old ≤ W.refused watch.new }
+        ensures idle { AreIdle world.new }
+        ensures config { world.new.config ≡ world.old.config }
+        ensures kept { IsWorld world.new }
+    {
         if let Settling::Settled = self {
             // A clause of the call: the world is kept.
             let _epoch = world.epoch();
-            return None;
+            return Ok(None);
         }
         self.offer(world);
-        let (turn, seen) = step(world);
+        let (turn, seen) = world.turn_watched(watch)?;
+        follow(world, turn);
         *self = self.after(turn, world.epoch());
-        Some((turn, seen))
+        Ok(Some((turn, seen)))
     }
 
     // Offers every slot, where the next collection is the one whose trial is offered them.
@@ -122,19 +156,20 @@ impl Settling {
     }
 }
 
-// The collector makes a step, and whoever it waits for polls.
-fn step(world: &mut World) -> (Turn, Option<(Op, u64)>)
+// Behind a turn of the collector whoever it waits for polls.
+fn follow(world: &mut World, turn: Turn)
     requires idle { AreIdle world.old }
+    requires awaited { (t : ℕ) → turn ≡ answers.Turn.Waiting t → IsMutator world.old.config t × ((mutator world.old t).left ≡ false) }
+    requires kept { IsWorld world.old }
 
-    ensures stepped { HasStepped Anyone world.old result.0 world.new }
-    ensures seen { result.1 ≡ step_seen world.old }
+    // With the turn it is a step of settling.
+    ensures stepped { (before : Core) → IsTurn before world.old turn → HasStepped Anyone before turn world.new }
+    ensures requested { world.new.epoch ≡ world.old.epoch }
     ensures idle { AreIdle world.new }
     ensures config { world.new.config ≡ world.old.config }
     ensures kept { IsWorld world.new }
 {
-    let (turn, seen) = world.turn_seen();
     if let Turn::Waiting { mutator } = turn {
         world.poll(mutator);
     }
-    (turn, seen)
 }

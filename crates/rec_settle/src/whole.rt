@@ -1,16 +1,21 @@
 //! Settling as a whole.
 
-ghost use Rattle.std.specs.Prelude.{◌≡◌, ◌+◌, ◌<◌, ℕ, IfErr, IfOk};
+ghost use Rattle.std.specs.Prelude.{◌≡◌, ◌+◌, ◌<◌, ◌≤◌, ℕ, List, [], IfErr, IfOk};
 ghost use Rattle.rec_word.specs.declared.word.TheConstants.{LAST_EPOCH};
 ghost use Rattle.rec_model.specs.Heap.{Heap};
 ghost use Rattle.rec_model.specs.Sight.{StandsBy};
+ghost use Rattle.rec_io.specs.Faults.{Rose};
+ghost use Rattle.rec_collector.specs.Shown.{Shown};
 ghost use Rattle.rec_core.specs.Core.{sight};
 ghost use Rattle.rec_world.specs.World.{IsWorld};
 ghost use Rattle.rec_settle.specs.Collecting.{AreIdle, taken_slots};
+ghost use Rattle.rec_settle.specs.Shown.{IsShownTo, StopsBehind};
 ghost use Rattle.rec_settle.specs.Whole.{HasSettled};
+ghost use Rattle.rec_settle.specs.declared.turns.Settling as stages;
 
 use crate::turns::{EpochsSpent, Settling};
-use rec_world::World;
+use rec_world::{Unwatched, Watch, World};
+use std::alloc::AllocError as NoMemory;
 
 /// What settling came to: how many collections it completed, how many slots they swept, and how many slots hold objects.
 #[derive(Clone, Copy, Debug, PartialEq, Eq)]
@@ -38,15 +43,49 @@ pub fn settle(world: &mut World) -> Result<Settled, EpochsSpent>
     ensures made { world.new.made ≡ world.old.made }
     ensures kept { IsWorld world.new }
 {
-    let mut settling = Settling::start(world)?;
+    match settle_watched(world, &mut Unwatched) {
+        Ok(settled) => settled,
+        Err(_) => unreachable!(),
+    }
+}
+
+/// Settles the heap, as `settle` does, and shows the watch every step of the collector, once, in order, and right behind it. Where the
+/// watch refuses one, the heap is as that step left it.
+pub fn settle_watched<W: Watch>(
+    world: &mut World,
+    watch: &mut W,
+) -> Result<Result<Settled, EpochsSpent>, NoMemory>
+    requires idle { AreIdle world.old }
+
+    // What `settle` promises.
+    ensures spent { IfOk result (λ settled. IfErr settled (λ error. (LAST_EPOCH < world.old.epoch + 4) × (error.requested ≡ world.old.epoch) × (world.new ≡ world.old))) }
+    ensures done { IfOk result (λ settled. IfOk settled (HasSettled world.old world.new)) }
+    ensures registers { IfOk result (λ settled. (sight world.new).registers ≡ (sight world.old).registers) }
+    ensures stands { IfOk result (λ settled. (heap : Heap) (number : ℕ → ℕ) → StandsBy heap (sight world.old) number → StandsBy heap (sight world.new) number) }
+    ensures idle { AreIdle world.new }
+    ensures config { world.new.config ≡ world.old.config }
+    ensures made { IfOk result (λ settled. world.new.made ≡ world.old.made) }
+    ensures kept { IsWorld world.new }
+
+    // What the watch was shown: all turns up to the settled heap, or, where that refused it, up to the one before the last.
+    ensures shown { IfOk result (λ settled. IfOk settled (λ told. (shown : List Shown) × IsShownTo world.old shown stages.Settling.Settled world.new × W.WasShown watch.old shown watch.new)) }
+    ensures unshown { IfOk result (λ settled. IfErr settled (λ error. W.WasShown watch.old [] watch.new)) }
+    ensures refused { IfErr result (λ error. (shown : List Shown) × StopsBehind world.old shown world.new × W.WasShown watch.old shown watch.new) }
+    ensures rose { IfErr result (λ error. Rose (W.refused watch.old) (W.refused watch.new)) }
+    ensures never_falls { W.refused watch.old ≤ W.refused watch.new }
+{
+    let mut settling = match Settling::start(world) {
+        Ok(settling) => settling,
+        Err(spent) => return Ok(Err(spent)),
+    };
     let collections = world.collections();
     let swept = world.freed();
-    while let Some(_) = settling.next(world) {}
-    Ok(Settled {
+    while let Some(_) = settling.next_watched(world, watch)? {}
+    Ok(Ok(Settled {
         epochs: world.collections() - collections,
         freed: (world.freed() - swept) as u32,
         live: count_taken(world),
-    })
+    }))
 }
 
 /// How many slots hold an object.

@@ -1,0 +1,40 @@
+-- What a watch was shown, as turns of the rule are made.
+use Rattle.std.proofs.Common.{◌≡◌, ℕ, Option, None, Some, IfSome, IsNone, List, ◌++◌, refl, sym, ap, subst, ◌∙◌}
+use Rattle.std.proofs.lemmas.List.{append-nil}
+use Rattle.rec_model.specs.declared.command.Cmd.{Cmd}
+use Rattle.rec_model.specs.declared.told.Told.{Told}
+use Rattle.rec_collector.specs.Shown.{Shown}
+use Rattle.rec_core.specs.Core.{Core}
+use Rattle.rec_script.specs.Script.{ScriptContents}
+use Rattle.rec_play.specs.Moves.{Makes, MakesCommand, Player}
+use Rattle.rec_play.specs.Playing.{Rest}
+use Rattle.rec_play.specs.Shown.{IsShownTo, told_shown}
+use Rattle.rec_play.specs.declared.moves.Move.{Move}
+use Rattle.rec_play.specs.declared.moves.Move.TheVariants.{Command}
+
+-- a run that has these parts
+pub player_is : (p : Player) (script : ScriptContents) (rest : Rest) (made : List ℕ) → p.script ≡ script → p.rest ≡ rest → p.made ≡ made → p ≡ record { script = script; rest = rest; made = made }
+player_is p script rest made of at so =
+    ap (λ s. let q : Player = record { script = s; rest = p.rest; made = p.made } in q) of
+    ∙ ap (λ r. let q : Player = record { script = script; rest = r; made = p.made } in q) at
+    ∙ ap (λ m. let q : Player = record { script = script; rest = rest; made = m } in q) so
+
+-- what a move that was told did
+pub move_made : (p q : Player) (before after : Core) (told : Option Move) (move : Move) → told ≡ Some move → IfSome told (Makes p q before after) → Makes p q before after move
+move_made p q before after told move is makes = subst (λ o. IfSome o (Makes p q before after)) is makes
+
+pub command_told : (p q : Player) (before after : Core) (told : Option Move) (move : Move) (t : ℕ) (cmd : Cmd) (answer : Told) → told ≡ Some move → move ≡ Command t cmd answer → IfSome told (Makes p q before after)
+    → MakesCommand p q before after t cmd answer
+command_told p q before after told move t cmd answer is command makes = subst (Makes p q before after) command (move_made p q before after told move is makes)
+
+-- where no turn was left
+pub none_left : {P : Type 0} (told : Option Move) → told ≡ None → (IsNone told → P) → P
+none_left told none p = p (subst IsNone (sym none) refl)
+
+-- what was shown of the turns so far
+pub shown_more : (from : Player) (first : Core) (shown : List Shown) (p q : Player) (before after : Core) (told : Option Move) → IsShownTo from first shown p before → IfSome told (Makes p q before after)
+    → (IsNone told → (q ≡ p) × (after ≡ before)) → IsShownTo from first (shown ++ told_shown before told) q after
+shown_more from first shown p q before after None so makes stays =
+    let same = stays refl in
+    subst (λ xs. IsShownTo from first xs q after) (sym (append-nil shown)) (subst (λ x. IsShownTo from first shown x after) (sym same.0) (subst (IsShownTo from first shown p) (sym same.1) so))
+shown_more from first shown p q before after (Some move) so makes stays = IsShownTo.turns shown p q before after move so makes

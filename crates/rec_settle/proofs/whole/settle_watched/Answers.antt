@@ -1,0 +1,102 @@
+-- What was settled is so by the collections that were made, and the watch was shown each turn of them.
+use Rattle.std.proofs.Common.{[], ◌++◌, ◌∙◌, refl, sym, subst, arith}
+use Rattle.std.proofs.lemmas.List.{append-nil}
+use Rattle.rec_world.proofs.Calls.{world_kept}
+use Rattle.rec_settle.specs.Shown.{IsShownTo, told_shown}
+use Rattle.rec_settle.proofs.Goes.{came_settled, ended_stage, if_err, shown_on}
+use Rattle.rec_settle.proofs.Settles.{EndsSettling, few_freed, settling_settles}
+use Rattle.rec_settle.proofs.whole.settle_watched.Goals as goal
+
+pub loop-init : goal.loop-init
+loop-init g c = record {
+  comes = c.in-Ok.ensures.begins c.requires.idle;
+  idle = c.requires.idle;
+  config = refl;
+  shown = ([], subst (λ s. IsShownTo c.args.world.now [] s c.args.world.now) (sym c.in-Ok.ensures.stage) IsShownTo.begins, g.met.W.Watch.none_shown c.args.watch.now);
+  never_falls = omega arith;
+}
+
+pub loop-preserved : goal.loop-preserved
+loop-preserved g c =
+    let so = c.loop.invariant.shown in
+    record {
+      comes = c.in_ok-next_watched.ensures.goes.comes c.args.world.now c.loop.invariant.comes;
+      idle = c.next_watched.ensures.idle;
+      config = c.next_watched.ensures.config ∙ c.loop.invariant.config;
+      shown = (
+        so.0 ++ told_shown c.loop.settling c.loop.world c.in_ok-next_watched.field-0,
+        shown_on c.args.world.now so.0 c.loop.settling c.next_watched.new.self c.loop.world c.next_watched.new.world c.in_ok-next_watched.field-0 so.1 c.in_ok-next_watched.ensures.goes,
+        g.met.W.Watch.shown_then c.args.watch.now c.loop.watch c.next_watched.new.watch so.0 (told_shown c.loop.settling c.loop.world c.in_ok-next_watched.field-0) so.2 c.in_ok-next_watched.ensures.shown,
+      );
+      never_falls = omega (arith, c.loop.invariant.never_falls, c.next_watched.ensures.never_falls);
+    }
+
+pub returns-in_err-next_watched-clause-refused : goal.returns-in_err-next_watched-clause-refused
+returns-in_err-next_watched-clause-refused g c =
+    let so = c.loop.invariant.shown in
+    if_err c.from_residual.result (
+      so.0,
+      record { stage = c.loop.settling; before = c.loop.world; so = so.1; on = c.in_err-next_watched.ensures.refused.0; stopped = c.in_err-next_watched.ensures.refused.1 },
+      subst (λ xs. g.W.Watch.WasShown c.args.watch.now xs c.next_watched.new.watch) (append-nil so.0) (g.met.W.Watch.shown_then c.args.watch.now c.loop.watch c.next_watched.new.watch so.0 [] so.2 c.in_err-next_watched.ensures.unshown),
+    )
+
+pub overflow_sub-result : goal.overflow_sub-result
+overflow_sub-result g c =
+    let h : EndsSettling c.args.world.now c.next_watched.new.world =
+        settling_settles c.args.world.now c.next_watched.new.world (world_kept c.args.world.now c.start.ensures.kept) c.requires.idle
+        (came_settled c.args.world.now c.loop.settling c.next_watched.new.self c.loop.world c.next_watched.new.world c.in_ok-next_watched.field-0 c.in_default.is c.loop.invariant.comes c.in_ok-next_watched.ensures.goes) in
+    omega (arith, h.all.collections, c.collections.ensures.collections, c.collections-collections.ensures.collections)
+
+pub overflow_sub-result-2 : goal.overflow_sub-result-2
+overflow_sub-result-2 g c =
+    let h : EndsSettling c.args.world.now c.next_watched.new.world =
+        settling_settles c.args.world.now c.next_watched.new.world (world_kept c.args.world.now c.start.ensures.kept) c.requires.idle
+        (came_settled c.args.world.now c.loop.settling c.next_watched.new.self c.loop.world c.next_watched.new.world c.in_ok-next_watched.field-0 c.in_default.is c.loop.invariant.comes c.in_ok-next_watched.ensures.goes) in
+    omega (arith, h.all.stays.freed, c.freed.ensures.freed, c.freed-swept.ensures.freed)
+
+pub overflow_cast-result : goal.overflow_cast-result
+overflow_cast-result g c =
+    let h : EndsSettling c.args.world.now c.next_watched.new.world =
+        settling_settles c.args.world.now c.next_watched.new.world (world_kept c.args.world.now c.start.ensures.kept) c.requires.idle
+        (came_settled c.args.world.now c.loop.settling c.next_watched.new.self c.loop.world c.next_watched.new.world c.in_ok-next_watched.field-0 c.in_default.is c.loop.invariant.comes c.in_ok-next_watched.ensures.goes) in
+    omega (arith, few_freed c.args.world.now c.next_watched.new.world (world_kept c.args.world.now c.start.ensures.kept) h, c.freed.ensures.freed, c.freed-swept.ensures.freed)
+
+pub returns-clause-done : goal.returns-clause-done
+returns-clause-done g c =
+    let settling = came_settled c.args.world.now c.loop.settling c.next_watched.new.self c.loop.world c.next_watched.new.world c.in_ok-next_watched.field-0 c.in_default.is c.loop.invariant.comes c.in_ok-next_watched.ensures.goes in
+    let h : EndsSettling c.args.world.now c.next_watched.new.world = settling_settles c.args.world.now c.next_watched.new.world (world_kept c.args.world.now c.start.ensures.kept) c.requires.idle settling in
+    record {
+      left = c.in-Ok.ensures.left;
+      settled = h.settled;
+      settles = settling;
+      epochs = omega (arith, h.all.collections, c.collections.ensures.collections, c.collections-collections.ensures.collections);
+      requested = h.epoch;
+      freed = omega (arith, h.all.stays.freed, c.freed.ensures.freed, c.freed-swept.ensures.freed);
+      live = c.count_taken.ensures;
+    }
+
+pub returns-clause-registers : goal.returns-clause-registers
+returns-clause-registers g c =
+    (settling_settles c.args.world.now c.next_watched.new.world (world_kept c.args.world.now c.start.ensures.kept) c.requires.idle
+    (came_settled c.args.world.now c.loop.settling c.next_watched.new.self c.loop.world c.next_watched.new.world c.in_ok-next_watched.field-0 c.in_default.is c.loop.invariant.comes c.in_ok-next_watched.ensures.goes)).all.stays.registers
+
+pub returns-clause-stands : goal.returns-clause-stands
+returns-clause-stands g c =
+    (settling_settles c.args.world.now c.next_watched.new.world (world_kept c.args.world.now c.start.ensures.kept) c.requires.idle
+    (came_settled c.args.world.now c.loop.settling c.next_watched.new.self c.loop.world c.next_watched.new.world c.in_ok-next_watched.field-0 c.in_default.is c.loop.invariant.comes c.in_ok-next_watched.ensures.goes)).all.stays.stands
+
+pub returns-clause-made : goal.returns-clause-made
+returns-clause-made g c =
+    (settling_settles c.args.world.now c.next_watched.new.world (world_kept c.args.world.now c.start.ensures.kept) c.requires.idle
+    (came_settled c.args.world.now c.loop.settling c.next_watched.new.self c.loop.world c.next_watched.new.world c.in_ok-next_watched.field-0 c.in_default.is c.loop.invariant.comes c.in_ok-next_watched.ensures.goes)).all.stays.made
+
+pub returns-clause-shown : goal.returns-clause-shown
+returns-clause-shown g c =
+    let so = c.loop.invariant.shown in
+    let told = told_shown c.loop.settling c.loop.world c.in_ok-next_watched.field-0 in
+    (
+      so.0 ++ told,
+      subst (λ s. IsShownTo c.args.world.now (so.0 ++ told) s c.next_watched.new.world) (ended_stage c.loop.settling c.next_watched.new.self c.loop.world c.next_watched.new.world c.in_ok-next_watched.field-0 c.in_default.is c.in_ok-next_watched.ensures.goes)
+      (shown_on c.args.world.now so.0 c.loop.settling c.next_watched.new.self c.loop.world c.next_watched.new.world c.in_ok-next_watched.field-0 so.1 c.in_ok-next_watched.ensures.goes),
+      g.met.W.Watch.shown_then c.args.watch.now c.loop.watch c.next_watched.new.watch so.0 told so.2 c.in_ok-next_watched.ensures.shown,
+    )
