@@ -554,8 +554,8 @@ fewer_left d e wider n (x ∷ xs) there = at (fewer_left d e wider n xs) (d x.wo
     at more false p true q h = ap (λ b. (x.to == n) || b) (more h) ∙ or-true (x.to == n)
     at more false p false q h =
         elim (or_cases (x.to == n) (is_in n (map to (without e xs))) h) [
-          inl here ↦ ap (λ b. b || is_in n (map to (without d xs))) here
-        | inr there ↦ ap (λ b. (x.to == n) || b) (more there) ∙ or-true (x.to == n)
+          | inl here ↦ ap (λ b. b || is_in n (map to (without d xs))) here
+          | inr there ↦ ap (λ b. (x.to == n) || b) (more there) ∙ or-true (x.to == n)
         ]
 
 -- a word that is taken out takes nothing into reach
@@ -564,11 +564,11 @@ reached_out lines line kind =
     reached_less (roots (lines ++ line ∷ [])) (roots lines) (targets (lines ++ line ∷ [])) (targets lines)
     (roots_same lines line (ap is_epoch kind) (ap is_heap kind) (ap is_born kind) (ap is_sweep kind) (ap (λ k. named_by k line.numbers) kind))
     (λ m n there.
-        ap (is_in n) (targets_are lines m)
-        ∙ fewer_left (is_dead lines) (is_dead (lines ++ line ∷ [])) (λ w dead. dead_out lines line w (ap is_out kind) (ap is_epoch kind) ∙ ap (λ b. b || (number 1 line == w)) dead) n (opened_from lines m)
-        (ap (λ es. is_in n (map to (without (is_dead (lines ++ line ∷ [])) es))) (sym (from_none lines line m (ap is_heap kind) (ap (λ k. (is_put k && has_target (number 2 line)) && (number 1 line / (heap_of lines).fields == m)) kind)))
-        ∙ ap (is_in n) (sym (targets_are (lines ++ line ∷ []) m))
-        ∙ there))
+    ap (is_in n) (targets_are lines m)
+    ∙ fewer_left (is_dead lines) (is_dead (lines ++ line ∷ [])) (λ w dead. dead_out lines line w (ap is_out kind) (ap is_epoch kind) ∙ ap (λ b. b || (number 1 line == w)) dead) n (opened_from lines m)
+    (ap (λ es. is_in n (map to (without (is_dead (lines ++ line ∷ [])) es))) (sym (from_none lines line m (ap is_heap kind) (ap (λ k. (is_put k && has_target (number 2 line)) && (number 1 line / (heap_of lines).fields == m)) kind)))
+    ∙ ap (is_in n) (sym (targets_are (lines ++ line ∷ []) m))
+    ∙ there))
 
 pub graph_out : (lines : List Line) (line : Line) (word : ℕ) (g h : Graph) → IsOutLine word line → TakesOut g.references h.references word → h.slots ≡ g.slots → h.marks ≡ g.marks → h.known ≡ without_reference g.known → IsGraphOf lines g → IsGraphOf (lines ++ line ∷ []) h
 graph_out lines line word g h out more slots marks known is =
@@ -584,8 +584,6 @@ graph_out lines line word g h out more slots marks known is =
     kept Nothing are = tt
     kept AtLeast are = λ slot reached. are slot (reached_out lines line out.kind slot reached)
     kept Exactly are = λ slot reached. (are slot).1 (reached_out lines line out.kind slot reached)
-
-
 
 -- the reach, by the slots that were marked first and the references that were followed
 pub reached_by : (lines : List Line) (r : References) (order named : List ℕ) (taken : List Bool) → AreReferences lines r → (edges : List (List Edge)) → edges ≡ map (without (contains nat_eq r.dead)) (edges_of r)

@@ -13,3 +13,4 @@ pub mod Telling
 pub mod Concluding
 pub mod Uniqueness
 pub mod Completing
+pub mod Forming

@@ -10,3 +10,4 @@ pub mod Verdicts
 pub mod Walks
 pub mod Checkers
 pub mod Journal
+pub mod Keeping

@@ -1,9 +1,13 @@
 //! What follows from the definitions alone, each law as the contract of a function that does nothing.
 
-ghost use Rattle.std.specs.Prelude.{◌≡◌, ◌++◌, ◌∷◌, ℕ, List};
+ghost use Rattle.std.specs.Prelude.{◌≡◌, ◌++◌, ◌∷◌, ℕ, false, List};
+ghost use Rattle.rec_collector.specs.Shown.{Shown};
 ghost use Rattle.rec_audit.specs.Lines.{Line};
-ghost use Rattle.rec_audit.specs.Form.{IsInForm, MayStand, Stand, form_of};
+ghost use Rattle.rec_audit.specs.Form.{AreHeapNumbers, IsInForm, MayStand, Stand, form_of};
+ghost use Rattle.rec_audit.specs.Journal.{heap_numbers, journal};
+ghost use Rattle.rec_audit.specs.Keeping.{Keep, behind_steps, first_place};
 ghost use Rattle.rec_audit.specs.Verdicts.{IsVerdict};
+ghost use Rattle.rec_audit.specs.declared.form.Heap.{Heap};
 ghost use Rattle.rec_audit.specs.declared.verdict.Verdict.{Verdict as Said};
 
 /// A journal has one verdict.
@@ -20,4 +24,13 @@ pub fn no_journal_goes_on()
 /// Lines that may stand so are the beginning of a journal in form.
 pub fn lines_are_a_beginning()
     ensures { (lines : List Line) → Stand lines → (more : List Line) × IsInForm (lines ++ more) }
+{}
+
+/// Where the steps of a collector keep what they have to, the lines of their journal may stand so. The journal is in form where
+/// the last collection was completed.
+pub fn journals_are_in_form()
+    ensures stand { (heap : Heap) (steps : List Shown) → AreHeapNumbers (heap_numbers heap) → Keep heap (first_place heap) steps
+        → Stand (journal heap steps) }
+    ensures whole { (heap : Heap) (steps : List Shown) → AreHeapNumbers (heap_numbers heap) → Keep heap (first_place heap) steps
+        → (behind_steps (first_place heap) steps).working ≡ false → IsInForm (journal heap steps) }
 {}

@@ -28,5 +28,7 @@ mod verdict;
 
 pub use audit::Audit;
 pub use checking::check;
-pub use laws::{lines_are_a_beginning, no_journal_goes_on, verdicts_are_unique};
+pub use laws::{
+    journals_are_in_form, lines_are_a_beginning, no_journal_goes_on, verdicts_are_unique,
+};
 pub use verdict::{Rule, Verdict};

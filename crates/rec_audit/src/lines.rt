@@ -92,7 +92,11 @@ pub fn push_line(text: &mut Vec<u8>, kind: Kind, numbers: &[u64]) -> Result<(), 
 }
 
 /// Writes the line that tells what a mutator's registers held.
-pub fn push_snap(text: &mut Vec<u8>, mutator: u64, registers: &[Option<u16>]) -> Result<(), AllocError>
+pub fn push_snap(
+    text: &mut Vec<u8>,
+    mutator: u64,
+    registers: &[Option<u16>],
+) -> Result<(), AllocError>
     ensures { OnOk result (text.new.items ≡ text.old.items ++ text_of_line (snap_line mutator registers.now)) }
 {
     text.extend_from_slice(Kind::Snap.name())?;
