@@ -128,11 +128,7 @@ impl<'a> Playing<'a> {
 
     // The next turn.
     #[inline(always)]
-    fn turn<W: Watch>(
-        &mut self,
-        world: &mut World,
-        watch: &mut W,
-    ) -> Result<Option<Move>, NoMemory>
+    fn turn<W: Watch>(&mut self, world: &mut World, watch: &mut W) -> Result<Option<Move>, NoMemory>
         requires config { world.old.config ≡ config_of self.old.script }
         requires idle { AreIdle world.old }
         requires present { AreThere self.old.script self.old.made world.old }

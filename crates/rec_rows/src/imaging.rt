@@ -24,7 +24,11 @@ pub fn written(alloc: Global, world: &mut World) -> Result<String, NoMemory> {
 fn in_a_row(alloc: Global, text: &[u8]) -> Result<String, NoMemory> {
     let mut row = String::new(alloc);
     for byte in text {
-        row.push(if *byte == b'\n' { '/' } else { char::from(*byte) })?;
+        row.push(if *byte == b'\n' {
+            '/'
+        } else {
+            char::from(*byte)
+        })?;
     }
     Ok(row)
 }
@@ -47,11 +51,7 @@ pub fn read_back(alloc: Global, asked: &str) -> Result<String, NoMemory> {
 
 /// The heap of the image that a line spells behind its first word, with logs for 16 entries. Where there is none it is this one, and
 /// what is told is why.
-pub fn restored(
-    alloc: Global,
-    world: World,
-    asked: &str,
-) -> (World, Result<String, NoMemory>) {
+pub fn restored(alloc: Global, world: World, asked: &str) -> (World, Result<String, NoMemory>) {
     let bytes = match spelled(alloc, asked) {
         Ok(bytes) => bytes,
         Err(error) => return (world, Err(error)),
@@ -71,7 +71,9 @@ fn told(alloc: Global, found: Result<rec_image::Image, ImageError>) -> Result<St
         Ok(image) => {
             let (slots, fields) = (image.slots(), image.fields());
             let (registers, mutators) = (image.registers(), image.mutators());
-            format!(in alloc; "slots {slots} fields {fields} registers {registers} mutators {mutators}")
+            format!(in alloc;
+                "slots {slots} fields {fields} registers {registers} mutators {mutators}"
+            )
         }
         Err(ImageError::Bad { line }) => {
             let error = ImageError::Bad { line };

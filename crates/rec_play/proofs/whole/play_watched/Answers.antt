@@ -126,8 +126,7 @@ returns-clause-order g c =
 
 pub returns-clause-shown : goal.returns-clause-shown
 returns-clause-shown g c =
-    let so = c.loop-made.invariant.shown in
-    (
+    let so = c.loop-made.invariant.shown in (
       so.0 ++ told_shown c.loop-made.world c.in_ok-made.field-0,
       record {
         last = c.next_watched.new.self;
