@@ -76,4 +76,11 @@ impl Audit {
     {
         self.text.as_slice()
     }
+
+    /// That text, without a copy.
+    pub fn into_text(self) -> Vec<u8>
+        ensures text { result.items ≡ self }
+    {
+        self.text
+    }
 }

@@ -24,11 +24,12 @@ use Rattle.rec_script.specs.declared.error.ScriptError.{ScriptError}
 use Rattle.rec_script.specs.declared.error.ScriptError.TheVariants.{Bad}
 use Rattle.rec_run.specs.CommandLine.{Asks, ReadsScript}
 use Rattle.rec_run.specs.Ends.{Passage, Failed, Ends, HasCause, passage}
-use Rattle.rec_run.specs.Headline.{Are, HasRead, IsAnswer, Answers, AnswersTo, HasRun, WroteAnswer, WroteFront, IsReadPast, ReadNoScript, IsTail, is_summary, is_traced, printed, printed_order}
+use Rattle.rec_run.specs.Headline.{Are, HasRead, IsAnswer, Answers, AnswersTo, TellsOf, HasRun, WroteAnswer, WroteFront, IsReadPast, ReadNoScript, IsTail, is_summary, is_traced, printed, printed_order}
 use Rattle.rec_play.specs.Played.{last_moment}
 use Rattle.rec_script.proofs.Refusing.{refused_no_text}
 use Rattle.rec_script.proofs.Uniqueness.{refused_once}
 use Rattle.rec_run.specs.declared.command_line.How.{How}
+use Rattle.rec_run.specs.declared.command_line.Keeping.{Keeping}
 use Rattle.rec_run.specs.declared.command_line.Request.{Request}
 use Rattle.rec_run.specs.declared.command_line.Request.TheVariants as requests
 use Rattle.rec_script.specs.Script.{ScriptContents, IsText, IsRefused}
@@ -115,6 +116,19 @@ pub wrote_front : (how : How) (rest left before after : Option (List ℕ)) (byte
     → WroteFront (requests.Answer how) rest left before after
 wrote_front how rest left before after bytes text passes end answer (front, back, cut, appends) =
     record { bytes = bytes; read = read_out how rest left bytes text passes end answer; text = text; answer = answer; front = front; back = back; cut = cut; written = appends }
+
+-- a journal of a script's collector was written whole
+pub wrote_kept : (asked : Keeping) (rest left before after : Option (List ℕ)) (bytes text : List ℕ) → Passes rest left bytes → (length bytes ≤ 16777216 → IsAtEnd rest left)
+    → TellsOf bytes asked text → Appends before after text → WroteAnswer (requests.Keep asked) rest left before after
+wrote_kept asked rest left before after bytes text passes end answer appends =
+    record { bytes = bytes; read = (all_read rest left bytes passes (end answer.short), end answer.short); text = text; answer = answer; written = appends }
+
+-- or a front of it
+pub wrote_kept_front : (asked : Keeping) (rest left before after : Option (List ℕ)) (bytes text : List ℕ) → Passes rest left bytes → (length bytes ≤ 16777216 → IsAtEnd rest left)
+    → TellsOf bytes asked text → (front back : List ℕ) × (text ≡ front ++ back) × Appends before after front
+    → WroteFront (requests.Keep asked) rest left before after
+wrote_kept_front asked rest left before after bytes text passes end answer (front, back, cut, appends) =
+    record { bytes = bytes; read = (all_read rest left bytes passes (end answer.short), end answer.short); text = text; answer = answer; front = front; back = back; cut = cut; written = appends }
 
 -- what was written stays written when it is passed on
 appends_kept : (before after later : Option (List ℕ)) (bytes : List ℕ) → Appends before after bytes → KeepsTold after later → Appends before later bytes
@@ -218,6 +232,7 @@ audits (statuses.BadScript line kind) source sink ends no_read no_write = absurd
 answered_text : (request : Request) (rest left : Option (List ℕ)) (bytes text told : List ℕ) → ReadsScript request → HasRead request rest left bytes → IsAnswer request bytes text
     → rest ≡ Some told → IsText told
 answered_text (requests.Answer how) rest left bytes text told reads read answer is = subst IsText (sym (read.0 told is)) (answer.script, answer.short, answer.spelled)
+answered_text (requests.Keep asked) rest left bytes text told reads read answer is = subst IsText (sym (read.0 told is)) (answer.script, answer.short, answer.spelled)
 answered_text (requests.Make make) rest left bytes text told reads read answer is = absurd reads
 answered_text requests.Audit rest left bytes text told reads read answer is = absurd reads
 

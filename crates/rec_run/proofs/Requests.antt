@@ -42,10 +42,13 @@ asked_to_read words request asks (other, others, reads) = go (subcommand_of recy
   where
     go : (told : Option (List ℕ × List Found)) (request other : Request) → AsksBy told request → AsksBy told other → ReadsScript other → ReadsScript request
     go (Some (name, options)) (requests.Answer how) other one two reads = tt
+    go (Some (name, options)) (requests.Keep j) other one two reads = tt
+    go (Some (name, options)) (requests.Make m) (requests.Keep j) one two reads = absurd (play_or_make name two.0 one.0)
     go (Some (name, options)) (requests.Make m) (requests.Answer (hows.Play p)) one two reads = absurd (play_or_make name two.0 one.0)
     go (Some (name, options)) (requests.Make m) (requests.Answer hows.Threads) one two reads = absurd (threads_or_make name two one.0)
     go (Some (name, options)) (requests.Make m) (requests.Make n) one two reads = absurd reads
     go (Some (name, options)) (requests.Make m) requests.Audit one two reads = absurd reads
+    go (Some (name, options)) requests.Audit (requests.Keep j) one two reads = absurd (audit_or_play name one two.0)
     go (Some (name, options)) requests.Audit (requests.Answer (hows.Play p)) one two reads = absurd (audit_or_play name one two.0)
     go (Some (name, options)) requests.Audit (requests.Answer hows.Threads) one two reads = absurd (audit_or_threads name one two)
     go (Some (name, options)) requests.Audit (requests.Make n) one two reads = absurd reads
@@ -59,6 +62,7 @@ asked_to_audit words request asks audits = go (subcommand_of recycler words) req
     go : (told : Option (List ℕ × List Found)) (request : Request) → AsksBy told request → AsksBy told requests.Audit → request ≡ requests.Audit
     go (Some (name, options)) (requests.Answer (hows.Play p)) one two = absurd (audit_or_play name two one.0)
     go (Some (name, options)) (requests.Answer hows.Threads) one two = absurd (audit_or_threads name two one)
+    go (Some (name, options)) (requests.Keep j) one two = absurd (audit_or_play name two one.0)
     go (Some (name, options)) (requests.Make m) one two = absurd (audit_or_make name two one.0)
     go (Some (name, options)) requests.Audit one two = refl
     go None request one two = absurd one

@@ -8,6 +8,9 @@ use Rattle.clap.specs.Simple.{new_shape}
 use Rattle.clap.specs.declared.builder.action.ArgAction.TheVariants.{SetTrue}
 use Rattle.rec_run.specs.declared.command_line.How.{How}
 use Rattle.rec_run.specs.declared.command_line.How.TheVariants as hows
+use Rattle.rec_run.specs.declared.command_line.Keeping.{Keeping}
+use Rattle.rec_run.specs.declared.command_line.Kept.{Kept}
+use Rattle.rec_run.specs.declared.command_line.Kept.TheVariants.{Journal, Image}
 use Rattle.rec_run.specs.declared.command_line.Make.{Make}
 use Rattle.rec_run.specs.declared.command_line.Play.{Play}
 use Rattle.rec_run.specs.declared.command_line.Request.{Request}
@@ -23,7 +26,7 @@ flag name = record (option name) { action = Some SetTrue }
 
 -- the subcommand `play` and its options
 abbrev pub play : Shape
-play = record (new_shape (codes "play")) { rules = option (codes "seed") ∷ option (codes "turns") ∷ flag (codes "summary") ∷ flag (codes "trace") ∷ [] }
+play = record (new_shape (codes "play")) { rules = option (codes "seed") ∷ option (codes "turns") ∷ flag (codes "summary") ∷ flag (codes "trace") ∷ flag (codes "audit") ∷ flag (codes "image") ∷ [] }
 
 -- the subcommand `threads`, which has no options
 abbrev pub threads : Shape
@@ -72,6 +75,26 @@ pub record AsksPlay (options : List Row) (asked : Play) : Type 0 where
   pub limited : Says (first_of (codes "turns") options) 1000000 MOST_TURNS asked.turns
   pub summed : asked.summary ≡ is_set (first_of (codes "summary") options)
   pub traced : asked.trace ≡ is_set (first_of (codes "trace") options)
+  pub unaudited : is_set (first_of (codes "audit") options) ≡ false
+  pub unimaged : is_set (first_of (codes "image") options) ≡ false
+
+-- what is kept of a run, as the flag that asks for it
+abbrev pub is_journal : Kept → Bool
+is_journal Journal = true
+is_journal Image = false
+
+abbrev pub is_image : Kept → Bool
+is_image Journal = false
+is_image Image = true
+
+-- they ask for what is kept of the run: an audit or an image stands among them, and no other flag
+pub record AsksKeeping (options : List Row) (asked : Keeping) : Type 0 where
+  pub seeded : Says (first_of (codes "seed") options) 0 18446744073709551615 asked.seed
+  pub limited : Says (first_of (codes "turns") options) 1000000 MOST_TURNS asked.turns
+  pub unsummed : is_set (first_of (codes "summary") options) ≡ false
+  pub untraced : is_set (first_of (codes "trace") options) ≡ false
+  pub audited : is_set (first_of (codes "audit") options) ≡ is_journal asked.kept
+  pub imaged : is_set (first_of (codes "image") options) ≡ is_image asked.kept
 
 -- what the options of `make` ask for: a seed of 64 bits, one to eight mutators, and at most 200,000 commands of each
 pub record AsksMake (options : List Row) (asked : Make) : Type 0 where
@@ -85,6 +108,7 @@ abbrev pub AsksBy : Option (Text × List Row) → Request → Type 0
 AsksBy None request = ⊥
 AsksBy (Some (name, options)) (requests.Answer (hows.Play asked)) = (name ≡ codes "play") × AsksPlay options asked
 AsksBy (Some (name, options)) (requests.Answer hows.Threads) = name ≡ codes "threads"
+AsksBy (Some (name, options)) (requests.Keep asked) = (name ≡ codes "play") × AsksKeeping options asked
 AsksBy (Some (name, options)) (requests.Make asked) = (name ≡ codes "make") × AsksMake options asked
 AsksBy (Some (name, options)) requests.Audit = name ≡ codes "audit"
 
@@ -101,18 +125,21 @@ HasFewTurns hows.Threads = ⊤
 -- each number of a request is in its range
 abbrev pub IsInRange : Request → Type 0
 IsInRange (requests.Answer how) = HasFewTurns how
+IsInRange (requests.Keep asked) = asked.turns ≤ MOST_TURNS
 IsInRange (requests.Make asked) = (1 ≤ asked.mutators) × (asked.mutators ≤ MOST_SCRIPT_MUTATORS) × (asked.commands ≤ MOST_COMMANDS)
 IsInRange requests.Audit = ⊤
 
 -- a request that a script is read for
 abbrev pub ReadsScript : Request → Type 0
 ReadsScript (requests.Answer how) = ⊤
+ReadsScript (requests.Keep asked) = ⊤
 ReadsScript (requests.Make asked) = ⊥
 ReadsScript requests.Audit = ⊥
 
 -- a request that a source is read for
 abbrev pub ReadsSource : Request → Type 0
 ReadsSource (requests.Answer how) = ⊤
+ReadsSource (requests.Keep asked) = ⊤
 ReadsSource (requests.Make asked) = ⊥
 ReadsSource requests.Audit = ⊤
 

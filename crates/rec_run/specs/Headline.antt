@@ -34,6 +34,9 @@ use Rattle.rec_script.specs.Lines.{lines}
 use Rattle.rec_script.specs.Script.{ScriptContents, Spells, IsRefused}
 use Rattle.rec_run.specs.declared.command_line.How.{How}
 use Rattle.rec_run.specs.declared.command_line.How.TheVariants as hows
+use Rattle.rec_run.specs.declared.command_line.Keeping.{Keeping}
+use Rattle.rec_run.specs.declared.command_line.Kept.{Kept}
+use Rattle.rec_run.specs.declared.command_line.Kept.TheVariants as kepts
 use Rattle.rec_run.specs.declared.command_line.Play.{Play}
 use Rattle.rec_run.specs.declared.command_line.Request.{Request}
 use Rattle.rec_run.specs.declared.command_line.Request.TheVariants as requests
@@ -41,6 +44,15 @@ use Rattle.rec_script.specs.declared.error.Kind.{Kind}
 use Rattle.rec_script.specs.Made.{made_text}
 use Rattle.rec_report.specs.Summary.{summary_text}
 use Rattle.rec_report.specs.Text.{play_text, trace_line}
+use Rattle.rec_collector.specs.Shown.{Shown}
+use Rattle.rec_settle.specs.Shown.{IsShownTo}
+use Rattle.rec_settle.specs.declared.turns.Settling.TheVariants.{Settled}
+use Rattle.rec_play.specs.Shown.{IsShownWhole}
+use Rattle.rec_image.specs.Image.{ImageContents, IsImage, text as image_text}
+use Rattle.rec_image.specs.Standing.{IsOfWorld, StandsFor}
+use Rattle.rec_audit.specs.Journal.{journal}
+use Rattle.rec_audit.specs.Lines.{text_of}
+use Rattle.rec_audit.specs.declared.form.Heap.{Heap as HeapNumbers}
 use Rattle.rec_audit.specs.declared.verdict.Verdict.{Verdict}
 use Rattle.rec_audit.specs.Said.{verdict_text}
 use Rattle.rec_audit.specs.Verdicts.{IsVerdict}
@@ -182,9 +194,57 @@ pub record SaysVerdict (bytes text : List ℕ) : Type 0 where
   pub said : IsVerdict bytes verdict
   pub written : text ≡ verdict_text verdict
 
+-- the numbers of a script's heap that its collector's journal tells
+abbrev pub heap_told : ScriptContents → HeapNumbers
+heap_told script = record { slots = script.slots; fields = script.fields; registers = script.registers; mutators = length script.commands; first = 1 }
+
+-- The text is the journal of the collector while the script was played and its heap settled afterwards: of all steps that it made then,
+-- each once, and in order.
+pub record IsJournal (script : ScriptContents) (asked : Keeping) (end world : Core) (text : List ℕ) : Type 0 where
+  -- the steps that were made while it was played
+  pub played : List Shown
+  pub shown_played : IsShownWhole script asked.seed asked.turns (opened (config_of script)) played end
+  -- and while it was settled
+  pub settling : List Shown
+  pub shown_settling : IsShownTo end settling Settled world
+  pub written : text ≡ text_of (journal (heap_told script) (played ++ settling))
+
+-- The text is the image of the settled heap: it is of the heap's numbers, and stands for it in all but the field words.
+pub record IsImageText (world : Core) (text : List ℕ) : Type 0 where
+  pub contents : ImageContents
+  pub image : IsImage contents
+  pub numbers : IsOfWorld world contents
+  pub stands : StandsFor contents (sight world)
+  pub written : text ≡ image_text contents
+
+-- what is kept of a run, whose heap was this one and is settled as that one
+abbrev pub IsKept : Kept → ScriptContents → Keeping → (end world : Core) → (text : List ℕ) → Type 0
+IsKept kepts.Journal script asked end world text = IsJournal script asked end world text
+IsKept kepts.Image script asked end world text = IsImageText world text
+
+-- The script was played and its heap settled afterwards, and the text is what was asked to be kept of that.
+pub record TellsRun (script : ScriptContents) (asked : Keeping) (text : List ℕ) : Type 0 where
+  pub journals : List (List Line)
+  pub events : List Event
+  -- the world after the last turn
+  pub end : Core
+  pub has_run : HasRun script (hows.Play (record { seed = asked.seed; turns = asked.turns; summary = false; trace = false })) journals events end
+  pub world : Core
+  pub settles : IsSettling end world
+  pub settled : IsSettled world
+  pub kept : IsKept asked.kept script asked end world text
+
+-- The bytes are the text of a script within the limits, and the text tells of its run.
+pub record TellsOf (bytes : List ℕ) (asked : Keeping) (text : List ℕ) : Type 0 where
+  pub script : ScriptContents
+  pub short : length bytes ≤ MOST_BYTES
+  pub spelled : Spells (lines bytes) script
+  pub told : TellsRun script asked text
+
 -- the answer of the bytes to a request; a made script is that of its seed, whatever the bytes
 abbrev pub IsAnswer : Request → (bytes text : List ℕ) → Type 0
 IsAnswer (requests.Answer how) bytes text = AnswersTo bytes how text
+IsAnswer (requests.Keep asked) bytes text = TellsOf bytes asked text
 IsAnswer (requests.Make asked) bytes text = text ≡ made_text asked.seed asked.mutators asked.commands
 IsAnswer requests.Audit bytes text = SaysVerdict bytes text
 
@@ -208,6 +268,7 @@ IsReadOut before after = ForSome before (λ rest. (after ≡ Some []) ⊎ IsRead
 -- that long one thing is said, whatever follows
 abbrev pub HasRead : Request → (rest left : Option (List ℕ)) → (bytes : List ℕ) → Type 0
 HasRead (requests.Answer how) rest left bytes = Are rest bytes × IsAtEnd rest left
+HasRead (requests.Keep asked) rest left bytes = Are rest bytes × IsAtEnd rest left
 HasRead (requests.Make asked) rest left bytes = (left ≡ rest) × (bytes ≡ [])
 HasRead requests.Audit rest left bytes = Are rest bytes × IsReadOut rest left
 

@@ -1,4 +1,5 @@
 -- The modules of the definitions.
+pub mod Audited
 pub mod CommandLine
 pub mod Ends
 pub mod Headline

@@ -1,7 +1,8 @@
 //! The words that the program is called with.
 ghost use Rattle.std.specs.Prelude.{◌≡◌, ◌≢◌, ◌≤◌, ℕ, [], map, option_map, Err, IfOk, IfSome, IfNone};
-ghost use Rattle.clap.specs.Words.{app_of, fault_of, found_of, rows_of, subcommand_of, subcommand_rows_of};
-ghost use Rattle.rec_run.specs.CommandLine.{app_with, make as make_shape, play as play_shape, recycler, is_set, Says, AsksPlay, AsksMake, AsksBy, Asks, IsCommandLine};
+ghost use Rattle.clap.specs.Words.{app_of, fault_of, found_of, rows_of, rule_of, subcommand_of, subcommand_rows_of};
+ghost use Rattle.rec_run.specs.CommandLine.{app_with, flag, make as make_shape, play as play_shape, recycler, is_set, Says, AsksKeeping, AsksPlay, AsksMake, AsksBy, Asks, IsCommandLine};
+ghost use Rattle.rec_run.specs.declared.command_line.Keeping.{Keeping as Keeps};
 ghost use Rattle.rec_run.specs.declared.command_line.Make.{Make as Making};
 ghost use Rattle.rec_run.specs.declared.command_line.Play.{Play as Playing};
 ghost use Rattle.rec_run.specs.declared.command_line.Request.{Request as Asking};
@@ -33,6 +34,8 @@ const MOST_COMMANDS: u64 = rec_model::limits::MOST_COMMANDS as u64;
 pub enum Request {
     /// Answer the script that is read, which is run so.
     Answer(How),
+    /// Play the script that is read so, and write what is kept of it.
+    Keep(Keeping),
     /// Write a script.
     Make(Make),
     /// Say what is to be said of the journal that is read.
@@ -59,6 +62,26 @@ pub struct Play {
     pub summary: bool,
     /// Whether the heap is traced before it is settled, and a line tells of it.
     pub trace: bool,
+}
+
+/// How a script is played of which something else than its answers is written.
+#[derive(Clone, Copy)]
+pub struct Keeping {
+    /// What the order of the commands is drawn from.
+    pub seed: u64,
+    /// How many draws there are at most, up to 10,000,000.
+    pub turns: u32,
+    /// What is written in place of the text.
+    pub kept: Kept,
+}
+
+/// What is kept of a script that is played.
+#[derive(Clone, Copy)]
+pub enum Kept {
+    /// The journal of its collector.
+    Journal,
+    /// The image of its settled heap.
+    Image,
 }
 
 /// Which script is made.
@@ -129,17 +152,24 @@ fn play_command<'a>(alloc: Global) -> Result<Command<'a>, NoMemory>
 {
     let seed = Arg::new(alloc, "seed").long("seed");
     let turns = Arg::new(alloc, "turns").long("turns");
-    let summary = Arg::new(alloc, "summary")
-        .long("summary")
-        .action(ArgAction::SetTrue);
-    let trace = Arg::new(alloc, "trace")
-        .long("trace")
-        .action(ArgAction::SetTrue);
+    let summary = flag(alloc, "summary");
+    let trace = flag(alloc, "trace");
+    let audit = flag(alloc, "audit");
+    let image = flag(alloc, "image");
     Command::new(alloc, "play")
         .arg(seed)?
         .arg(turns)?
         .arg(summary)?
-        .arg(trace)
+        .arg(trace)?
+        .arg(audit)?
+        .arg(image)
+}
+
+// A flag, which has no value.
+fn flag<'a>(alloc: Global, name: &'a str) -> Arg<'a>
+    ensures { rule_of result ≡ flag name.now }
+{
+    Arg::new(alloc, name).long(name).action(ArgAction::SetTrue)
 }
 
 // The subcommand that makes a script.
@@ -161,7 +191,10 @@ fn asked(matches: &ArgMatches) -> Option<Request>
     ensures none { IfNone result ((request : Asking) → ¬ AsksBy (subcommand_rows_of matches.now) request) }
 {
     match matches.subcommand() {
-        Some(("play", options)) => play_options(options).map(How::Play).map(Request::Answer),
+        Some(("play", options)) => match play_options(options) {
+            Some(play) => Some(Request::Answer(How::Play(play))),
+            None => keeping_options(options).map(Request::Keep),
+        },
         Some(("threads", _)) => Some(Request::Answer(How::Threads)),
         Some(("make", options)) => make_options(options).map(Request::Make),
         Some(("audit", _)) => Some(Request::Audit),
@@ -169,7 +202,7 @@ fn asked(matches: &ArgMatches) -> Option<Request>
     }
 }
 
-// What the options of `play` ask for, where their numbers are in range.
+// What the options of `play` ask for, where their numbers are in range and they ask for the text.
 fn play_options(options: &ArgMatches) -> Option<Play>
     ensures some { IfSome result (AsksPlay (rows_of (found_of options.now))) }
     ensures none { IfNone result ((play : Playing) → ¬ AsksPlay (rows_of (found_of options.now)) play) }
@@ -178,11 +211,38 @@ fn play_options(options: &ArgMatches) -> Option<Play>
     let turns = number(options.get_str("turns"), TURNS, MOST_TURNS)?;
     let summary = is_flag_set(options.get_str("summary"));
     let trace = is_flag_set(options.get_str("trace"));
+    let audit = is_flag_set(options.get_str("audit"));
+    let image = is_flag_set(options.get_str("image"));
+    if audit || image {
+        return None;
+    }
     Some(Play {
         seed,
         turns: turns as u32,
         summary,
         trace,
+    })
+}
+
+// What the options of `play` ask for, where their numbers are in range and they ask for a journal or an image, and for
+// nothing beside it.
+fn keeping_options(options: &ArgMatches) -> Option<Keeping>
+    ensures some { IfSome result (AsksKeeping (rows_of (found_of options.now))) }
+    ensures none { IfNone result ((asked : Keeps) → ¬ AsksKeeping (rows_of (found_of options.now)) asked) }
+{
+    let seed = number(options.get_str("seed"), SEED, u64::MAX)?;
+    let turns = number(options.get_str("turns"), TURNS, MOST_TURNS)?;
+    let summary = is_flag_set(options.get_str("summary"));
+    let trace = is_flag_set(options.get_str("trace"));
+    let audit = is_flag_set(options.get_str("audit"));
+    let image = is_flag_set(options.get_str("image"));
+    if summary || trace || audit == image {
+        return None;
+    }
+    Some(Keeping {
+        seed,
+        turns: turns as u32,
+        kept: if audit { Kept::Journal } else { Kept::Image },
     })
 }
 

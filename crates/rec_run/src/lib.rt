@@ -16,6 +16,7 @@ mod answer;
 mod command_line;
 mod driving;
 mod finish;
+mod keeping;
 mod outcome;
 mod playing;
 mod reading;

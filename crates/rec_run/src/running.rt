@@ -1,7 +1,7 @@
 //! The top call: from words, and the bytes of a script or a journal, to the bytes of an answer.
 ghost use Rattle.std.specs.Prelude.{◌≡◌, ◌≢◌, ◌⊎◌, ℕ, ◌≤◌, false, List, Option, Some, map, string_bytes, IfOk};
 ghost use Rattle.std.specs.List.{flat_map};
-ghost use Rattle.rec_model.specs.declared.limits.TheConstants.{MOST_COMMANDS, MOST_SCRIPT_MUTATORS};
+ghost use Rattle.rec_model.specs.declared.limits.TheConstants.{MOST_COMMANDS, MOST_SCRIPT_MUTATORS, MOST_TURNS};
 ghost use Rattle.rec_io.specs.Faults.{Rose};
 ghost use Rattle.rec_io.specs.Source.{Passes};
 ghost use Rattle.rec_io.specs.Told.{KeepsTold};
@@ -9,13 +9,14 @@ ghost use Rattle.rec_script.specs.Script.{IsText, IsRefused};
 ghost use Rattle.rec_script.specs.declared.error.Kind.{Kind};
 ghost use Rattle.rec_run.specs.CommandLine.{Asks, AsksToAudit, AsksToMake, AsksToRead, HasFewTurns, IsCommandLine, IsInRange, ReadsSource};
 ghost use Rattle.rec_run.specs.Ends.{Ends, HasCause, passage, untouched};
-ghost use Rattle.rec_run.specs.Headline.{AnswersTo, SaysVerdict, WroteAnswer, WroteFront};
+ghost use Rattle.rec_run.specs.Headline.{AnswersTo, SaysVerdict, TellsOf, WroteAnswer, WroteFront};
 ghost use Rattle.rec_run.specs.Status.{may_write};
 ghost use Rattle.rec_run.specs.declared.command_line.Request.{Request as Asked};
 
 use crate::answer::answer_script;
-use crate::command_line::{How, Make, Refusal, Request, read_words};
+use crate::command_line::{How, Keeping, Make, Refusal, Request, read_words};
 use crate::finish::finish;
+use crate::keeping::keep_script;
 use crate::reading::{ReadStop, read_all};
 use crate::status::Status;
 use crate::writing::{write_lines, write_text};
@@ -110,6 +111,7 @@ fn carry_out<R: Threads + Wait + Sync, S: Source, K: Sink, G: Gate>(
 {
     match request {
         Request::Answer(how) => answer_source(rt, alloc, how, source, sink, gate),
+        Request::Keep(asked) => keep_source(alloc, asked, source, sink),
         Request::Make(make) => write_made(alloc, make, sink),
         Request::Audit => audit_source(alloc, source, sink),
     }
@@ -164,6 +166,49 @@ fn answer<R: Threads + Wait + Sync, G: Gate>(
     // The bytes are needed no more: their room is given back before the journals take theirs.
     drop(bytes);
     answer_script(rt, alloc, &script, how, gate).map_err(|_| ScriptError::NoMemory)
+}
+
+// Reads a script to its end, plays it, and writes what is to be kept of it.
+fn keep_source<S: Source, K: Sink>(
+    alloc: Global,
+    asked: Keeping,
+    source: &mut S,
+    sink: &mut K,
+) -> Status
+    requires { asked.turns ≤ MOST_TURNS }
+    ensures ends { Ends (Request.Keep asked) result (passage S.rest S.faults source.old source.new) (passage K.written K.faults sink.old sink.new) }
+    ensures unwritten { may_write result ≡ false → sink.new ≡ sink.old }
+    ensures reads { result ≢ Status.ReadFault → S.faults source.new ≡ S.faults source.old }
+    ensures writes { result ≢ Status.WriteFault → K.faults sink.new ≡ K.faults sink.old }
+    ensures left { (bytes : List ℕ) × Passes (S.rest source.old) (S.rest source.new) bytes }
+    ensures never_falls { K.faults sink.old ≤ K.faults sink.new }
+{
+    let bytes = match read_all(alloc, source) {
+        Ok(bytes) => bytes,
+        Err(ReadStop::Fault) => return Status::ReadFault,
+        Err(ReadStop::NoMemory) => return Status::NoMemory,
+    };
+    let kept = match keep(alloc, asked, bytes) {
+        Ok(kept) => kept,
+        Err(ScriptError::Bad { line, kind }) => return Status::BadScript { line, kind },
+        Err(ScriptError::NoMemory) => return Status::NoMemory,
+    };
+    match write_text(sink, &kept) {
+        Ok(()) => Status::Done,
+        Err(_) => Status::WriteFault,
+    }
+}
+
+// What is to be kept of the script in the bytes.
+fn keep(alloc: Global, asked: Keeping, bytes: Vec<u8>) -> Result<Vec<u8>, ScriptError>
+    requires { asked.turns ≤ MOST_TURNS }
+    ensures told { IfOk result (λ kept. TellsOf bytes.items asked kept.items) }
+    ensures refused { (line : ℕ) (kind : Kind) → result ≡ Err (ScriptError.Bad line kind) → IsRefused bytes.items line kind }
+{
+    let script = read(alloc, &bytes)?;
+    // The bytes are needed no more: their room is given back before what is kept takes its own.
+    drop(bytes);
+    keep_script(alloc, &script, asked).map_err(|_| ScriptError::NoMemory)
 }
 
 // Reads a journal to its end, or past its limit, and writes what is to be said of it.

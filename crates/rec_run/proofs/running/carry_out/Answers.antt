@@ -17,6 +17,14 @@ returns-in-Make-clause-ends g c =
     subst (λ request. Ends request c.write_made.result (passage g.S.Source.rest g.S.Source.faults c.args.source.now c.args.source.now) (passage g.K.Sink.written g.K.Sink.faults c.args.sink.now c.write_made.new.sink))
     (sym c.in-Make.is) (c.write_made.ensures.ends (g.S.Source.rest c.args.source.now) (g.S.Source.faults c.args.source.now))
 
+pub returns-in-Keep-clause-ends : goal.returns-in-Keep-clause-ends
+returns-in-Keep-clause-ends g c =
+    subst (λ request. Ends request c.keep_source.result (passage g.S.Source.rest g.S.Source.faults c.args.source.now c.keep_source.new.source) (passage g.K.Sink.written g.K.Sink.faults c.args.sink.now c.keep_source.new.sink))
+    (sym c.in-Keep.is) c.keep_source.ensures.ends
+
+pub returns-in-Keep-clause-unread : goal.returns-in-Keep-clause-unread
+returns-in-Keep-clause-unread g c = λ never. absurd (never (subst ReadsSource (sym c.in-Keep.is) tt))
+
 pub returns-in-Audit-clause-ends : goal.returns-in-Audit-clause-ends
 returns-in-Audit-clause-ends g c =
     subst (λ request. Ends request c.audit_source.result (passage g.S.Source.rest g.S.Source.faults c.args.source.now c.audit_source.new.source) (passage g.K.Sink.written g.K.Sink.faults c.args.sink.now c.audit_source.new.sink))
