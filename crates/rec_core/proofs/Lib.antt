@@ -41,6 +41,7 @@ pub mod Scans
 pub mod SetTests
 pub mod Shapes
 pub mod Showing
+pub mod Shows
 pub mod Step
 pub mod Steps
 pub mod Sums
