@@ -9,6 +9,7 @@
 //! The grammar is this project's profile (`docs/PROFILE.md`); the papers run on programs of Java.
 #![tactic(auto)]
 
+mod behind;
 mod command;
 mod draft;
 mod error;
@@ -22,6 +23,7 @@ mod script;
 mod spaced;
 mod version;
 
+pub use behind::read_after;
 pub use error::{Kind, ScriptError};
 pub use laws::{refusals_are_unique, refused_texts_spell_nothing, texts_spell_one_script};
 pub use making::make;
