@@ -226,8 +226,8 @@ module _ (config : Config) (o : Objects) (is : IsConfig config) (are : AreObject
   registers_name x =
       registers_sum (is_node (x + 1))
       ∙ sum_by_same (λ held. sum_by (is_node (x + 1)) (dated_all config.first_epoch held)) (count_by (is_slot x)) rows (λ held.
-        sum_by-map (is_node (x + 1)) (λ y. dated config.first_epoch (code y)) held
-        ∙ sum_by_same (λ y. one_if_same (x + 1) (code y)) (one_if_slot x) held (λ y. same_name x y ∙ one_is (is_slot x y)))
+      sum_by-map (is_node (x + 1)) (λ y. dated config.first_epoch (code y)) held
+      ∙ sum_by_same (λ y. one_if_same (x + 1) (code y)) (one_if_slot x) held (λ y. same_name x y ∙ one_is (is_slot x y)))
       ∙ rows_sum (one_if_slot x) config.registers config.mutators o.registers are.registers
 
   -- how often fields do
@@ -276,9 +276,9 @@ module _ (config : Config) (o : Objects) (is : IsConfig config) (are : AreObject
   snapshots_name weight null =
       older_sum weight (λ (b : Filed). dated_names b.epoch b.buffer.snapshot) (snapshots_nothing config weight)
       ∙ sum_by_same (λ held. sum_by weight (dated_names last held)) (λ held. sum_by (λ (d : Dated). weight (dated last d.node)) (dated_all config.first_epoch held)) rows (λ held.
-        names_all weight last held null
-        ∙ sum_by-map weight (λ y. dated last (code y)) held
-        ∙ sym (sum_by-map (λ (d : Dated). weight (dated last d.node)) (λ y. dated config.first_epoch (code y)) held))
+      names_all weight last held null
+      ∙ sum_by-map weight (λ y. dated last (code y)) held
+      ∙ sym (sum_by-map (λ (d : Dated). weight (dated last d.node)) (λ y. dated config.first_epoch (code y)) held))
       ∙ sym (registers_sum (λ (d : Dated). weight (dated last d.node)))
 
   not_late : (n : ℕ) → is_late_snapshot config.first_epoch (dated last n) ≡ 0
@@ -296,10 +296,10 @@ module _ (config : Config) (o : Objects) (is : IsConfig config) (are : AreObject
     snapshots = snapshots_name;
     left = older_sum (is_late_snapshot config.first_epoch) (λ (b : Filed). dated_names b.epoch b.buffer.snapshot) (snapshots_nothing config (is_late_snapshot config.first_epoch))
         ∙ sum_by_none (λ held. sum_by (is_late_snapshot config.first_epoch) (dated_names last held)) rows (λ held.
-          sum_by-map (is_late_snapshot config.first_epoch) (λ slot. dated last (slot + 1)) (named_of held) ∙ sum_by_none (λ slot. is_late_snapshot config.first_epoch (dated last (slot + 1))) (named_of held) (λ slot. not_late (slot + 1)));
+        sum_by-map (is_late_snapshot config.first_epoch) (λ slot. dated last (slot + 1)) (named_of held) ∙ sum_by_none (λ slot. is_late_snapshot config.first_epoch (dated last (slot + 1))) (named_of held) (λ slot. not_late (slot + 1)));
     entered = registers_sum (is_wrong_register last config.first_epoch)
         ∙ sum_by_none (λ held. sum_by (is_wrong_register last config.first_epoch) (dated_all config.first_epoch held)) rows (λ held.
-          sum_by-map (is_wrong_register last config.first_epoch) (λ y. dated config.first_epoch (code y)) held ∙ sum_by_none (λ y. is_wrong_register last config.first_epoch (dated config.first_epoch (code y))) held (λ y. not_wrong (code y)));
+        sum_by-map (is_wrong_register last config.first_epoch) (λ y. dated config.first_epoch (code y)) held ∙ sum_by_none (λ y. is_wrong_register last config.first_epoch (dated config.first_epoch (code y))) held (λ y. not_wrong (code y)));
     counted = λ node pos.
         let x : node ≡ node - 1 + 1 = omega (arith, pos) in
         subst (λ n. (slot_from (node - 1)).count ≡ sum_at (names n) w.words + sum_by (is_node n) (pending w).registers + only_if (is_open (node - 1)) 1) (sym x) (counted_slot (node - 1));

@@ -181,8 +181,7 @@ module _ (v : ImageContents) (image : IsImage v) where
       let config : Config = config_of v log_entries in
       let are : AreObjects config o = are_objects log_entries in
       let by = seen.seen_stands config o is are have_labels in
-      let below : (s : ℕ) → IsTaken (sight (restored v log_entries)) s → s < length v.objects = λ s taken. omega (arith, seen.taken_below config o is are have_labels s taken, nodes_many) in
-      (
+      let below : (s : ℕ) → IsTaken (sight (restored v log_entries)) s → s < length v.objects = λ s taken. omega (arith, seen.taken_below config o is are have_labels s taken, nodes_many) in (
         λ s. s,
         record {
           one_to_one = λ s t p q same. same;

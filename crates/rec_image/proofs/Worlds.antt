@@ -130,8 +130,8 @@ pub written_text : (w : Core) (slots : List ℕ) (a b c d : ℕ) (none first sec
     → text (image_of w slots) ≡ last
 written_text w slots a b c d none first second third fourth last line sa sb sc sd n f l s t u e =
     sym (e ∙ ap (λ (bs : List ℕ). bs ++ end_line) (u ∙ ap (λ (bs : List ℕ). bs ++ flat_map registers_line (held_of (sight w) slots)) (t ∙ ap (λ (bs : List ℕ). bs ++ flat_map object_line (map (node_of (sight w) slots) slots)) (s ∙ ap (λ (bs : List ℕ). bs ++ line) (f ∙ ap (λ (bs : List ℕ). bs ++ header_line) n)
-        ∙ ap (λ (bs : List ℕ). header_line ++ bs) (l ∙ ap (λ (k : ℕ). heap_line k b c d) sa ∙ ap (λ (k : ℕ). heap_line w.config.slots k c d) sb ∙ ap (λ (k : ℕ). heap_line w.config.slots w.config.fields k d) sc ∙ ap (λ (k : ℕ). heap_line w.config.slots w.config.fields w.config.registers k) sd))))
-        ∙ groups header_line (heap_line w.config.slots w.config.fields w.config.registers w.config.mutators) (flat_map object_line (map (node_of (sight w) slots) slots)) (flat_map registers_line (held_of (sight w) slots)) end_line)
+    ∙ ap (λ (bs : List ℕ). header_line ++ bs) (l ∙ ap (λ (k : ℕ). heap_line k b c d) sa ∙ ap (λ (k : ℕ). heap_line w.config.slots k c d) sb ∙ ap (λ (k : ℕ). heap_line w.config.slots w.config.fields k d) sc ∙ ap (λ (k : ℕ). heap_line w.config.slots w.config.fields w.config.registers k) sd))))
+    ∙ groups header_line (heap_line w.config.slots w.config.fields w.config.registers w.config.mutators) (flat_map object_line (map (node_of (sight w) slots) slots)) (flat_map registers_line (held_of (sight w) slots)) end_line)
   where
     groups : (a b c d e : List ℕ) → (((a ++ b) ++ c) ++ d) ++ e ≡ a ++ (b ++ (c ++ (d ++ e)))
     groups a b c d e = simp append_assoc

@@ -139,25 +139,32 @@ pub goes_on : (h : Numbers) (d : Draft) (before : List (List ℕ)) → 1 ≤ h.m
 goes_on h Nothing before some is utf8 e few = absurd (omega (arith, two_long h Nothing (counted before) e))
 goes_on h (Header v) before some is utf8 e few = absurd (omega (arith, two_long h (Header v) (counted before) e))
 goes_on h (Sized v heap) before some is utf8 e few =
-    let contents : ScriptContents = record { version = v; slots = heap.slots; fields = heap.fields; registers = heap.registers; commands = [] ∷ [] } in
-    (codes "mutator" ∷ [], contents, record {
-      utf8 = All-push IsUtf8 before (codes "mutator") utf8 mutator_utf8;
-      counted_are = ap (λ (t : List (List (List ℕ))). heading h ++ t) (counted-append before (codes "mutator" ∷ [])) ∙ sym (append_assoc (heading h) (counted before) (mutator_line ∷ [])) ∙ ap (λ (t : List (List (List ℕ))). t ++ mutator_line ∷ []) (sym e);
-      limits = record {
-        version = is.0;
-        heap = is.1;
-        some_mutators = omega arith;
-        most_mutators = omega (arith, many_mutators v);
-        commands = All-push (AreCommands v heap.registers heap.fields) [] [] (λ k d lt. absurd (omega arith)) (no_commands v heap.registers heap.fields);
-      };
-      few = omega (arith, some);
-    })
-goes_on h (Whole script) before some is utf8 e few = ([], script, record {
-  utf8 = subst (λ (t : List (List ℕ)). AreUtf8 t) (sym (append-nil before)) utf8;
-  counted_are = ap (λ (t : List (List ℕ)). heading h ++ counted t) (append-nil before) ∙ sym e;
-  limits = is;
-  few = few;
-})
+    let contents : ScriptContents = record { version = v; slots = heap.slots; fields = heap.fields; registers = heap.registers; commands = [] ∷ [] } in (
+      codes "mutator" ∷ [],
+      contents,
+      record {
+        utf8 = All-push IsUtf8 before (codes "mutator") utf8 mutator_utf8;
+        counted_are = ap (λ (t : List (List (List ℕ))). heading h ++ t) (counted-append before (codes "mutator" ∷ [])) ∙ sym (append_assoc (heading h) (counted before) (mutator_line ∷ [])) ∙ ap (λ (t : List (List (List ℕ))). t ++ mutator_line ∷ []) (sym e);
+        limits = record {
+          version = is.0;
+          heap = is.1;
+          some_mutators = omega arith;
+          most_mutators = omega (arith, many_mutators v);
+          commands = All-push (AreCommands v heap.registers heap.fields) [] [] (λ k d lt. absurd (omega arith)) (no_commands v heap.registers heap.fields);
+        };
+        few = omega (arith, some);
+      },
+    )
+goes_on h (Whole script) before some is utf8 e few = (
+  [],
+  script,
+  record {
+    utf8 = subst (λ (t : List (List ℕ)). AreUtf8 t) (sym (append-nil before)) utf8;
+    counted_are = ap (λ (t : List (List ℕ)). heading h ++ counted t) (append-nil before) ∙ sym e;
+    limits = is;
+    few = few;
+  },
+)
 
 -- ---- lines that don't
 
@@ -185,12 +192,16 @@ refused_line h bytes rest d n line number first more kind some so at parts wrong
     let here : Next (lines bytes) n first more = next (lines bytes) n first more (sym parts ∙ so.others) in
     let its : IsWrongLine h (heading h ++ counted (take n (lines bytes))) (get_or (lines bytes) n []) kind
     = subst (λ (l : List ℕ). IsWrongLine h (heading h ++ counted (take n (lines bytes))) l kind) (sym here.is) (subst (λ (b : List (List (List ℕ))). IsWrongLine h b first kind) so.spelt wrong) in
-    inl (n, at, record {
-      there = here.there;
-      before = goes_on h d (take n (lines bytes)) some so.draft so.utf8 so.spelt so.mutators;
-      not_with = subst (λ (t : List (List ℕ)). ¬ GoOn h t) (sym (take_more (lines bytes) n [] here.there)) (stops_behind h (take n (lines bytes)) (get_or (lines bytes) n []) kind its);
-      wrong = its;
-    })
+    inl (
+      n,
+      at,
+      record {
+        there = here.there;
+        before = goes_on h d (take n (lines bytes)) some so.draft so.utf8 so.spelt so.mutators;
+        not_with = subst (λ (t : List (List ℕ)). ¬ GoOn h t) (sym (take_more (lines bytes) n [] here.there)) (stops_behind h (take n (lines bytes)) (get_or (lines bytes) n []) kind its);
+        wrong = its;
+      },
+    )
 
 pub refused_words : (h : Numbers) (bytes rest : List ℕ) (d : Draft) (n line number : ℕ) (kind : Kind) → 1 ≤ h.mutators → IsReadBehind h bytes rest d n → number ≡ line + n + 1 → IsWrongFirst (lines rest) (so_far d) kind → IsRefusedBehind h bytes line number kind
 refused_words h bytes rest d n line number kind some so at wrong = refused_line h bytes rest d n line number wrong.line wrong.others kind some so at wrong.first (IsWrongLine.fault kind wrong.fault)
@@ -222,11 +233,14 @@ all_read h bytes rest d n so none =
 pub refused_end : (h : Numbers) (bytes rest : List ℕ) (d : Draft) (n line number : ℕ) (kind : Kind) → 1 ≤ h.mutators → IsReadBehind h bytes rest d n → length (lines rest) ≡ 0 → IsNeed (so_far d) kind → number ≡ line + n + 1 → IsRefusedBehind h bytes line number kind
 refused_end h bytes rest d n line number kind some so none need at =
     let all = all_read h bytes rest d n so none in
-    inr (at ∙ ap (λ (m : ℕ). line + m + 1) all.count, record {
-      before = goes_on h d (lines bytes) some so.draft all.utf8 all.spelt so.mutators;
-      not_whole = λ contents spells. need_no_script (so_far d) kind contents need spells.limits (all.spelt ∙ spells.counted_are);
-      need = need_is (so_far d) kind need (two_long h d (counted (lines bytes)) all.spelt);
-    })
+    inr (
+      at ∙ ap (λ (m : ℕ). line + m + 1) all.count,
+      record {
+        before = goes_on h d (lines bytes) some so.draft all.utf8 all.spelt so.mutators;
+        not_whole = λ contents spells. need_no_script (so_far d) kind contents need spells.limits (all.spelt ∙ spells.counted_are);
+        need = need_is (so_far d) kind need (two_long h d (counted (lines bytes)) all.spelt);
+      },
+    )
 
 -- what was read spells the script that it is closed to
 pub spells_closed : (h : Numbers) (bytes rest : List ℕ) (d : Draft) (n : ℕ) (s : ScriptContents) → IsReadBehind h bytes rest d n → length (lines rest) ≡ 0 → IsScript s → so_far d ≡ spelled s → SpellsMutators h (lines bytes) s

@@ -4,6 +4,7 @@
 //! these are, apart from the reader, and of any other text which line is the first that no script continues, and what is
 //! wrong with it; `read` answers just that. Most lines are read in one pass (`spaced`), and every other one by its words.
 //! `make` writes a script whose commands are drawn from a seed; `specs/Made.antt` says which.
+//! `read_after` reads mutators alone, behind a heap that was told before; `specs/Behind.antt` says which.
 //! The layer above may use that a `Script` is within its limits, and the laws, which are the contracts of the functions
 //! in `laws`.
 //! The grammar is this project's profile (`docs/PROFILE.md`); the papers run on programs of Java.
