@@ -294,10 +294,28 @@ static void forget(mutator *m) {
     }
 }
 
+static void run(mutator *m, const node *n);
+
+/* Calls what FUNCTION names between two steps, and goes on as before. */
+static void interrupt(mutator *m) {
+    push(m, whole->code);
+    copy(m, INTERRUPTED, FRAMES);
+    clear(m, FRAMES);
+    m->finalizes = true;
+    run_thunk(m);
+    m->finalizes = false;
+    get(m, ENVIRONMENT, INTERRUPTED, 1);
+    get(m, FRAMES, INTERRUPTED, 0);
+    clear(m, INTERRUPTED);
+}
+
 static void run(mutator *m, const node *n) {
     for (unsigned steps = 0; n != NULL; steps++) {
         if (steps % POLLS_EACH == 0) {
             poll(m);
+            if (!m->finalizes && take_finalizer(m)) {
+                interrupt(m);
+            }
         }
         if (steps % FORGETS_EACH == 0) {
             forget(m);

@@ -37,8 +37,15 @@ int spawn(mutator *m, int thunk);
 void join(mutator *m, int number, int to);
 bool join_all(mutator *m);
 
-/* The lock that a program has. Who waits for it polls. It is free again where a thread ends that holds it. */
-void acquire(mutator *m);
-void release(mutator *m);
+/* The lock that a program has, and the one of the list of finalizers. Who waits for it polls. It is free again where a thread ends that holds it. */
+typedef enum program_lock { OF_PROGRAM, OF_FINALIZERS, LOCKS } program_lock;
+void acquire(mutator *m, program_lock which);
+void release(mutator *m, program_lock which);
+
+/* What the register `thunk` names is called once the pair or procedure in `object` was freed. */
+void finalize(mutator *m, int object, int thunk);
+
+/* Whether an object was freed that had a finalizer. FUNCTION names that then. */
+bool take_finalizer(mutator *m);
 
 #endif

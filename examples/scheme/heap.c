@@ -9,15 +9,17 @@
 #include <stdlib.h>
 #include <time.h>
 
-enum { KIND_BITS = 4, LOG_ENTRIES = 1024, PATIENCE = 200, ROUNDS = 8 };
+enum { KIND_BITS = 4, LOG_ENTRIES = 1024, PATIENCE = 200, ROUNDS = 8, NOTICES = 256 };
 
 static recycler heap = RECYCLER_CLOSED;
 static pthread_t collector;
 static int mutators;
-/* Which handles are given out, and whether the collector is to end. */
+/* Which handles are given out, whether the collector is to end, how many tokens there were, and which of them were freed and not told yet. */
 static pthread_mutex_t lock = PTHREAD_MUTEX_INITIALIZER;
 static bool given[RECYCLER_MOST_MUTATORS];
 static bool ends;
+static int token_count, freed_count, freed_room;
+static int *freed_tokens;
 
 static void must(uint32_t code, const char *call) {
     if (code != RECYCLER_OK) {
@@ -49,11 +51,51 @@ static bool has_ended(void) {
     return ended;
 }
 
+int new_token(void) {
+    pthread_mutex_lock(&lock);
+    int number = ++token_count;
+    pthread_mutex_unlock(&lock);
+    return number;
+}
+
+int freed_token(void) {
+    pthread_mutex_lock(&lock);
+    int number = freed_count > 0 ? freed_tokens[--freed_count] : 0;
+    pthread_mutex_unlock(&lock);
+    return number;
+}
+
+static void add_freed(int number) {
+    pthread_mutex_lock(&lock);
+    if (freed_count == freed_room) {
+        freed_room = 2 * freed_room + 16;
+        freed_tokens = realloc(freed_tokens, (size_t)freed_room * sizeof *freed_tokens);
+        if (freed_tokens == NULL) {
+            fputs("scheme: no memory\n", stderr);
+            exit(2);
+        }
+    }
+    freed_tokens[freed_count++] = number;
+    pthread_mutex_unlock(&lock);
+}
+
+/* Of the labels of all objects that were freed, those of tokens count. */
+static void hear(void) {
+    recycler_heard heard;
+    do {
+        must(recycler_hear(&heap.listener, &heard), "hear");
+        if (heard.any && (heard.label & ((1u << KIND_BITS) - 1)) == NOTHING && heard.label >> KIND_BITS > 0) {
+            add_freed((int)(heard.label >> KIND_BITS));
+        }
+    } while (heard.any);
+}
+
 /* Each collection spends an epoch, so one that freed nothing is followed by a rest. */
 static void *collect(void *nothing) {
     recycler_turned told;
     while (!has_ended()) {
         must(recycler_collect(&heap.collector, 200, &told), "collect");
+        hear();
         if (told.what == RECYCLER_WAITING) {
             wait_for((int)told.mutator - 1);
         } else if (told.what == RECYCLER_COLLECTED && told.freed == 0) {
@@ -68,6 +110,7 @@ static void *collect(void *nothing) {
 void open_heap(uint32_t slots, int threads) {
     mutators = threads;
     must(recycler_open(&heap, slots, FIELDS, REGISTERS, (uint32_t)threads, LOG_ENTRIES, 1), "open");
+    must(recycler_notices(&heap, NOTICES), "notices");
     must(recycler_start(&heap), "start");
     if (pthread_create(&collector, NULL, collect, NULL) != 0) {
         fprintf(stderr, "scheme: no thread can be started\n");

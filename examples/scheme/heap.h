@@ -14,7 +14,7 @@
 
 /* Kinds of objects. A label holds the kind in its lowest four bits, and a number above them: what the comment says. */
 typedef enum kind {
-    NOTHING,   /* of a null register or field: what has no value yet */
+    NOTHING,   /* of a null register or field: what has no value yet. With a number above 0: a token, which tells that who has it was freed */
     NUMBER,    /* itself. All kinds down to THREAD are leaves */
     BOOLEAN,   /* 1 or 0 */
     EMPTY,     /* the empty list */
@@ -23,7 +23,7 @@ typedef enum kind {
     STRING,    /* which text */
     PRIMITIVE, /* which one */
     THREAD,    /* whose mutator it has */
-    PAIR,      /* fields: its head and its tail */
+    PAIR,      /* fields: its head and its tail. TOKENS too, as in a CLOSURE: a NODE with a token and what was there before */
     CLOSURE,   /* which code. Field: its environment */
     VECTOR,    /* how many items, in a tree of three branches at each node */
     NODE,      /* a node of such a tree */
@@ -32,17 +32,19 @@ typedef enum kind {
     FRAME      /* which code is to go on. Fields: the frame behind it, and its environment */
 } kind;
 
-enum { FIELDS = 3, LEAST_NUMBER = -(1 << 27), MOST_NUMBER = (1 << 27) - 1 };
+enum { FIELDS = 3, TOKENS = 2, LEAST_NUMBER = -(1 << 27), MOST_NUMBER = (1 << 27) - 1 };
 
 /* Registers. ROOT is never written: it names the object that all mutators share, with the items below. */
-enum { ROOT, ENVIRONMENT, FRAMES, VALUE, FUNCTION, FRESH, WALK, SPARE, ARGUMENTS, MOST_ARGUMENTS = 16, WORK = ARGUMENTS + MOST_ARGUMENTS, REGISTERS = 64 };
+enum { ROOT, ENVIRONMENT, FRAMES, VALUE, INTERRUPTED, FUNCTION, FRESH, WALK, SPARE, ARGUMENTS, MOST_ARGUMENTS = 16, WORK = ARGUMENTS + MOST_ARGUMENTS, REGISTERS = 64 };
 
-/* The fields of the shared object: the globals, the constants, and what is handed to each thread and comes back from it. */
+/* The fields of the shared object: the globals, the constants, and what is handed to each thread and comes back from it, with the list of
+ * finalizers behind. */
 enum { GLOBALS, CONSTANTS, HANDED };
 
 typedef struct mutator {
     int number; /* from 0 */
     int line;   /* of what it carries out */
+    bool finalizes;
     jmp_buf failed;
 } mutator;
 
@@ -72,6 +74,10 @@ void clear(mutator *m, int reg);
 void get(mutator *m, int to, int from, int field);
 void put(mutator *m, int into, int field, int from);
 bool same(mutator *m, int a, int b);
+
+/* A number for a token that none had, and the number of a token that was freed, or 0. Each is told once. */
+int new_token(void);
+int freed_token(void);
 
 /* What a register names: NOTHING where it is null. */
 kind kind_of(mutator *m, int reg, int *number);

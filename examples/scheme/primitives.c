@@ -18,7 +18,7 @@ typedef enum primitive {
     IS_SAME, NOT, IS_NULL, IS_PAIR, IS_NUMBER, IS_SYMBOL, IS_STRING, IS_BOOLEAN, IS_VECTOR, IS_PROCEDURE, LAST_TEST = IS_PROCEDURE,
     /* others */
     CONS, CAR, CDR, SET_CAR, SET_CDR, LIST, VECTOR_OF, MAKE_VECTOR, VECTOR_LENGTH, VECTOR_REF, VECTOR_SET,
-    STRING_APPEND, STRING_LENGTH, NUMBER_TO_STRING, SYMBOL_TO_STRING, DISPLAY, WRITE, NEWLINE, ERROR, SPAWN, JOIN, ACQUIRE, RELEASE
+    STRING_APPEND, STRING_LENGTH, NUMBER_TO_STRING, SYMBOL_TO_STRING, DISPLAY, WRITE, NEWLINE, ERROR, SPAWN, JOIN, ACQUIRE, RELEASE, FINALIZE
 } primitive;
 
 /* In the order of the enum: how many operands each takes. */
@@ -30,7 +30,8 @@ static const struct { const char *name; int least, most; } PRIMITIVES[] = {
     { "cons", 2, 2 }, { "car", 1, 1 }, { "cdr", 1, 1 }, { "set-car!", 2, 2 }, { "set-cdr!", 2, 2 }, { "list", 0, MOST_ARGUMENTS },
     { "vector", 0, MOST_ARGUMENTS }, { "make-vector", 2, 2 }, { "vector-length", 1, 1 }, { "vector-ref", 2, 2 }, { "vector-set!", 3, 3 },
     { "string-append", 0, MOST_ARGUMENTS }, { "string-length", 1, 1 }, { "number->string", 1, 1 }, { "symbol->string", 1, 1 },
-    { "display", 1, 1 }, { "write", 1, 1 }, { "newline", 0, 0 }, { "error", 1, MOST_ARGUMENTS }, { "spawn", 1, 1 }, { "join", 1, 1 }, { "acquire", 0, 0 }, { "release", 0, 0 }
+    { "display", 1, 1 }, { "write", 1, 1 }, { "newline", 0, 0 }, { "error", 1, MOST_ARGUMENTS }, { "spawn", 1, 1 }, { "join", 1, 1 }, { "acquire", 0, 0 }, { "release", 0, 0 },
+    { "finalize", 2, 2 }
 };
 
 int primitive_named(const char *name) {
@@ -443,7 +444,15 @@ void operate(mutator *m, int which, int first, int count, int to) {
         break;
     case ACQUIRE:
     case RELEASE:
-        which == ACQUIRE ? acquire(m) : release(m);
+        which == ACQUIRE ? acquire(m, OF_PROGRAM) : release(m, OF_PROGRAM);
+        make(m, to, VOID, 0);
+        break;
+    case FINALIZE:
+        if (kind_of(m, first, &number) != PAIR) {
+            want(m, first, CLOSURE, "a pair or a procedure");
+        }
+        want(m, first + 1, CLOSURE, "a procedure");
+        finalize(m, first, first + 1);
         make(m, to, VOID, 0);
         break;
     default:

@@ -6,7 +6,8 @@
 #include <sched.h>
 #include <stdlib.h>
 
-/* The shared object's HANDED vector has an item for each thread: the procedure that it is to carry out, and then what that came to. */
+/* The shared object's HANDED vector has an item for each thread: the procedure that it is to carry out, and then what that came to. The last
+ * item is the list of finalizers: of pairs of a token's number and a procedure. */
 typedef struct worker {
     pthread_t thread;
     mutator mutator;
@@ -16,18 +17,18 @@ typedef struct worker {
 static pthread_mutex_t lock = PTHREAD_MUTEX_INITIALIZER;
 static worker workers[RECYCLER_MOST_MUTATORS];
 static int count;
-/* Whose mutator has the program's lock: none's where it is -1. */
-static int holder = -1;
+/* Whose mutator has each lock: none's where it is -1. */
+static int holders[LOCKS] = { -1, -1 };
 
 void open_threads(mutator *m, int threads) {
     count = threads;
-    make_vector(m, SPARE, count, ROOT, WORK);
+    make_vector(m, SPARE, count + 1, ROOT, WORK);
     put(m, ROOT, HANDED, SPARE);
 }
 
 static int hand(mutator *m, int number) {
     get(m, WALK, ROOT, HANDED);
-    return branch_of(m, count, number);
+    return branch_of(m, count + 1, number);
 }
 
 static void set_state(worker *w, int state) {
@@ -43,6 +44,12 @@ static int state_of(const worker *w) {
     return state;
 }
 
+static void release_all(mutator *m) {
+    for (int which = 0; which < LOCKS; which++) {
+        release(m, (program_lock)which);
+    }
+}
+
 static void *work(void *given) {
     worker *w = given;
     mutator *m = &w->mutator;
@@ -52,7 +59,7 @@ static void *work(void *given) {
         run_thunk(m);
         put(m, WALK, hand(m, m->number), VALUE);
     }
-    release(m);
+    release_all(m);
     leave(m);
     set_state(w, failed ? HAS_FAILED : IS_DONE);
     return NULL;
@@ -98,29 +105,84 @@ void join(mutator *m, int number, int to) {
     put(m, WALK, hand(m, number), ROOT);
 }
 
-/* Hands the lock on from one to another, where that one has it. */
-static bool hands_on(int from, int to) {
+/* Hands a lock on from one to another, where that one has it. */
+static bool hands_on(program_lock which, int from, int to) {
     pthread_mutex_lock(&lock);
-    bool has = holder == from;
-    holder = has ? to : holder;
+    bool has = holders[which] == from;
+    holders[which] = has ? to : holders[which];
     pthread_mutex_unlock(&lock);
     return has;
 }
 
-void acquire(mutator *m) {
-    while (!hands_on(-1, m->number)) {
+void acquire(mutator *m, program_lock which) {
+    while (!hands_on(which, -1, m->number)) {
         poll(m);
         sched_yield();
     }
 }
 
-void release(mutator *m) {
-    hands_on(m->number, -1);
+void release(mutator *m, program_lock which) {
+    hands_on(which, m->number, -1);
+}
+
+/* ---- finalizers */
+
+static void cons_fresh(mutator *m, int head, int tail) {
+    make(m, FRESH, PAIR, 0);
+    put(m, FRESH, 0, head);
+    put(m, FRESH, 1, tail);
+}
+
+/* The object gets a token, which is freed with it, beside those that it had. */
+void finalize(mutator *m, int object, int thunk) {
+    int token = new_token();
+    make(m, SPARE, NUMBER, token);
+    cons_fresh(m, SPARE, thunk);
+    copy(m, SPARE, FRESH);
+    acquire(m, OF_FINALIZERS);
+    get(m, FRESH, WALK, hand(m, count));
+    copy(m, WALK, FRESH);
+    cons_fresh(m, SPARE, WALK);
+    put(m, WALK, hand(m, count), FRESH);
+    release(m, OF_FINALIZERS);
+    make(m, SPARE, NOTHING, token);
+    make(m, FRESH, NODE, 0);
+    put(m, FRESH, 0, SPARE);
+    get(m, WALK, object, TOKENS);
+    put(m, FRESH, 1, WALK);
+    put(m, object, TOKENS, FRESH);
+}
+
+/* Takes the entry of a token off the list. SPARE names what leads to the rest of the list, WALK the rest. */
+bool take_finalizer(mutator *m) {
+    int token = freed_token(), number = 0;
+    if (token == 0) {
+        return false;
+    }
+    acquire(m, OF_FINALIZERS);
+    int field = hand(m, count);
+    copy(m, SPARE, WALK);
+    for (;;) {
+        get(m, WALK, SPARE, field);
+        get(m, FRESH, WALK, 0);
+        get(m, FUNCTION, FRESH, 0);
+        kind_of(m, FUNCTION, &number);
+        if (number == token) {
+            break;
+        }
+        copy(m, SPARE, WALK);
+        field = 1;
+    }
+    get(m, FUNCTION, FRESH, 1);
+    get(m, WALK, WALK, 1);
+    put(m, SPARE, field, WALK);
+    release(m, OF_FINALIZERS);
+    return true;
 }
 
 bool join_all(mutator *m) {
     bool well = true;
-    release(m);
+    release_all(m);
     for (int number = 0; number < count; number++) {
         worker *w = &workers[number];
         if (state_of(w) != UNUSED && state_of(w) != JOINED) {
