@@ -167,7 +167,6 @@ stage_for true = stages.Steps
 abbrev form_at : Heap → Place → Form
 form_at heap place = at heap (stage_for place.working) place.next
 
-
 from_stage : (heap : Heap) (place : Place) (b : Bool) → place.working ≡ b → at heap (stage_for b) place.next ≡ form_at heap place
 from_stage heap place b e = ap (λ x. at heap (stage_for x) place.next) (sym e)
 
