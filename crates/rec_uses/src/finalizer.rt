@@ -53,7 +53,14 @@ pub fn run(out: &impl Print, alloc: Global, world: World) -> anyhow::Result<()>
             let mutator = &mut mutators[0];
             own(&heap, mutator);
             let (mut teller, mut listener) = notices(alloc, ROOM)?;
-            close_files(out, &heap, mutator, &mut collector, &mut teller, &mut listener)?;
+            close_files(
+                out,
+                &heap,
+                mutator,
+                &mut collector,
+                &mut teller,
+                &mut listener,
+            )?;
             Ok(())
         }
         Err((_, error)) => Err(error.into()),

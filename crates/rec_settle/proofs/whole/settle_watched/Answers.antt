@@ -45,22 +45,22 @@ returns-in_err-next_watched-clause-refused g c =
 pub overflow_sub-result : goal.overflow_sub-result
 overflow_sub-result g c =
     let h : EndsSettling c.args.world.now c.next_watched.new.world =
-        settling_settles c.args.world.now c.next_watched.new.world (world_kept c.args.world.now c.start.ensures.kept) c.requires.idle
-        (came_settled c.args.world.now c.loop.settling c.next_watched.new.self c.loop.world c.next_watched.new.world c.in_ok-next_watched.field-0 c.in_default.is c.loop.invariant.comes c.in_ok-next_watched.ensures.goes) in
+    settling_settles c.args.world.now c.next_watched.new.world (world_kept c.args.world.now c.start.ensures.kept) c.requires.idle
+    (came_settled c.args.world.now c.loop.settling c.next_watched.new.self c.loop.world c.next_watched.new.world c.in_ok-next_watched.field-0 c.in_default.is c.loop.invariant.comes c.in_ok-next_watched.ensures.goes) in
     omega (arith, h.all.collections, c.collections.ensures.collections, c.collections-collections.ensures.collections)
 
 pub overflow_sub-result-2 : goal.overflow_sub-result-2
 overflow_sub-result-2 g c =
     let h : EndsSettling c.args.world.now c.next_watched.new.world =
-        settling_settles c.args.world.now c.next_watched.new.world (world_kept c.args.world.now c.start.ensures.kept) c.requires.idle
-        (came_settled c.args.world.now c.loop.settling c.next_watched.new.self c.loop.world c.next_watched.new.world c.in_ok-next_watched.field-0 c.in_default.is c.loop.invariant.comes c.in_ok-next_watched.ensures.goes) in
+    settling_settles c.args.world.now c.next_watched.new.world (world_kept c.args.world.now c.start.ensures.kept) c.requires.idle
+    (came_settled c.args.world.now c.loop.settling c.next_watched.new.self c.loop.world c.next_watched.new.world c.in_ok-next_watched.field-0 c.in_default.is c.loop.invariant.comes c.in_ok-next_watched.ensures.goes) in
     omega (arith, h.all.stays.freed, c.freed.ensures.freed, c.freed-swept.ensures.freed)
 
 pub overflow_cast-result : goal.overflow_cast-result
 overflow_cast-result g c =
     let h : EndsSettling c.args.world.now c.next_watched.new.world =
-        settling_settles c.args.world.now c.next_watched.new.world (world_kept c.args.world.now c.start.ensures.kept) c.requires.idle
-        (came_settled c.args.world.now c.loop.settling c.next_watched.new.self c.loop.world c.next_watched.new.world c.in_ok-next_watched.field-0 c.in_default.is c.loop.invariant.comes c.in_ok-next_watched.ensures.goes) in
+    settling_settles c.args.world.now c.next_watched.new.world (world_kept c.args.world.now c.start.ensures.kept) c.requires.idle
+    (came_settled c.args.world.now c.loop.settling c.next_watched.new.self c.loop.world c.next_watched.new.world c.in_ok-next_watched.field-0 c.in_default.is c.loop.invariant.comes c.in_ok-next_watched.ensures.goes) in
     omega (arith, few_freed c.args.world.now c.next_watched.new.world (world_kept c.args.world.now c.start.ensures.kept) h, c.freed.ensures.freed, c.freed-swept.ensures.freed)
 
 pub returns-clause-done : goal.returns-clause-done
@@ -98,8 +98,7 @@ returns-clause-shown g c =
     let told = told_shown c.loop.settling c.loop.world c.in_ok-next_watched.field-0 in
     let all : IsShownTo c.args.world.now (so.0 ++ told) Settled c.next_watched.new.world
     = subst (λ s. IsShownTo c.args.world.now (so.0 ++ told) s c.next_watched.new.world) (ended_stage c.loop.settling c.next_watched.new.self c.loop.world c.next_watched.new.world c.in_ok-next_watched.field-0 c.in_default.is c.in_ok-next_watched.ensures.goes)
-    (shown_on c.args.world.now so.0 c.loop.settling c.next_watched.new.self c.loop.world c.next_watched.new.world c.in_ok-next_watched.field-0 so.1 c.in_ok-next_watched.ensures.goes) in
-    (
+    (shown_on c.args.world.now so.0 c.loop.settling c.next_watched.new.self c.loop.world c.next_watched.new.world c.in_ok-next_watched.field-0 so.1 c.in_ok-next_watched.ensures.goes) in (
       so.0 ++ told,
       all,
       g.met.W.Watch.shown_then c.args.watch.now c.loop.watch c.next_watched.new.watch so.0 told so.2 c.in_ok-next_watched.ensures.shown,
