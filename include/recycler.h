@@ -1,7 +1,7 @@
 /* librecycler_c: a proved concurrent reference-counting collector.
  *
- * A `recycler` lies in memory of the caller's, and holds a handle for the collector and one for each mutator. Begin it with
- * RECYCLER_CLOSED; bytes that are all zero are closed too. Its bytes are the library's: a caller passes addresses of it and of its
+ * A `recycler` lies in memory of the caller's, and holds a handle for the collector, one for each mutator and one for a listener. Begin
+ * it with RECYCLER_CLOSED; bytes that are all zero are closed too. Its bytes are the library's: a caller passes addresses of it and of its
  * handles, and copies or writes nothing. Two heaps have nothing in common: calls on one may run beside calls on the other.
  *
  * Linking. `make -C include install PREFIX=..` installs this header, the library and what pkg-config says of them:
@@ -22,13 +22,13 @@
  *
  * Threads. A call that takes a whole `recycler` wants it to itself, with all its handles. While the heap runs, each handle is given to
  * one call at a time, and calls on different handles may run beside each other: one thread turns &r.collector, and one thread each
- * carries on &r.mutators[k], which is the mutator with number k + 1. A handle may move to another thread. Order that by the start or
- * the join of a thread, a lock, or a sequentially consistent atomic. That a handle may move, with what it holds and the pointer to the
+ * carries on &r.mutators[k], which is the mutator with number k + 1, and one may hear on &r.listener. A handle may move to another
+ * thread. Order that by the start or the join of a thread, a lock, or a sequentially consistent atomic. That a handle may move, with what it holds and the pointer to the
  * heap, is proved (Owned of crates/recycler_c is Send). No call is made from a signal handler, or from the forked child of a process
  * with threads.
  *
- * Memory. recycler_open and recycler_start take memory, by malloc; recycler_close, recycler_stop and a refused call give it back. No
- * other call answers RECYCLER_NO_MEMORY. malloc aligns as C says, and malloc, realloc and free are of one allocator.
+ * Memory. recycler_open, recycler_notices and recycler_start take memory, by malloc; recycler_close, recycler_stop and a refused call give
+ * it back. No other call answers RECYCLER_NO_MEMORY. malloc aligns as C says, and malloc, realloc and free are of one allocator.
  *
  * Epochs. Each collection spends an epoch, recycler_settle spends three, and 16,777,215 is the last. A small collection takes some 8
  * microseconds (bench/README.md, the table of bench/pauses). So a collector that is turned without pause may spend all epochs within
@@ -39,6 +39,20 @@
  *
  * A mutator has registers, numbered from 0, and reaches objects by them alone. An object has a label, which the caller chooses as it
  * makes it, and fields, numbered from 0. A register or a field is null or leads to one object.
+ *
+ * Notices. A heap that recycler_notices was called on tells the label of each object that its collector frees, in the order of freeing,
+ * and recycler_hear hears each once. So a finalizer is an entry of a table of the caller's, whose index is the object's label. Any thread
+ * may hear; here the one that turns the collector does:
+ *
+ *     static void (*finalizers[OBJECTS])(uint32_t);                        an object's label is its index here
+ *     ..
+ *     recycler_notices(&r, 64);                                            room for 64 labels; before recycler_start
+ *     ..
+ *     recycler_heard heard = { 0, 0 };
+ *     recycler_collect(&r.collector, 1000, &turned);                       ends with RECYCLER_HELD where there is no room
+ *     while (recycler_hear(&r.listener, &heard) == RECYCLER_OK && heard.any)
+ *         if (finalizers[heard.label])
+ *             finalizers[heard.label](heard.label);                        the object is gone: its label is free for another
  */
 #ifndef RECYCLER_H
 #define RECYCLER_H
@@ -66,9 +80,9 @@ typedef enum recycler_code {
     /* the heap runs, and the call is for one at rest; it rests, and the call is for one that runs */
     RECYCLER_RUNS = 10,
     RECYCLER_RESTS = 11,
-    /* a mutator's handle where the collector's is wanted, or the other way round */
+    /* the handle is open, and it is not of the kind that the call is for: a mutator's, the collector's or the listener's */
     RECYCLER_OTHER_HANDLE = 12,
-    /* a register, a field or a slot is not there */
+    /* a register, a field or a slot is not there; the room for notices is not from 1 to 65,535 */
     RECYCLER_RANGE = 13,
     /* fewer than four epochs are left to request; 16,777,215 is the last */
     RECYCLER_EPOCHS_SPENT = 14,
@@ -91,10 +105,11 @@ typedef struct recycler_handle {
 typedef struct recycler {
     recycler_handle collector;
     recycler_handle mutators[RECYCLER_MOST_MUTATORS];
+    recycler_handle listener;
 } recycler;
 
 /* All handles are closed: what an initializer does not name is zero. */
-#define RECYCLER_CLOSED { { false, { 0 }, { 0 } }, { { false, { 0 }, { 0 } } } }
+#define RECYCLER_CLOSED { { false, { 0 }, { 0 } }, { { false, { 0 }, { 0 } } }, { false, { 0 }, { 0 } } }
 
 /* What a command was answered. */
 typedef enum recycler_answer {
@@ -128,12 +143,18 @@ typedef enum recycler_what {
      * middle of that; nothing changed */
     RECYCLER_WAITING = 1,
     RECYCLER_COLLECTED = 2, /* the collection of `epoch` is complete, with so many slots `freed` */
-    RECYCLER_NO_EPOCH = 3   /* no epoch is left to request, so no collection begins any more; nothing changed */
+    RECYCLER_NO_EPOCH = 3,  /* no epoch is left to request, so no collection begins any more; nothing changed */
+    RECYCLER_HELD = 4       /* a label waits that the listener has no room for; the collection stands still until it hears */
 } recycler_what;
 
 typedef struct recycler_turned {
     uint32_t what, mutator, epoch, freed;
 } recycler_turned;
+
+/* What the listener heard: `any` is 1, and `label` that of an object that was freed; or both are 0, where it saw none. */
+typedef struct recycler_heard {
+    uint32_t any, label;
+} recycler_heard;
 
 /* How many collections settling completed, how many slots they freed, and how many slots hold objects afterwards. */
 typedef struct recycler_settled {
@@ -172,6 +193,16 @@ uint32_t recycler_open(recycler *r, uint32_t slots, uint32_t fields, uint32_t re
 /* Closes a heap at rest, and gives back its memory. Another heap may be opened there. Codes: CLOSED_HANDLE, RUNS. */
 uint32_t recycler_close(recycler *r);
 
+/* Asks for notices: from its next start on, the collector of this heap at rest tells the label of each object that it frees, and
+ * &r->listener hears them. There is room for so many labels between them: 1 to 65,535. It is asked once for a heap. Stopping and starting
+ * keep it, recycler_settle tells nobody, and recycler_close ends it.
+ * Codes: CLOSED_HANDLE, RUNS, OPEN_ALREADY (it was asked before), RANGE, NO_MEMORY. */
+uint32_t recycler_notices(recycler *r, uint32_t room);
+
+/* Hears the next label of an object that was freed, on &r->listener, be the heap running or at rest. It waits for nobody. Codes:
+ * CLOSED_HANDLE (no notices were asked for), OTHER_HANDLE. */
+uint32_t recycler_hear(recycler_handle *listener, recycler_heard *told);
+
 /* Sets a heap at rest running: &r->collector is its collector's handle then, and &r->mutators[k] the handle of mutator k + 1.
  * Codes: CLOSED_HANDLE, RUNS, NO_MEMORY, SHARED. After SHARED it runs with all mutators at home, whose handles answer RESTS: stop it. */
 uint32_t recycler_start(recycler *r);
@@ -194,12 +225,14 @@ uint32_t recycler_taken(recycler *r, uint32_t *taken);
 /* Tells the totals of a heap at rest. Codes: CLOSED_HANDLE, RUNS. */
 uint32_t recycler_totals(recycler *r, recycler_totals_told *told);
 
-/* One step of a collection, on &r->collector. It waits for nobody. Codes: CLOSED_HANDLE, RESTS, OTHER_HANDLE. */
+/* One step of a collection, on &r->collector. It waits for nobody. Where notices were asked for, the label of an object that the step freed
+ * is told. A label that found no room is kept, and told before the next step; as long as it finds none it comes to HELD, and no step is
+ * made. Codes: CLOSED_HANDLE, RESTS, OTHER_HANDLE. */
 uint32_t recycler_turn(recycler_handle *collector, recycler_turned *told);
 
-/* Up to so many steps of a collection, on &r->collector, in one call: it ends behind the first one that does not come to MOVED. `told` is
- * what the last step came to, and MOVED where turns is 0. It waits for nobody, and its steps are those of as many calls of
- * recycler_turn. Codes: CLOSED_HANDLE, RESTS, OTHER_HANDLE. */
+/* Up to so many steps of a collection, on &r->collector, in one call: it ends behind the first one that does not come to MOVED, and
+ * before one that is HELD. `told` is what the last one came to, and MOVED where turns is 0. It waits for nobody, and its steps are those
+ * of as many calls of recycler_turn. Codes: CLOSED_HANDLE, RESTS, OTHER_HANDLE. */
 uint32_t recycler_collect(recycler_handle *collector, uint32_t turns, recycler_turned *told);
 
 /* The calls below are for &r->mutators[k]. Codes of each: CLOSED_HANDLE, RESTS, OTHER_HANDLE, LEFT; of the commands RANGE too, where a

@@ -16,6 +16,7 @@ static union {
     recycler_settled settled;
     recycler_slot_told slot;
     recycler_totals_told totals;
+    recycler_heard heard;
     uint32_t number;
 } told;
 
@@ -133,6 +134,8 @@ static void while_closed(recycler *r) {
     WANT(recycler_turn(&r->collector, &told.turned), RECYCLER_CLOSED_HANDLE);
     WANT(recycler_collect(&r->collector, 1, &told.turned), RECYCLER_CLOSED_HANDLE);
     WANT(recycler_turn(&r->mutators[0], &told.turned), RECYCLER_CLOSED_HANDLE);
+    WANT(recycler_notices(r, 4), RECYCLER_CLOSED_HANDLE);
+    WANT(recycler_hear(&r->listener, &told.heard), RECYCLER_CLOSED_HANDLE);
     want_commands(&r->collector, RECYCLER_CLOSED_HANDLE);
     want_commands(&r->mutators[0], RECYCLER_CLOSED_HANDLE);
     want_numbers(r);
@@ -151,6 +154,9 @@ static void while_at_rest(recycler *r) {
     want_commands(&r->mutators[0], RECYCLER_RESTS);
     want_commands(&r->mutators[MUTATORS - 1], RECYCLER_RESTS);
     want_commands(&r->mutators[MUTATORS], RECYCLER_CLOSED_HANDLE);
+    WANT(recycler_notices(r, 0), RECYCLER_RANGE);
+    WANT(recycler_notices(r, 65536), RECYCLER_RANGE);
+    WANT(recycler_hear(&r->listener, &told.heard), RECYCLER_CLOSED_HANDLE);
     WANT(recycler_slot(r, SLOTS, &told.slot), RECYCLER_RANGE);
     WANT(recycler_slot(r, UINT32_MAX, &told.slot), RECYCLER_RANGE);
     after = look(r);
@@ -164,6 +170,9 @@ static void while_it_runs(recycler *r) {
     WANT(open_small(r, 1), RECYCLER_OPEN_ALREADY);
     WANT(recycler_start(r), RECYCLER_RUNS);
     WANT(recycler_close(r), RECYCLER_RUNS);
+    WANT(recycler_notices(r, 4), RECYCLER_RUNS);
+    WANT(recycler_hear(&r->collector, &told.heard), RECYCLER_OTHER_HANDLE);
+    WANT(recycler_hear(m, &told.heard), RECYCLER_OTHER_HANDLE);
     WANT(recycler_settle(r, &told.settled), RECYCLER_RUNS);
     WANT(recycler_slot(r, 0, &told.slot), RECYCLER_RUNS);
     WANT(recycler_taken(r, &told.number), RECYCLER_RUNS);
@@ -252,6 +261,51 @@ static void make_leaf(recycler *r) {
     WANT(recycler_settle(r, &settled), RECYCLER_OK);
     WANT_TRUE(settled.live == 1 && settled.freed == 1);
     WANT(recycler_close(r), RECYCLER_OK);
+}
+
+/* Turns until a turn comes to something else than that it moved or waits for a mutator, which polls then. */
+static recycler_turned collect(recycler *r) {
+    recycler_turned turned;
+    uint32_t crossed;
+    do {
+        WANT(recycler_collect(&r->collector, 1000, &turned), RECYCLER_OK);
+        if (turned.what == RECYCLER_WAITING) {
+            WANT(recycler_poll(&r->mutators[turned.mutator - 1], &crossed), RECYCLER_OK);
+        }
+    } while (turned.what == RECYCLER_MOVED || turned.what == RECYCLER_WAITING);
+    return turned;
+}
+
+/* Two objects are freed, and there is room for one label. Who listens is told each once; starting again keeps a label that is held. */
+static void hear_all(recycler *r) {
+    recycler_asked asked;
+    recycler_heard heard;
+    WANT(open_small(r, 1), RECYCLER_OK);
+    WANT(recycler_notices(r, 1), RECYCLER_OK);
+    WANT(recycler_notices(r, 1), RECYCLER_OPEN_ALREADY);
+    WANT(recycler_start(r), RECYCLER_OK);
+    want_commands(&r->listener, RECYCLER_OTHER_HANDLE);
+    WANT(recycler_turn(&r->listener, &told.turned), RECYCLER_OTHER_HANDLE);
+    WANT(recycler_collect(&r->listener, 1, &told.turned), RECYCLER_OTHER_HANDLE);
+    for (uint32_t label = 1; label <= 2; label++) {
+        WANT(recycler_new(&r->mutators[0], 1, label, &asked), RECYCLER_OK);
+    }
+    WANT(recycler_null(&r->mutators[0], 1, &asked), RECYCLER_OK);
+    WANT_TRUE(collect(r).what == RECYCLER_COLLECTED);
+    WANT_TRUE(collect(r).what == RECYCLER_HELD);
+    WANT(recycler_stop(r), RECYCLER_OK);
+    WANT(recycler_start(r), RECYCLER_OK);
+    WANT_TRUE(collect(r).what == RECYCLER_HELD);
+    WANT(recycler_hear(&r->listener, &heard), RECYCLER_OK);
+    WANT_TRUE(heard.any == 1 && heard.label == 1);
+    WANT_TRUE(collect(r).what == RECYCLER_COLLECTED);
+    WANT(recycler_stop(r), RECYCLER_OK);
+    WANT(recycler_hear(&r->listener, &heard), RECYCLER_OK);
+    WANT_TRUE(heard.any == 1 && heard.label == 2);
+    WANT(recycler_hear(&r->listener, &heard), RECYCLER_OK);
+    WANT_TRUE(heard.any == 0 && heard.label == 0);
+    WANT(recycler_close(r), RECYCLER_OK);
+    WANT(recycler_hear(&r->listener, &told.heard), RECYCLER_CLOSED_HANDLE);
 }
 
 /* Both mutators leave, the first once the log that it handed over is collected. They are asked nothing then, nor after a stop and a start. */
@@ -366,6 +420,7 @@ int main(void) {
     go_round(&r);
     while_closed(&r);
     make_leaf(&r);
+    hear_all(&r);
     leave_all(&r);
     while_closed(&r);
     /* bytes that are all zero are closed too */

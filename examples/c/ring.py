@@ -8,7 +8,7 @@ import time
 from ctypes import CDLL, Structure, byref, c_uint32 as u32, c_uint64 as u64
 
 LIBRARY = CDLL(sys.argv[1] if len(sys.argv) > 1 else "out/librecycler.so")
-HEAP = (u64 * 512)()  # a `recycler`: 64 handles of 64 bytes, the collector's first; bytes that are all zero are closed
+HEAP = (u64 * 520)()  # a `recycler`: 65 handles of 64 bytes, the collector's first and the listener's last; all zero is closed
 WORKING = {1, 2, 3, 4}  # the mutators that still build
 
 

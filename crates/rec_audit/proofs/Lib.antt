@@ -14,3 +14,4 @@ pub mod Concluding
 pub mod Uniqueness
 pub mod Completing
 pub mod Forming
+pub mod Sets

@@ -1,6 +1,7 @@
 -- The journal of a list of steps that a collector made: a title, a heap, and the lines that each step is told by.
 use Rattle.std.specs.Prelude.{◌≡◌, ℕ, ◌+◌, ◌==◌, if◌then◌else◌, Option, None, Some, List, [], ◌∷◌, ◌++◌, map}
-use Rattle.std.specs.List.{flat_map, enumerate_from}
+use Rattle.std.specs.List.{count_by, flat_map, enumerate_from}
+use Rattle.std.specs.Option.{is_some}
 use Rattle.rec_word.specs.declared.op.Op.{Op}
 use Rattle.rec_word.specs.declared.op.Op.TheVariants.{ClearField, FreeHeader}
 use Rattle.rec_log.specs.declared.contents.Contents.{Contents}
@@ -80,3 +81,7 @@ journal heap steps = opening_lines heap ++ flat_map lines_of steps
 -- An audit has noted these steps: its text is just that of their journal.
 abbrev pub HasNoted : Heap → List Shown → (text : List ℕ) → Type 0
 HasNoted heap steps text = text ≡ text_of (journal heap steps)
+
+-- how many sets passed both tests in these steps
+abbrev pub sets_passed : List Shown → ℕ
+sets_passed steps = count_by (λ step. is_some step.passed) steps

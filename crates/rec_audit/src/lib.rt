@@ -29,6 +29,7 @@ mod verdict;
 pub use audit::Audit;
 pub use checking::check;
 pub use laws::{
-    journals_are_in_form, lines_are_a_beginning, no_journal_goes_on, verdicts_are_unique,
+    clean_journals_are_answered_yes, journals_are_in_form, lines_are_a_beginning,
+    no_journal_goes_on, verdicts_are_unique,
 };
 pub use verdict::{Rule, Verdict};

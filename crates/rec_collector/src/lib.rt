@@ -10,6 +10,7 @@
 //! The rule that this crate keeps: what comes next and what is learnt are functions of the machine's private record and of
 //! the word found alone; an epoch is requested only after the last collection is complete, a batch is applied only once all
 //! mutators have crossed, and no collection takes more than a bounded number of turns, beside those in which it waits.
+//! What a watch is shown of a step is read off the machine right behind it (`applied`, `passed`, `completed`).
 //! The layer above may use that `next`, `took` and `swap_box` are exactly `next_of`, `took_of` and `swapped_of` of `specs/`, that
 //! `offer_all` changes nothing but whether every slot is offered to the next trial, and the laws, which are the contracts of the
 //! functions in `laws`.

@@ -45,6 +45,7 @@ pub mod Seated
 pub mod SetTests
 pub mod Shapes
 pub mod Showing
+pub mod Shows
 pub mod Step
 pub mod Steps
 pub mod Sums

@@ -30,7 +30,9 @@ use Rattle.rec_core.specs.declared.config.Config.{Config}
 use Rattle.rec_core.proofs.Gathering.{awaited_stays}
 use Rattle.rec_core.proofs.Leaving.{IsStayingIn, polls_stay}
 use Rattle.rec_core.proofs.Runs.{config_after}
+use Rattle.rec_core.specs.Shown.{Shows}
 use Rattle.rec_core.proofs.Showing.{step_caused}
+use Rattle.rec_core.proofs.Shows.{shows_then, shows_worked}
 use Rattle.rec_core.proofs.Steps.{actor_of}
 use Rattle.rec_order.specs.Events.{swept_by}
 use Rattle.rec_order.specs.Naming.{Naming, NamesGoOn, first_naming}
@@ -189,6 +191,22 @@ went_command script events n before after t cmd told world idle present carries 
         commands = commands_more script events t cmd told carries.next so.commands;
       },
     )
+
+-- A watch is shown nothing of a command and of the poll before it.
+pub shows_command : (script : ScriptContents) (made t : ℕ) (before after : Core) (cmd : Cmd) (told : Told) → IsScript script → before.config ≡ config_of script → IsWorld before → AreIdle before → (mutator before t).left ≡ false → Carries script t made before cmd told after
+    → Shows before [] after
+shows_command script made t before after cmd told valid config world idle present carries =
+    let there : HasCommand script t made = has_command script t made cmd carries.next in
+    let mid : Core = carries.polled in
+    let is : IsMutator before.config t = is_mutator script before t config there.some there.most in
+    let poll : Shows before [] mid = shows_worked before mid t works.Poll (world_kept before world) is (idle t is) present tt tt carries.poll in
+    let config_mid : mid.config ≡ config_of script = ap (λ (x : Core). x.config) (sym poll.ends) ∙ config_after before poll.moves ∙ config in
+    let (world_mid, present_mid) = polled_world before mid t world is (idle t is) present carries.poll in
+    let kept : IsKept mid = world_kept mid world_mid in
+    let is_mid : IsMutator mid.config t = is_mutator script mid t config_mid there.some there.most in
+    let own = (actor_of mid t kept is_mid).own in
+    let (fits, label) = operands script (mutator mid t) cmd (own.registers ∙ ap (λ (c : Config). c.registers) config_mid) (own.fields ∙ ap (λ (c : Config). c.fields) config_mid) (next_in_range script t made cmd valid carries.next) in
+    shows_then before mid after [] [] poll (shows_worked mid after t (works.Command cmd) kept is_mid carries.poll.idle present_mid fits label carries.command)
 
 -- A turn of the collector more, and the poll that follows it.
 pub went_step : (script : ScriptContents) (done : ℕ → Type 0) (events : List Event) (n : Naming) (before after : Core) → IsKept before → AreIdle before → Follows done before after → Went script events n before

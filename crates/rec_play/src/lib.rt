@@ -10,11 +10,12 @@
 //! heap that never frees tells in that order, with frees and sweeps among the answers.
 //! That order is the legal order of every run (`rec_order`), of the moves that the turns make up: each object that is freed is
 //! the one that the freed slot held. Each log has room for all commands of its mutator, so none is ever full.
-//! A run is made turn by turn (`Playing`): `play` drains it and notes what is told. A `Walk` makes the same turns one by one, and then
+//! A run is made turn by turn (`Playing`): `play` drains it and notes what is told, and `play_watched` shows the collector's steps to a
+//! watch as well. A `Walk` makes the same turns one by one, and then
 //! those of settling (`rec_settle`). Its heap is the one at the end of the run that the turns so far make up, and once all turns are
 //! made, settling has come so far from there (`specs/Watched`). So a walk that has no move left has come to what `play` and `settle`
 //! come to.
-//! The layer above may use the contracts of `play`, of `Playing`, of `Walk` and of the calls that open what a script is played with,
+//! The layer above may use the contracts of `play` and `play_watched`, of `Playing`, of `Walk` and of the calls that open what a script is played with,
 //! those of the rule itself (`Schedule`), the laws, which are the contracts of the functions in `laws`, and the definitions of
 //! `specs/`.
 //! The rule is this project's profile (`docs/PROFILE.md`); the generator is PCG's, by O'Neill, with 32-bit words.

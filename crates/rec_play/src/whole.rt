@@ -7,6 +7,7 @@ ghost use Rattle.rec_model.specs.LegalOrder.{Event};
 ghost use Rattle.rec_model.specs.Sight.{Represents};
 ghost use Rattle.rec_collector.specs.Shown.{Shown};
 ghost use Rattle.rec_core.specs.Core.{sight, opened};
+ghost use Rattle.rec_core.specs.Shown.{Shows};
 ghost use Rattle.rec_order.specs.Legal.{AreIdle};
 ghost use Rattle.rec_play.specs.Played.{AreReady, IsPlayed, config_of, last_moment, lengths_of, lines_of};
 ghost use Rattle.rec_play.specs.Playing.{order as order_of};
@@ -82,8 +83,9 @@ pub fn play_watched<W: Watch>(
     ensures epochs { IfOk result (λ done. world.new.epoch ≤ 1 + turns) }
     ensures kept { IsWorld world.new }
 
-    // What the watch was shown: all of the collector's steps, or, where it refused one, those before it.
-    ensures shown { IfOk result (λ done. (shown : List Shown) × IsShownWhole script.now seed turns world.old shown world.new × W.WasShown watch.old shown watch.new) }
+    // What the watch was shown: all of the collector's steps, which is what a watch is shown of the moves that the turns make up; or,
+    // where it refused one, those before it.
+    ensures shown { IfOk result (λ done. (shown : List Shown) × IsShownWhole script.now seed turns world.old shown world.new × W.WasShown watch.old shown watch.new × Shows world.old shown world.new) }
     ensures refused { IfErr result (λ error. (shown : List Shown) × StopsBehind script.now seed turns world.old shown world.new × W.WasShown watch.old shown watch.new) }
     ensures rose { IfErr result (λ error. Rose (W.refused watch.old) (W.refused watch.new)) }
     ensures never_falls { W.refused watch.old ≤ W.refused watch.new }

@@ -2,6 +2,7 @@
 pub mod Cuts
 pub mod Numerals
 pub mod Misreadings
+pub mod Behinds
 pub mod Commands
 pub mod Leaving
 pub mod Mutators

@@ -77,13 +77,13 @@ right_operands r f Leave most-r most-f is = tt
 -- ---- a script's text has no such line
 
 -- what a script says where another one is spelled in front of a line
-record Behind (mine : ScriptContents) (line : List (List ℕ)) (rest : List (List (List ℕ))) (other : ScriptContents) : Type 0 where
-  version : mine.version ≡ other.version
-  heaps : SameHeap mine.slots mine.fields mine.registers other.slots other.fields other.registers
-  body : flat_map mutator_lines mine.commands ++ line ∷ rest ≡ flat_map mutator_lines other.commands
-  groups : glue mine.commands (regroup (line ∷ rest)) ≡ grouped [] other.commands
+pub record Behind (mine : ScriptContents) (line : List (List ℕ)) (rest : List (List (List ℕ))) (other : ScriptContents) : Type 0 where
+  pub version : mine.version ≡ other.version
+  pub heaps : SameHeap mine.slots mine.fields mine.registers other.slots other.fields other.registers
+  pub body : flat_map mutator_lines mine.commands ++ line ∷ rest ≡ flat_map mutator_lines other.commands
+  pub groups : glue mine.commands (regroup (line ∷ rest)) ≡ grouped [] other.commands
 
-behind : (mine : ScriptContents) (line : List (List ℕ)) (rest : List (List (List ℕ))) (other : ScriptContents) → IsScript mine → IsScript other → spelled mine ++ line ∷ rest ≡ spelled other → Behind mine line rest other
+pub behind : (mine : ScriptContents) (line : List (List ℕ)) (rest : List (List (List ℕ))) (other : ScriptContents) → IsScript mine → IsScript other → spelled mine ++ line ∷ rest ≡ spelled other → Behind mine line rest other
 behind mine line rest other is-mine is-other e =
     let body : flat_map mutator_lines mine.commands ++ line ∷ rest ≡ flat_map mutator_lines other.commands = ap behind_heap e in
     record {
@@ -97,7 +97,7 @@ behind mine line rest other is-mine is-other e =
     }
 
 -- the line behind a script is of its continuation's body
-body_line : (mine : ScriptContents) (line : List (List ℕ)) (rest : List (List (List ℕ))) (other : ScriptContents) → IsScript other → Behind mine line rest other → IsBodyLine mine.version mine.registers mine.fields line
+pub body_line : (mine : ScriptContents) (line : List (List ℕ)) (rest : List (List (List ℕ))) (other : ScriptContents) → IsScript other → Behind mine line rest other → IsBodyLine mine.version mine.registers mine.fields line
 body_line mine line rest other is-other b =
     let all = body_lines other.version other.registers other.fields other.commands is-other.commands in
     let here : IsBodyLine other.version other.registers other.fields line = all_at (IsBodyLine other.version other.registers other.fields) (flat_map mutator_lines mine.commands) line rest (subst (λ (t : List (List (List ℕ))). All (IsBodyLine other.version other.registers other.fields) t) (sym b.body) all) in

@@ -1,4 +1,5 @@
 -- The modules of the definitions.
+pub mod Behind
 pub mod Drafts
 pub mod Fields
 pub mod Lines

@@ -4,6 +4,7 @@ ghost use Rattle.std.specs.Prelude.{◌≡◌, ◌≢◌, ◌↔◌, ◌<◌, �
 ghost use Rattle.std.specs.Str.{IsUtf8};
 ghost use Rattle.rec_script.specs.Lines.{lines, words, counted};
 ghost use Rattle.rec_script.specs.Script.{Fits, IsFault, IsNeed, IsScript, mutator_line, spelled};
+ghost use Rattle.rec_script.specs.Behind.{BeginsMutator, mutators_in};
 ghost use Rattle.rec_script.specs.Drafts.{so_far, IsDraft, IsTaken, IsWrongFirst};
 ghost use Rattle.rec_script.specs.declared.error.Kind.{Kind};
 ghost use Rattle.rec_script.specs.declared.error.ScriptError.TheVariants.{Bad};
@@ -43,6 +44,18 @@ fn is_utf8(bytes: &[u8]) -> bool
     match from_utf8(bytes) {
         Ok(_) => true,
         Err(_) => false,
+    }
+}
+
+/// The first line of the bytes is the one above a mutator's commands.
+pub(crate) fn begins_mutator(bytes: &[u8]) -> bool
+    requires { 0 < length bytes.now }
+    ensures { IsTrue result ↔ BeginsMutator (lines bytes.now) }
+{
+    let (line, _) = next_line(bytes);
+    match next_word(line) {
+        Some((word, rest)) => is_mutator(word, rest),
+        None => false,
     }
 }
 
@@ -114,6 +127,16 @@ fn add_to_script(
 }
 
 impl Draft {
+    /// How many mutators it has so far.
+    pub(crate) fn mutators(&self) -> u8
+        ensures { result ≡ mutators_in self.now }
+    {
+        match self {
+            Draft::Whole(script) => script.mutators(),
+            _ => 0,
+        }
+    }
+
     /// Takes a line that counts, of this first word and what is behind it.
     fn add(
         &mut self,

@@ -162,6 +162,7 @@ impl Script {
     pub(crate) fn add_mutator(&mut self, alloc: Global) -> Result<(), AllocError>
         requires { length self.old.commands < most_mutators self.old.version }
         ensures more { IfOk result (λ x. spelled self.new ≡ spelled self.old ++ mutator_line ∷ []) }
+        ensures commands { IfOk result (λ x. self.new ≡ record self.old { commands = self.old.commands ++ [] ∷ [] }) }
         ensures valid { IsScript self.new }
     {
         let full = std::mem::replace(&mut self.last, Vec::new(alloc));

@@ -3,5 +3,6 @@ pub mod Amid
 pub mod Coming
 pub mod Goes
 pub mod Settles
+pub mod Shows
 pub mod Stays
 pub mod Waiting

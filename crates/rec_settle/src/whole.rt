@@ -7,6 +7,7 @@ ghost use Rattle.rec_model.specs.Sight.{StandsBy};
 ghost use Rattle.rec_io.specs.Faults.{Rose};
 ghost use Rattle.rec_collector.specs.Shown.{Shown};
 ghost use Rattle.rec_core.specs.Core.{sight};
+ghost use Rattle.rec_core.specs.Shown.{Shows};
 ghost use Rattle.rec_world.specs.World.{IsWorld};
 ghost use Rattle.rec_settle.specs.Collecting.{AreIdle, taken_slots};
 ghost use Rattle.rec_settle.specs.Shown.{IsShownTo, StopsBehind};
@@ -67,8 +68,9 @@ pub fn settle_watched<W: Watch>(
     ensures made { IfOk result (λ settled. world.new.made ≡ world.old.made) }
     ensures kept { IsWorld world.new }
 
-    // What the watch was shown: all turns up to the settled heap, or, where that refused it, up to the one before the last.
-    ensures shown { IfOk result (λ settled. IfOk settled (λ told. (shown : List Shown) × IsShownTo world.old shown stages.Settling.Settled world.new × W.WasShown watch.old shown watch.new)) }
+    // What the watch was shown: all turns up to the settled heap, which is what a watch is shown of the moves that they make up; or,
+    // where it refused one, all turns before that.
+    ensures shown { IfOk result (λ settled. IfOk settled (λ told. (shown : List Shown) × IsShownTo world.old shown stages.Settling.Settled world.new × W.WasShown watch.old shown watch.new × Shows world.old shown world.new)) }
     ensures unshown { IfOk result (λ settled. IfErr settled (λ error. W.WasShown watch.old [] watch.new)) }
     ensures refused { IfErr result (λ error. (shown : List Shown) × StopsBehind world.old shown world.new × W.WasShown watch.old shown watch.new) }
     ensures rose { IfErr result (λ error. Rose (W.refused watch.old) (W.refused watch.new)) }

@@ -120,7 +120,7 @@ fn race_leaving<R: Abort + Threads + Sync>(
 fn nothing_is_left_of_those_that_leave(rt: HostRuntime) -> Result<(), Fail> {
     let alloc: Global = rt.alloc();
     let mut is_put_off = false;
-    for round in 0..1000u32 {
+    for round in 0..200u32 {
         let (mutators, staying) = (round % u32::from(MOST_MUTATORS) + 1, round % 2);
         let left = race_leaving(&rt, alloc, mutators, staying)?;
         let present = u64::from(staying.min(mutators));

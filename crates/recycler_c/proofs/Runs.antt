@@ -1,5 +1,5 @@
 -- A heap that is set running, and its ends as they come back.
-use Rattle.std.proofs.Common.{◌≡◌, ℕ, ◌+◌, ◌%◌, ◌<◌, All, IsSome, Some, is_some, List, [], ◌∷◌, length, map, slice_index_or, refl, sym, ap, ◌∙◌, subst, arith}
+use Rattle.std.proofs.Common.{◌≡◌, ℕ, ◌+◌, ◌%◌, ◌<◌, All, IsSome, None, Some, is_some, List, [], ◌∷◌, length, map, slice_index_or, refl, sym, ap, ◌∙◌, subst, arith}
 use Rattle.std.specs.Arc.{arc_value}
 use Rattle.rec_model.specs.declared.limits.TheConstants.{MOST_MUTATORS}
 use Rattle.rec_core.specs.Core.{Core}
@@ -45,17 +45,17 @@ gathered_home c hs some = record { all = c.whole some; home = λ s. refl; out = 
 -- a running heap none of whose mutators is home, and the mutators that were taken from its handles
 pub record AreTaken (c : Collecting) (hs : List Handle) (ms : List MutatorView) : Type 0 where
   pub none : length c.home.items ≡ 0
-  pub tied : AreTied (Some (ends.Collecting c)) hs
+  pub tied : AreTied (Some (ends.Collecting c None)) hs
   pub many : length hs ≡ MOST_MUTATORS
   pub all : length ms ≡ c.count
   pub each : (k : ℕ) (d : Handle) (e : MutatorView) (m : Mutating) → k < c.count → mutates_in (held_at hs k d) ≡ Some m → slice_index_or ms k e ≡ m.mutator
 
-out_at : (c : Collecting) (hs : List Handle) → length c.home.items ≡ 0 → AreTied (Some (ends.Collecting c)) hs → length hs ≡ MOST_MUTATORS → (k : ℕ) (d : Handle) → k < c.count →
+out_at : (c : Collecting) (hs : List Handle) → length c.home.items ≡ 0 → AreTied (Some (ends.Collecting c None)) hs → length hs ≡ MOST_MUTATORS → (k : ℕ) (d : Handle) → k < c.count →
     HasOut (held_at hs k d) (record { heap = arc_value c.heap; number = k + 1 })
 out_at c hs none tied many k d lt =
-    seat_out (held_at hs k d) (record { heap = arc_value c.heap; number = k + 1 }) (runs_out (Some (ends.Collecting c)) c hs tied refl none k d (omega (arith, lt, many, c.few.1)) lt)
+    seat_out (held_at hs k d) (record { heap = arc_value c.heap; number = k + 1 }) (runs_out (Some (ends.Collecting c None)) c hs tied refl none k d (omega (arith, lt, many, c.few.1)) lt)
 
-pub out_some : (c : Collecting) (hs : List Handle) → length c.home.items ≡ 0 → AreTied (Some (ends.Collecting c)) hs → length hs ≡ MOST_MUTATORS → (k : ℕ) (d : Handle) → k < c.count →
+pub out_some : (c : Collecting) (hs : List Handle) → length c.home.items ≡ 0 → AreTied (Some (ends.Collecting c None)) hs → length hs ≡ MOST_MUTATORS → (k : ℕ) (d : Handle) → k < c.count →
     IsSome (mutates_in (held_at hs k d))
 out_some c hs none tied many k d lt = let o = out_at c hs none tied many k d lt in ap is_some o.is
 

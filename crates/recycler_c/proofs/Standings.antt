@@ -6,7 +6,7 @@ use Rattle.std.specs.Arc.{arc_value}
 use Rattle.rec_core.specs.Core.{Core}
 use Rattle.rec_table.specs.Views.{MutatorView, Started}
 use Rattle.recycler_c.specs.Calls.{IsOut}
-use Rattle.recycler_c.specs.Standing.{Out, held_at, can_collect, collects_in, mutates_in, rests_in, seat_in}
+use Rattle.recycler_c.specs.Standing.{Out, Tellers, held_at, can_collect, collects_in, mutates_in, rests_in, seat_in}
 use Rattle.recycler_c.specs.declared.end.Collecting.{Collecting}
 use Rattle.recycler_c.specs.declared.end.End.{End}
 use Rattle.recycler_c.specs.declared.end.End.TheVariants as ends
@@ -21,26 +21,29 @@ some_same : {A : Type 0} (x y : A) → Some x ≡ Some y → x ≡ y
 some_same x y e = cc
 
 -- what a collector's handle holds that isn't at rest runs
-pub runs_where_not_rests : (e : End) → can_collect (Some e) ≡ true → ((w : Core) → e ≡ ends.Resting w → ⊥) → IsSome (collects_in (Some e))
+pub runs_where_not_rests : (e : End) → can_collect (Some e) ≡ true → ((w : Core) (t : Option Tellers) → e ≡ ends.Resting w t → ⊥) → IsSome (collects_in (Some e))
 runs_where_not_rests ends.Vacant can not = absurd (cc)
-runs_where_not_rests (ends.Resting w) can not = absurd (not w refl)
-runs_where_not_rests (ends.Collecting c) can not = refl
+runs_where_not_rests (ends.Resting w t) can not = absurd (not w t refl)
+runs_where_not_rests (ends.Collecting c t) can not = refl
 runs_where_not_rests (ends.Mutating m) can not = absurd (cc)
+runs_where_not_rests (ends.Listening l) can not = absurd (cc)
 
 -- and what doesn't run rests
-pub rests_where_not_runs : (e : End) → can_collect (Some e) ≡ true → ((c : Collecting) → e ≡ ends.Collecting c → ⊥) → IsSome (rests_in (Some e))
+pub rests_where_not_runs : (e : End) → can_collect (Some e) ≡ true → ((c : Collecting) (t : Option Tellers) → e ≡ ends.Collecting c t → ⊥) → IsSome (rests_in (Some e))
 rests_where_not_runs ends.Vacant can not = absurd (cc)
-rests_where_not_runs (ends.Resting w) can not = refl
-rests_where_not_runs (ends.Collecting c) can not = absurd (not c refl)
+rests_where_not_runs (ends.Resting w t) can not = refl
+rests_where_not_runs (ends.Collecting c t) can not = absurd (not c t refl)
 rests_where_not_runs (ends.Mutating m) can not = absurd (cc)
+rests_where_not_runs (ends.Listening l) can not = absurd (cc)
 
 -- a seat that stands for nothing is closed
 pub seat_closed : (h : Option End) → seat_in h ≡ None → h ≡ None
 seat_closed None e = refl
 seat_closed (Some ends.Vacant) e = cc
-seat_closed (Some (ends.Resting v)) e = cc
-seat_closed (Some (ends.Collecting c)) e = cc
+seat_closed (Some (ends.Resting v t)) e = cc
+seat_closed (Some (ends.Collecting c t)) e = cc
 seat_closed (Some (ends.Mutating m)) e = cc
+seat_closed (Some (ends.Listening l)) e = cc
 
 -- and any other is open
 pub seat_open : (h : Option End) (o : Option Out) → seat_in h ≡ Some o → IsSome h
@@ -67,16 +70,18 @@ pub seat_out : (h : Option End) (o : Out) → seat_in h ≡ Some (Some o) → Ha
 unfolding heap_in number_in
 seat_out None o e = absurd (cc)
 seat_out (Some ends.Vacant) o e = absurd (cc)
-seat_out (Some (ends.Resting v)) o e = absurd (cc)
-seat_out (Some (ends.Collecting c)) o e = absurd (cc)
+seat_out (Some (ends.Resting v t)) o e = absurd (cc)
+seat_out (Some (ends.Collecting c t)) o e = absurd (cc)
+seat_out (Some (ends.Listening l)) o e = absurd (cc)
 seat_out (Some (ends.Mutating m)) o e = record { mutating = m; is = refl; heap = ap (λ (x : Option (Option Out)). heap_in x o.heap) e; number = ap number_in e }
 
 -- and the seat of such a handle
 pub out_seat : (s : Started) (x : MutatorView) (h : Option End) → IsOut s x h → seat_in h ≡ Some (Some (record { heap = s; number = x.number }))
 out_seat s x None out = absurd (none_some out.mutating out.is)
 out_seat s x (Some ends.Vacant) out = absurd (none_some out.mutating out.is)
-out_seat s x (Some (ends.Resting v)) out = absurd (none_some out.mutating out.is)
-out_seat s x (Some (ends.Collecting c)) out = absurd (none_some out.mutating out.is)
+out_seat s x (Some (ends.Resting v t)) out = absurd (none_some out.mutating out.is)
+out_seat s x (Some (ends.Collecting c t)) out = absurd (none_some out.mutating out.is)
+out_seat s x (Some (ends.Listening l)) out = absurd (none_some out.mutating out.is)
 out_seat s x (Some (ends.Mutating m)) out =
     let same : m ≡ out.mutating = some_same m out.mutating out.is in
     let heap : arc_value m.heap ≡ s = ap (λ (y : Mutating). arc_value y.heap) same ∙ out.heap in

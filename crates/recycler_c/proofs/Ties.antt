@@ -29,13 +29,13 @@ vacant_seat true = refl
 vacant_seat false = refl
 
 -- a heap at rest, whose first handles are vacant
-pub tied_vacant : (c : Option End) (w : Core) (n : ℕ) (hs : List Handle) → c ≡ Some (ends.Resting w) → n ≡ w.config.mutators
+pub tied_vacant : (c : Option End) (w : Core) (n : ℕ) (hs : List Handle) → c ≡ Some (ends.Resting w None) → n ≡ w.config.mutators
     → ((k : ℕ) (d : Handle) → k < length hs → held_at hs k d ≡ (if nat_lt k n then Some ends.Vacant else None)) → AreTied c hs
 tied_vacant c w n hs e same vacant k d lt =
     ap seat_in (vacant k d lt) ∙ vacant_seat (nat_lt k n) ∙ ap (λ (x : ℕ). if nat_lt k x then Some None else None) same ∙ ap (λ (x : Option End). seat_beside x k) (sym e)
 
 -- a heap at rest, whose first handles hold no mutator
-pub tied_rests : (c : Option End) (w : Core) (n : ℕ) (hs : List Handle) → c ≡ Some (ends.Resting w) → n ≡ w.config.mutators
+pub tied_rests : (c : Option End) (w : Core) (n : ℕ) (hs : List Handle) → c ≡ Some (ends.Resting w None) → n ≡ w.config.mutators
     → ((k : ℕ) (d : Handle) → k < length hs → k < n → seat_in (held_at hs k d) ≡ Some None)
     → ((k : ℕ) (d : Handle) → k < length hs → n ≤ k → seat_in (held_at hs k d) ≡ None) → AreTied c hs
 tied_rests c w n hs e same low high k d lt =
@@ -51,7 +51,7 @@ home_all : (c : Collecting) (k : ℕ) → 0 < length c.home.items → out_beside
 home_all c k lt = below 0 (length c.home.items) None (Some (record { heap = arc_value c.heap; number = k + 1 })) lt
 
 -- a running heap, whose first handles hold its mutators
-pub tied_out : (c : Option End) (w : Collecting) (hs : List Handle) → c ≡ Some (ends.Collecting w) → length w.home.items ≡ 0
+pub tied_out : (c : Option End) (w : Collecting) (hs : List Handle) → c ≡ Some (ends.Collecting w None) → length w.home.items ≡ 0
     → ((k : ℕ) (d : Handle) → k < length hs → k < w.count → seat_in (held_at hs k d) ≡ Some (Some (record { heap = arc_value w.heap; number = k + 1 })))
     → ((k : ℕ) (d : Handle) → k < length hs →
     w.count ≤ k → seat_in (held_at hs k d) ≡ None) → AreTied c hs
@@ -62,7 +62,7 @@ tied_out c w hs e none low high k d lt =
     ∙ ap (λ (x : Option End). seat_beside x k) (sym e)
 
 -- or whose mutators are all home
-pub tied_home : (c : Option End) (w : Collecting) (hs : List Handle) → c ≡ Some (ends.Collecting w) → 0 < length w.home.items
+pub tied_home : (c : Option End) (w : Collecting) (hs : List Handle) → c ≡ Some (ends.Collecting w None) → 0 < length w.home.items
     → ((k : ℕ) (d : Handle) → k < length hs → k < w.count → seat_in (held_at hs k d) ≡ Some None)
     → ((k : ℕ) (d : Handle) → k < length hs →
     w.count ≤ k → seat_in (held_at hs k d) ≡ None) → AreTied c hs
@@ -73,23 +73,23 @@ tied_home c w hs e some low high k d lt =
     ∙ ap (λ (x : Option End). seat_beside x k) (sym e)
 
 -- what a handle stands for beside a heap at rest, and beside a running one
-pub rests_low : (c : Option End) (w : Core) (hs : List Handle) → AreTied c hs → c ≡ Some (ends.Resting w) → (k : ℕ) (d : Handle) → k < length hs →
+pub rests_low : (c : Option End) (w : Core) (hs : List Handle) → AreTied c hs → c ≡ Some (ends.Resting w None) → (k : ℕ) (d : Handle) → k < length hs →
     k < w.config.mutators → seat_in (held_at hs k d) ≡ Some None
 rests_low c w hs tied e k d lt under = tied k d lt ∙ ap (λ (x : Option End). seat_beside x k) e ∙ below k w.config.mutators (Some None) None under
 
-pub rests_high : (c : Option End) (w : Core) (hs : List Handle) → AreTied c hs → c ≡ Some (ends.Resting w) → (k : ℕ) (d : Handle) → k < length hs →
+pub rests_high : (c : Option End) (w : Core) (hs : List Handle) → AreTied c hs → c ≡ Some (ends.Resting w None) → (k : ℕ) (d : Handle) → k < length hs →
     w.config.mutators ≤ k → seat_in (held_at hs k d) ≡ None
 rests_high c w hs tied e k d lt over = tied k d lt ∙ ap (λ (x : Option End). seat_beside x k) e ∙ above k w.config.mutators (Some None) None over
 
-pub runs_out : (c : Option End) (w : Collecting) (hs : List Handle) → AreTied c hs → c ≡ Some (ends.Collecting w) → length w.home.items ≡ 0
+pub runs_out : (c : Option End) (w : Collecting) (hs : List Handle) → AreTied c hs → c ≡ Some (ends.Collecting w None) → length w.home.items ≡ 0
     → (k : ℕ) (d : Handle) → k < length hs → k < w.count → seat_in (held_at hs k d) ≡ Some (Some (record { heap = arc_value w.heap; number = k + 1 }))
 runs_out c w hs tied e none k d lt under = tied k d lt ∙ ap (λ (x : Option End). seat_beside x k) e ∙ below k w.count (Some (out_beside w k)) None under ∙ ap Some (out_none w k none)
 
-pub runs_home : (c : Option End) (w : Collecting) (hs : List Handle) → AreTied c hs → c ≡ Some (ends.Collecting w) → 0 < length w.home.items
+pub runs_home : (c : Option End) (w : Collecting) (hs : List Handle) → AreTied c hs → c ≡ Some (ends.Collecting w None) → 0 < length w.home.items
     → (k : ℕ) (d : Handle) → k < length hs → k < w.count → seat_in (held_at hs k d) ≡ Some None
 runs_home c w hs tied e some k d lt under = tied k d lt ∙ ap (λ (x : Option End). seat_beside x k) e ∙ below k w.count (Some (out_beside w k)) None under ∙ ap Some (home_all w k some)
 
-pub runs_high : (c : Option End) (w : Collecting) (hs : List Handle) → AreTied c hs → c ≡ Some (ends.Collecting w) → (k : ℕ) (d : Handle) → k < length hs →
+pub runs_high : (c : Option End) (w : Collecting) (hs : List Handle) → AreTied c hs → c ≡ Some (ends.Collecting w None) → (k : ℕ) (d : Handle) → k < length hs →
     w.count ≤ k → seat_in (held_at hs k d) ≡ None
 runs_high c w hs tied e k d lt over = tied k d lt ∙ ap (λ (x : Option End). seat_beside x k) e ∙ above k w.count (Some (out_beside w k)) None over
 

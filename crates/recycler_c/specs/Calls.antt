@@ -1,5 +1,5 @@
 -- What each call comes to, code by code: why that code came, and what the call left.
-use Rattle.std.specs.Prelude.{◌≡◌, ℕ, ◌+◌, ◌%◌, ◌<◌, ◌≤◌, false, true, All, Option, Some, None, IsSome, List, [], ◌∷◌, length, map, slice_index_or, unwrap_or}
+use Rattle.std.specs.Prelude.{◌≡◌, ◌⊎◌, ℕ, ◌+◌, ◌%◌, ◌<◌, ◌≤◌, false, true, All, Option, Some, None, IsSome, List, [], ◌∷◌, length, map, slice_index_or, unwrap_or}
 use Rattle.std.specs.Arc.{arc_value}
 use Rattle.rec_word.specs.declared.word.TheConstants.{LAST_EPOCH}
 use Rattle.rec_collector.specs.declared.turn.Turn.{Turn}
@@ -15,6 +15,8 @@ use Rattle.rec_mutator.specs.Private.{HasOperands, answer_of}
 use Rattle.rec_table.specs.Rule.{MayAsk}
 use Rattle.rec_mutator.specs.declared.made.Made.TheVariants as makes
 use Rattle.rec_mutator.specs.declared.work.Work.TheVariants as works
+use Rattle.rec_notice.specs.Ring.{AreEnds, Hears, heard_by, room_of, sent_by, waits_for}
+use Rattle.rec_notice.specs.declared.listener.Listener.{Listener}
 use Rattle.rec_settle.specs.Collecting.{taken_slots}
 use Rattle.rec_settle.specs.Whole as whole
 use Rattle.rec_table.specs.Answered.{IsAnswered, IsPolled, Leaves}
@@ -22,12 +24,14 @@ use Rattle.rec_table.specs.Ends.{IsStopped}
 use Rattle.rec_table.specs.Views.{CollectorView, MutatorView, Started, Works, fresh, fresh_collector, collector_now, mutator_now}
 use Rattle.rec_table.specs.Journals.{Tells}
 use Rattle.rec_table.specs.Turn.{MakesTurn, MakesTurns}
+use Rattle.rec_table.specs.declared.telling.Telling.{Telling}
 use Rattle.rec_world.specs.OpenError.{IsRefused}
 use Rattle.rec_world.specs.World.{label_of}
 use Rattle.rec_world.specs.declared.open_error.OpenError.{OpenError}
 use Rattle.recycler_c.specs.Codes.{code_of}
-use Rattle.recycler_c.specs.Shown.{asked_of, slot_told, turned_of}
-use Rattle.recycler_c.specs.Standing.{rests_in, collects_in, mutates_in, held_at}
+use Rattle.recycler_c.specs.Shown.{asked_of, heard_of, slot_told}
+use Rattle.recycler_c.specs.Standing.{Tellers, rests_in, collects_in, mutates_in, hears_in, tells_in, held_at}
+use Rattle.recycler_c.specs.Telling.{HasMade, TellsMany, TellsOne}
 use Rattle.recycler_c.specs.declared.code.Code.{Code}
 use Rattle.recycler_c.specs.declared.code.Code.TheVariants as codes
 use Rattle.recycler_c.specs.declared.end.Collecting.{Collecting}
@@ -37,6 +41,7 @@ use Rattle.recycler_c.specs.declared.end.Mutating.{Mutating}
 use Rattle.recycler_c.specs.declared.handle.Handle.{Handle}
 use Rattle.recycler_c.specs.declared.recycler.Recycler.{Recycler}
 use Rattle.recycler_c.specs.declared.told.Asked.{Asked}
+use Rattle.recycler_c.specs.declared.told.Heard.{Heard}
 use Rattle.recycler_c.specs.declared.told.Settled.{Settled}
 use Rattle.recycler_c.specs.declared.told.Slot.{Slot}
 use Rattle.recycler_c.specs.declared.told.Totals.{Totals}
@@ -66,6 +71,7 @@ pub record IsAtRest (h : Option End) : Type 0 where
   pub is_open : IsSome h
   pub collects : collects_in h ≡ None
   pub mutates : mutates_in h ≡ None
+  pub hears : hears_in h ≡ None
 
 -- a call that is for a heap at rest is refused so: none is open, or it runs
 abbrev pub LacksRest : Option End → Code → Type 0
@@ -73,7 +79,7 @@ LacksRest h codes.Closed = IsClosed h
 LacksRest h codes.Runs = Runs h
 LacksRest h _ = ⊥
 
--- a call that is for one end of a running heap: none is open, or it rests, or the handle holds the other end
+-- a call that is for one end of a running heap: none is open, or it rests, or the handle holds another end
 abbrev pub LacksEnd : (other : Type 0) → Option End → Code → Type 0
 LacksEnd other h codes.Closed = IsClosed h
 LacksEnd other h codes.Rests = IsAtRest h
@@ -85,6 +91,7 @@ pub record HasOpened (config : Config) (h : Option End) (hs : List Handle) (h' :
   pub was : IsClosed h
   pub config_fits : IsConfig config
   pub is : rests_in h' ≡ Some (opened config)
+  pub silent : tells_in h' ≡ None
 
 -- or it was refused
 pub record RefusesOpening (config : Config) (h : Option End) (hs : List Handle) (code : Code) (h' : Option End) (hs' : List Handle) : Type 0 where
@@ -99,9 +106,70 @@ Opens config h hs codes.Ok h' hs' = HasOpened config h hs h' hs'
 Opens config h hs codes.Open h' hs' = IsSome h × IsSame h hs h' hs'
 Opens config h hs code h' hs' = RefusesOpening config h hs code h' hs'
 
-abbrev pub Closes : Option End → List Handle → Code → Option End → List Handle → Type 0
-Closes h hs codes.Ok h' hs' = Rests h × IsClosed h'
-Closes h hs code h' hs' = LacksRest h code × IsSame h hs h' hs'
+abbrev pub Closes : Option End → List Handle → Handle → Code → Option End → List Handle → Handle → Type 0
+Closes h hs l codes.Ok h' hs' l' = Rests h × IsClosed h' × IsClosed l'.owned.held
+Closes h hs l code h' hs' l' = LacksRest h code × IsSame h hs h' hs' × (l' ≡ l)
+
+-- A new ring: nothing was sent, kept, refused or heard.
+pub record AreNew (room : ℕ) (teller : Tellers) (listener : Listener) : Type 0 where
+  pub ends : AreEnds teller.tube listener
+  pub room_is : room_of teller.tube ≡ room
+  pub sent : sent_by teller.tube ≡ []
+  pub refusals : teller.tube.refusals ≡ 0
+  pub kept : teller.kept ≡ None
+  pub heard : heard_by listener ≡ []
+  pub waits : waits_for listener ≡ []
+
+-- Beside the heap at rest stands who tells, and the listener's handle holds who hears.
+pub record HasNotices (room : ℕ) (h l h' l' : Option End) : Type 0 where
+  pub within : (1 ≤ room) × (room ≤ 65535)
+  pub world : Core
+  pub was : rests_in h ≡ Some world
+  pub silent : tells_in h ≡ None
+  pub closed : IsClosed l
+  pub is : rests_in h' ≡ Some world
+  pub teller : Tellers
+  pub tells : tells_in h' ≡ Some teller
+  pub listener : Listener
+  pub hears : hears_in l' ≡ Some listener
+  pub new : AreNew room teller listener
+
+-- both handles hold what they held
+pub record AreSame (h l h' l' : Option End) : Type 0 where
+  pub collector : h' ≡ h
+  pub listener : l' ≡ l
+
+-- notices were asked for before: the listener's handle is open, or somebody tells
+abbrev pub WereAsked : Option End → Option End → Type 0
+WereAsked h l = IsSome l ⊎ IsSome (tells_in h)
+
+abbrev pub AsksNotices : ℕ → Option End → Option End → Code → Option End → Option End → Type 0
+AsksNotices room h l codes.Ok h' l' = HasNotices room h l h' l'
+AsksNotices room h l codes.Open h' l' = WereAsked h l × AreSame h l h' l'
+AsksNotices room h l codes.Range h' l' = ((room ≡ 0) ⊎ (65535 < room)) × Rests h × AreSame h l h' l'
+AsksNotices room h l codes.NoMemory h' l' = Rests h × AreSame h l h' l'
+AsksNotices room h l code h' l' = LacksRest h code × AreSame h l h' l'
+
+-- the listener gave an answer, and how the caller is told
+pub record HasHeard (h h' : Option End) (told : Heard) : Type 0 where
+  pub before : Listener
+  pub was : hears_in h ≡ Some before
+  pub after : Listener
+  pub is : hears_in h' ≡ Some after
+  pub answer : Option ℕ
+  pub hears : Hears before answer after
+  pub told_so : told ≡ heard_of answer
+
+-- the handle is open, and nobody hears in it
+pub record HearsNone (h : Option End) : Type 0 where
+  pub is_open : IsSome h
+  pub hears : hears_in h ≡ None
+
+abbrev pub HearsIn : Option End → Heard → Code → Option End → Heard → Type 0
+HearsIn h told codes.Ok h' told' = HasHeard h h' told'
+HearsIn h told codes.Closed h' told' = IsClosed h × (h' ≡ h) × (told' ≡ told)
+HearsIn h told codes.Other h' told' = HearsNone h × (h' ≡ h) × (told' ≡ told)
+HearsIn h told _ h' told' = ⊥
 
 -- a handle holds this mutator of this heap
 pub record IsOut (s : Started) (e : MutatorView) (h : Option End) : Type 0 where
@@ -120,6 +188,7 @@ pub record HasStarted (h : Option End) (hs : List Handle) (h' : Option End) (hs'
   pub collector : collecting.collector ≡ fresh_collector (arc_value collecting.heap)
   pub home : collecting.home.items ≡ []
   pub out : (k : ℕ) (d : Handle) → k < world.config.mutators → IsOut (arc_value collecting.heap) (fresh (arc_value collecting.heap) (k + 1)) (held_at hs' k d)
+  pub teller : tells_in h' ≡ tells_in h
 
 -- this world runs with all its mutators at home, and no actor has made a move
 pub record IsFresh (world : Core) (c : Collecting) : Type 0 where
@@ -130,8 +199,8 @@ pub record IsFresh (world : Core) (c : Collecting) : Type 0 where
 
 -- a heap that isn't set running rests as before; or it runs, with its mutators at home
 abbrev pub NotRun : Core → Code → End → Type 0
-NotRun world codes.NoMemory end = end ≡ ends.Resting world
-NotRun world codes.Shared end = (c : Collecting) × (end ≡ ends.Collecting c) × IsFresh world c
+NotRun world codes.NoMemory end = end ≡ ends.Resting world None
+NotRun world codes.Shared end = (c : Collecting) × (end ≡ ends.Collecting c None) × IsFresh world c
 NotRun world _ end = ⊥
 
 pub record StartsHome (h : Option End) (hs : List Handle) (h' : Option End) (hs' : List Handle) : Type 0 where
@@ -141,6 +210,7 @@ pub record StartsHome (h : Option End) (hs : List Handle) (h' : Option End) (hs'
   pub is : collects_in h' ≡ Some collecting
   pub fresh : IsFresh world collecting
   pub mutators : hs' ≡ hs
+  pub teller : tells_in h' ≡ tells_in h
 
 abbrev pub Starts : Option End → List Handle → Code → Option End → List Handle → Type 0
 Starts h hs codes.Ok h' hs' = HasStarted h hs h' hs'
@@ -165,6 +235,7 @@ pub record HasStopped (h : Option End) (hs : List Handle) (h' : Option End) (hs'
   pub stopped : IsStopped (arc_value collecting.heap).world collecting.collector.collecting.log (map (λ m. m.log) mutators) world
   pub requested : world.epoch ≡ (collector_now collecting.collector).epoch
   pub home : All (λ word. word % 2 ≡ 0) world.crossing
+  pub teller : tells_in h' ≡ tells_in h
 
 -- it still runs, with all its mutators home
 pub record ComesHome (h : Option End) (hs : List Handle) (h' : Option End) (hs' : List Handle) : Type 0 where
@@ -177,6 +248,7 @@ pub record ComesHome (h : Option End) (hs : List Handle) (h' : Option End) (hs' 
   pub heap : arc_value collecting'.heap ≡ arc_value collecting.heap
   pub collector : collecting'.collector ≡ collecting.collector
   pub home : collecting'.home.items ≡ mutators
+  pub teller : tells_in h' ≡ tells_in h
 
 abbrev pub Stops : Option End → List Handle → Code → Option End → List Handle → Type 0
 Stops h hs codes.Ok h' hs' = HasStopped h hs h' hs'
@@ -196,6 +268,7 @@ pub record HasSettled (h h' : Option End) (told : Settled) : Type 0 where
   pub registers : (sight after).registers ≡ (sight before).registers
   pub stands : (heap : Heap) (number : ℕ → ℕ) → StandsBy heap (sight before) number → StandsBy heap (sight after) number
   pub made : after.made ≡ before.made
+  pub teller : tells_in h' ≡ tells_in h
 
 -- fewer than four epochs are left
 pub record HasFewEpochs (h : Option End) : Type 0 where
@@ -208,31 +281,25 @@ Settles h told codes.Ok h' told' = HasSettled h h' told'
 Settles h told codes.EpochsSpent h' told' = HasFewEpochs h × (h' ≡ h) × (told' ≡ told)
 Settles h told code h' told' = LacksRest h code × (h' ≡ h) × (told' ≡ told)
 
--- the collector made its turns, as this relation says, and how it is told
-pub record HasTurned (makes : CollectorView → CollectorView → Turn → Type 0) (h h' : Option End) (told : Turned) : Type 0 where
+-- The collector made its turns: as the first relation says where nobody is told, and else as the second.
+pub record HasTurned (makes : CollectorView → CollectorView → Turn → Type 0) (tells : CollectorView → Tellers → CollectorView → Tellers → Telling → Type 0) (h h' : Option End) (told : Turned) : Type 0 where
   pub before : Collecting
   pub was : collects_in h ≡ Some before
   pub after : Collecting
   pub is : collects_in h' ≡ Some after
-  pub turn : Turn
-  pub turns : makes before.collector after.collector turn
-  pub told_so : told ≡ turned_of turn
-  -- nothing else of the handle changes
-  pub heap : arc_value after.heap ≡ arc_value before.heap
-  pub home : after.home.items ≡ before.home.items
-  pub count : after.count ≡ before.count
+  pub made : HasMade makes tells before (tells_in h) told after (tells_in h')
 
-abbrev pub TurnsBy : (CollectorView → CollectorView → Turn → Type 0) → Option End → Turned → Code → Option End → Turned → Type 0
-TurnsBy makes h told codes.Ok h' told' = HasTurned makes h h' told'
-TurnsBy makes h told code h' told' = LacksEnd (IsSome (mutates_in h)) h code × (h' ≡ h) × (told' ≡ told)
+abbrev pub TurnsBy : (CollectorView → CollectorView → Turn → Type 0) → (CollectorView → Tellers → CollectorView → Tellers → Telling → Type 0) → Option End → Turned → Code → Option End → Turned → Type 0
+TurnsBy makes tells h told codes.Ok h' told' = HasTurned makes tells h h' told'
+TurnsBy makes tells h told code h' told' = LacksEnd (IsSome (mutates_in h) ⊎ IsSome (hears_in h)) h code × (h' ≡ h) × (told' ≡ told)
 
 -- one turn
 abbrev pub TurnsIn : Option End → Turned → Code → Option End → Turned → Type 0
-TurnsIn = TurnsBy MakesTurn
+TurnsIn = TurnsBy MakesTurn TellsOne
 
--- turns until one comes to something else than that it moved, and at most so many
+-- turns until one comes to something else than that it moved or a label is held, and at most so many
 abbrev pub CollectsIn : Option End → (most : ℕ) → Turned → Code → Option End → Turned → Type 0
-CollectsIn h most told = TurnsBy (λ before after answer. MakesTurns before after most answer) h told
+CollectsIn h most told = TurnsBy (λ before after answer. MakesTurns before after most answer) (TellsMany most) h told
 
 -- what stays of a mutator's handle
 pub record KeepsMutator (before after : Mutating) : Type 0 where
@@ -273,7 +340,7 @@ abbrev pub Asks : Option End → Option Cmd → Asked → Code → Option End �
 Asks h asked told codes.Ok h' told' = (cmd : Cmd) × (asked ≡ Some cmd) × HasAsked h cmd h' told'
 Asks h asked told codes.Range h' told' = LacksOperand h asked × (h' ≡ h) × (told' ≡ told)
 Asks h asked told codes.Left h' told' = HasLeft h × (h' ≡ h) × (told' ≡ told)
-Asks h asked told code h' told' = LacksEnd (Runs h) h code × (h' ≡ h) × (told' ≡ told)
+Asks h asked told code h' told' = LacksEnd (Runs h ⊎ IsSome (hears_in h)) h code × (h' ≡ h) × (told' ≡ told)
 
 -- A mutator polled: `crossed` is the epoch that it crossed into, or 0.
 pub record HasPolled (h h' : Option End) (crossed : ℕ) : Type 0 where
@@ -293,7 +360,7 @@ pub record HasPolled (h h' : Option End) (crossed : ℕ) : Type 0 where
 abbrev pub Polls : Option End → ℕ → Code → Option End → ℕ → Type 0
 Polls h crossed codes.Ok h' crossed' = HasPolled h h' crossed'
 Polls h crossed codes.Left h' crossed' = HasLeft h × (h' ≡ h) × (crossed' ≡ crossed)
-Polls h crossed code h' crossed' = LacksEnd (Runs h) h code × (h' ≡ h) × (crossed' ≡ crossed)
+Polls h crossed code h' crossed' = LacksEnd (Runs h ⊎ IsSome (hears_in h)) h code × (h' ≡ h) × (crossed' ≡ crossed)
 
 -- a slot of a heap at rest was looked at
 pub record HasLooked (h : Option End) (slot : ℕ) (told : Slot) : Type 0 where

@@ -6,3 +6,4 @@ pub mod First
 pub mod Narrow
 pub mod Shown
 pub mod Standing
+pub mod Telling

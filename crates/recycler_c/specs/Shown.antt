@@ -4,7 +4,10 @@ use Rattle.rec_model.specs.declared.answer.Answer.{Answer}
 use Rattle.rec_model.specs.declared.answer.Answer.TheVariants as answers
 use Rattle.rec_collector.specs.declared.turn.Turn.{Turn}
 use Rattle.rec_collector.specs.declared.turn.Turn.TheVariants as turns
+use Rattle.rec_table.specs.declared.telling.Telling.{Telling}
+use Rattle.rec_table.specs.declared.telling.Telling.TheVariants as tellings
 use Rattle.recycler_c.specs.declared.told.Asked.{Asked}
+use Rattle.recycler_c.specs.declared.told.Heard.{Heard}
 use Rattle.recycler_c.specs.declared.told.Slot.{Slot}
 use Rattle.recycler_c.specs.declared.told.Turned.{Turned}
 
@@ -32,6 +35,16 @@ turned_of turns.Moved = record { what = 0; mutator = 0; epoch = 0; freed = 0 }
 turned_of (turns.Waiting t) = record { what = 1; mutator = t; epoch = 0; freed = 0 }
 turned_of (turns.Collected epoch freed) = record { what = 2; mutator = 0; epoch = epoch; freed = freed }
 turned_of turns.EpochsSpent = record { what = 3; mutator = 0; epoch = 0; freed = 0 }
+
+-- what a turn came to that tells
+abbrev pub telling_of : Telling → Turned
+telling_of (tellings.Turned turn) = turned_of turn
+telling_of (tellings.Held label) = record { what = 4; mutator = 0; epoch = 0; freed = 0 }
+
+-- what the listener heard
+abbrev pub heard_of : Option ℕ → Heard
+heard_of None = record { any = 0; label = 0 }
+heard_of (Some label) = record { any = 1; label = label }
 
 -- a slot's label, if it holds an object, and its count, as C reads them
 abbrev pub slot_told : Option ℕ → (count : ℕ) → Slot

@@ -42,7 +42,7 @@ fn ask_in(end: &mut End, cmd: Option<Cmd>, told: &mut Asked) -> Code
             *told = show_answer(answered.answer);
             Code::Ok
         }
-        End::Collecting(_) => Code::Other,
+        End::Collecting(_, _) | End::Listening(_) => Code::Other,
         _ => Code::Rests,
     }
 }
@@ -72,7 +72,7 @@ fn poll_in(end: &mut End, crossed: &mut u32) -> Code
             *crossed = epoch.unwrap_or(0);
             Code::Ok
         }
-        End::Collecting(_) => Code::Other,
+        End::Collecting(_, _) | End::Listening(_) => Code::Other,
         _ => Code::Rests,
     }
 }

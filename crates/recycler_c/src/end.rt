@@ -8,6 +8,7 @@ ghost use Rattle.rec_core.specs.Worked.{AreIdle};
 ghost use Rattle.rec_world.specs.World.{IsWorld};
 
 use rec_model::Cmd;
+use rec_notice::{Listener, RingTube, Teller};
 use rec_table::{Collector, Heap, Mutator};
 use rec_world::World;
 use std::marker::Model;
@@ -108,11 +109,31 @@ impl Mutating {
     }
 }
 
-/// What the box of a handle holds. A mutator's is vacant while the heap rests.
+/// What the box of a handle holds. A mutator's is vacant while the heap rests. Beside a heap stands who tells what its collector frees, where
+/// notices were asked for.
 #[derive(Drop)]
 pub enum End {
     Vacant,
-    Resting(Resting),
-    Collecting(Collecting),
+    Resting(Resting, Option<Teller<RingTube>>),
+    Collecting(Collecting, Option<Teller<RingTube>>),
     Mutating(Mutating),
+    Listening(Listener),
+}
+
+impl End {
+    ghost use Rattle.std.specs.Prelude.{◌≡◌, Option};
+    ghost use Rattle.rec_notice.specs.declared.ring_tube.RingTube.{RingTube as Rings};
+    ghost use Rattle.rec_notice.specs.declared.teller.Teller.{Teller as Tellers};
+    ghost use Rattle.recycler_c.specs.Standing.{telling};
+
+    /// The same heap, with this teller.
+    pub fn with_teller(self, teller: Option<Teller<RingTube>>) -> End
+        ensures { result ≡ telling self teller }
+    {
+        match self {
+            End::Resting(resting, _) => End::Resting(resting, teller),
+            End::Collecting(running, _) => End::Collecting(running, teller),
+            other => other,
+        }
+    }
 }

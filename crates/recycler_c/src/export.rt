@@ -1,14 +1,14 @@
 //! What C calls. Each export calls one function of the modules beside this one.
 ghost use Rattle.std.specs.Prelude.{◌≡◌, Some};
 ghost use Rattle.rec_model.specs.declared.command.Cmd.TheVariants as commands;
-ghost use Rattle.recycler_c.specs.Calls.{Asks, CollectsIn, Closes, Counts, Looks, Opens, Polls, Settles, Starts, Stops, Tallies, TurnsIn, held};
+ghost use Rattle.recycler_c.specs.Calls.{Asks, AsksNotices, CollectsIn, Closes, Counts, HearsIn, Looks, Opens, Polls, Settles, Starts, Stops, Tallies, TurnsIn, held};
 ghost use Rattle.recycler_c.specs.Codes.{Answers};
 ghost use Rattle.recycler_c.specs.Narrow.{narrow};
 
 use crate::handle::Handle;
 use crate::recycler::Recycler;
-use crate::told::{Asked, Settled, Slot, Totals, Turned};
-use crate::{collecting, command, looking, opening, running};
+use crate::told::{Asked, Heard, Settled, Slot, Totals, Turned};
+use crate::{collecting, command, looking, noticing, opening, running};
 use rec_model::Cmd;
 use rec_world::Config;
 use std::alloc::Global;
@@ -25,7 +25,8 @@ pub extern "C" fn recycler_open(
     log_entries: u32,
     first_epoch: u32,
 ) -> u32
-    ensures { Answers result (λ code. Opens (record { slots = slots; fields = fields; registers = registers; mutators = mutators; log_entries = log_entries; first_epoch = first_epoch }) (held r.old) r.old.mutators code (held r.new) r.new.mutators) }
+    ensures opens { Answers result (λ code. Opens (record { slots = slots; fields = fields; registers = registers; mutators = mutators; log_entries = log_entries; first_epoch = first_epoch }) (held r.old) r.old.mutators code (held r.new) r.new.mutators) }
+    ensures listener { r.new.listener ≡ r.old.listener }
 {
     let config = Config {
         slots,
@@ -41,15 +42,34 @@ pub extern "C" fn recycler_open(
 /// Closes a heap at rest.
 #[unsafe(no_mangle)]
 pub extern "C" fn recycler_close(alloc: Global, r: &mut Recycler) -> u32
-    ensures { Answers result (λ code. Closes (held r.old) r.old.mutators code (held r.new) r.new.mutators) }
+    ensures { Answers result (λ code. Closes (held r.old) r.old.mutators r.old.listener code (held r.new) r.new.mutators r.new.listener) }
 {
-    opening::close(alloc, &mut r.collector, &mut r.mutators).number()
+    opening::close(alloc, &mut r.collector, &mut r.mutators, &mut r.listener).number()
+}
+
+/// Asks for notices: from its next start on, the collector of a heap at rest tells the label of each object that it frees, and the listener
+/// hears them.
+#[unsafe(no_mangle)]
+pub extern "C" fn recycler_notices(alloc: Global, r: &mut Recycler, room: u32) -> u32
+    ensures asks { Answers result (λ code. AsksNotices room (held r.old) r.old.listener.owned.held code (held r.new) r.new.listener.owned.held) }
+    ensures mutators { r.new.mutators ≡ r.old.mutators }
+{
+    noticing::ask_for(alloc, &mut r.collector, &mut r.listener, room).number()
+}
+
+/// Hears the next label of an object that was freed.
+#[unsafe(no_mangle)]
+pub extern "C" fn recycler_hear(alloc: Global, listener: &mut Handle, told: &mut Heard) -> u32
+    ensures { Answers result (λ code. HearsIn listener.old.owned.held told.old code listener.new.owned.held told.new) }
+{
+    noticing::hear(alloc, listener, told).number()
 }
 
 /// Sets a heap at rest running: its mutators go out into their handles.
 #[unsafe(no_mangle)]
 pub extern "C" fn recycler_start(alloc: Global, r: &mut Recycler) -> u32
-    ensures { Answers result (λ code. Starts (held r.old) r.old.mutators code (held r.new) r.new.mutators) }
+    ensures starts { Answers result (λ code. Starts (held r.old) r.old.mutators code (held r.new) r.new.mutators) }
+    ensures listener { r.new.listener ≡ r.old.listener }
 {
     running::start(alloc, &mut r.collector, &mut r.mutators).number()
 }
@@ -57,7 +77,8 @@ pub extern "C" fn recycler_start(alloc: Global, r: &mut Recycler) -> u32
 /// Stops a running heap: it rests, as its actors left it.
 #[unsafe(no_mangle)]
 pub extern "C" fn recycler_stop(alloc: Global, r: &mut Recycler) -> u32
-    ensures { Answers result (λ code. Stops (held r.old) r.old.mutators code (held r.new) r.new.mutators) }
+    ensures stops { Answers result (λ code. Stops (held r.old) r.old.mutators code (held r.new) r.new.mutators) }
+    ensures listener { r.new.listener ≡ r.old.listener }
 {
     running::stop(alloc, &mut r.collector, &mut r.mutators).number()
 }
@@ -67,6 +88,7 @@ pub extern "C" fn recycler_stop(alloc: Global, r: &mut Recycler) -> u32
 pub extern "C" fn recycler_settle(alloc: Global, r: &mut Recycler, told: &mut Settled) -> u32
     ensures settles { Answers result (λ code. Settles (held r.old) told.old code (held r.new) told.new) }
     ensures mutators { r.new.mutators ≡ r.old.mutators }
+    ensures listener { r.new.listener ≡ r.old.listener }
 {
     looking::settle_in(alloc, &mut r.collector, told).number()
 }
@@ -77,6 +99,7 @@ pub extern "C" fn recycler_slot(alloc: Global, r: &mut Recycler, slot: u32, told
     ensures looks { Answers result (λ code. Looks (held r.old) slot told.old code told.new) }
     ensures collector { held r.new ≡ held r.old }
     ensures mutators { r.new.mutators ≡ r.old.mutators }
+    ensures listener { r.new.listener ≡ r.old.listener }
 {
     looking::look(alloc, &mut r.collector, slot, told).number()
 }
@@ -87,6 +110,7 @@ pub extern "C" fn recycler_taken(alloc: Global, r: &mut Recycler, taken: &mut u3
     ensures counts { Answers result (λ code. Counts (held r.old) taken.old code taken.new) }
     ensures collector { held r.new ≡ held r.old }
     ensures mutators { r.new.mutators ≡ r.old.mutators }
+    ensures listener { r.new.listener ≡ r.old.listener }
 {
     looking::count(alloc, &mut r.collector, taken).number()
 }
@@ -97,6 +121,7 @@ pub extern "C" fn recycler_totals(alloc: Global, r: &mut Recycler, told: &mut To
     ensures tallies { Answers result (λ code. Tallies (held r.old) told.old code told.new) }
     ensures collector { held r.new ≡ held r.old }
     ensures mutators { r.new.mutators ≡ r.old.mutators }
+    ensures listener { r.new.listener ≡ r.old.listener }
 {
     looking::total(alloc, &mut r.collector, told).number()
 }
@@ -109,7 +134,7 @@ pub extern "C" fn recycler_turn(alloc: Global, collector: &mut Handle, told: &mu
     collecting::turn(alloc, collector, told).number()
 }
 
-/// Turns of the collector of a running heap until one comes to something else than that it moved, and at most so many.
+/// Turns of the collector of a running heap until one comes to something else than that it moved or a label is held, and at most so many.
 #[unsafe(no_mangle)]
 pub extern "C" fn recycler_collect(
     alloc: Global,

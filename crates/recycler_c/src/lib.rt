@@ -6,6 +6,8 @@
 //! memory for the running heap alone.
 //! The rule that it keeps: while the heap runs, the handle of each of its mutators holds that heap's mutator with that number, and
 //! while it rests none holds a mutator (`specs/Standing`). What the collector's handle takes back is therefore its own.
+//! Where notices were asked for, the collector tells the label of each object that it frees, and a listener in a handle of its own hears
+//! them: who tells goes with the heap as it is started and stopped.
 //! Every export answers a code. `specs/Calls` says of each call, code by code, why that code came and what the call left.
 #![tactic(auto)]
 
@@ -16,6 +18,7 @@ mod end;
 mod export;
 mod handle;
 mod looking;
+mod noticing;
 mod opening;
 mod owned;
 mod recycler;
@@ -28,4 +31,4 @@ pub use end::{Collecting, End, Mutating, Resting};
 pub use handle::Handle;
 pub use owned::Owned;
 pub use recycler::Recycler;
-pub use told::{Asked, Settled, Slot, Totals, Turned};
+pub use told::{Asked, Heard, Settled, Slot, Totals, Turned};

@@ -1,8 +1,8 @@
 //! A heap at rest settles, and is looked at.
-ghost use Rattle.std.specs.Prelude.{◌≡◌, Some, true};
+ghost use Rattle.std.specs.Prelude.{◌≡◌, Option, Some, true};
 ghost use Rattle.rec_settle.specs.Collecting.{taken_slots};
 ghost use Rattle.recycler_c.specs.Calls.{Counts, Looks, Settles, Tallies, totals_in};
-ghost use Rattle.recycler_c.specs.Standing.{can_collect};
+ghost use Rattle.recycler_c.specs.Standing.{Tellers, can_collect};
 
 use crate::code::Code;
 use crate::end::{End, Resting};
@@ -32,16 +32,16 @@ fn settle_end(end: End, told: &mut Settled) -> (End, Code)
     ensures { Settles (Some end) told.old result.1 (Some result.0) told.new }
 {
     match end {
-        End::Resting(resting) => {
+        End::Resting(resting, teller) => {
             let (settled, code) = settle_world(resting, told);
-            (End::Resting(settled), code)
+            (End::Resting(settled, teller), code)
         }
         other => (other, Code::Runs),
     }
 }
 
 fn settle_world(resting: Resting, told: &mut Settled) -> (Resting, Code)
-    ensures { Settles (Some (End.Resting resting)) told.old result.1 (Some (End.Resting result.0)) told.new }
+    ensures { (t : Option Tellers) → Settles (Some (End.Resting resting t)) told.old result.1 (Some (End.Resting result.0 t)) told.new }
 {
     let mut world = resting.into_world();
     match settle(&mut world) {
@@ -68,7 +68,7 @@ pub fn look(alloc: Global, handle: &mut Handle, slot: u32, told: &mut Slot) -> C
     }
     let whole = handle.take(alloc);
     let code = match &*whole {
-        End::Resting(resting) => look_at(resting.world(), slot, told),
+        End::Resting(resting, _) => look_at(resting.world(), slot, told),
         _ => Code::Runs,
     };
     handle.put(whole);
@@ -76,7 +76,7 @@ pub fn look(alloc: Global, handle: &mut Handle, slot: u32, told: &mut Slot) -> C
 }
 
 fn look_at(world: &World, slot: u32, told: &mut Slot) -> Code
-    ensures { Looks (Some (End.Resting world.now)) slot told.old result told.new }
+    ensures { (t : Option Tellers) → Looks (Some (End.Resting world.now t)) slot told.old result told.new }
 {
     if slot >= u32::from(world.slots()) {
         return Code::Range;
@@ -97,7 +97,7 @@ pub fn count(alloc: Global, handle: &mut Handle, taken: &mut u32) -> Code
     }
     let whole = handle.take(alloc);
     let code = match &*whole {
-        End::Resting(resting) => {
+        End::Resting(resting, _) => {
             *taken = taken_of(resting.world());
             Code::Ok
         }
@@ -131,7 +131,7 @@ pub fn total(alloc: Global, handle: &mut Handle, told: &mut Totals) -> Code
     }
     let whole = handle.take(alloc);
     let code = match &*whole {
-        End::Resting(resting) => {
+        End::Resting(resting, _) => {
             *told = totals_of(resting.world());
             Code::Ok
         }

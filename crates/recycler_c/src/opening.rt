@@ -43,12 +43,12 @@ pub fn open(alloc: Global, collector: &mut Handle, mutators: &mut [Handle], conf
 fn make(alloc: Global, config: Config) -> Result<(Box<End>, Vec<Box<End>>), OpenError>
     ensures refused { IfErr result (λ error. IsRefused config error) }
     ensures config { IfOk result (λ made. IsConfig config) }
-    ensures opened { IfOk result (λ made. made.0.value ≡ ends.Resting (opened config)) }
+    ensures opened { IfOk result (λ made. made.0.value ≡ ends.Resting (opened config) None) }
     ensures seats { IfOk result (λ made. length made.1.items ≡ config.mutators) }
     ensures vacant { IfOk result (λ made. All (λ seat. seat.value ≡ ends.Vacant) made.1.items) }
 {
     let world = World::open(alloc, config)?;
-    let whole = boxed(alloc, End::Resting(Resting::of(world)))?;
+    let whole = boxed(alloc, End::Resting(Resting::of(world), None))?;
     let seats = make_seats(alloc, config.mutators as usize)?;
     Ok((whole, seats))
 }
@@ -84,11 +84,16 @@ fn seat_all(handles: &mut [Handle], mut seats: Vec<Box<End>>)
 }
 
 /// Closes a heap at rest, and gives back its memory and that of its handles.
-pub fn close(alloc: Global, collector: &mut Handle, mutators: &mut [Handle]) -> Code
+pub fn close(
+    alloc: Global,
+    collector: &mut Handle,
+    mutators: &mut [Handle],
+    listener: &mut Handle,
+) -> Code
     requires collects { can_collect collector.old.owned.held ≡ true }
     requires tied { AreTied collector.old.owned.held mutators.old }
 
-    ensures closes { Closes collector.old.owned.held mutators.old result collector.new.owned.held mutators.new }
+    ensures closes { Closes collector.old.owned.held mutators.old listener.old result collector.new.owned.held mutators.new listener.new }
     ensures collects { can_collect collector.new.owned.held ≡ true }
     ensures tied { AreTied collector.new.owned.held mutators.new }
 {
@@ -102,6 +107,7 @@ pub fn close(alloc: Global, collector: &mut Handle, mutators: &mut [Handle]) -> 
     }
     drop(whole);
     empty_all(alloc, mutators);
+    empty(alloc, listener);
     Code::Ok
 }
 
@@ -110,8 +116,17 @@ fn runs(end: &End) -> bool
     ensures { IsTrue result ↔ IsSome (collects_in (Some end.now)) }
 {
     match end {
-        End::Collecting(_) => true,
+        End::Collecting(_, _) => true,
         _ => false,
+    }
+}
+
+// Gives the box of a handle back.
+fn empty(alloc: Global, handle: &mut Handle)
+    ensures { handle.new.owned.held ≡ None }
+{
+    if handle.full {
+        drop(handle.take(alloc));
     }
 }
 

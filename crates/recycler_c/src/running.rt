@@ -49,12 +49,12 @@ fn start_in(alloc: Global, end: End, mutators: &mut [Handle]) -> (End, Code)
     ensures tied { AreTied (Some result.0) mutators.new }
 {
     match end {
-        End::Resting(resting) => match set_running(alloc, resting.into_world()) {
+        End::Resting(resting, teller) => match set_running(alloc, resting.into_world()) {
             Ok((running, heaps)) => {
                 let running = send_out(alloc, running, heaps, mutators);
-                (End::Collecting(running), Code::Ok)
+                (End::Collecting(running, teller), Code::Ok)
             }
-            Err(refused) => refused,
+            Err((refused, code)) => (refused.with_teller(teller), code),
         },
         other => (other, Code::Runs),
     }
@@ -96,7 +96,7 @@ fn set_running(alloc: Global, world: World) -> Result<(Collecting, Vec<Arc<Heap>
 {
     match Heap::start(alloc, world) {
         Ok((heap, home, collector)) => share(alloc, heap, home, collector),
-        Err((world, _)) => Err((End::Resting(Resting::of(world)), Code::NoMemory)),
+        Err((world, _)) => Err((End::Resting(Resting::of(world), None), Code::NoMemory)),
     }
 }
 
@@ -134,7 +134,7 @@ fn share(
         }
         Err(refused) => {
             let resting = rest(alloc, refused.value, home, collector);
-            Err((End::Resting(resting), Code::NoMemory))
+            Err((End::Resting(resting, None), Code::NoMemory))
         }
     }
 }
@@ -159,8 +159,8 @@ fn stay(alloc: Global, running: Collecting) -> (End, Code)
     ensures { NotRun (arc_value running.heap).world result.1 result.0 }
 {
     match unshare(alloc, running) {
-        Ok(resting) => (End::Resting(resting), Code::NoMemory),
-        Err(running) => (End::Collecting(running), Code::Shared),
+        Ok(resting) => (End::Resting(resting, None), Code::NoMemory),
+        Err(running) => (End::Collecting(running, None), Code::Shared),
     }
 }
 
@@ -194,10 +194,12 @@ fn stop_in(alloc: Global, end: End, mutators: &mut [Handle]) -> (End, Code)
     ensures tied { AreTied (Some result.0) mutators.new }
 {
     match end {
-        End::Collecting(running) => match unshare(alloc, call_home(alloc, running, mutators)) {
-            Ok(resting) => (End::Resting(resting), Code::Ok),
-            Err(running) => (End::Collecting(running), Code::Shared),
-        },
+        End::Collecting(running, teller) => {
+            match unshare(alloc, call_home(alloc, running, mutators)) {
+                Ok(resting) => (End::Resting(resting, teller), Code::Ok),
+                Err(running) => (End::Collecting(running, teller), Code::Shared),
+            }
+        }
         other => (other, Code::Rests),
     }
 }
@@ -205,7 +207,7 @@ fn stop_in(alloc: Global, end: End, mutators: &mut [Handle]) -> (End, Code)
 // The mutators that are out come home.
 fn call_home(alloc: Global, mut running: Collecting, mutators: &mut [Handle]) -> Collecting
     requires many { length mutators.old ≡ MOST_MUTATORS }
-    requires tied { AreTied (Some (End.Collecting running)) mutators.old }
+    requires tied { AreTied (Some (End.Collecting running None)) mutators.old }
 
     ensures heap { arc_value result.heap ≡ arc_value running.heap }
     ensures collector { result.collector ≡ running.collector }

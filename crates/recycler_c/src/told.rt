@@ -1,8 +1,9 @@
 //! What C is told.
 ghost use Rattle.std.specs.Prelude.{◌≡◌};
-ghost use Rattle.recycler_c.specs.Shown.{asked_of, slot_told, turned_of};
+ghost use Rattle.recycler_c.specs.Shown.{asked_of, heard_of, slot_told, telling_of, turned_of};
 
 use rec_model::Answer;
+use rec_table::Telling;
 use rec_world::Turn;
 
 /// The answer to a command.
@@ -54,6 +55,24 @@ pub struct Totals {
     pub cycles_freed: u64,
     pub cycles_refused_delta: u64,
     pub cycles_refused_sigma: u64,
+}
+
+/// What the listener heard: a label, where there is one.
+#[repr(C)]
+#[derive(Clone, Copy, Drop)]
+pub struct Heard {
+    pub any: u32,
+    pub label: u32,
+}
+
+/// An answer of the listener as C reads it.
+pub fn show_heard(label: Option<u32>) -> Heard
+    ensures { result ≡ heard_of label }
+{
+    match label {
+        None => Heard { any: 0, label: 0 },
+        Some(label) => Heard { any: 1, label },
+    }
 }
 
 /// A slot as C reads it: its label, if it holds an object, and its count.
@@ -139,5 +158,20 @@ pub fn show_turn(turn: Turn) -> Turned
             ..plain
         },
         Turn::EpochsSpent => Turned { what: 3, ..plain },
+    }
+}
+
+/// A turn that tells, as C reads it.
+pub fn show_telling(telling: Telling) -> Turned
+    ensures { result ≡ telling_of telling }
+{
+    match telling {
+        Telling::Turned(turn) => show_turn(turn),
+        Telling::Held { label: _ } => Turned {
+            what: 4,
+            mutator: 0,
+            epoch: 0,
+            freed: 0,
+        },
     }
 }

@@ -18,7 +18,8 @@ use Rattle.rec_play.specs.Played.{config_of}
 use Rattle.rec_play.specs.Playing.{to_come}
 use Rattle.rec_play.specs.Shown.{IsShownTo, first_player, told_shown}
 use Rattle.rec_play.proofs.Rounds.{Between, HasRoom, all_played, command_made, has_room, journal_is, legally, notes_at, order_made, start, step_made}
-use Rattle.rec_play.proofs.Shows.{command_told, move_made, none_left, player_is, shown_more}
+use Rattle.rec_core.proofs.Shows.{shows_none, shows_then}
+use Rattle.rec_play.proofs.Shows.{command_told, move_made, none_left, player_is, shown_more, shows_told}
 use Rattle.rec_settle.proofs.Goes.{if_err}
 use Rattle.rec_play.proofs.whole.play_watched.Goals as goal
 
@@ -34,7 +35,7 @@ loop-made-init g c =
           (subst IsScript c.start-playing.ensures.script c.start-playing.ensures.due.valid) (subst AreIdle (sym c.requires.opened) (idle_opened c.args.script.now)) c.requires.opened
           (record { one_each = c.requires.journals.one_each; empty = c.requires.journals.empty; room = c.requires.journals.room })
           c.requires.order c.requires.room c.start-playing.ensures.script c.start-playing.ensures.rest c.start-playing.ensures.made;
-      shown = ([], subst (λ p. IsShownTo first c.args.world.now [] p c.args.world.now) (sym is) IsShownTo.begins, g.met.W.Watch.none_shown c.args.watch.now);
+      shown = ([], subst (λ p. IsShownTo first c.args.world.now [] p c.args.world.now) (sym is) IsShownTo.begins, g.met.W.Watch.none_shown c.args.watch.now, shows_none c.args.world.now);
       never_falls = omega arith;
     }
 
@@ -76,6 +77,7 @@ loop-made-preserved-in-Command g c =
         so.0 ++ told_shown c.loop-made.world c.in_ok-made.field-0,
         shown_more (first_player c.args.script.now c.args.seed c.args.turns) c.args.world.now so.0 c.loop-made.playing c.next_watched.new.self c.loop-made.world c.next_watched.new.world c.in_ok-made.field-0 so.1 c.in_ok-made.ensures.told c.in_ok-made.ensures.stays,
         g.met.W.Watch.shown_then c.args.watch.now c.loop-made.watch c.next_watched.new.watch so.0 (told_shown c.loop-made.world c.in_ok-made.field-0) so.2 c.in_ok-made.ensures.shown,
+        shows_then c.args.world.now c.loop-made.world c.next_watched.new.world so.0 (told_shown c.loop-made.world c.in_ok-made.field-0) so.3 (shows_told c.args.script.now c.args.seed c.args.turns c.loop-made.world c.next_watched.new.world c.loop-made.journals c.loop-made.order c.loop-made.playing c.next_watched.new.self c.in_ok-made.field-0 c.loop-made.invariant.between c.in_ok-made.ensures.told c.in_ok-made.ensures.stays),
       );
       never_falls = omega (arith, c.loop-made.invariant.never_falls, c.next_watched.ensures.never_falls);
     }
@@ -99,6 +101,7 @@ loop-made-preserved g c =
         so.0 ++ told_shown c.loop-made.world c.in_ok-made.field-0,
         shown_more (first_player c.args.script.now c.args.seed c.args.turns) c.args.world.now so.0 c.loop-made.playing c.next_watched.new.self c.loop-made.world c.next_watched.new.world c.in_ok-made.field-0 so.1 c.in_ok-made.ensures.told c.in_ok-made.ensures.stays,
         g.met.W.Watch.shown_then c.args.watch.now c.loop-made.watch c.next_watched.new.watch so.0 (told_shown c.loop-made.world c.in_ok-made.field-0) so.2 c.in_ok-made.ensures.shown,
+        shows_then c.args.world.now c.loop-made.world c.next_watched.new.world so.0 (told_shown c.loop-made.world c.in_ok-made.field-0) so.3 (shows_told c.args.script.now c.args.seed c.args.turns c.loop-made.world c.next_watched.new.world c.loop-made.journals c.loop-made.order c.loop-made.playing c.next_watched.new.self c.in_ok-made.field-0 c.loop-made.invariant.between c.in_ok-made.ensures.told c.in_ok-made.ensures.stays),
       );
       never_falls = omega (arith, c.loop-made.invariant.never_falls, c.next_watched.ensures.never_falls);
     }
@@ -134,4 +137,5 @@ returns-clause-shown g c =
         ended = ap (λ (p : Player). to_come p.rest) (none_left c.in_ok-made.field-0 c.in_default.is c.in_ok-made.ensures.stays).0 ∙ none_left c.in_ok-made.field-0 c.in_default.is c.in_ok-made.ensures.ended;
       },
       g.met.W.Watch.shown_then c.args.watch.now c.loop-made.watch c.next_watched.new.watch so.0 (told_shown c.loop-made.world c.in_ok-made.field-0) so.2 c.in_ok-made.ensures.shown,
+      shows_then c.args.world.now c.loop-made.world c.next_watched.new.world so.0 (told_shown c.loop-made.world c.in_ok-made.field-0) so.3 (shows_told c.args.script.now c.args.seed c.args.turns c.loop-made.world c.next_watched.new.world c.loop-made.journals c.loop-made.order c.loop-made.playing c.next_watched.new.self c.in_ok-made.field-0 c.loop-made.invariant.between c.in_ok-made.ensures.told c.in_ok-made.ensures.stays),
     )

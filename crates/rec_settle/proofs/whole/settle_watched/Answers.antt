@@ -4,6 +4,8 @@ use Rattle.std.proofs.lemmas.List.{append-nil}
 use Rattle.rec_world.proofs.Calls.{world_kept}
 use Rattle.rec_settle.specs.Shown.{IsShownTo, told_shown}
 use Rattle.rec_settle.proofs.Goes.{came_settled, ended_stage, if_err, shown_on}
+use Rattle.rec_settle.specs.declared.turns.Settling.TheVariants.{Settled}
+use Rattle.rec_settle.proofs.Shows.{shows_to}
 use Rattle.rec_settle.proofs.Settles.{EndsSettling, few_freed, settling_settles}
 use Rattle.rec_settle.proofs.whole.settle_watched.Goals as goal
 
@@ -93,9 +95,12 @@ returns-clause-made g c =
 pub returns-clause-shown : goal.returns-clause-shown
 returns-clause-shown g c =
     let so = c.loop.invariant.shown in
-    let told = told_shown c.loop.settling c.loop.world c.in_ok-next_watched.field-0 in (
+    let told = told_shown c.loop.settling c.loop.world c.in_ok-next_watched.field-0 in
+    let all : IsShownTo c.args.world.now (so.0 ++ told) Settled c.next_watched.new.world
+    = subst (λ s. IsShownTo c.args.world.now (so.0 ++ told) s c.next_watched.new.world) (ended_stage c.loop.settling c.next_watched.new.self c.loop.world c.next_watched.new.world c.in_ok-next_watched.field-0 c.in_default.is c.in_ok-next_watched.ensures.goes)
+    (shown_on c.args.world.now so.0 c.loop.settling c.next_watched.new.self c.loop.world c.next_watched.new.world c.in_ok-next_watched.field-0 so.1 c.in_ok-next_watched.ensures.goes) in (
       so.0 ++ told,
-      subst (λ s. IsShownTo c.args.world.now (so.0 ++ told) s c.next_watched.new.world) (ended_stage c.loop.settling c.next_watched.new.self c.loop.world c.next_watched.new.world c.in_ok-next_watched.field-0 c.in_default.is c.in_ok-next_watched.ensures.goes)
-          (shown_on c.args.world.now so.0 c.loop.settling c.next_watched.new.self c.loop.world c.next_watched.new.world c.in_ok-next_watched.field-0 so.1 c.in_ok-next_watched.ensures.goes),
+      all,
       g.met.W.Watch.shown_then c.args.watch.now c.loop.watch c.next_watched.new.watch so.0 told so.2 c.in_ok-next_watched.ensures.shown,
+      (shows_to c.args.world.now (so.0 ++ told) Settled c.next_watched.new.world (world_kept c.args.world.now c.start.ensures.kept) c.requires.idle all).shows,
     )

@@ -12,7 +12,7 @@ pub of-requires-in-Err-clause-home : goal.of-requires-in-Err-clause-home
 of-requires-in-Err-clause-home c = subst (λ (w : Core). All (λ word. word % 2 ≡ 0) w.crossing) (sym c.in-Err.ensures.spent.2) c.into_world-world.ensures.home
 
 pub returns-in-Ok : goal.returns-in-Ok
-returns-in-Ok c = record {
+returns-in-Ok c = λ t. record {
   before = c.into_world-world.result;
   was = ap Some (sym c.into_world-world.ensures.world);
   after = c.settle.new.world;
@@ -22,11 +22,12 @@ returns-in-Ok c = record {
   registers = c.settle.ensures.registers;
   stands = c.settle.ensures.stands;
   made = c.settle.ensures.made;
+  teller = refl;
 }
 
 pub returns-in-Err : goal.returns-in-Err
-returns-in-Err c = (
+returns-in-Err c = λ t. (
   record { world = c.into_world-world.result; is = ap Some (sym c.into_world-world.ensures.world); few = c.in-Err.ensures.spent.0 },
-  ap (λ (w : Core). Some (ends.Resting w)) (c.of-in-Err.ensures ∙ c.in-Err.ensures.spent.2 ∙ c.into_world-world.ensures.world),
+  ap (λ (w : Core). Some (ends.Resting w t)) (c.of-in-Err.ensures ∙ c.in-Err.ensures.spent.2 ∙ c.into_world-world.ensures.world),
   refl,
 )

@@ -7,7 +7,7 @@ use Rattle.recycler_c.proofs.Ties.{tied_closed}
 use Rattle.recycler_c.proofs.opening.close.Goals as goal
 
 pub returns-then-not-collector-clause-closes : goal.returns-then-not-collector-clause-closes
-returns-then-not-collector-clause-closes c = (closed_of c.args.collector.now (search rules), record { collector = refl; mutators = refl })
+returns-then-not-collector-clause-closes c = (closed_of c.args.collector.now (search rules), record { collector = refl; mutators = refl }, refl)
 
 pub returns-then-not-collector-clause-collects : goal.returns-then-not-collector-clause-collects
 returns-then-not-collector-clause-collects c = c.requires.collects
@@ -25,6 +25,7 @@ pub returns-then-runs-clause-closes : goal.returns-then-runs-clause-closes
 returns-then-runs-clause-closes c = (
   subst (λ (x : Option End). IsSome (collects_in x)) (ap Some c.deref.ensures ∙ sym c.take-whole.ensures.was) (c.runs.ensures.0 (search rules)),
   record { collector = c.put.ensures ∙ sym c.take-whole.ensures.was; mutators = refl },
+  refl,
 )
 
 pub returns-then-runs-clause-collects : goal.returns-then-runs-clause-collects
@@ -37,8 +38,9 @@ pub returns-clause-closes : goal.returns-clause-closes
 returns-clause-closes c = (
   subst (λ (x : Option End). IsSome (rests_in x)) (sym c.take-whole.ensures.was)
       (rests_where_not_runs c.take-whole.result.value (ap can_collect (sym c.take-whole.ensures.was) ∙ c.requires.collects)
-      (λ w e. let some : IsSome (collects_in (Some c.deref.result.now)) = ap (λ (x : End). is_some (collects_in (Some x))) (c.deref.ensures ∙ e) in let yes = c.runs.ensures.1 some in cc)),
+      (λ w t e. let some : IsSome (collects_in (Some c.deref.result.now)) = ap (λ (x : End). is_some (collects_in (Some x))) (c.deref.ensures ∙ e) in let yes = c.runs.ensures.1 some in cc)),
   c.take-whole.ensures.closed,
+  c.empty.ensures,
 )
 
 pub returns-clause-collects : goal.returns-clause-collects

@@ -2,7 +2,7 @@
 use Rattle.std.proofs.Common.{◌≡◌, ◌∙◌, Some, None, Option, refl, sym, ap, subst, arith, rules}
 use Rattle.rec_core.specs.Core.{opened}
 use Rattle.recycler_c.specs.Calls.{Opens}
-use Rattle.recycler_c.specs.Standing.{can_collect, held_at, rests_in, seat_beside}
+use Rattle.recycler_c.specs.Standing.{can_collect, held_at, rests_in, seat_beside, tells_in}
 use Rattle.recycler_c.specs.declared.code.Code.{Code}
 use Rattle.recycler_c.specs.declared.end.End.{End}
 use Rattle.recycler_c.proofs.Opened.{opens_refused}
@@ -38,6 +38,7 @@ returns-in-Ok-clause-opens c = record {
   was = closed_of c.args.collector.now (search rules);
   config_fits = c.in-Ok.ensures.config;
   is = ap rests_in (c.put.ensures ∙ ap Some c.in-Ok.ensures.opened);
+  silent = ap tells_in (c.put.ensures ∙ ap Some c.in-Ok.ensures.opened);
 }
 
 pub returns-in-Ok-clause-collects : goal.returns-in-Ok-clause-collects

@@ -1,5 +1,5 @@
 -- The contract of `call_home`: the mutators that are out come home.
-use Rattle.std.proofs.Common.{◌≡◌, ◌<◌, ◌∙◌, Some, List, [], ◌∷◌, length, vec_len, refl, sym, ap, arith}
+use Rattle.std.proofs.Common.{◌≡◌, ◌<◌, ◌∙◌, None, Some, List, [], ◌∷◌, length, vec_len, refl, sym, ap, arith}
 use Rattle.std.proofs.lemmas.Bool.{eqb-false, eqb-true}
 use Rattle.rec_table.specs.Views.{MutatorView}
 use Rattle.recycler_c.specs.Standing.{seat_in}
@@ -30,11 +30,11 @@ returns-then-not-is_empty-clause-gathered c =
 pub returns-then-not-is_empty-clause-low : goal.returns-then-not-is_empty-clause-low
 returns-then-not-is_empty-clause-low c = λ k d lt.
     let some : 0 < length c.args.running.home.items = let ne = eqb-false _ _ (sym c.is_empty.ensures ∙ c.if-not-is_empty.true) in omega (arith, ne, c.args.running.home.ok.0) in
-    runs_home (Some (ends.Collecting c.args.running)) c.args.running c.args.mutators.now c.requires.tied refl some k d (omega (arith, lt, c.requires.many, c.args.running.few.1)) lt
+    runs_home (Some (ends.Collecting c.args.running None)) c.args.running c.args.mutators.now c.requires.tied refl some k d (omega (arith, lt, c.requires.many, c.args.running.few.1)) lt
 
 pub returns-then-not-is_empty-clause-high : goal.returns-then-not-is_empty-clause-high
 returns-then-not-is_empty-clause-high c = λ k d over lt.
-    runs_high (Some (ends.Collecting c.args.running)) c.args.running c.args.mutators.now c.requires.tied refl k d (omega (arith, lt, c.requires.many)) over
+    runs_high (Some (ends.Collecting c.args.running None)) c.args.running c.args.mutators.now c.requires.tied refl k d (omega (arith, lt, c.requires.many)) over
 
 pub gather-requires-clause-none : goal.gather-requires-clause-none
 gather-requires-clause-none c =
@@ -81,4 +81,4 @@ returns-clause-low c = λ k d lt. ap seat_in (c.gather.ensures.vacant k d lt)
 
 pub returns-clause-high : goal.returns-clause-high
 returns-clause-high c = λ k d over lt.
-    ap seat_in (c.gather.ensures.others k d over) ∙ runs_high (Some (ends.Collecting c.args.running)) c.args.running c.args.mutators.now c.requires.tied refl k d (omega (arith, lt, c.requires.many)) over
+    ap seat_in (c.gather.ensures.others k d over) ∙ runs_high (Some (ends.Collecting c.args.running None)) c.args.running c.args.mutators.now c.requires.tied refl k d (omega (arith, lt, c.requires.many)) over

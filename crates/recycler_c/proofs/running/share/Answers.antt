@@ -1,5 +1,5 @@
 -- The contract of `share`: the heap is shared by its collector and its mutators.
-use Rattle.std.proofs.Common.{◌≡◌, ◌+◌, ◌%◌, ◌∙◌, All, map, refl, sym, ap, subst, arith}
+use Rattle.std.proofs.Common.{◌≡◌, ◌+◌, ◌%◌, ◌∙◌, All, None, map, refl, sym, ap, subst, arith}
 use Rattle.rec_core.specs.Core.{Core}
 use Rattle.rec_table.specs.Ends.{IsStopped}
 use Rattle.rec_table.specs.Views.{AreMutatorsOf, MutatorView, IsCollectorOf, Started, fresh, fresh_collector}
@@ -79,4 +79,4 @@ returns-in-Err-heaps-clause-refused c = subst (λ (s : Started). NotRun s.world 
 pub returns-in-Err-clause-refused : goal.returns-in-Err-clause-refused
 returns-in-Err-clause-refused c =
     let stopped = subst (λ (s : Started). IsStopped s.world c.args.collector.collecting.log (map (λ (m : MutatorView). m.log) c.args.home.items) c.rest-resting.result) c.in-Err.ensures.value_returned c.rest-resting.ensures.stopped in
-    ap (λ (w : Core). ends.Resting w) (fresh_rests c.args.heap c.args.collector c.args.home.items c.rest-resting.result c.requires.kept c.requires.home c.requires.collector.1 c.requires.fresh stopped)
+    ap (λ (w : Core). ends.Resting w None) (fresh_rests c.args.heap c.args.collector c.args.home.items c.rest-resting.result c.requires.kept c.requires.home c.requires.collector.1 c.requires.fresh stopped)

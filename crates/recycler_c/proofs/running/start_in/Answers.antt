@@ -1,10 +1,10 @@
 -- The contract of `start_in`: a heap at rest is set running.
-use Rattle.std.proofs.Common.{◌≡◌, ℕ, ◌+◌, ◌<◌, ◌∙◌, Some, length, refl, sym, ap, subst, arith}
+use Rattle.std.proofs.Common.{◌≡◌, ℕ, ◌+◌, ◌<◌, ◌∙◌, None, Some, length, refl, sym, ap, subst, arith}
 use Rattle.std.specs.Arc.{arc_value}
 use Rattle.rec_core.specs.Core.{Core}
 use Rattle.rec_table.specs.Views.{Started, fresh, fresh_collector}
 use Rattle.recycler_c.specs.Calls.{IsOut, NotRun, Starts}
-use Rattle.recycler_c.specs.Standing.{AreTied, held_at, rests_in, seat_in}
+use Rattle.recycler_c.specs.Standing.{AreTied, can_collect, held_at, rests_in, seat_in, tells_in}
 use Rattle.recycler_c.specs.declared.end.End.{End}
 use Rattle.recycler_c.specs.declared.end.End.TheVariants as ends
 use Rattle.recycler_c.specs.declared.handle.Handle.{Handle}
@@ -15,7 +15,7 @@ use Rattle.recycler_c.proofs.running.start_in.Goals as goal
 use Rattle.recycler_c.proofs.running.start_in.Goals.{In-Ok, In-Resting, After-send_out-running}
 
 -- what the handles stand for beside the heap at rest
-tied : (c : In-Resting) → AreTied (Some (ends.Resting c.in-Resting.resting)) c.args.mutators.now
+tied : (c : In-Resting) → AreTied (Some (ends.Resting c.in-Resting.resting None)) c.args.mutators.now
 tied c = subst (λ (e : End). AreTied (Some e) c.args.mutators.now) c.in-Resting.is c.requires.tied
 
 -- how many mutators it has
@@ -53,7 +53,7 @@ pub send_out-running-requires-clause-open : goal.send_out-running-requires-claus
 send_out-running-requires-clause-open c = λ k d lt.
     let at = goal.at.send_out-running-requires-clause-open c in
     let here = tied at.In-Resting in let all = many at.In-Ok in
-    seat_open _ _ (rests_low (Some (ends.Resting c.in-Resting.resting)) c.in-Resting.resting c.args.mutators.now here refl k d (omega (arith, lt, c.requires.many, c.in-Ok.running.few.1)) (omega (arith, lt, all)))
+    seat_open _ _ (rests_low (Some (ends.Resting c.in-Resting.resting None)) c.in-Resting.resting c.args.mutators.now here refl k d (omega (arith, lt, c.requires.many, c.in-Ok.running.few.1)) (omega (arith, lt, all)))
 
 pub returns-in-Ok-clause-starts : goal.returns-in-Ok-clause-starts
 returns-in-Ok-clause-starts c =
@@ -67,6 +67,7 @@ returns-in-Ok-clause-starts c =
       collector = c.send_out-running.ensures.collector ∙ c.in-Ok.ensures.fresh.collector ∙ ap fresh_collector (sym c.send_out-running.ensures.heap);
       home = c.send_out-running.ensures.home;
       out = λ k d lt. out at.After-send_out-running k d (omega (arith, lt, all));
+      teller = ap (λ (e : End). tells_in (Some e)) (sym c.in-Resting.is);
     }
 
 pub returns-in-Ok-clause-collects : goal.returns-in-Ok-clause-collects
@@ -78,25 +79,26 @@ returns-in-Ok-clause-tied c =
     let here = tied at.In-Resting in let all = many at.In-Ok in
     let r = c.send_out-running.result in
     let s = arc_value r.heap in
-    tied_out (Some (ends.Collecting r)) r c.send_out-running.new.mutators refl (ap length c.send_out-running.ensures.home)
+    tied_out (Some (ends.Collecting r None)) r c.send_out-running.new.mutators refl (ap length c.send_out-running.ensures.home)
     (λ k d lt under. out_seat s (fresh s (k + 1)) (held_at c.send_out-running.new.mutators k d) (out at.After-send_out-running k d (omega (arith, under, c.send_out-running.ensures.count))))
     (λ k d lt over. ap seat_in (c.send_out-running.ensures.others k d (omega (arith, over, c.send_out-running.ensures.count)))
-    ∙ rests_high (Some (ends.Resting c.in-Resting.resting)) c.in-Resting.resting c.args.mutators.now here refl k d (omega arith) (omega (arith, over, c.send_out-running.ensures.count, all)))
+    ∙ rests_high (Some (ends.Resting c.in-Resting.resting None)) c.in-Resting.resting c.args.mutators.now here refl k d (omega arith) (omega (arith, over, c.send_out-running.ensures.count, all)))
 
 pub returns-in-Err-clause-starts : goal.returns-in-Err-clause-starts
 returns-in-Err-clause-starts c =
-    let w = c.in-Resting.resting in
-    let refused : NotRun w c.in-Err.refused.1 c.in-Err.refused.0 = subst (λ (v : Core). NotRun v c.in-Err.refused.1 c.in-Err.refused.0) c.into_world.ensures.world c.in-Err.ensures.refused in
-    subst (λ (e : End). Starts (Some e) c.args.mutators.now c.in-Err.refused.1 (Some c.in-Err.refused.0) c.args.mutators.now) (sym c.in-Resting.is) (refused_starts w c.args.mutators.now c.in-Err.refused.1 c.in-Err.refused.0 refused)
+    let w = c.in-Resting.resting in let t = c.in-Resting.teller in let ms = c.args.mutators.now in
+    let refused : NotRun w c.in-Err.code c.in-Err.refused = subst (λ (v : Core). NotRun v c.in-Err.code c.in-Err.refused) c.into_world.ensures.world c.in-Err.ensures.refused in
+    let starts : Starts (Some (ends.Resting w t)) ms c.in-Err.code (Some c.with_teller.result) ms = subst (λ (e : End). Starts (Some (ends.Resting w t)) ms c.in-Err.code (Some e) ms) (sym c.with_teller.ensures) (refused_starts w t ms c.in-Err.code c.in-Err.refused refused) in
+    subst (λ (e : End). Starts (Some e) ms c.in-Err.code (Some c.with_teller.result) ms) (sym c.in-Resting.is) starts
 
 pub returns-in-Err-clause-collects : goal.returns-in-Err-clause-collects
-returns-in-Err-clause-collects c = refused_collects c.into_world.result c.in-Err.refused.1 c.in-Err.refused.0 c.in-Err.ensures.refused
+returns-in-Err-clause-collects c = ap (λ (e : End). can_collect (Some e)) c.with_teller.ensures ∙ refused_collects c.into_world.result c.in-Resting.teller c.in-Err.code c.in-Err.refused c.in-Err.ensures.refused
 
 pub returns-in-Err-clause-tied : goal.returns-in-Err-clause-tied
 returns-in-Err-clause-tied c =
     let here = tied (goal.at.returns-in-Err-clause-tied c).In-Resting in
-    let refused : NotRun c.in-Resting.resting c.in-Err.refused.1 c.in-Err.refused.0 = subst (λ (v : Core). NotRun v c.in-Err.refused.1 c.in-Err.refused.0) c.into_world.ensures.world c.in-Err.ensures.refused in
-    refused_ties c.in-Resting.resting c.args.mutators.now c.in-Err.refused.1 c.in-Err.refused.0 here refused
+    let refused : NotRun c.in-Resting.resting c.in-Err.code c.in-Err.refused = subst (λ (v : Core). NotRun v c.in-Err.code c.in-Err.refused) c.into_world.ensures.world c.in-Err.ensures.refused in
+    subst (λ (e : End). AreTied (Some e) c.args.mutators.now) (sym c.with_teller.ensures) (refused_ties c.in-Resting.resting c.in-Resting.teller c.args.mutators.now c.in-Err.code c.in-Err.refused here refused)
 
 pub returns-in_default : goal.returns-in_default
 returns-in_default c = record {
