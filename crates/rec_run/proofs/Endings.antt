@@ -258,6 +258,10 @@ pub if_ok : {T E : Type 0} (r : Result T E) (P Q : T → Type 0) → ((x : T) �
 if_ok (Ok x) P Q step held = step x held
 if_ok (Err e) P Q step held = held
 
+-- the fact of what was made
+pub was_ok : {T E : Type 0} (P : T → Type 0) (r : Result T E) (x : T) → r ≡ Ok x → IfOk r P → P x
+was_ok P r x is held = subst (λ s. IfOk s P) is held
+
 -- the counts in a listing's rows
 row_counts : (heap : Heap) (numbering ns : List ℕ) → map (λ (r : Row). r.count) (map (row heap numbering) ns) ≡ map (count_of heap numbering) ns
 row_counts heap numbering [] = refl

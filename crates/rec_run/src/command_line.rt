@@ -1,7 +1,7 @@
 //! The words that the program is called with.
-ghost use Rattle.std.specs.Prelude.{◌≡◌, ◌≢◌, ◌≤◌, ℕ, [], map, option_map, Err, IfOk, IfSome, IfNone};
+ghost use Rattle.std.specs.Prelude.{◌≡◌, ◌≢◌, false, ◌≤◌, ℕ, [], map, option_map, Err, IfOk, IfSome, IfNone};
 ghost use Rattle.clap.specs.Words.{app_of, fault_of, found_of, rows_of, rule_of, subcommand_of, subcommand_rows_of};
-ghost use Rattle.rec_run.specs.CommandLine.{app_with, flag, make as make_shape, play as play_shape, recycler, is_set, Says, AsksKeeping, AsksPlay, AsksMake, AsksBy, Asks, IsCommandLine};
+ghost use Rattle.rec_run.specs.CommandLine.{app_with, flag, option, make as make_shape, play as play_shape, recycler, is_set, Says, AsksKeeping, AsksPlay, AsksMake, AsksBy, Asks, IsCommandLine};
 ghost use Rattle.rec_run.specs.declared.command_line.Keeping.{Keeping as Keeps};
 ghost use Rattle.rec_run.specs.declared.command_line.Make.{Make as Making};
 ghost use Rattle.rec_run.specs.declared.command_line.Play.{Play as Playing};
@@ -150,8 +150,8 @@ fn command<'a>(alloc: Global) -> Result<Command<'a>, NoMemory>
 fn play_command<'a>(alloc: Global) -> Result<Command<'a>, NoMemory>
     ensures { IfOk result (λ command. app_of command ≡ app_with play_shape) }
 {
-    let seed = Arg::new(alloc, "seed").long("seed");
-    let turns = Arg::new(alloc, "turns").long("turns");
+    let seed = option(alloc, "seed");
+    let turns = option(alloc, "turns");
     let summary = flag(alloc, "summary");
     let trace = flag(alloc, "trace");
     let audit = flag(alloc, "audit");
@@ -165,9 +165,18 @@ fn play_command<'a>(alloc: Global) -> Result<Command<'a>, NoMemory>
         .arg(image)
 }
 
+// An option with a value.
+fn option<'a>(alloc: Global, name: &'a str) -> Arg<'a>
+    ensures rule { rule_of result ≡ option name.now }
+    ensures own { result.global ≡ false }
+{
+    Arg::new(alloc, name).long(name)
+}
+
 // A flag, which has no value.
 fn flag<'a>(alloc: Global, name: &'a str) -> Arg<'a>
-    ensures { rule_of result ≡ flag name.now }
+    ensures rule { rule_of result ≡ flag name.now }
+    ensures own { result.global ≡ false }
 {
     Arg::new(alloc, name).long(name).action(ArgAction::SetTrue)
 }
@@ -176,9 +185,9 @@ fn flag<'a>(alloc: Global, name: &'a str) -> Arg<'a>
 fn make_command<'a>(alloc: Global) -> Result<Command<'a>, NoMemory>
     ensures { IfOk result (λ command. app_of command ≡ app_with make_shape) }
 {
-    let seed = Arg::new(alloc, "seed").long("seed");
-    let mutators = Arg::new(alloc, "mutators").long("mutators");
-    let commands = Arg::new(alloc, "commands").long("commands");
+    let seed = option(alloc, "seed");
+    let mutators = option(alloc, "mutators");
+    let commands = option(alloc, "commands");
     Command::new(alloc, "make")
         .arg(seed)?
         .arg(mutators)?

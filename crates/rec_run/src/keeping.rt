@@ -33,11 +33,13 @@ impl Watch for Auditor {
     ghost refused = { λ auditor. auditor.refused };
 
     fn after(&mut self, world: &World, op: Op, word: u64) -> Result<(), NoMemory> {
-        let noted = self.audit.note(world.collector(), op, word);
-        if noted.is_err() {
-            self.refused = self.refused.saturating_add(1);
+        match self.audit.note(world.collector(), op, word) {
+            Ok(()) => Ok(()),
+            Err(error) => {
+                self.refused = self.refused.saturating_add(1);
+                Err(error)
+            }
         }
-        noted
     }
 
     ghost none_shown = { λ watch. none_noted watch.audit };

@@ -205,10 +205,10 @@ fn keep(alloc: Global, asked: Keeping, bytes: Vec<u8>) -> Result<Vec<u8>, Script
     ensures told { IfOk result (λ kept. TellsOf bytes.items asked kept.items) }
     ensures refused { (line : ℕ) (kind : Kind) → result ≡ Err (ScriptError.Bad line kind) → IsRefused bytes.items line kind }
 {
-    let script = read(alloc, &bytes)?;
+    let played = read(alloc, &bytes)?;
     // The bytes are needed no more: their room is given back before what is kept takes its own.
     drop(bytes);
-    keep_script(alloc, &script, asked).map_err(|_| ScriptError::NoMemory)
+    keep_script(alloc, &played, asked).map_err(|_| ScriptError::NoMemory)
 }
 
 // Reads a journal to its end, or past its limit, and writes what is to be said of it.

@@ -1,0 +1,26 @@
+-- The image is that of the heap which settling left of the run.
+use Rattle.std.proofs.Common.{sym, subst}
+use Rattle.rec_core.specs.Core.{Core}
+use Rattle.rec_play.specs.Played.{lines_of}
+use Rattle.rec_run.specs.Headline.{IsKept, TellsRun}
+use Rattle.rec_run.proofs.Endings.{if_ok}
+use Rattle.rec_run.proofs.keeping.image_script.Goals as goal
+
+pub returns : goal.returns
+returns c =
+    let o = c.in_ok-outcome.outcome in
+    let is = c.in_ok-outcome.ensures.outcome in
+    let world : Core = c.settle.new.world in
+    if_ok c.write.result _ (λ image. TellsRun c.args.script.now c.args.asked image.items)
+    (λ image written. record {
+      journals = lines_of o.journals.items;
+      events = is.events;
+      end = o.world;
+      has_run = is.has_run;
+      world = world;
+      settles = c.in-Ok.ensures.done.settles;
+      settled = c.in-Ok.ensures.done.settled;
+      kept = subst (λ k. IsKept k c.args.script.now c.args.asked o.world world image.items) (sym c.requires.image)
+          (record { contents = written.0; image = written.1; numbers = written.3; stands = written.4; written = sym written.2 });
+    })
+    c.write.ensures.image
