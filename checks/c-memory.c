@@ -1,4 +1,4 @@
-/* Refuses each allocation of recycler_open and recycler_start in turn, and looks at what is left; and counts those of the other calls.
+/* Refuses each allocation of recycler_open, recycler_notices and recycler_start in turn, and looks at what is left; and counts those of the other calls.
  * It is linked with malloc, realloc and free wrapped (-Wl,--wrap=malloc and so on). */
 #include <stdio.h>
 #include <stdlib.h>
@@ -6,7 +6,7 @@
 
 #include "recycler.h"
 
-enum { SLOTS = 8, MUTATORS = 3, LOG = 16 };
+enum { SLOTS = 8, MUTATORS = 3, LOG = 16, ROOM = 4 };
 
 void *__real_malloc(size_t size);
 void *__real_realloc(void *at, size_t size);
@@ -74,6 +74,24 @@ static long open_refused(recycler *r) {
     return takes;
 }
 
+/* Asks for notices likewise. Where that is refused, none were asked for. */
+static long notices_refused(recycler *r) {
+    recycler_heard heard;
+    long takes, rests = held;
+    refuse(0);
+    MUST(recycler_notices(r, ROOM) == RECYCLER_OK);
+    takes = asked;
+    MUST(recycler_close(r) == RECYCLER_OK && held == 0 && open_small(r) == RECYCLER_OK);
+    for (long which = 1; which <= takes; which++) {
+        refuse(which);
+        MUST(recycler_notices(r, ROOM) == RECYCLER_NO_MEMORY && held == rests);
+        MUST(recycler_hear(&r->listener, &heard) == RECYCLER_CLOSED_HANDLE);
+    }
+    refuse(0);
+    MUST(recycler_notices(r, ROOM) == RECYCLER_OK && asked == takes);
+    return takes;
+}
+
 /* Starts a heap likewise. Where that is refused it rests as before. */
 static long start_refused(recycler *r) {
     recycler_totals_told before, after;
@@ -100,7 +118,8 @@ static long start_refused(recycler *r) {
 static void carry_on(recycler *r) {
     recycler_asked told;
     recycler_turned turned;
-    uint32_t crossed, collections = 0;
+    recycler_heard heard;
+    uint32_t crossed, collections = 0, labels = 0;
     for (uint32_t round = 0; round < 1000 && collections < 5; round++) {
         for (int k = 0; k < MUTATORS; k++) {
             recycler_handle *m = &r->mutators[k];
@@ -114,8 +133,12 @@ static void carry_on(recycler *r) {
         }
         MUST(recycler_turn(&r->collector, &turned) == RECYCLER_OK);
         collections += turned.what == RECYCLER_COLLECTED;
+        do {
+            MUST(recycler_hear(&r->listener, &heard) == RECYCLER_OK);
+            labels += heard.any;
+        } while (heard.any);
     }
-    MUST(collections == 5);
+    MUST(collections == 5 && labels > 0);
     MUST(recycler_leave(&r->mutators[MUTATORS - 1], &told) == RECYCLER_OK);
 }
 
@@ -125,7 +148,7 @@ int main(void) {
     recycler_slot_told slot;
     recycler_totals_told totals;
     uint32_t taken;
-    long opens = open_refused(&r), starts = start_refused(&r);
+    long opens = open_refused(&r), notices = notices_refused(&r), starts = start_refused(&r);
     refuse(1);
     carry_on(&r);
     MUST(recycler_stop(&r) == RECYCLER_OK && recycler_settle(&r, &settled) == RECYCLER_OK && settled.live == 1);
@@ -133,6 +156,6 @@ int main(void) {
     MUST(recycler_totals(&r, &totals) == RECYCLER_OK && totals.born == totals.freed + 1 && totals.born > SLOTS);
     MUST(recycler_close(&r) == RECYCLER_OK && held == 0);
     MUST(asked == 0);
-    printf("memory: each of %ld allocations of open and %ld of start refused, no other call takes any\n", opens, starts);
+    printf("memory: each of %ld allocations of open, %ld of notices and %ld of start refused, no other call takes any\n", opens, notices, starts);
     return 0;
 }
