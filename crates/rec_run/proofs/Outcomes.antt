@@ -5,7 +5,6 @@ use Rattle.std.specs.Option.{IfSome}
 use Rattle.std.proofs.lemmas.List.{length-map}
 use Rattle.rec_model.specs.Asking.{allocation}
 use Rattle.rec_model.specs.LegalOrder.{Line, Event, NewFits, actors, IsLegalOrder}
-use Rattle.rec_model.specs.declared.answer.Answer.{Answer}
 use Rattle.rec_model.specs.declared.answer.Answer.TheVariants as answers
 use Rattle.rec_model.specs.declared.told.Told.{Told}
 use Rattle.rec_core.specs.Core.{Core}

@@ -1,5 +1,5 @@
 -- What stands behind the text of a run: the line of a trace, where one was made.
-use Rattle.std.proofs.Common.{◌≡◌, ℕ, Bool, true, false, List, Option, None, Some, length, sym, ap, ◌∙◌}
+use Rattle.std.proofs.Common.{Bool, true, false, Option, None, Some, length, ap, ◌∙◌}
 use Rattle.rec_model.specs.Sight.{NumbersSlots}
 use Rattle.rec_core.specs.Core.{Core, sight}
 use Rattle.rec_core.specs.Worked.{AreIdle}

@@ -1,6 +1,6 @@
 -- What a heap that was set running leaves as it is stopped is told by one order.
-use Rattle.std.proofs.Common.{◌≡◌, ◌∙◌, ◌≤◌, ℕ, List, ◌++◌, length, option_map, sym, ap, subst, arith}
-use Rattle.rec_core.specs.Core.{Core, opened}
+use Rattle.std.proofs.Common.{◌≡◌, ◌∙◌, ◌≤◌, List, ◌++◌, length, option_map, sym, ap, subst, arith}
+use Rattle.rec_core.specs.Core.{Core}
 use Rattle.rec_world.specs.Journal.{Notes}
 use Rattle.rec_world.specs.Order.{Turns}
 use Rattle.rec_table.specs.Views.{CollectorView, MutatorView, Started, fresh, fresh_collector}
@@ -8,8 +8,6 @@ use Rattle.rec_table.specs.declared.views.Beat.{Beat}
 use Rattle.rec_threads.specs.Done.{HasCollected, HaveDone}
 use Rattle.rec_core.proofs.Runs.{config_after}
 use Rattle.rec_threads.proofs.Requests.{at_most}
-use Rattle.rec_order.specs.Naming.{first_naming, named_after_all}
-use Rattle.rec_play.specs.Played.{config_of}
 use Rattle.rec_script.specs.Script.{ScriptContents}
 use Rattle.rec_run.proofs.Driven.{was_driven}
 use Rattle.rec_run.specs.Running.{IsSetRunning}

@@ -1,5 +1,5 @@
 -- The journal is that of all steps that were shown, while the script was played and while its heap was settled.
-use Rattle.std.proofs.Common.{◌≡◌, ◌++◌, ◌∙◌, ℕ, List, refl, subst, sym}
+use Rattle.std.proofs.Common.{◌∙◌, List, subst, sym}
 use Rattle.rec_model.specs.LegalOrder.{Event}
 use Rattle.rec_core.specs.Core.{Core}
 use Rattle.rec_play.specs.Played.{lines_of}

@@ -15,8 +15,7 @@ returns-in-Ok-write_text-clause-ends g c =
 
 pub returns-clause-ends : goal.returns-clause-ends
 returns-clause-ends g c =
-    let P : List ℕ → Type 0 = λ text. (front back : List ℕ) × (text ≡ front ++ back) × Appends (g.K.Sink.written c.args.sink.now) (g.K.Sink.written c.write_text.new.sink) front in
-    (
+    let P : List ℕ → Type 0 = λ text. (front back : List ℕ) × (text ≡ front ++ back) × Appends (g.K.Sink.written c.args.sink.now) (g.K.Sink.written c.write_text.new.sink) front in (
       c.in-Err.ensures.fault,
       wrote_verdict_front (g.S.Source.rest c.args.source.now) (g.S.Source.rest c.read_all.new.source) (g.K.Sink.written c.args.sink.now) (g.K.Sink.written c.write_text.new.sink)
           c.in-Ok.bytes.items (string_bytes c.in-Ok-verdict_text.text) c.in-Ok.ensures.passed c.in-Ok.ensures.whole c.in-Ok.ensures.few

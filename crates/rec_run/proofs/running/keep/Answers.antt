@@ -8,7 +8,7 @@ use Rattle.rec_script.specs.Script.{IsRefused}
 use Rattle.rec_run.proofs.running.keep.Goals as goal
 
 pub returns-in_err-played-clause-refused : goal.returns-in_err-played-clause-refused
-returns-in_err-played-clause-refused g c = λ line kind is.
+returns-in_err-played-clause-refused c = λ line kind is.
     let p = err_from_is_err_and c.from_residual.result c.from_residual.ensures.1 in
     let same : p.0 ≡ Bad line kind = cc in
     let was : ◌≡◌ {A = Result Script ScriptError} (Err c.in_err-played.field-0.0) (Err (Bad line kind)) = ap (λ (x : ScriptError). Err x) (sym p.2 ∙ same) in

@@ -1,7 +1,6 @@
 -- The contract of `keep_source`: reads a script to its end, plays it, and writes what is to be kept of it.
 use Rattle.std.proofs.Common.{◌≡◌, ◌++◌, ℕ, List, refl, subst}
 use Rattle.rec_io.specs.Sink.{Appends}
-use Rattle.rec_run.specs.Headline.{TellsOf}
 use Rattle.rec_run.proofs.Endings.{bad_same, no_script, wrote_kept, wrote_kept_front}
 use Rattle.rec_run.proofs.running.keep_source.Goals as goal
 
@@ -15,17 +14,16 @@ returns-in-Err-Bad-clause-ends g c = (
 pub returns-in-Ok-write_text-clause-ends : goal.returns-in-Ok-write_text-clause-ends
 returns-in-Ok-write_text-clause-ends g c =
     wrote_kept c.args.asked (g.S.Source.rest c.args.source.now) (g.S.Source.rest c.read_all.new.source) (g.K.Sink.written c.args.sink.now) (g.K.Sink.written c.write_text.new.sink)
-    c.in-Ok.bytes.items c.in-Ok-kept.kept.items c.in-Ok.ensures.passed c.in-Ok.ensures.whole
-    c.in-Ok-kept.ensures.told
+    c.in-Ok.bytes.items c.in-Ok-keep.kept.items c.in-Ok.ensures.passed c.in-Ok.ensures.whole
+    c.in-Ok-keep.ensures.told
     (subst (λ text. Appends (g.K.Sink.written c.args.sink.now) (g.K.Sink.written c.write_text.new.sink) text) c.deref.ensures.value c.in-Ok-write_text.ensures.written)
 
 pub returns-clause-ends : goal.returns-clause-ends
 returns-clause-ends g c =
-    let P : List ℕ → Type 0 = λ text. (front back : List ℕ) × (text ≡ front ++ back) × Appends (g.K.Sink.written c.args.sink.now) (g.K.Sink.written c.write_text.new.sink) front in
-    (
+    let P : List ℕ → Type 0 = λ text. (front back : List ℕ) × (text ≡ front ++ back) × Appends (g.K.Sink.written c.args.sink.now) (g.K.Sink.written c.write_text.new.sink) front in (
       c.in-Err.ensures.fault,
       wrote_kept_front c.args.asked (g.S.Source.rest c.args.source.now) (g.S.Source.rest c.read_all.new.source) (g.K.Sink.written c.args.sink.now) (g.K.Sink.written c.write_text.new.sink)
-          c.in-Ok.bytes.items c.in-Ok-kept.kept.items c.in-Ok.ensures.passed c.in-Ok.ensures.whole
-          c.in-Ok-kept.ensures.told
+          c.in-Ok.bytes.items c.in-Ok-keep.kept.items c.in-Ok.ensures.passed c.in-Ok.ensures.whole
+          c.in-Ok-keep.ensures.told
           (subst P c.deref.ensures.value c.in-Err.ensures.front),
     )
