@@ -1,4 +1,5 @@
-/* Refuses each allocation of recycler_open, recycler_notices and recycler_start in turn, and looks at what is left; and counts those of the other calls.
+/* Refuses each allocation of recycler_open, recycler_notices, recycler_start and recycler_renew in turn, and looks at what is left; and
+ * counts those of the other calls.
  * It is linked with malloc, realloc and free wrapped (-Wl,--wrap=malloc and so on). */
 #include <stdio.h>
 #include <stdlib.h>
@@ -114,6 +115,23 @@ static long start_refused(recycler *r) {
     return takes;
 }
 
+/* Lets a heap begin anew likewise. Where that is refused it is as before, and else as many blocks are held as before. */
+static long renew_refused(recycler *r) {
+    recycler_totals_told before, after;
+    long takes, rests = held;
+    refuse(0);
+    MUST(recycler_renew(r, SLOTS) == RECYCLER_OK && held == rests && recycler_totals(r, &before) == RECYCLER_OK);
+    takes = asked;
+    for (long which = 1; which <= takes; which++) {
+        refuse(which);
+        MUST(recycler_renew(r, SLOTS) == RECYCLER_NO_MEMORY && asked == which && held == rests);
+        MUST(recycler_totals(r, &after) == RECYCLER_OK && memcmp(&before, &after, sizeof before) == 0);
+    }
+    refuse(0);
+    MUST(recycler_renew(r, SLOTS) == RECYCLER_OK && asked == takes && held == rests);
+    return takes;
+}
+
 /* What a running heap is asked, until five collections are complete. */
 static void carry_on(recycler *r) {
     recycler_asked told;
@@ -148,14 +166,18 @@ int main(void) {
     recycler_slot_told slot;
     recycler_totals_told totals;
     uint32_t taken;
-    long opens = open_refused(&r), notices = notices_refused(&r), starts = start_refused(&r);
+    long opens = open_refused(&r), notices = notices_refused(&r), starts = start_refused(&r), renewals;
     refuse(1);
     carry_on(&r);
     MUST(recycler_stop(&r) == RECYCLER_OK && recycler_settle(&r, &settled) == RECYCLER_OK && settled.live == 1);
     MUST(recycler_slot(&r, 0, &slot) == RECYCLER_OK && recycler_taken(&r, &taken) == RECYCLER_OK && taken == 1);
     MUST(recycler_totals(&r, &totals) == RECYCLER_OK && totals.born == totals.freed + 1 && totals.born > SLOTS);
+    MUST(asked == 0);
+    renewals = renew_refused(&r);
+    refuse(1);
     MUST(recycler_close(&r) == RECYCLER_OK && held == 0);
     MUST(asked == 0);
-    printf("memory: each of %ld allocations of open, %ld of notices and %ld of start refused, no other call takes any\n", opens, notices, starts);
+    printf("memory: each of %ld allocations of open, %ld of notices, %ld of start and %ld of renew refused, no other call takes any\n", opens,
+           notices, starts, renewals);
     return 0;
 }

@@ -27,15 +27,18 @@
  * heap, is proved (Owned of crates/recycler_c is Send). No call is made from a signal handler, or from the forked child of a process
  * with threads.
  *
- * Memory. recycler_open, recycler_notices and recycler_start take memory, by malloc; recycler_close, recycler_stop and a refused call give
- * it back. No other call answers RECYCLER_NO_MEMORY. malloc aligns as C says, and malloc, realloc and free are of one allocator.
+ * Memory. recycler_open, recycler_notices, recycler_start and recycler_renew take memory, by malloc; recycler_close, recycler_stop,
+ * recycler_renew and a refused call give it back. No other call answers RECYCLER_NO_MEMORY. malloc aligns as C says, and malloc, realloc and free are of one allocator.
  *
  * Epochs. Each collection spends an epoch, recycler_settle spends three, and 16,777,215 is the last. A small collection takes some 8
  * microseconds (bench/README.md, the table of bench/pauses). So a collector that is turned without pause may spend all epochs within
  * minutes. Let its thread rest after RECYCLER_COLLECTED while slots are free: at one collection a millisecond the epochs last 4.7
  * hours, at one a second 194 days. Each log has to hold what its mutator makes and puts in such a rest. From RECYCLER_NO_EPOCH on
  * nothing is freed, and a heap with fewer than four epochs left isn't settled. Its mutators may go on until slots or logs are full, and
- * it may be stopped and closed.
+ * it may be stopped, and closed or renewed. A heap that is to last stops, settles, is renewed and starts once in so many collections;
+ * recycler_totals tells the epoch. Renewing gives it all epochs again, and as many slots as are asked:
+ *
+ *     recycler_stop(&r), recycler_settle(&r, &settled), recycler_renew(&r, slots), recycler_start(&r);
  *
  * A mutator has registers, numbered from 0, and reaches objects by them alone. An object has a label, which the caller chooses as it
  * makes it, and fields, numbered from 0. A register or a field is null or leads to one object.
@@ -67,7 +70,7 @@ extern "C" {
 typedef enum recycler_code {
     RECYCLER_OK = 0,
     RECYCLER_NO_MEMORY = 1,
-    /* the first number of recycler_open that is out of its range */
+    /* the first number of recycler_open that is out of its range; SLOTS also the one of recycler_renew */
     RECYCLER_SLOTS = 2,
     RECYCLER_FIELDS = 3,
     RECYCLER_REGISTERS = 4,
@@ -89,7 +92,9 @@ typedef enum recycler_code {
     /* something else than its handles holds the running heap: no call of this library was seen to make it so */
     RECYCLER_SHARED = 15,
     /* the mutator has left: nothing is asked of it any more */
-    RECYCLER_LEFT = 16
+    RECYCLER_LEFT = 16,
+    /* registers reach more objects than there would be slots */
+    RECYCLER_FEW_SLOTS = 17
 } recycler_code;
 
 /* It takes 64 bytes, so that no two handles lie in one line of memory, where threads that call with them would hold up each other. */
@@ -168,7 +173,7 @@ typedef struct recycler_slot_told {
     uint64_t count;
 } recycler_slot_told;
 
-/* Since the opening: objects born, with the first one; slots freed; the requested epoch; collections completed; and of the sets of
+/* Since the opening, or since the heap was renewed: objects born, with the first one; slots freed; the requested epoch; collections completed; and of the sets of
  * possible garbage cycles, how many were freed, and how many the Delta test and the Sigma test refused: the first where an object of
  * the set was touched since it was found, the second where something outside still refers to it. */
 typedef struct recycler_totals_told {
@@ -216,6 +221,15 @@ uint32_t recycler_stop(recycler *r);
  * or four where one was under way. Codes: CLOSED_HANDLE, RUNS, EPOCHS_SPENT. */
 uint32_t recycler_settle(recycler *r, recycler_settled *told);
 
+/* Lets a heap at rest begin anew, with epochs from 1 and with so many slots, 1 to 65,535, be they more or fewer than before. Each register
+ * names the object that it named, and each object that registers reach has its label, its fields and whether it is a leaf; counts are
+ * true. The heap's other numbers stay. It is as settled. What no register reaches is gone, and nobody is told: a caller who wants to know of it
+ * settles or turns before. That is no condition, so a heap whose epochs are spent is renewed too. A label that is still to be heard stays so.
+ * Objects stand in other slots than before, in the first ones, and the totals are those of a heap that was opened with these objects. A
+ * mutator that had left is there again, with null registers, and has to poll or to leave. For so long as the call takes there is memory for
+ * both heaps. Codes: CLOSED_HANDLE, RUNS, SLOTS, FEW_SLOTS, NO_MEMORY. */
+uint32_t recycler_renew(recycler *r, uint32_t slots);
+
 /* Looks at a slot of a heap at rest: slot, from 0. Codes: CLOSED_HANDLE, RUNS, RANGE. */
 uint32_t recycler_slot(recycler *r, uint32_t slot, recycler_slot_told *told);
 
@@ -243,7 +257,8 @@ uint32_t recycler_collect(recycler_handle *collector, uint32_t turns, recycler_t
 uint32_t recycler_poll(recycler_handle *mutator, uint32_t *crossed);
 
 /* Leaves the heap for good: the mutator's registers become null, and the collector waits for it no more once its last log is collected.
- * From then on its calls are answered LEFT, also after the heap was stopped and started again. Answers: DONE, NOT_YET. */
+ * From then on its calls are answered LEFT, also after the heap was stopped and started again, unless it was renewed. Answers: DONE,
+ * NOT_YET. */
 uint32_t recycler_leave(recycler_handle *mutator, recycler_asked *told);
 
 /* Makes an object with this label and null fields, and lets `reg` name it. Any label fits. Answers: DONE, FULL, BUSY, LOG_FULL. A birth that

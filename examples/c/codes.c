@@ -128,6 +128,8 @@ static void while_closed(recycler *r) {
     WANT(recycler_start(r), RECYCLER_CLOSED_HANDLE);
     WANT(recycler_stop(r), RECYCLER_CLOSED_HANDLE);
     WANT(recycler_settle(r, &told.settled), RECYCLER_CLOSED_HANDLE);
+    WANT(recycler_renew(r, SLOTS), RECYCLER_CLOSED_HANDLE);
+    WANT(recycler_renew(r, 0), RECYCLER_CLOSED_HANDLE);
     WANT(recycler_slot(r, 0, &told.slot), RECYCLER_CLOSED_HANDLE);
     WANT(recycler_taken(r, &told.number), RECYCLER_CLOSED_HANDLE);
     WANT(recycler_totals(r, &told.totals), RECYCLER_CLOSED_HANDLE);
@@ -157,6 +159,9 @@ static void while_at_rest(recycler *r) {
     WANT(recycler_notices(r, 0), RECYCLER_RANGE);
     WANT(recycler_notices(r, 65536), RECYCLER_RANGE);
     WANT(recycler_hear(&r->listener, &told.heard), RECYCLER_CLOSED_HANDLE);
+    WANT(recycler_renew(r, 0), RECYCLER_SLOTS);
+    WANT(recycler_renew(r, 65536), RECYCLER_SLOTS);
+    WANT(recycler_renew(r, UINT32_MAX), RECYCLER_SLOTS);
     WANT(recycler_slot(r, SLOTS, &told.slot), RECYCLER_RANGE);
     WANT(recycler_slot(r, UINT32_MAX, &told.slot), RECYCLER_RANGE);
     after = look(r);
@@ -174,6 +179,7 @@ static void while_it_runs(recycler *r) {
     WANT(recycler_hear(&r->collector, &told.heard), RECYCLER_OTHER_HANDLE);
     WANT(recycler_hear(m, &told.heard), RECYCLER_OTHER_HANDLE);
     WANT(recycler_settle(r, &told.settled), RECYCLER_RUNS);
+    WANT(recycler_renew(r, SLOTS), RECYCLER_RUNS);
     WANT(recycler_slot(r, 0, &told.slot), RECYCLER_RUNS);
     WANT(recycler_taken(r, &told.number), RECYCLER_RUNS);
     WANT(recycler_totals(r, &told.totals), RECYCLER_RUNS);
@@ -342,6 +348,47 @@ static void leave_all(recycler *r) {
     WANT(recycler_close(r), RECYCLER_OK);
 }
 
+/* A heap of two objects begins anew in two slots, in one too few, and in as many as there may be. What registers name stays. */
+static void begin_anew(recycler *r) {
+    recycler_handle *m = &r->mutators[0];
+    recycler_asked asked;
+    recycler_slot_told slot;
+    view before, after;
+    WANT(open_small(r, 7), RECYCLER_OK);
+    WANT(recycler_start(r), RECYCLER_OK);
+    WANT(recycler_new(m, 1, 5, &asked), RECYCLER_OK);
+    WANT(recycler_put(m, 1, 0, 0, &asked), RECYCLER_OK);
+    WANT(recycler_leaf(m, 2, 6, &asked), RECYCLER_OK);
+    WANT(recycler_null(m, 2, &asked), RECYCLER_OK);
+    WANT(recycler_leave(&r->mutators[1], &asked), RECYCLER_OK);
+    WANT_TRUE(asked.answer == RECYCLER_DONE);
+    WANT(recycler_stop(r), RECYCLER_OK);
+    before = look(r);
+    WANT(recycler_renew(r, 1), RECYCLER_FEW_SLOTS);
+    after = look(r);
+    want_same(&before, &after);
+    WANT(recycler_renew(r, 2), RECYCLER_OK);
+    WANT(recycler_slot(r, 2, &told.slot), RECYCLER_RANGE);
+    WANT(recycler_renew(r, 65535), RECYCLER_OK);
+    WANT(recycler_slot(r, 65534, &slot), RECYCLER_OK);
+    WANT_TRUE(slot.taken == 0);
+    after = look(r);
+    WANT_TRUE(after.taken == 2 && after.totals.epoch == 1 && after.totals.born == 2);
+    WANT_TRUE(after.slots[0].label == 0 && after.slots[0].count == 2 && after.slots[1].label == 5 && after.slots[1].count == 1);
+    WANT(recycler_start(r), RECYCLER_OK);
+    WANT(recycler_get(m, 3, 1, 0, &asked), RECYCLER_OK);
+    WANT_TRUE(asked.answer == RECYCLER_OBJECT);
+    WANT(recycler_same(m, 3, 0, &asked), RECYCLER_OK);
+    WANT_TRUE(asked.answer == RECYCLER_YES);
+    WANT(recycler_value(m, 2, &asked), RECYCLER_OK);
+    WANT_TRUE(asked.answer == RECYCLER_NO_OBJECT);
+    /* the mutator that had left is there again */
+    WANT(recycler_value(&r->mutators[1], 0, &asked), RECYCLER_OK);
+    WANT_TRUE(asked.answer == RECYCLER_NO_OBJECT);
+    WANT(recycler_stop(r), RECYCLER_OK);
+    WANT(recycler_close(r), RECYCLER_OK);
+}
+
 /* Turns until no epoch is left, and answers how many collections were completed. Each mutator polls where it is waited for. */
 static uint32_t spend(recycler *r) {
     recycler_turned turned;
@@ -384,6 +431,7 @@ static void use_up(recycler *r) {
 
 /* A heap with two epochs left: settling wants four left. */
 static void without_epochs(recycler *r) {
+    recycler_settled settled;
     view before, after;
     WANT(open_small(r, LAST_EPOCH - 2), RECYCLER_OK);
     before = look(r);
@@ -401,6 +449,12 @@ static void without_epochs(recycler *r) {
     WANT(recycler_stop(r), RECYCLER_OK);
     after = look(r);
     want_same(&before, &after);
+    /* it begins anew, and then it has them all again */
+    WANT(recycler_renew(r, SLOTS), RECYCLER_OK);
+    after = look(r);
+    WANT_TRUE(after.totals.epoch == 1 && after.totals.freed == 0 && after.totals.born == after.taken && after.taken < SLOTS);
+    WANT(recycler_settle(r, &settled), RECYCLER_OK);
+    WANT_TRUE(settled.freed == 0 && settled.live == after.taken);
     WANT(recycler_close(r), RECYCLER_OK);
     /* with four epochs left a heap is settled once */
     WANT(open_small(r, LAST_EPOCH - 4), RECYCLER_OK);
@@ -422,6 +476,8 @@ int main(void) {
     make_leaf(&r);
     hear_all(&r);
     leave_all(&r);
+    while_closed(&r);
+    begin_anew(&r);
     while_closed(&r);
     /* bytes that are all zero are closed too */
     memset(&r, 0, sizeof r);

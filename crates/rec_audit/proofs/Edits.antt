@@ -26,9 +26,6 @@ changed_more {X} f xs ys i y d within is at =
     ∙ sym (append_assoc A (f x ∷ []) D)
     ∙ ap (λ t. t ++ D) (sym (map_more f xs i d within))
 
-pub changed_none : {X : Type 0} (f : X → X) (xs : List X) → xs ≡ map f (take 0 xs) ++ drop 0 xs
-changed_none f xs = refl
-
 pub changed_all : {X : Type 0} (f : X → X) (xs ys : List X) (i : ℕ) → length xs ≤ i → ys ≡ map f (take i xs) ++ drop i xs → ys ≡ map f xs
 changed_all {X} f xs ys i past is =
     is

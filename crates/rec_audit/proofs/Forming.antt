@@ -17,9 +17,9 @@ use Rattle.rec_audit.specs.declared.form.Heap.{Heap}
 use Rattle.rec_audit.specs.declared.form.Stage.{Stage}
 use Rattle.rec_audit.specs.declared.form.Stage.TheVariants as stages
 use Rattle.rec_audit.specs.Lines.{Line}
-use Rattle.rec_audit.specs.Form.{AreHeapNumbers, IsInForm, MayStand, Stand, behind, form_of, leads_to, places_of, stage_behind}
+use Rattle.rec_audit.specs.Form.{AreHeapNumbers, IsInForm, MayStand, Stand, behind, form_of, leads_to, places_of}
 use Rattle.rec_audit.specs.Journal.{batch_lines, completed_lines, entry_line, heap_numbers, journal, line_of, lines_of, op_lines, opening_lines, part_lines, parts_lines, passed_lines, register_number, snap_line}
-use Rattle.rec_audit.specs.Keeping.{IsBatchOf, IsBufferOf, IsEntryOf, IsWordOf, Keep, KeepsBatch, KeepsCompleted, KeepsOp, KeepsPassed, KeepsStep, Place, behind_step, behind_steps, first_place, with_batch, with_end}
+use Rattle.rec_audit.specs.Keeping.{IsBufferOf, IsEntryOf, Keep, KeepsBatch, KeepsCompleted, KeepsOp, KeepsPassed, KeepsStep, Place, behind_step, behind_steps, first_place, with_batch, with_end}
 use Rattle.rec_audit.proofs.Knowing.{clean_none, form_more, split_push}
 
 -- ---- walks
@@ -135,7 +135,7 @@ part_walk heap t next buffer is few of =
     })
     refl)
 
-abbrev part : ℕ × Contents → List Line
+abbrev pub part : ℕ × Contents → List Line
 part p = part_lines p.0 p.1
 
 -- the parts from one mutator on, up to the last one

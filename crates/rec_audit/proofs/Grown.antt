@@ -40,12 +40,12 @@ last_same test lines line other = last_more test lines line ∙ ap (λ b. cond b
 pub last_new : (test : Line → Bool) (lines : List Line) (line : Line) → test line ≡ true → last_that test (lines ++ line ∷ []) ≡ Some line
 last_new test lines line is = last_more test lines line ∙ ap (λ b. cond b (Some line) (last_that test lines)) is
 
-heap_same : (lines : List Line) (line : Line) → is_heap line.kind ≡ false → heap_of (lines ++ line ∷ []) ≡ heap_of lines
+pub heap_same : (lines : List Line) (line : Line) → is_heap line.kind ≡ false → heap_of (lines ++ line ∷ []) ≡ heap_of lines
 heap_same lines line other = ap heap_in (last_same (λ l. is_heap l.kind) lines line other)
 
 -- ---- blocks
 
-any_more : {X : Type 0} (test : X → Bool) (xs : List X) (x : X) → list_any test (xs ++ x ∷ []) ≡ (list_any test xs || test x)
+pub any_more : {X : Type 0} (test : X → Bool) (xs : List X) (x : X) → list_any test (xs ++ x ∷ []) ≡ (list_any test xs || test x)
 any_more test xs x = list_any-append test xs (x ∷ []) ∙ ap (λ b. list_any test xs || b) (or-false (test x))
 
 abbrev epochs : List Line → Bool
@@ -110,13 +110,13 @@ opened_same lines line word other =
     ∙ ap (λ b. is_opened lines word || ((b && has_target (number 2 line)) && (number 2 line == word))) other
     ∙ or-false (is_opened lines word)
 
-dead_same : (lines : List Line) (line : Line) (word : ℕ) → is_out line.kind ≡ false → is_epoch line.kind ≡ false → is_dead (lines ++ line ∷ []) word ≡ is_dead lines word
+pub dead_same : (lines : List Line) (line : Line) (word : ℕ) → is_out line.kind ≡ false → is_epoch line.kind ≡ false → is_dead (lines ++ line ∷ []) word ≡ is_dead lines word
 dead_same lines line word other within =
     ap (λ b. b || list_any (closes word) (earlier_blocks (lines ++ line ∷ []))) (any_more (takes word) lines line ∙ ap (λ b. list_any (takes word) lines || (b && (number 1 line == word))) other ∙ or-false (list_any (takes word) lines))
     ∙ ap (λ (ls : List Line). list_any (takes word) lines || list_any (closes word) ls) (earlier_more lines line within)
 
 -- a word that is taken out is dead from then on
-dead_out : (lines : List Line) (line : Line) (word : ℕ) → is_out line.kind ≡ true → is_epoch line.kind ≡ false → is_dead (lines ++ line ∷ []) word ≡ (is_dead lines word || (number 1 line == word))
+pub dead_out : (lines : List Line) (line : Line) (word : ℕ) → is_out line.kind ≡ true → is_epoch line.kind ≡ false → is_dead (lines ++ line ∷ []) word ≡ (is_dead lines word || (number 1 line == word))
 dead_out lines line word is within =
     ap (λ b. b || list_any (closes word) (earlier_blocks (lines ++ line ∷ []))) (any_more (takes word) lines line ∙ ap (λ b. list_any (takes word) lines || (b && (number 1 line == word))) is)
     ∙ ap (λ (ls : List Line). (list_any (takes word) lines || (number 1 line == word)) || list_any (closes word) ls) (earlier_more lines line within)
@@ -130,7 +130,7 @@ dead_out lines line word is within =
     swap false false false = refl
 
 -- the words that a block has replaced, as a list
-any_closing : (word : ℕ) (ls : List Line) → list_any (λ v. v == word) (map (number 3) (filter (λ l. is_put l.kind) ls)) ≡ list_any (closes word) ls
+pub any_closing : (word : ℕ) (ls : List Line) → list_any (λ v. v == word) (map (number 3) (filter (λ l. is_put l.kind) ls)) ≡ list_any (closes word) ls
 any_closing word [] = refl
 any_closing word (x ∷ xs) = step (is_put x.kind) ∙ ap (λ b. (is_put x.kind && (number 3 x == word)) || b) (any_closing word xs)
   where
@@ -154,7 +154,7 @@ no_epoch_closes word l is = ap (λ b. b && (number 3 l == word)) (not_put l.kind
     not_put End is = refl
 
 -- and so are those that were replaced, once their block has ended
-dead_epoch : (lines : List Line) (line : Line) (word : ℕ) → is_out line.kind ≡ false → is_epoch line.kind ≡ true → is_dead (lines ++ line ∷ []) word ≡ (is_dead lines word || list_any (λ v. v == word) (closing_in lines))
+pub dead_epoch : (lines : List Line) (line : Line) (word : ℕ) → is_out line.kind ≡ false → is_epoch line.kind ≡ true → is_dead (lines ++ line ∷ []) word ≡ (is_dead lines word || list_any (λ v. v == word) (closing_in lines))
 dead_epoch lines line word other is =
     ap (λ b. b || list_any (closes word) (earlier_blocks (lines ++ line ∷ []))) (any_more (takes word) lines line ∙ ap (λ b. list_any (takes word) lines || (b && (number 1 line == word))) other ∙ or-false (list_any (takes word) lines))
     ∙ ap (λ (ls : List Line). list_any (takes word) lines || list_any (closes word) ls) (earlier_new lines line is)
@@ -321,10 +321,10 @@ references_pruned lines r s are more =
 
 -- ---- roots
 
-taken_same : (lines : List Line) (line : Line) (slot : ℕ) → is_born line.kind ≡ false → is_sweep line.kind ≡ false → is_taken (lines ++ line ∷ []) slot ≡ is_taken lines slot
+pub taken_same : (lines : List Line) (line : Line) (slot : ℕ) → is_born line.kind ≡ false → is_sweep line.kind ≡ false → is_taken (lines ++ line ∷ []) slot ≡ is_taken lines slot
 taken_same lines line slot born sweep = ap (taken_by slot) (last_same (tells slot) lines line (ap (λ b. (b && (number 1 line == slot)) || (is_sweep line.kind && (number 0 line == slot))) born ∙ ap (λ b. b && (number 0 line == slot)) sweep))
 
-taken_born : (lines : List Line) (line : Line) (slot : ℕ) → line.kind ≡ Born → is_taken (lines ++ line ∷ []) slot ≡ cond (number 1 line == slot) true (is_taken lines slot)
+pub taken_born : (lines : List Line) (line : Line) (slot : ℕ) → line.kind ≡ Born → is_taken (lines ++ line ∷ []) slot ≡ cond (number 1 line == slot) true (is_taken lines slot)
 taken_born lines line slot is = at (number 1 line == slot) refl
   where
     tell : (b : Bool) → (number 1 line == slot) ≡ b → tells slot line ≡ b
@@ -334,7 +334,7 @@ taken_born lines line slot is = at (number 1 line == slot) refl
     at true e = ap (taken_by slot) (last_new (tells slot) lines line (tell true e)) ∙ ap is_born is
     at false e = ap (taken_by slot) (last_same (tells slot) lines line (tell false e))
 
-taken_sweep : (lines : List Line) (line : Line) (slot : ℕ) → line.kind ≡ Sweep → is_taken (lines ++ line ∷ []) slot ≡ cond (number 0 line == slot) false (is_taken lines slot)
+pub taken_sweep : (lines : List Line) (line : Line) (slot : ℕ) → line.kind ≡ Sweep → is_taken (lines ++ line ∷ []) slot ≡ cond (number 0 line == slot) false (is_taken lines slot)
 taken_sweep lines line slot is = at (number 0 line == slot) refl
   where
     tell : (b : Bool) → (number 0 line == slot) ≡ b → tells slot line ≡ b

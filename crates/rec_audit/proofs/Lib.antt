@@ -15,3 +15,11 @@ pub mod Uniqueness
 pub mod Completing
 pub mod Forming
 pub mod Sets
+pub mod Blocks
+pub mod Placing
+pub mod Rising
+pub mod RunGraph
+pub mod Runs
+pub mod RunTurns
+pub mod RunReach
+pub mod RunClean

@@ -35,10 +35,6 @@ digit_test c low high = grind (arith, nat_tests)
 ranged : (word : List ℕ) → AreDigits word → AreInRange word
 ranged word digits i lt = digit_range (get_or word i 0) (digits i lt)
 
--- a digit's byte is 48 or more
-pub least_digit : (word : List ℕ) (i : ℕ) → AreDigits word → i < length word → 48 ≤ get_or word i 0
-least_digit word i digits lt = (ranged word digits i lt).0
-
 -- the bytes of a numeral
 pub digits_of : (n : ℕ) → n < 2 ^ 64 → AreDigits (decimal n)
 digits_of n fits k lt =

@@ -1,5 +1,5 @@
 -- A journal tells of as many sets as passed both tests. Where no line is at fault, that is what is said of it.
-use Rattle.std.proofs.Common.{◌≡◌, ◌∙◌, ℕ, ◌+◌, ◌≤◌, ◌==◌, Bool, true, false, cond, List, [], ◌∷◌, ◌++◌, length, map, Option, None, Some, refl, sym, ap, subst, arith}
+use Rattle.std.proofs.Common.{◌≡◌, ◌∙◌, ℕ, ◌+◌, ◌≤◌, ◌==◌, Bool, true, false, cond, List, [], ◌∷◌, ◌++◌, length, map, Option, None, Some, refl, ap, subst, arith}
 use Rattle.std.specs.List.{count_by, flat_map, enumerate_from}
 use Rattle.std.specs.Option.{is_some}
 use Rattle.std.proofs.lemmas.List.Sums.{sum_by-append, sum_by-cons}
@@ -13,13 +13,13 @@ use Rattle.rec_audit.specs.declared.kind.Kind.TheVariants as kinds
 use Rattle.rec_audit.specs.declared.form.Heap.{Heap}
 use Rattle.rec_audit.specs.declared.verdict.Verdict.TheVariants.{Yes}
 use Rattle.rec_audit.specs.Lines.{Line, text_of}
-use Rattle.rec_audit.specs.Form.{AreHeapNumbers, IsInForm, stage_behind}
+use Rattle.rec_audit.specs.Form.{AreHeapNumbers, IsInForm}
 use Rattle.rec_audit.specs.Graph.{is_free}
 use Rattle.rec_audit.specs.Journal.{batch_lines, completed_lines, entry_line, heap_numbers, journal, line_of, lines_of, op_lines, opening_lines, part_lines, passed_lines, sets_passed, snap_line}
 use Rattle.rec_audit.specs.Keeping.{Keep, behind_steps, first_place}
 use Rattle.rec_audit.specs.Verdicts.{IsClean, IsVerdict}
 use Rattle.rec_audit.specs.Verdicts.IsVerdict.{yes}
-use Rattle.rec_audit.proofs.Forming.{in_form}
+use Rattle.rec_audit.proofs.Forming.{in_form, part}
 
 abbrev frees : Line → ℕ
 frees line = cond (is_free line.kind) 1 0
@@ -41,9 +41,6 @@ part_none t buffer =
     let snap : sets (snap_line t buffer.snapshot ∷ []) ≡ 0 = refl in
     let both : sets (part_lines t buffer) ≡ sets (map (entry_line t) buffer.entries) + sets (snap_line t buffer.snapshot ∷ []) = sets_append (map (entry_line t) buffer.entries) (snap_line t buffer.snapshot ∷ []) in
     omega (arith, both, entries, snap)
-
-abbrev part : ℕ × Contents → List Line
-part p = part_lines p.0 p.1
 
 parts_none : (n : ℕ) (buffers : List Contents) → sets (flat_map part (enumerate_from n buffers)) ≡ 0
 parts_none n [] = refl

@@ -24,7 +24,7 @@ IsBelow n e = e.to < n
 pub lists_of : (r : References) → length (edges_of r) ≡ length r.edges.items
 lists_of r = length-map r.edges.items (λ (v : Vec Edge Global). v.items)
 
-tested : (n : ℕ) → nat_lt 0 n ≡ true → 0 < n
+pub tested : (n : ℕ) → nat_lt 0 n ≡ true → 0 < n
 tested n is = grind (arith, nat_tests)
 
 pub sized_put : (g h : Graph) (source new old : ℕ) → IsSized g → source < slots_of g → target_bits new ≤ slots_of g → Puts g.references h.references source new old → h.slots ≡ g.slots → h.marks ≡ g.marks → IsSized h

@@ -1,28 +1,16 @@
 -- Text that is written piece by piece.
-use Rattle.std.proofs.Common.{◌≡◌, ◌∙◌, ℕ, ◌+◌, ◌<◌, ◌≤◌, ◌^◌, List, [], ◌∷◌, ◌++◌, length, take, map, get_or, decimal, arith, refl, sym, ap, append_assoc, append-nil}
+use Rattle.std.proofs.Common.{◌≡◌, ◌∙◌, ℕ, ◌+◌, ◌<◌, ◌≤◌, ◌^◌, List, [], ◌∷◌, ◌++◌, length, take, get_or, decimal, arith, sym, ap, append_assoc, append-nil}
 use Rattle.std.specs.List.{flat_map, enumerate_from}
 use Rattle.std.proofs.lemmas.Fmt.{length-decimal-le}
-use Rattle.std.proofs.lemmas.List.{take_more, flat_map_more, map_more, length-take-le}
+use Rattle.std.proofs.lemmas.List.{take_more, length-take-le}
 use Rattle.std.proofs.lemmas.Grind.{flat_map-append}
 use Rattle.rec_log.specs.declared.contents.Contents.{Contents}
-use Rattle.rec_collector.specs.Shown.{Shown}
-use Rattle.rec_audit.specs.declared.form.Heap.{Heap}
 use Rattle.rec_audit.specs.Lines.{Line, text_of, text_of_line}
-use Rattle.rec_audit.specs.Journal.{HasNoted, journal, lines_of, opening_lines, part_lines, parts_lines}
+use Rattle.rec_audit.specs.Journal.{part_lines, parts_lines}
 
 -- a number of 64 bits has at most 20 digits
 pub twenty_digits : (n : ℕ) → n < 2 ^ 64 → length (decimal n) ≤ 20
 twenty_digits n small = length-decimal-le 20 n (omega arith) (omega arith) small
-
--- one piece more
-pub pieces_more : {X : Type 0} (f : X → List ℕ) (d : X) (before text more : List ℕ) (xs : List X) (i : ℕ) → i < length xs → text ≡ before ++ flat_map f (take i xs) → more ≡ text ++ f (get_or xs i d) → more ≡ before ++ flat_map f (take (i + 1) xs)
-pieces_more f d before text more xs i lt is e =
-    e ∙ ap (λ t. t ++ f (get_or xs i d)) is ∙ flat_map_more f before (take i xs) (get_or xs i d) ∙ ap (λ ys. before ++ flat_map f ys) (sym (take_more xs i d lt))
-
--- one piece more of what something becomes
-pub mapped_more : {X Y : Type 0} (f : Y → List ℕ) (g : X → Y) (d : X) (before text more : List ℕ) (xs : List X) (i : ℕ) → i < length xs → text ≡ before ++ flat_map f (map g (take i xs)) → more ≡ text ++ f (g (get_or xs i d)) → more ≡ before ++ flat_map f (map g (take (i + 1) xs))
-mapped_more f g d before text more xs i lt is e =
-    e ∙ ap (λ t. t ++ f (g (get_or xs i d))) is ∙ flat_map_more f before (map g (take i xs)) (g (get_or xs i d)) ∙ ap (λ ys. before ++ flat_map f ys) (sym (map_more g xs i d lt))
 
 -- the text of lines, and of more behind them
 pub text_more : (lines more : List Line) → text_of (lines ++ more) ≡ text_of lines ++ text_of more
@@ -62,15 +50,6 @@ behind_lines before text more lines others is e =
 -- a line is the text of lines that are one
 pub one_line : (before more : List ℕ) (line : Line) → more ≡ before ++ text_of_line line → more ≡ before ++ text_of (line ∷ [])
 one_line before more line e = e ∙ ap (λ t. before ++ t) (sym (append-nil (text_of_line line)))
-
--- a step is noted behind others
-pub noted_more : (heap : Heap) (steps : List Shown) (step : Shown) (text more : List ℕ) → HasNoted heap steps text → more ≡ text ++ text_of (lines_of step) → HasNoted heap (steps ++ step ∷ []) more
-noted_more heap steps step text more is e =
-    let lines : List Line = flat_map lines_of steps in
-    e
-    ∙ ap (λ t. t ++ text_of (lines_of step)) is
-    ∙ sym (text_more (opening_lines heap ++ lines) (lines_of step))
-    ∙ ap text_of (flat_map_more lines_of (opening_lines heap) steps step)
 
 -- four parts one after the other
 pub four_parts : (before one two three four : List ℕ) (a b c d : List Line) → one ≡ before ++ text_of a → two ≡ one ++ text_of b → three ≡ two ++ text_of c → four ≡ three ++ text_of d → four ≡ before ++ text_of (a ++ (b ++ (c ++ d)))

@@ -11,3 +11,4 @@ pub mod Walks
 pub mod Checkers
 pub mod Journal
 pub mod Keeping
+pub mod Runs

@@ -22,6 +22,7 @@ mod lines;
 mod reach;
 mod reading;
 mod references;
+mod run_laws;
 mod slots;
 mod steps;
 mod verdict;
@@ -31,5 +32,9 @@ pub use checking::check;
 pub use laws::{
     clean_journals_are_answered_yes, journals_are_in_form, lines_are_a_beginning,
     no_journal_goes_on, verdicts_are_unique,
+};
+pub use run_laws::{
+    journals_of_runs_are_answered_yes, journals_of_runs_are_in_form, reach_of_journals_is_of_runs,
+    sets_of_runs_are_unreached, steps_of_runs_keep_order, words_of_runs_differ,
 };
 pub use verdict::{Rule, Verdict};

@@ -57,7 +57,7 @@ left_same q b is = same_at q b q.phase is
     same_at r c _ is = refl
 
 -- a mutator whose turn in a gathering is to come: the batch of the epoch before the last is the last one
-due_gathers : (requested t : ℕ) (left : List Bool) (phase : Phase) → stand_at left phase t ≡ Handshake.Due → (applied_at requested phase ≡ requested - 2) × (under_way phase ≡ 1)
+pub due_gathers : (requested t : ℕ) (left : List Bool) (phase : Phase) → stand_at left phase t ≡ Handshake.Due → (applied_at requested phase ≡ requested - 2) × (under_way phase ≡ 1)
 due_gathers requested t left phase = go (has_left left t) phase
   where
     go : (gone : Bool) (p : Phase) → (if gone then Handshake.Gone else stand_in p t) ≡ Handshake.Due → (applied_at requested p ≡ requested - 2) × (under_way p ≡ 1)

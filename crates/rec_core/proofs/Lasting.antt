@@ -40,15 +40,15 @@ use Rattle.rec_core.proofs.Shapes.{same_boxes}
 use Rattle.rec_mutator.proofs.Refusals.{at_phase}
 
 -- what the writes in a buffer weigh
-abbrev wrote : (Write → ℕ) → Contents → ℕ
+abbrev pub wrote : (Write → ℕ) → Contents → ℕ
 wrote g b = sum_by g (writes_in b.entries)
 
 -- and those in the mailbox of a mutator
-abbrev wrote_in_box : (Write → ℕ) → Private × Contents → ℕ
+abbrev pub wrote_in_box : (Write → ℕ) → Private × Contents → ℕ
 wrote_in_box g own = wrote g own.1
 
 -- what all writes weigh, row by row
-writes_sum : (g : Write → ℕ) (w : Core) → sum_by g (writes_of w) ≡ sum_by (λ (p : Private). wrote g p.log) w.mutators + (sum_by (wrote_in_box g) (zip w.mutators w.boxes) + (sum_by (wrote g) w.collector.newer + sum_by (wrote g) w.collector.older))
+pub writes_sum : (g : Write → ℕ) (w : Core) → sum_by g (writes_of w) ≡ sum_by (λ (p : Private). wrote g p.log) w.mutators + (sum_by (wrote_in_box g) (zip w.mutators w.boxes) + (sum_by (wrote g) w.collector.newer + sum_by (wrote g) w.collector.older))
 writes_sum g w = buffers_sum g (λ b. writes_in b.buffer.entries) w
 
 -- what becomes of the word in a field
@@ -93,7 +93,7 @@ lasts_on w v gone l k (inr (inl some)) = inr (inl (omega (arith, some, k.writes 
 lasts_on w v gone l k (inr (inr c)) = absurd (none_gone _ c)
 
 -- what weighs something has an element that does
-some_weighs : {X : Type 0} (g : X → ℕ) (xs : List X) → 0 < sum_by g xs → (x : X) × Contains xs x × (0 < g x)
+pub some_weighs : {X : Type 0} (g : X → ℕ) (xs : List X) → 0 < sum_by g xs → (x : X) × Contains xs x × (0 < g x)
 some_weighs g [] h = absurd (omega (arith, h))
 some_weighs g (x ∷ xs) h = elim (cases_lt 0 (g x)) [
   | inl some ↦ (x, Contains-append_left (x ∷ []) xs x (Contains-get_or (x ∷ []) 0 x (omega arith)), some)
@@ -102,7 +102,7 @@ some_weighs g (x ∷ xs) h = elim (cases_lt 0 (g x)) [
       (y, Contains-append_right (x ∷ []) xs y c, some)
 ]
 
-closes_parts : (l : Loaded) (x : Write) → 0 < closes l x → (x.place ≡ l.place) × (x.old ≡ l.word) × (l.epoch ≤ epoch_of x.new)
+pub closes_parts : (l : Loaded) (x : Write) → 0 < closes l x → (x.place ≡ l.place) × (x.old ≡ l.word) × (l.epoch ≤ epoch_of x.new)
 closes_parts l x h = (grind (arith, nat_tests), grind (arith, nat_tests), grind (arith, nat_tests))
 
 pub known_lasts : (v : Core) (gone : List Cleared) (l : Loaded) → Lasts v gone l → IsKnown v gone l
@@ -419,7 +419,7 @@ module _ (w : Core) (op : Op) (kept : IsKept w) (named : ◌≡◌ {A = Option O
   writes_keep (collectors_step.Step.sweep due swept u next at is took follows g) = rows_keep (boxes_stay at refl) (Rows.kept_rows (ap (λ (x : collectors.Private). x.newer) g.after) (ap (λ (x : collectors.Private). x.older) g.after))
   writes_keep (collectors_step.Step.end_sweep swept at is e) = rows_keep (boxes_stay at refl) (Rows.turned_rows (ap (λ (x : collectors.Private). x.newer) e.after) (ap (λ (x : collectors.Private). x.older) e.after))
 
-  op_keeps : Keeps w v (cleared_by w (Some op)) (tried_in w)
+  pub op_keeps : Keeps w v (cleared_by w (Some op)) (tried_in w)
   op_keeps =
       let names : collectors_step.NamesWord (length c.counts.slots) c.fields (length c.newer) op = subst (λ (o : Option Op). IfSome o (collectors_step.NamesWord (length c.counts.slots) c.fields (length c.newer))) named (names_word c kept.collector.machine) in
       record {

@@ -7,6 +7,7 @@ pub mod CyclesAt
 pub mod Freed
 pub mod Kept
 pub mod Loads
+pub mod Logged
 pub mod Moves
 pub mod Objects
 pub mod OpenedFrom

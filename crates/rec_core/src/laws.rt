@@ -14,6 +14,8 @@ ghost use Rattle.rec_mutator.specs.declared.phase.Phase.TheVariants.{Begun};
 ghost use Rattle.rec_mutator.specs.declared.work.Work.TheVariants as works;
 ghost use Rattle.rec_collector.specs.Next.{next_of as collector_next};
 ghost use Rattle.rec_collector.specs.Outside.{HasSets, IsOutside};
+ghost use Rattle.rec_collector.specs.Shown.{passed_of};
+ghost use Rattle.rec_counts.specs.Lists.{times};
 ghost use Rattle.rec_collector.specs.Touched.{IsOrangeIn, WasUntouched};
 ghost use Rattle.rec_collector.specs.Zeros.{AreTheZeros};
 ghost use Rattle.rec_sigma.specs.Prepared.{seen};
@@ -22,8 +24,9 @@ ghost use Rattle.rec_core.specs.Core.{Core, sight, mutator, opened};
 ghost use Rattle.rec_word.specs.declared.op.Op.TheVariants.{FreeHeader};
 ghost use Rattle.rec_word.specs.Header.{header_word};
 ghost use Rattle.rec_word.specs.Place.{places_of};
-ghost use Rattle.rec_core.specs.Freed.{AreGone, IsForgotten, IsProvenGarbage, Passes, TestsSets};
+ghost use Rattle.rec_core.specs.Freed.{AreGone, IsForgotten, IsGone, IsProvenGarbage, Passes, TestsSets};
 ghost use Rattle.rec_core.specs.Kept.{IsKept};
+ghost use Rattle.rec_core.specs.Logged.{HasOwnBuffers};
 ghost use Rattle.rec_core.specs.Loads.{BeginsPreparing, cleared_over, fields_loaded, IsReferenceStill, IsSameTrial, Loaded, loaded_over, named_over};
 ghost use Rattle.rec_core.specs.Preconditions.{MayStep, MayTurn};
 ghost use Rattle.rec_core.specs.Moves.{Move, AllFit, Fits, after_move, after_moves, IsRun, EndsRun, RunsFrom, stepped, turned};
@@ -34,6 +37,7 @@ ghost use Rattle.rec_core.specs.Reach.{KeepsReached};
 ghost use Rattle.rec_core.specs.Scans.{BeginsNone, FailsByProbes};
 ghost use Rattle.rec_core.specs.StepAnswers.{IsShown};
 ghost use Rattle.rec_core.specs.Turn.{IsTurn, turn_told};
+ghost use Rattle.rec_core.specs.declared.config.Config.{Config};
 
 /// What every heap keeps holds at the end of every run.
 pub fn runs_keep()
@@ -141,4 +145,16 @@ pub fn answers_are_explained()
 pub fn conditions_are_met()
     ensures steps { (w : Core) (t : ℕ) → IsConfig w.config → EndsRun w → IsMutator w.config t → is_busy (mutator w t) ≡ true → MayStep w t }
     ensures turns { (w : Core) → IsConfig w.config → EndsRun w → IfSome (collector_next w.collector) (MayTurn w) }
+{}
+
+/// The set of which a watch is shown that it passed both tests is garbage. Behind that step, in any state of any run of a heap with its
+/// collector, each member is in the reach of no epoch from that of the last batch on, and nothing names it.
+pub fn shown_sets_are_garbage()
+    ensures { (w : Core) (members : List ℕ) (slot : ℕ) → IsConfig w.config → EndsRun w → passed_of w.collector ≡ Some members → 0 < times slot members → IsGone w slot }
+{}
+
+/// Over every run from an opening with one object, each buffer holds what its own mutator did: places and slots of the heap, and each
+/// write under a stamp of the mutator's number and the write's place in its log.
+pub fn buffers_are_their_mutators_own()
+    ensures { (config : Config) (w : Core) → IsConfig config → RunsFrom (opened config) w → HasOwnBuffers w }
 {}

@@ -18,11 +18,17 @@ use Rattle.rec_image.specs.Standing.{place_in, node_of, held_of}
 
 -- ---- places in a list without repeats
 
-here : (n : ℕ) (ns : List ℕ) → place_in (n ∷ ns) n ≡ 0
+pub here : (n : ℕ) (ns : List ℕ) → place_in (n ∷ ns) n ≡ 0
 here n ns = ap (λ (b : Bool). cond (not b) (1 + place_in ns n) 0) (eq-eqb n n refl)
 
-later : (n m : ℕ) (ns : List ℕ) → (m ≡ n → ⊥) → place_in (m ∷ ns) n ≡ suc (place_in ns n)
+pub later : (n m : ℕ) (ns : List ℕ) → (m ≡ n → ⊥) → place_in (m ∷ ns) n ≡ suc (place_in ns n)
 later n m ns apart = ap (λ (b : Bool). cond (not b) (1 + place_in ns n) 0) (ne_eqb m n apart) ∙ (let e : 1 + place_in ns n ≡ suc (place_in ns n) = omega arith in e)
+
+-- the number at a place is in the list
+pub member : (xs : List ℕ) (i : ℕ) → i < length xs → is_in (get_or xs i 0) xs ≡ true
+member [] i lt = absurd (omega arith)
+member (x ∷ xs) zero lt = is_in-head x xs
+member (x ∷ xs) (suc i) lt = is_in-tail (get_or xs i 0) x xs (member xs i (omega arith))
 
 -- the number at a place has that place
 pub place_at : (ns : List ℕ) (k : ℕ) → IsDistinct ns → k < length ns → place_in ns (get_or ns k 0) ≡ k
@@ -31,11 +37,6 @@ place_at (n ∷ ns) zero d lt = here n ns
 place_at (n ∷ ns) (suc k) d lt =
     later (get_or ns k 0) n ns (λ e. both_ways (is_in n ns) d.0 (subst (λ (m : ℕ). is_in m ns ≡ true) (sym e) (member ns k (omega arith))))
     ∙ ap suc (place_at ns k d.1 (omega arith))
-  where
-    member : (xs : List ℕ) (i : ℕ) → i < length xs → is_in (get_or xs i 0) xs ≡ true
-    member [] i lt = absurd (omega arith)
-    member (x ∷ xs) zero lt = is_in-head x xs
-    member (x ∷ xs) (suc i) lt = is_in-tail (get_or xs i 0) x xs (member xs i (omega arith))
 
 -- a number in the list stands at its place
 pub at_place : (ns : List ℕ) (n : ℕ) → is_in n ns ≡ true → (place_in ns n < length ns) × (get_or ns (place_in ns n) 0 ≡ n)

@@ -16,3 +16,5 @@ pub mod Carrying
 pub mod Digits
 pub mod Written
 pub mod Worlds
+pub mod Rowed
+pub mod Moving

@@ -27,19 +27,19 @@ use Rattle.rec_core.proofs.OpenedFromSeen as seen
 use Rattle.rec_image.specs.Drafts as drafts
 use Rattle.rec_image.specs.Image.{AreRegisters, ImageContents, IsImage, IsNode, Node, children, nothing}
 use Rattle.rec_image.specs.Restored.{config_of, fields_in, mark_of, objects_in, restored}
-use Rattle.rec_image.specs.Standing.{StandsFor}
+use Rattle.rec_image.specs.Standing.{StandsBy, StandsFor}
 
 -- ---- what stands one behind the other
 
 -- as many fields as objects have
-fields_long : (slots fields : ℕ) (objects : List Node) → All (IsNode slots fields) objects → length (flat_map fields_in objects) ≡ length objects * fields
+pub fields_long : (slots fields : ℕ) (objects : List Node) → All (IsNode slots fields) objects → length (flat_map fields_in objects) ≡ length objects * fields
 fields_long slots fields [] all = omega arith
 fields_long slots fields (node ∷ objects) all =
     let own : length node.fields ≡ fields = (All-head (IsNode slots fields) node objects all).width in
     omega (arith, own, length-append node.fields (flat_map fields_in objects), fields_long slots fields objects (All-tail (IsNode slots fields) node objects all), suc-mul (length objects) fields)
 
 -- and as many registers as mutators have
-registers_long : (slots registers : ℕ) (held : List (List (Option ℕ))) → All (AreRegisters slots registers) held → length (flat_map (λ own. own) held) ≡ length held * registers
+pub registers_long : (slots registers : ℕ) (held : List (List (Option ℕ))) → All (AreRegisters slots registers) held → length (flat_map (λ own. own) held) ≡ length held * registers
 registers_long slots registers [] all = omega arith
 registers_long slots registers (own ∷ held) all =
     let long : length own ≡ registers = (All-head (AreRegisters slots registers) own held all).number in
@@ -85,7 +85,7 @@ roots_flat [] = refl
 roots_flat (own ∷ held) = ap (λ (ns : List ℕ). named own ++ ns) (roots_flat held) ∙ sym (named-append own (flat_map (λ x. x) held))
 
 -- all of a list have what each name of it has
-all_named : (P : ℕ → Type 0) (xs : List (Option ℕ)) → ((n : ℕ) → is_in n (named xs) ≡ true → P n) → All (λ x. IfSome x P) xs
+pub all_named : (P : ℕ → Type 0) (xs : List (Option ℕ)) → ((n : ℕ) → is_in n (named xs) ≡ true → P n) → All (λ x. IfSome x P) xs
 all_named P [] each = All-nil (λ x. IfSome x P)
 all_named P (None ∷ xs) each = All-cons (λ x. IfSome x P) None xs tt (all_named P xs each)
 all_named P (Some n ∷ xs) each = All-cons (λ x. IfSome x P) (Some n) xs (each n (is_in-head n (named xs))) (all_named P xs (λ m there. each m (is_in-tail m n (named xs) there)))
@@ -107,10 +107,10 @@ module _ (v : ImageContents) (image : IsImage v) where
     | inr same ↦ let at : from ≡ n = omega (arith, low, same) in subst (λ k. is_in n (k ∷ range_with_len (from + 1) m) ≡ true) (sym at) (is_in-head n (range_with_len (from + 1) m))
   ]
 
-  reached_below : (n : ℕ) → IsReached (roots v.held) (children v.objects) n → n < length v.objects
+  pub reached_below : (n : ℕ) → IsReached (roots v.held) (children v.objects) n → n < length v.objects
   reached_below n reached = omega (arith, in_range n (length v.objects) 0 ((lists_reached (roots v.held) (children v.objects) (range_with_len 0 (length v.objects)) image.numbered n).0 reached))
 
-  below_reached : (n : ℕ) → n < length v.objects → IsReached (roots v.held) (children v.objects) n
+  pub below_reached : (n : ℕ) → n < length v.objects → IsReached (roots v.held) (children v.objects) n
   below_reached n below = (lists_reached (roots v.held) (children v.objects) (range_with_len 0 (length v.objects)) image.numbered n).1 (range_in n (length v.objects) 0 (omega arith) (omega (arith, below)))
 
   abbrev o : Objects
@@ -176,23 +176,24 @@ module _ (v : ImageContents) (image : IsImage v) where
       let rest : map (option_map (λ n. n)) xs ≡ xs = row_same xs in
       (λ i. first i ∷ rest i)
 
-  pub restored_stands : (log_entries : ℕ) → IsConfig (config_of v log_entries) → StandsFor v (sight (restored v log_entries))
-  restored_stands log_entries is =
+  pub restored_by : (log_entries : ℕ) → IsConfig (config_of v log_entries) → StandsBy v (sight (restored v log_entries)) (λ s. s)
+  restored_by log_entries is =
       let config : Config = config_of v log_entries in
       let are : AreObjects config o = are_objects log_entries in
       let by = seen.seen_stands config o is are have_labels in
-      let below : (s : ℕ) → IsTaken (sight (restored v log_entries)) s → s < length v.objects = λ s taken. omega (arith, seen.taken_below config o is are have_labels s taken, nodes_many) in (
-        λ s. s,
-        record {
-          one_to_one = λ s t p q same. same;
-          there = below;
-          header = λ s taken. subst (λ (x : ℕ × Bool). IsHeaderOf x.1 x.0 (get_or (restored v log_entries).headers s 0)) (node_own s (below s taken)) (seen.header_taken_is config o is are have_labels s (omega (arith, below s taken, nodes_many)));
-          registers = sym (ap (λ n. rows_of v.registers n o.registers) (sym image.mutators) ∙ rows_again v.slots v.registers v.held image.registers) ∙ by.registers;
-          fields = λ s from.
-              let there : s < length v.objects = below s (reached_is_taken (sight (restored v log_entries)) (seen.seen_sound config o is are have_labels) s from) in
-              sym (two_maps (words_of (sight (restored v log_entries)) s) ∙ row_same (map target_of (words_of (sight (restored v log_entries)) s)) ∙ seen.targets_at config o is are have_labels s (omega (arith, there, nodes_many)) ∙ fields_own s there);
-        },
-      )
+      let below : (s : ℕ) → IsTaken (sight (restored v log_entries)) s → s < length v.objects = λ s taken. omega (arith, seen.taken_below config o is are have_labels s taken, nodes_many) in
+      record {
+        one_to_one = λ s t p q same. same;
+        there = below;
+        header = λ s taken. subst (λ (x : ℕ × Bool). IsHeaderOf x.1 x.0 (get_or (restored v log_entries).headers s 0)) (node_own s (below s taken)) (seen.header_taken_is config o is are have_labels s (omega (arith, below s taken, nodes_many)));
+        registers = sym (ap (λ n. rows_of v.registers n o.registers) (sym image.mutators) ∙ rows_again v.slots v.registers v.held image.registers) ∙ by.registers;
+        fields = λ s from.
+            let there : s < length v.objects = below s (reached_is_taken (sight (restored v log_entries)) (seen.seen_sound config o is are have_labels) s from) in
+            sym (two_maps (words_of (sight (restored v log_entries)) s) ∙ row_same (map target_of (words_of (sight (restored v log_entries)) s)) ∙ seen.targets_at config o is are have_labels s (omega (arith, there, nodes_many)) ∙ fields_own s there);
+      }
+
+  pub restored_stands : (log_entries : ℕ) → IsConfig (config_of v log_entries) → StandsFor v (sight (restored v log_entries))
+  restored_stands log_entries is = (λ s. s, restored_by log_entries is)
 
 -- ---- the objects of what an `Image` holds
 nodes_in : (fields : ℕ) (nodes : List (ℕ × Bool)) (targets : List (Option ℕ)) → map mark_of (drafts.objects_of fields nodes targets) ≡ nodes

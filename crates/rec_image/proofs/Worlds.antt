@@ -1,4 +1,4 @@
--- A settled world has an image, which stands for it.
+-- A world has an image, which stands for it where it is settled.
 use Rattle.std.proofs.Common.{◌≡◌, ℕ, zero, suc, ◌+◌, ◌-◌, ◌*◌, ◌/◌, ◌<◌, ◌≤◌, true, List, [], ◌∷◌, ◌++◌, Option, None, Some, All, length, map, replicate, get_or, drop, refl, sym, ap, subst, ◌∙◌, arith, append_assoc, length-drop}
 use Rattle.std.specs.Prelude.{option_map}
 use Rattle.std.specs.List.{flat_map, range_with_len}
@@ -11,9 +11,10 @@ use Rattle.rec_model.specs.Heap.{registers_of, roots}
 use Rattle.rec_model.specs.Reach.{is_in, named}
 use Rattle.rec_model.specs.Reach.IsReached.{child, root}
 use Rattle.rec_model.specs.Sight.{NumbersSlots, Reaches, targets_of, words_of}
-use Rattle.rec_model.proofs.Members.{all_of, is_in-head, is_in-tail}
+use Rattle.rec_model.proofs.Members.{all_of, distinct_below, is_in-head, is_in-tail}
 use Rattle.rec_model.proofs.Names.{roots_at}
-use Rattle.rec_model.proofs.Numbered.{lists_reached}
+use Rattle.rec_model.proofs.Numbered.{lists_reached, numbering_distinct}
+use Rattle.rec_model.proofs.Standing.{reached_is_taken}
 use Rattle.rec_core.specs.Core.{nobody}
 use Rattle.rec_core.specs.Settled.{IsSettled}
 use Rattle.rec_world.specs.World.{Core, IsWorld, sight}
@@ -43,14 +44,14 @@ no_targets : (f : ℕ → ℕ) (n : ℕ) → map (λ w. option_map f (target_of 
 no_targets f zero = refl
 no_targets f (suc n) = ap (λ (xs : List (Option ℕ)). None ∷ xs) (no_targets f n)
 
-module _ (w : Core) (slots : List ℕ) (world : IsWorld w) (settled : IsSettled w) (numbers : NumbersSlots (sight w) slots) (few : length slots ≤ w.config.slots) where
-  header : (slot : ℕ) → is_in slot slots ≡ true → IsTakenHeader (get_or w.headers slot 0)
+module _ (w : Core) (slots : List ℕ) (world : IsWorld w) (numbers : NumbersSlots (sight w) slots) (few : length slots ≤ w.config.slots) where
+  pub header : (slot : ℕ) → is_in slot slots ≡ true → IsTakenHeader (get_or w.headers slot 0)
   header slot there =
       let reached : Reaches (sight w) slot = (lists_reached (roots (sight w).registers) (targets_of (sight w)) slots numbers slot).1 there in
       let below : slot < length w.headers = reached_below (sight w) (length w.headers) (names_sound (sight w) world.shaped.sound) slot reached in
-      All-get_or (λ h. 0 < h → IsTakenHeader h) w.headers slot 0 below world.shaped.labels ((settled.collected slot).1 reached)
+      All-get_or (λ h. 0 < h → IsTakenHeader h) w.headers slot 0 below world.shaped.labels (reached_is_taken (sight w) world.shaped.sound slot reached)
 
-  width : (slot : ℕ) → is_in slot slots ≡ true → length (words_of (sight w) slot) ≡ w.config.fields
+  pub width : (slot : ℕ) → is_in slot slots ≡ true → length (words_of (sight w) slot) ≡ w.config.fields
   width slot there =
       let reached : Reaches (sight w) slot = (lists_reached (roots (sight w).registers) (targets_of (sight w)) slots numbers slot).1 there in
       let below : slot < length w.headers = reached_below (sight w) (length w.headers) (names_sound (sight w) world.shaped.sound) slot reached in
@@ -101,8 +102,8 @@ module _ (w : Core) (slots : List ℕ) (world : IsWorld w) (settled : IsSettled 
     numbered = subst (λ (n : ℕ). Rattle.rec_model.specs.Numbering.IsNumbering (roots (held_of (sight w) slots)) (children (map (node_of (sight w) slots) slots)) (range_with_len 0 n)) (sym (length-map slots (node_of (sight w) slots))) (numbered (sight w) slots numbers);
   }
 
-  pub stands : StandsFor (image_of w slots) (sight w)
-  stands = (
+  pub stands : IsSettled w → StandsFor (image_of w slots) (sight w)
+  stands settled = (
     place_in slots,
     record {
       one_to_one = λ s t p q e. place_one slots s t (listed w slots numbers s ((settled.collected s).0 p)) (listed w slots numbers t ((settled.collected t).0 q)) e;
@@ -115,6 +116,14 @@ module _ (w : Core) (slots : List ℕ) (world : IsWorld w) (settled : IsSettled 
       fields = λ s reached. ap (λ (node : Node). node.fields) (object_at (sight w) slots numbers s (listed w slots numbers s reached));
     },
   )
+
+-- no more slots are listed than there are
+pub few_listed : (w : Core) (slots : List ℕ) → IsWorld w → NumbersSlots (sight w) slots → length slots ≤ w.config.slots
+few_listed w slots world numbers =
+    distinct_below slots w.config.slots (numbering_distinct (roots (sight w).registers) (targets_of (sight w)) slots numbers) (λ slot there.
+    let reached : Reaches (sight w) slot = (lists_reached (roots (sight w).registers) (targets_of (sight w)) slots numbers slot).1 there in
+    let below : slot < length w.headers = reached_below (sight w) (length w.headers) (names_sound (sight w) world.shaped.sound) slot reached in
+    omega (arith, below, world.shaped.headers))
 
 -- the number of an object's fields, reckoned from the number of all words
 pub fields_count : (w : Core) (words : List ℕ) (slots wide : ℕ) → IsWorld w → words ≡ w.words → slots ≡ w.config.slots → wide ≡ slots → length words / wide ≡ w.config.fields
@@ -141,10 +150,10 @@ pub written : (w : Core) (slots bytes : List ℕ) → IsWorld w → IsSettled w 
     → (v : ImageContents) × IsImage v × (text v ≡ bytes) × IsOfWorld w v × StandsFor v (sight w)
 written w slots bytes world settled numbers few is = (
   image_of w slots,
-  is_image w slots world settled numbers few,
+  is_image w slots world numbers few,
   is,
   record { slots = refl; fields = refl; registers = refl; mutators = refl },
-  stands w slots world settled numbers few,
+  stands w slots world numbers few settled,
 )
 
 -- the number of a mutator's registers

@@ -4,3 +4,4 @@ pub mod Standing
 pub mod Drafts
 pub mod Restored
 pub mod Fields
+pub mod Renewed

@@ -1,10 +1,10 @@
 -- The image of a world, and when an image stands for what is seen of one.
-use Rattle.std.specs.Prelude.{◌≡◌, ◌<◌, ◌==◌, ℕ, Bool, true, false, List, ◌++◌, Option, codes, length, map, option_map, slice_index_or}
+use Rattle.std.specs.Prelude.{◌≡◌, ◌-◌, ◌<◌, ◌==◌, ℕ, Bool, true, false, List, ◌++◌, Option, codes, length, map, option_map, slice_index_or}
 use Rattle.std.specs.Fmt.{decimal}
 use Rattle.std.specs.List.{flat_map, position_or_len}
 use Rattle.rec_word.specs.Header.{is_leaf, label_of, IsHeaderOf}
 use Rattle.rec_word.specs.Word.{target_of}
-use Rattle.rec_model.specs.Sight.{Sight, IsTaken, Reaches, words_of}
+use Rattle.rec_model.specs.Sight.{Sight, IsTaken, NumbersSlots, Reaches, words_of}
 use Rattle.rec_core.specs.Core.{Core, sight}
 use Rattle.rec_report.specs.Text.{field_number, field_word, line_feed}
 use Rattle.rec_image.specs.Image.{Node, ImageContents, node_head, nothing}
@@ -70,3 +70,11 @@ image_of w slots =
       objects = map (node_of (sight w) slots) slots;
       held = held_of (sight w) slots;
     }
+
+-- an image of what is in reach of a world's registers, in the order of a listing
+abbrev pub IsImageOf : Core → ImageContents → Type 0
+IsImageOf w v = (slots : List ℕ) × NumbersSlots (sight w) slots × (v ≡ image_of w slots)
+
+-- the place in the list, from 0, of what a field or register holds, where it is listed
+abbrev pub listed_place : List ℕ → Option ℕ → Option ℕ
+listed_place slots x = option_map (λ n. n - 1) (field_number slots x)

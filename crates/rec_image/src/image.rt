@@ -1,6 +1,6 @@
 //! An image that was read.
 
-ghost use Rattle.std.specs.Prelude.{◌≡◌, IfErr, IfOk, length};
+ghost use Rattle.std.specs.Prelude.{◌≡◌, ◌≤◌, IfErr, IfOk, length};
 ghost use Rattle.rec_core.specs.Objects.{described};
 ghost use Rattle.rec_core.specs.Settled.{IsSettled};
 ghost use Rattle.rec_core.specs.Worked.{AreIdle};
@@ -8,15 +8,17 @@ ghost use Rattle.rec_model.specs.Sight.{Represents};
 ghost use Rattle.rec_world.specs.OpenError.{IsRefused};
 ghost use Rattle.rec_world.specs.World.{IsWorld, sight};
 ghost use Rattle.rec_image.specs.Restored.{config_of, objects_in as objects_of_image, restored};
-ghost use Rattle.rec_image.specs.Standing.{StandsFor};
+ghost use Rattle.rec_image.specs.Renewed.{IsSlots, in_slots};
+ghost use Rattle.rec_image.specs.Standing.{IsImageOf, StandsFor};
 ghost use Rattle.rec_image.specs.Drafts.{AreHeld, AreObjects, draft, held_in, objects_in};
 ghost use Rattle.rec_image.specs.Image.{IsImage};
 
 use crate::held::Held;
 use crate::line::Heap;
+use crate::live::{object_rows, register_rows};
 use crate::objects::Objects;
-use rec_world::{Config, OpenError, World};
-use std::alloc::Global;
+use rec_world::{Config, Numbering, OpenError, World};
+use std::alloc::{AllocError as NoMemory, Global};
 use std::marker::Model;
 
 /// An image. Contracts see the numbers of its heap, its live objects, and what each mutator's registers name.
@@ -54,6 +56,52 @@ impl Image {
             fields: objects.targets,
             registers: held.registers,
         }
+    }
+
+    /// The image of what a world's registers reach.
+    pub(crate) fn of_world(alloc: Global, world: &World) -> Result<Image, NoMemory>
+        ensures image { IfOk result (λ image. IsImageOf world.now image) }
+        ensures kept { IsWorld world.now }
+    {
+        let slots = world.slots();
+        let fields = world.fields();
+        let mut numbering = Numbering::open(alloc, slots)?;
+        world.number(&mut numbering);
+        let (nodes, targets) = object_rows(alloc, world, fields, &numbering)?;
+        let registers = register_rows(alloc, world, fields, &numbering)?;
+        let heap = Heap {
+            slots: u32::from(slots),
+            fields: u32::from(fields),
+            registers: world.registers(1).len() as u32,
+            mutators: u32::from(world.mutators()),
+        };
+        Ok(Image {
+            heap,
+            nodes,
+            fields: targets,
+            registers,
+        })
+    }
+
+    /// The image of a heap with so many slots, which hold all its objects.
+    pub(crate) fn with_slots(self, slots: u32) -> Image
+        requires slots { IsSlots slots }
+        requires room { length self.objects ≤ slots }
+        ensures { result ≡ in_slots self slots }
+    {
+        Image {
+            heap: Heap { slots, ..self.heap },
+            nodes: self.nodes,
+            fields: self.fields,
+            registers: self.registers,
+        }
+    }
+
+    /// How many objects there are.
+    pub(crate) fn count(&self) -> u32
+        ensures { result ≡ length self.now.objects }
+    {
+        self.nodes.len() as u32
     }
 
     /// How many slots the heap has, from 1 to 65,535.

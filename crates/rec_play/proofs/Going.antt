@@ -22,7 +22,7 @@ use Rattle.rec_mutator.specs.declared.made.Made.TheVariants as makes
 use Rattle.rec_mutator.specs.declared.work.Work.TheVariants as works
 use Rattle.rec_collector.specs.Next.{next_of}
 use Rattle.rec_core.specs.Config.{IsMutator, HasLabel}
-use Rattle.rec_core.specs.Core.{opened, Core, sight, mutator}
+use Rattle.rec_core.specs.Core.{Core, sight, mutator}
 use Rattle.rec_core.specs.Kept.{IsKept}
 use Rattle.rec_core.specs.Moves.{Move, begun as begun_in, found_by, turned}
 use Rattle.rec_core.specs.Worked.{AreIdle, IsWorked}
@@ -35,7 +35,7 @@ use Rattle.rec_core.proofs.Showing.{step_caused}
 use Rattle.rec_core.proofs.Shows.{shows_then, shows_worked}
 use Rattle.rec_core.proofs.Steps.{actor_of}
 use Rattle.rec_order.specs.Events.{swept_by}
-use Rattle.rec_order.specs.Naming.{Naming, NamesGoOn, first_naming}
+use Rattle.rec_order.specs.Naming.{Naming, NamesGoOn}
 use Rattle.rec_order.proofs.Legal.{swept_lines}
 use Rattle.rec_order.proofs.Runs.{Runs, runs_both, runs_one, commanded_runs, polled_runs}
 use Rattle.rec_world.specs.World.{IsWorld}
@@ -79,18 +79,20 @@ swept_actors n _ = refl
 pub actors_swept : (events : List Event) (n : Naming) (w : Core) → actors (events ++ swept_by n (next_of w.collector)) ≡ actors events
 actors_swept events n w = filter_map-append actor events (swept_by n (next_of w.collector)) ∙ ap (λ ts. actors events ++ ts) (swept_actors n (next_of w.collector)) ∙ append-nil (actors events)
 
--- Moves from the opening tell these events, and each mutator's first commands were answered.
-pub record Went (script : ScriptContents) (events : List Event) (n : Naming) (world : Core) : Type 0 where
+-- Moves from this heap on, whose slots hold these objects, tell these events, and each mutator's first commands were answered.
+pub record Went (script : ScriptContents) (first : Core) (named : Naming) (events : List Event) (n : Naming) (world : Core) : Type 0 where
   pub valid : IsScript script
-  pub run : Runs (opened (config_of script)) world events first_naming n
+  pub config : first.config ≡ config_of script
+  pub kept : IsKept first
+  pub run : Runs first world events named n
   pub commands : (t : ℕ) → map (λ (line : Line). line.0) (filter_map (line_by t) events) ≡ take (made_in events t) (commands_of script t)
 
 -- Before the first turn.
-pub begun : (script : ScriptContents) → IsScript script → Went script [] first_naming (opened (config_of script))
-begun script is = record { valid = is; run = record { moves = []; fit = tt; ends = refl; tells = refl; names = refl }; commands = λ t. refl }
+pub begun : (script : ScriptContents) (first : Core) (named : Naming) → IsScript script → first.config ≡ config_of script → IsKept first → Went script first named [] named first
+begun script first named is config kept = record { valid = is; config = config; kept = kept; run = record { moves = []; fit = tt; ends = refl; tells = refl; names = refl }; commands = λ t. refl }
 
-runs_config : (script : ScriptContents) (w : Core) (events : List Event) (n : Naming) → Runs (opened (config_of script)) w events first_naming n → w.config ≡ config_of script
-runs_config script w events n run = ap (λ (x : Core). x.config) (sym run.ends) ∙ config_after (opened (config_of script)) run.moves
+runs_config : (script : ScriptContents) (first w : Core) (events : List Event) (m n : Naming) → first.config ≡ config_of script → Runs first w events m n → w.config ≡ config_of script
+runs_config script first w events m n config run = ap (λ (x : Core). x.config) (sym run.ends) ∙ config_after first run.moves ∙ config
 
 -- operands in range are those of a mutator
 operands : (script : ScriptContents) (p : Private) (cmd : Cmd) → length p.registers ≡ script.registers → p.fields ≡ script.fields → IsCommand script.registers script.fields cmd → HasOperands p cmd × HasLabel (works.Command cmd)
@@ -167,16 +169,15 @@ told_not_yet script w v t cmd told world config some most idle present command d
     (step_caused u t cmd told (world_kept u last) there done.busy work (ap (λ (x : Core). answer_of (mutator x t)) (sym done.steps) ∙ answered)).not_yet
 
 -- A command more, behind a poll.
-pub went_command : (script : ScriptContents) (events : List Event) (n : Naming) (before after : Core) (t : ℕ) (cmd : Cmd) (told : Told) → IsWorld before → AreIdle before → (mutator before t).left ≡ false → Carries script t (made_in events t) before cmd told after → Went script events n before
-    → (k : Naming) × NamesGoOn before after (cmd, told) n k × Went script (events ++ Answers t (cmd, told) ∷ []) k after
-went_command script events n before after t cmd told world idle present carries so =
-    let first : Core = opened (config_of script) in
+pub went_command : (script : ScriptContents) (first : Core) (named : Naming) (events : List Event) (n : Naming) (before after : Core) (t : ℕ) (cmd : Cmd) (told : Told) → IsWorld before → AreIdle before → (mutator before t).left ≡ false → Carries script t (made_in events t) before cmd told after → Went script first named events n before
+    → (k : Naming) × NamesGoOn before after (cmd, told) n k × Went script first named (events ++ Answers t (cmd, told) ∷ []) k after
+went_command script first named events n before after t cmd told world idle present carries so =
     let there : HasCommand script t (made_in events t) = has_command script t (made_in events t) cmd carries.next in
     let mid : Core = carries.polled in
-    let is : IsMutator before.config t = is_mutator script before t (runs_config script before events n so.run) there.some there.most in
+    let is : IsMutator before.config t = is_mutator script before t (runs_config script first before events named n so.config so.run) there.some there.most in
     let (poll, seen) = polled_runs before mid t n (world_kept before world) is (idle t is) present carries.poll in
-    let polled : Runs first mid events first_naming n = subst (λ es. Runs first mid es first_naming n) (append-nil events) (runs_both first before mid events [] first_naming n n so.run poll) in
-    let config : mid.config ≡ config_of script = runs_config script mid events n polled in
+    let polled : Runs first mid events named n = subst (λ es. Runs first mid es named n) (append-nil events) (runs_both first before mid events [] named n n so.run poll) in
+    let config : mid.config ≡ config_of script = runs_config script first mid events named n so.config polled in
     let (world_mid, present_mid) = polled_world before mid t world is (idle t is) present carries.poll in
     let kept : IsKept mid = world_kept mid world_mid in
     let is_mid : IsMutator mid.config t = is_mutator script mid t config there.some there.most in
@@ -187,7 +188,9 @@ went_command script events n before after t cmd told world idle present carries 
       names_from before mid after (cmd, told) n k seen names,
       record {
         valid = so.valid;
-        run = runs_both first mid after events (Answers t (cmd, told) ∷ []) first_naming n k polled run;
+        config = so.config;
+        kept = so.kept;
+        run = runs_both first mid after events (Answers t (cmd, told) ∷ []) named n k polled run;
         commands = commands_more script events t cmd told carries.next so.commands;
       },
     )
@@ -209,28 +212,27 @@ shows_command script made t before after cmd told valid config world idle presen
     shows_then before mid after [] [] poll (shows_worked mid after t (works.Command cmd) kept is_mid carries.poll.idle present_mid fits label carries.command)
 
 -- A turn of the collector more, and the poll that follows it.
-pub went_step : (script : ScriptContents) (done : ℕ → Type 0) (events : List Event) (n : Naming) (before after : Core) → IsKept before → AreIdle before → Follows done before after → Went script events n before
-    → Went script (events ++ swept_by n (next_of before.collector)) n after
-went_step script done events n before after kept idle follows so = record {
+pub went_step : (script : ScriptContents) (first : Core) (named : Naming) (done : ℕ → Type 0) (events : List Event) (n : Naming) (before after : Core) → IsKept before → AreIdle before → Follows done before after → Went script first named events n before
+    → Went script first named (events ++ swept_by n (next_of before.collector)) n after
+went_step script first named done events n before after kept idle follows so = record {
   valid = so.valid;
+  config = so.config;
+  kept = so.kept;
   run = go follows;
   commands = λ t. ap (map (λ (line : Line). line.0)) (line_swept events n before t) ∙ so.commands t ∙ ap (λ (xs : List Line). take (length xs) (commands_of script t)) (sym (line_swept events n before t));
 }
   where
-    first : Core
-    first = opened (config_of script)
-
     told : List Event
     told = swept_by n (next_of before.collector)
 
-    step : (x : Core) → x ≡ turned before → Runs first x (events ++ told) first_naming n
-    step x is = runs_both first before x events told first_naming n n so.run (runs_one before x Move.Turns n tt is)
+    step : (x : Core) → x ≡ turned before → Runs first x (events ++ told) named n
+    step x is = runs_both first before x events told named n n so.run (runs_one before x Move.Turns n tt is)
 
-    go : Follows done before after → Runs first after (events ++ told) first_naming n
+    go : Follows done before after → Runs first after (events ++ told) named n
     go (Follows.rests left is) = step after is
     go (Follows.polls t awaited same spent polled) =
         let (poll, seen) = polled_runs before after t n kept awaited.there (idle t awaited.there) (awaited_stays before t kept awaited.there awaited.waits) polled.worked in
-        subst (λ es. Runs first after es first_naming n) (append-nil (events ++ told)) (runs_both first before after (events ++ told) [] first_naming n n (step before (sym same)) poll)
+        subst (λ es. Runs first after es named n) (append-nil (events ++ told)) (runs_both first before after (events ++ told) [] named n n (step before (sym same)) poll)
 
 -- a turn is a line of its mutator
 turns_of_one : (t s : ℕ) (line : Line) (order : List ℕ) (lines : List Line) → times t order ≡ length lines

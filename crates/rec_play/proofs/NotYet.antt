@@ -50,8 +50,8 @@ answered_in none (Event.Answers t line) = (t, line)
 answered_in none _ = none
 
 -- turns more leave what a turn told
-turns_more : (script : ScriptContents) (acted : List Actor) (events told : List Event) (actor : Actor) (i t : ℕ) (line : Line) → i < length events → IsAwaitedTurn script acted events i t line → IsAwaitedTurn script (acted ++ actor ∷ []) (events ++ told) i t line
-turns_more script acted events told actor i t line early so = record {
+turns_more : (script : ScriptContents) (first : Core) (named : Naming) (acted : List Actor) (events told : List Event) (actor : Actor) (i t : ℕ) (line : Line) → i < length events → IsAwaitedTurn script first named acted events i t line → IsAwaitedTurn script first named (acted ++ actor ∷ []) (events ++ told) i t line
+turns_more script first named acted events told actor i t line early so = record {
   earlier = so.earlier;
   later = so.later ++ actor ∷ [];
   all = ap (λ turns. turns ++ actor ∷ []) so.all ∙ append_assoc so.earlier (Actor.Mutator t ∷ so.later) (actor ∷ []);
@@ -66,14 +66,14 @@ turns_more script acted events told actor i t line early so = record {
 }
 
 -- In a played run a turn of the mutator told it.
-pub turn_told : (script : ScriptContents) (acted : List Actor) (events : List Event) (n : Naming) (w : Core) → IsPlayedRun script acted events n w
-    → (i t : ℕ) (line : Line) → slice_get events i ≡ Some (Event.Answers t line) → line.1.answer ≡ answers.NotYet → IsAwaitedTurn script acted events i t line
-turn_told script _ _ _ _ IsPlayedRun.starts i t line there refused = absurd (omega (arith, slice_get_within [] i (Event.Answers t line) there))
-turn_told script _ _ _ _ (IsPlayedRun.turn acted events n k from to s cmd told run is names) i t line there refused = elim (get_cases events (Event.Answers s (cmd, told)) i (Event.Answers t line) there) [
-  | inl before ↦ turns_more script acted events (Event.Answers s (cmd, told) ∷ []) (Actor.Mutator s) i t line (slice_get_within events i (Event.Answers t line) before) (turn_told script acted events n from run i t line before refused)
+pub turn_told : (script : ScriptContents) (first : Core) (named : Naming) (acted : List Actor) (events : List Event) (n : Naming) (w : Core) → IsPlayedRun script first named acted events n w
+    → (i t : ℕ) (line : Line) → slice_get events i ≡ Some (Event.Answers t line) → line.1.answer ≡ answers.NotYet → IsAwaitedTurn script first named acted events i t line
+turn_told script first named _ _ _ _ IsPlayedRun.starts i t line there refused = absurd (omega (arith, slice_get_within [] i (Event.Answers t line) there))
+turn_told script first named _ _ _ _ (IsPlayedRun.turn acted events n k from to s cmd told run is names) i t line there refused = elim (get_cases events (Event.Answers s (cmd, told)) i (Event.Answers t line) there) [
+  | inl before ↦ turns_more script first named acted events (Event.Answers s (cmd, told) ∷ []) (Actor.Mutator s) i t line (slice_get_within events i (Event.Answers t line) before) (turn_told script first named acted events n from run i t line before refused)
   | inr last ↦
       let one : ◌≡◌ {A = ℕ × Line} (s, (cmd, told)) (t, line) = ap (answered_in (t, line)) last.1 in
-      subst (λ (x : ℕ × Line). IsAwaitedTurn script (acted ++ Actor.Mutator s ∷ []) (events ++ Event.Answers s (cmd, told) ∷ []) i x.0 x.1) one
+      subst (λ (x : ℕ × Line). IsAwaitedTurn script first named (acted ++ Actor.Mutator s ∷ []) (events ++ Event.Answers s (cmd, told) ∷ []) i x.0 x.1) one
       (record {
         earlier = acted;
         later = [];
@@ -88,9 +88,9 @@ turn_told script _ _ _ _ (IsPlayedRun.turn acted events n k from to s cmd told r
         awaited = is.not_yet.0 (ap (λ (x : ℕ × Line). x.1.1.answer) one ∙ refused);
       })
 ]
-turn_told script _ _ _ _ (IsPlayedRun.collects acted events n from to run ends) i t line there refused =
+turn_told script first named _ _ _ _ (IsPlayedRun.collects acted events n from to run ends) i t line there refused =
     let before : slice_get events i ≡ Some (Event.Answers t line) = swept_silent n (next_of from.collector) t line events i there in
-    turns_more script acted events (swept_by n (next_of from.collector)) Actor.Collector i t line (slice_get_within events i (Event.Answers t line) before) (turn_told script acted events n from run i t line before refused)
+    turns_more script first named acted events (swept_by n (next_of from.collector)) Actor.Collector i t line (slice_get_within events i (Event.Answers t line) before) (turn_told script first named acted events n from run i t line before refused)
 
 -- an event in a list that begins with one event at most is that one, or a later one
 later_or_first : (es later : List Event) (i : ℕ) (e : Event) → length es ≤ 1 → slice_get (es ++ later) i ≡ Some e → ((j : ℕ) × (i ≡ length es + j) × (slice_get later j ≡ Some e)) ⊎ ((i ≡ 0) × (es ≡ e ∷ []))

@@ -121,34 +121,34 @@ no_push : (xs : List Actor) (a : Actor) → [] ≡ xs ++ a ∷ [] → ⊥
 no_push xs a is = omega (arith, ap length is, length_push xs a)
 
 -- a mutator has made as many commands as it had turns
-made_named : (script : ScriptContents) (acted : List Actor) (events : List Event) (n : Naming) (w : Core) → IsPlayedRun script acted events n w → (t : ℕ) → made_in events t ≡ times t (mutators_of acted)
-made_named script acted events n w run t = sym (turns_are_lines t events) ∙ ap (times t) (acts_named script acted events n w run)
+made_named : (script : ScriptContents) (first : Core) (names : Naming) (acted : List Actor) (events : List Event) (n : Naming) (w : Core) → IsPlayedRun script first names acted events n w → (t : ℕ) → made_in events t ≡ times t (mutators_of acted)
+made_named script first names acted events n w run t = sym (turns_are_lines t events) ∙ ap (times t) (acts_named script first names acted events n w run)
 
--- The same turns come to the same heap.
-same_run : (script : ScriptContents) (xs ys : List Actor) (e f : List Event) (n k : Naming) (v u : Core) → xs ≡ ys → IsPlayedRun script xs e n v → IsPlayedRun script ys f k u → v ≡ u
-same_run script _ _ _ _ _ _ _ _ same IsPlayedRun.starts IsPlayedRun.starts = refl
-same_run script _ _ _ _ _ _ _ _ same IsPlayedRun.starts (IsPlayedRun.turn ys f m k before u s cmd told run is names) = absurd (no_push ys (Mutator s) same)
-same_run script _ _ _ _ _ _ _ _ same IsPlayedRun.starts (IsPlayedRun.collects ys f k before u run ends) = absurd (no_push ys Collector same)
-same_run script _ _ _ _ _ _ _ _ same (IsPlayedRun.turn xs e m n before v t cmd told run is names) IsPlayedRun.starts = absurd (no_push xs (Mutator t) (sym same))
-same_run script _ _ _ _ _ _ _ _ same (IsPlayedRun.collects xs e n before v run ends) IsPlayedRun.starts = absurd (no_push xs Collector (sym same))
-same_run script _ _ _ _ _ _ _ _ same (IsPlayedRun.turn xs e m n before v t cmd told run is names) (IsPlayedRun.collects ys f k before' u run' ends) =
+-- The same turns, from the same heap on, come to the same heap, whichever objects its slots hold.
+same_run : (script : ScriptContents) (start : Core) (a b : Naming) (xs ys : List Actor) (e f : List Event) (n k : Naming) (v u : Core) → xs ≡ ys → IsPlayedRun script start a xs e n v → IsPlayedRun script start b ys f k u → v ≡ u
+same_run script start a b _ _ _ _ _ _ _ _ same IsPlayedRun.starts IsPlayedRun.starts = refl
+same_run script start a b _ _ _ _ _ _ _ _ same IsPlayedRun.starts (IsPlayedRun.turn ys f m k before u s cmd told run is names) = absurd (no_push ys (Mutator s) same)
+same_run script start a b _ _ _ _ _ _ _ _ same IsPlayedRun.starts (IsPlayedRun.collects ys f k before u run ends) = absurd (no_push ys Collector same)
+same_run script start a b _ _ _ _ _ _ _ _ same (IsPlayedRun.turn xs e m n before v t cmd told run is names) IsPlayedRun.starts = absurd (no_push xs (Mutator t) (sym same))
+same_run script start a b _ _ _ _ _ _ _ _ same (IsPlayedRun.collects xs e n before v run ends) IsPlayedRun.starts = absurd (no_push xs Collector (sym same))
+same_run script start a b _ _ _ _ _ _ _ _ same (IsPlayedRun.turn xs e m n before v t cmd told run is names) (IsPlayedRun.collects ys f k before' u run' ends) =
     let (first, last) = same_from_push xs ys (Mutator t) Collector same in cc
-same_run script _ _ _ _ _ _ _ _ same (IsPlayedRun.collects xs e n before v run ends) (IsPlayedRun.turn ys f m k before' u s cmd told run' is names) =
+same_run script start a b _ _ _ _ _ _ _ _ same (IsPlayedRun.collects xs e n before v run ends) (IsPlayedRun.turn ys f m k before' u s cmd told run' is names) =
     let (first, last) = same_from_push xs ys Collector (Mutator s) same in cc
-same_run script _ _ _ _ _ _ _ _ same (IsPlayedRun.turn xs e m n before v t cmd told run is names) (IsPlayedRun.turn ys f l k before' u s cmd' told' run' is' names') =
+same_run script start a b _ _ _ _ _ _ _ _ same (IsPlayedRun.turn xs e m n before v t cmd told run is names) (IsPlayedRun.turn ys f l k before' u s cmd' told' run' is' names') =
     let (first, last) = same_from_push xs ys (Mutator t) (Mutator s) same in
     let one : t ≡ s = cc in
-    let earlier : before' ≡ before = sym (same_run script xs ys e f m l before before' first run run') in
-    let made : made_in e t ≡ made_in f t = made_named script xs e m before run t ∙ ap (λ zs. times t (mutators_of zs)) first ∙ sym (made_named script ys f l before' run' t) in
+    let earlier : before' ≡ before = sym (same_run script start a b xs ys e f m l before before' first run run') in
+    let made : made_in e t ≡ made_in f t = made_named script start a xs e m before run t ∙ ap (λ zs. times t (mutators_of zs)) first ∙ sym (made_named script start b ys f l before' run' t) in
     turn_once script e f t cmd cmd' told told' before v u made is (subst (λ (x : Core). IsTurnOf script f t cmd' told' x u) earlier (subst (λ x. IsTurnOf script f x cmd' told' before' u) (sym one) is'))
-same_run script _ _ _ _ _ _ _ _ same (IsPlayedRun.collects xs e n before v run ends) (IsPlayedRun.collects ys f k before' u run' ends') =
+same_run script start a b _ _ _ _ _ _ _ _ same (IsPlayedRun.collects xs e n before v run ends) (IsPlayedRun.collects ys f k before' u run' ends') =
     let (first, last) = same_from_push xs ys Collector Collector same in
-    let earlier : before' ≡ before = sym (same_run script xs ys e f n k before before' first run run') in
-    let made : (t : ℕ) → made_in e t ≡ made_in f t = λ t. made_named script xs e n before run t ∙ ap (λ zs. times t (mutators_of zs)) first ∙ sym (made_named script ys f k before' run' t) in
+    let earlier : before' ≡ before = sym (same_run script start a b xs ys e f n k before before' first run run') in
+    let made : (t : ℕ) → made_in e t ≡ made_in f t = λ t. made_named script start a xs e n before run t ∙ ap (λ zs. times t (mutators_of zs)) first ∙ sym (made_named script start b ys f k before' run' t) in
     ends_once script (made_in e) (made_in f) before (turned before) v u made ends (subst (λ (x : Core). EndsTurn script (made_in f) x (turned x) u) earlier ends')
 
-pub run_once : (script : ScriptContents) (actors : List Actor) (e f : List Event) (n k : Naming) (v u : Core) → IsPlayedRun script actors e n v → IsPlayedRun script actors f k u → v ≡ u
-run_once script actors e f n k v u a b = same_run script actors actors e f n k v u refl a b
+pub run_once : (script : ScriptContents) (start : Core) (a b : Naming) (actors : List Actor) (e f : List Event) (n k : Naming) (v u : Core) → IsPlayedRun script start a actors e n v → IsPlayedRun script start b actors f k u → v ≡ u
+run_once script start a b actors e f n k v u run run' = same_run script start a b actors actors e f n k v u refl run run'
 
 -- where the collector waits, its turn changes nothing
 waits_still : (w : Core) (t : ℕ) → IsKept w → WaitsFor w t → turned w ≡ w

@@ -1,29 +1,33 @@
--- The played run, from the opened heap, has the legal order of its moves.
-use Rattle.std.proofs.Common.{◌≡◌, ℕ, ◌+◌, ◌-◌, ◌<◌, zero, suc, List, [], ◌∷◌, ◌++◌, slice_index_or, length, map, replicate, refl, sym, ap, subst, ◌∙◌, arith}
+-- The played run has the legal order of its moves; and the opening of a script is a start.
+use Rattle.std.proofs.Common.{◌≡◌, ℕ, ◌+◌, ◌-◌, ◌<◌, zero, suc, List, [], ◌∷◌, ◌++◌, Option, slice_index_or, length, map, replicate, refl, sym, ap, subst, ◌∙◌, arith}
 use Rattle.std.specs.List.{filter_map}
 use Rattle.std.proofs.lemmas.List.{map_push}
-use Rattle.rec_model.specs.Heap.{Heap, opening}
-use Rattle.rec_model.specs.LegalOrder.{Line, Event, Moment, after_all, line_by, IsLegalOrder}
+use Rattle.rec_model.specs.Heap.{opening}
+use Rattle.rec_model.specs.LegalOrder.{Line, Event, Limits, Moment, after_all, line_by, IsLegalOrder}
 use Rattle.rec_model.specs.Sight.{Sight, StandsBy}
 use Rattle.rec_model.specs.Unfreed.{AreUnfreed}
 use Rattle.rec_model.proofs.Opened.{opening_number, opening_stands_by, opening_unfreed}
 use Rattle.rec_mutator.specs.Private.{Private}
-use Rattle.rec_core.specs.Core.{Core, sight, opened, opened_mutators, opened_mutator}
+use Rattle.rec_core.specs.Config.{IsMutator}
+use Rattle.rec_core.specs.Core.{Core, mutator, sight, opened, opened_mutators, opened_mutator}
+use Rattle.rec_core.specs.Objects.{Objects, rows_of}
+use Rattle.rec_core.specs.OpenedFrom.{holding_mutator, holding_mutators, opened_from}
 use Rattle.rec_core.specs.Kept.{IsKept}
 use Rattle.rec_core.specs.Moves.{Move, after_moves}
 use Rattle.rec_core.specs.declared.config.Config.{Config}
+use Rattle.rec_collector.proofs.Rows.{length-rows}
 use Rattle.rec_core.proofs.OpenedMutators.{sight_opened, mutator_opened}
-use Rattle.rec_core.proofs.Opening.{opened_kept}
-use Rattle.rec_order.specs.Naming.{Naming, first_naming, named_after_all}
+use Rattle.rec_core.proofs.Seated.{holding_at}
+use Rattle.rec_order.specs.Naming.{Naming, named_after_all}
 use Rattle.rec_order.specs.Events.{events_of}
 use Rattle.rec_order.specs.Legal.{limits_of, moment_of, HasLegalOrder}
 use Rattle.rec_order.proofs.Legal.{run_legal, lines_of}
 use Rattle.rec_order.proofs.Runs.{moves_made}
 use Rattle.rec_script.specs.Script.{ScriptContents}
-use Rattle.rec_play.specs.Played.{config_of, opening_moment, last_moment}
+use Rattle.rec_play.specs.Played.{config_of, last_moment}
 use Rattle.rec_play.specs.Played as played
 use Rattle.rec_play.proofs.Going.{Went}
-use Rattle.rec_play.proofs.Ready.{script_config}
+use Rattle.rec_play.specs.Start.{IsStartOf, MayBegin, Start, moment_at, names_at, opening_of}
 use Rattle.rec_mutator.specs.Private.{is_busy}
 
 -- one value more at the end
@@ -37,61 +41,98 @@ done_opened config zero = refl
 done_opened config (suc n) =
     map_push (λ (p : Private). length p.log.entries) (opened_mutators config n) (opened_mutator config (suc n)) ∙ ap (λ ns. ns ++ 0 ∷ []) (done_opened config n) ∙ replicate_push n 0
 
+-- a script may be played on its opening
+pub opened_begins : (script : ScriptContents) → MayBegin script (opened (config_of script))
+opened_begins script = record {
+  config = refl;
+  idle = λ t there. ap is_busy (mutator_opened (config_of script) t there);
+  present = λ t there. ap (λ (p : Private). p.left) (mutator_opened (config_of script) t there);
+  logs = done_opened (config_of script) (length script.commands);
+  unswept = refl;
+}
+
+-- and the opening heap stands for it
+pub opened_starts : (script : ScriptContents) → 0 < script.slots → IsStartOf script (opening_of script)
+opened_starts script some = record {
+  begins = opened_begins script;
+  stands = subst (λ (s : Sight). StandsBy (opening script.fields script.registers (length script.commands)) s opening_number) (sym (sight_opened (config_of script)))
+      (opening_stands_by script.slots script.fields script.registers (length script.commands) some);
+  unfreed = subst (λ (s : Sight). AreUnfreed s opening_number (0 ∷ [])) (sym (sight_opened (config_of script)))
+      (opening_unfreed script.slots script.fields script.registers (length script.commands));
+  made = refl;
+}
+
+-- logs are empty as a heap is opened from objects
+done_holding : (config : Config) (t : ℕ) (rows : List (List (Option ℕ))) → map (λ (p : Private). length p.log.entries) (holding_mutators config t rows) ≡ replicate (length rows) 0
+done_holding config t [] = refl
+done_holding config t (held ∷ rows) = ap (λ (ns : List ℕ). 0 ∷ ns) (done_holding config (t + 1) rows)
+
+-- a script may be played on such a heap
+pub opened_from_begins : (script : ScriptContents) (o : Objects) → MayBegin script (opened_from (config_of script) o)
+opened_from_begins script o = record {
+  config = refl;
+  idle = λ t there. ap is_busy (one_of t there);
+  present = λ t there. ap (λ (p : Private). p.left) (one_of t there);
+  logs = done_holding config 1 rows ∙ ap (λ n. replicate n 0) many;
+  unswept = refl;
+}
+  where
+    config : Config
+    config = config_of script
+
+    rows : List (List (Option ℕ))
+    rows = rows_of config.registers config.mutators o.registers
+
+    many : length rows ≡ config.mutators
+    many = length-rows config.registers config.mutators o.registers
+
+    one_of : (t : ℕ) → IsMutator config t → mutator (opened_from config o) t ≡ holding_mutator config (1 + (t - 1)) (slice_index_or rows (t - 1) [])
+    one_of t (some, most) = holding_at config 1 rows (t - 1) (omega (arith, some, most, many))
+
 -- what is played has a legal order, and its heap stands for the world
-pub record IsPlayedLegally (script : ScriptContents) (world : Core) (lines : List (List Line)) (events : List Event) (n : Naming) : Type 0 where
-  pub legal : IsLegalOrder (played.limits_of script) (opening_moment script) lines events
-  pub stands : StandsBy (last_moment script events).heap (sight world) n.number
-  pub made : world.made ≡ length (last_moment script events).heap.objects
+pub record IsPlayedLegally (script : ScriptContents) (start : Start) (world : Core) (lines : List (List Line)) (events : List Event) (n : Naming) : Type 0 where
+  pub legal : IsLegalOrder (played.limits_of script) (moment_at script start) lines events
+  pub stands : StandsBy (last_moment script start events).heap (sight world) n.number
+  pub made : world.made ≡ length (last_moment script start events).heap.objects
 
--- the opening heap of a script
-abbrev pub heap_of : ScriptContents → Heap
-heap_of script = opening script.fields script.registers (length script.commands)
+-- a run begins at that moment
+moment_is : (script : ScriptContents) (start : Start) → MayBegin script start.world → moment_of start.world start.heap start.unfreed ≡ moment_at script start
+moment_is script start begins =
+    ap (λ n. let m : Moment = record (moment_of start.world start.heap start.unfreed) { marks = n } in m) begins.unswept
+    ∙ ap (λ ns. let m : Moment = record (moment_at script start) { done = ns } in m) begins.logs
 
--- it stands for the opened world, and its object is unfreed there
-pub stands_opened : (script : ScriptContents) → 0 < script.slots → StandsBy (heap_of script) (sight (opened (config_of script))) opening_number
-stands_opened script some =
-    subst (λ (s : Sight). StandsBy (heap_of script) s opening_number) (sym (sight_opened (config_of script)))
-    (opening_stands_by script.slots script.fields script.registers (length script.commands) some)
-
-pub unfreed_opened : (script : ScriptContents) → AreUnfreed (sight (opened (config_of script))) opening_number (0 ∷ [])
-unfreed_opened script =
-    subst (λ (s : Sight). AreUnfreed s opening_number (0 ∷ [])) (sym (sight_opened (config_of script)))
-    (opening_unfreed script.slots script.fields script.registers (length script.commands))
-
--- a legal order of the moves of a run from the opening is one from the opening moment, and its heap stands for the world at the end
-pub ordered_legally : (script : ScriptContents) (world : Core) (moves : List Move) (lines : List (List Line)) → HasLegalOrder (opened (config_of script)) (heap_of script) opening_number (0 ∷ []) moves lines
-    → after_moves (opened (config_of script)) moves ≡ world
-    → IsPlayedLegally script world lines (events_of first_naming (opened (config_of script)) moves) (named_after_all first_naming (opened (config_of script)) moves)
-ordered_legally script world moves lines all leads =
-    let config : Config = config_of script in
-    let first : Core = opened config in
-    let heap : Heap = heap_of script in
-    let events : List Event = events_of first_naming first moves in
-    let n : Naming = named_after_all first_naming first moves in
-    let start : moment_of first heap (0 ∷ []) ≡ opening_moment script = ap (λ ns. let m : Moment = record (opening_moment script) { done = ns } in m) (done_opened config config.mutators) in
-    let ends : Moment = after_all (limits_of config) (moment_of first heap (0 ∷ [])) events in
-    let counted : n.next + 1 ≡ 1 + (after_moves first moves).made = moves_made first_naming first moves in
+-- a legal order of the moves of a run from a start is one from its moment, and its heap stands for the world at the end
+pub ordered_legally : (script : ScriptContents) (start : Start) → IsStartOf script start → (world : Core) (moves : List Move) (lines : List (List Line)) → HasLegalOrder start.world start.heap start.number start.unfreed moves lines
+    → after_moves start.world moves ≡ world
+    → IsPlayedLegally script start world lines (events_of (names_at start) start.world moves) (named_after_all (names_at start) start.world moves)
+ordered_legally script start is world moves lines all leads =
+    let first : Core = start.world in
+    let events : List Event = events_of (names_at start) first moves in
+    let n : Naming = named_after_all (names_at start) first moves in
+    let limits : limits_of first.config ≡ played.limits_of script = ap limits_of is.begins.config in
+    let moment : moment_of first start.heap start.unfreed ≡ moment_at script start = moment_is script start is.begins in
+    let ends : Moment = after_all (limits_of first.config) (moment_of first start.heap start.unfreed) events in
+    let last : ends ≡ last_moment script start events =
+    ap (λ l. after_all l (moment_of first start.heap start.unfreed) events) limits ∙ ap (λ m. after_all (played.limits_of script) m events) moment in
+    let counted : n.next + first.made ≡ length start.heap.objects + (after_moves first moves).made = moves_made (names_at start) first moves in
     let next : n.next ≡ length ends.heap.objects = all.ends.next in
     let same : world.made ≡ (after_moves first moves).made = ap (λ (w : Core). w.made) (sym leads) in
     record {
-      legal = subst (λ m. IsLegalOrder (played.limits_of script) m lines events) start all.legal;
-      stands = subst (λ m. StandsBy (after_all (played.limits_of script) m events).heap (sight world) n.number) start
-          (subst (λ (w : Core). StandsBy ends.heap (sight w) n.number) leads all.ends.stands);
-      made = subst (λ m. world.made ≡ length (after_all (played.limits_of script) m events).heap.objects) start (omega (arith, counted, next, same));
+      legal = subst (λ m. IsLegalOrder (played.limits_of script) m lines events) moment (subst (λ (l : Limits). IsLegalOrder l (moment_of first start.heap start.unfreed) lines events) limits all.legal);
+      stands = subst (λ (m : Moment). StandsBy m.heap (sight world) n.number) last (subst (λ (w : Core). StandsBy ends.heap (sight w) n.number) leads all.ends.stands);
+      made = subst (λ (m : Moment). world.made ≡ length m.heap.objects) last (omega (arith, counted, next, same, is.made));
     }
 
 -- by the law of every run
-pub played_legally : (script : ScriptContents) (world : Core) (lines : List (List Line)) (events : List Event) (n : Naming) → length lines ≡ length script.commands
-    → ((t : ℕ) → 0 < t → filter_map (line_by t) events ≡ slice_index_or lines (t - 1) []) → Went script events n world → IsPlayedLegally script world lines events n
-played_legally script world lines events n one_each own so =
-    let first : Core = opened (config_of script) in
-    let kept : IsKept first = opened_kept (config_of script) (script_config script so.valid) in
-    let all : HasLegalOrder first (heap_of script) opening_number (0 ∷ []) so.run.moves lines
-    = run_legal first (heap_of script) opening_number (0 ∷ []) so.run.moves lines kept (λ t is. ap is_busy (mutator_opened (config_of script) t is))
-    (stands_opened script so.valid.heap.some_slots) (unfreed_opened script) so.run.fit
+pub played_legally : (script : ScriptContents) (start : Start) (world : Core) (lines : List (List Line)) (events : List Event) (n : Naming) → IsStartOf script start → length lines ≡ length script.commands
+    → ((t : ℕ) → 0 < t → filter_map (line_by t) events ≡ slice_index_or lines (t - 1) []) → Went script start.world (names_at start) events n world → IsPlayedLegally script start world lines events n
+played_legally script start world lines events n is one_each own so =
+    let first : Core = start.world in
+    let all : HasLegalOrder first start.heap start.number start.unfreed so.run.moves lines
+    = run_legal first start.heap start.number start.unfreed so.run.moves lines so.kept is.begins.idle is.stands is.unfreed so.run.fit
     (record {
-      one_each = one_each;
-      lines = λ t is. sym (own t is.0) ∙ ap (filter_map (line_by t)) (sym so.run.tells) ∙ lines_of t first_naming first so.run.moves;
+      one_each = one_each ∙ sym (ap (λ (c : Config). c.mutators) is.begins.config);
+      lines = λ t there. sym (own t there.0) ∙ ap (filter_map (line_by t)) (sym so.run.tells) ∙ lines_of t (names_at start) first so.run.moves;
     }) in
-    subst (λ es. IsPlayedLegally script world lines es n) so.run.tells
-    (subst (IsPlayedLegally script world lines (events_of first_naming first so.run.moves)) so.run.names (ordered_legally script world so.run.moves lines all so.run.ends))
+    subst (λ es. IsPlayedLegally script start world lines es n) so.run.tells
+    (subst (IsPlayedLegally script start world lines (events_of (names_at start) first so.run.moves)) so.run.names (ordered_legally script start is world so.run.moves lines all so.run.ends))

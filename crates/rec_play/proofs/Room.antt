@@ -11,7 +11,8 @@ use Rattle.rec_model.specs.LegalOrder.{Line, Event, Limits, Moment, Fits, after,
 use Rattle.rec_model.specs.LegalOrder.Event.{Answers, Frees, Marks}
 use Rattle.rec_model.proofs.Opened.{nulls_at}
 use Rattle.rec_script.specs.Script.{ScriptContents}
-use Rattle.rec_play.specs.Played.{limits_of, log_room, longest, opening_moment}
+use Rattle.rec_play.specs.Played.{limits_of, log_room, longest}
+use Rattle.rec_play.specs.Start.{Start, moment_at}
 use Rattle.rec_play.proofs.Ready.{fits_longest}
 
 -- the answer is another than that the log is full
@@ -67,9 +68,9 @@ never_full limits t m (Answers s line ∷ events) some numbered fits room = elim
 ]
 
 -- Journals with the script's commands and a legal order tell no full log.
-pub no_log_full : (script : ScriptContents) (journals : List (List Line)) (events : List Event) → map (map (λ (line : Line). line.0)) journals ≡ script.commands
-    → IsLegalOrder (limits_of script) (opening_moment script) journals events → All (All HasRoom) journals
-no_log_full script journals events commands legal = All-from_get_or (All HasRoom) journals [] each
+pub no_log_full : (script : ScriptContents) (start : Start) (journals : List (List Line)) (events : List Event) → map (map (λ (line : Line). line.0)) journals ≡ script.commands
+    → IsLegalOrder (limits_of script) (moment_at script start) journals events → All (All HasRoom) journals
+no_log_full script start journals events commands legal = All-from_get_or (All HasRoom) journals [] each
   where
     long : (i : ℕ) → i < length journals → length (slice_index_or journals i []) ≡ length (slice_index_or script.commands i [])
     long i there =
@@ -79,9 +80,9 @@ no_log_full script journals events commands legal = All-from_get_or (All HasRoom
     each : (i : ℕ) → i < length journals → All HasRoom (slice_index_or journals i [])
     each i there =
         let own : filter_map (line_by (suc i)) events ≡ slice_index_or journals i [] = legal.own (suc i) (omega arith) ∙ ap (λ n. slice_index_or journals n []) (let same : suc i - 1 ≡ i = omega arith in same) in
-        let none : slice_index_or (opening_moment script).done (suc i - 1) 0 ≡ 0 = nulls_at (length script.commands) (suc i - 1) in
+        let none : slice_index_or (moment_at script start).done (suc i - 1) 0 ≡ 0 = nulls_at (length script.commands) (suc i - 1) in
         let many : length (filter_map (line_by (suc i)) events) ≡ length (slice_index_or script.commands i []) = ap (λ (ls : List Line). length ls) own ∙ long i there in
         let most : length (slice_index_or script.commands i []) ≤ longest script.commands = fits_longest script.commands i in
         let room : longest script.commands ≤ log_room script = omega arith in
         subst (All HasRoom) own
-        (never_full (limits_of script) (suc i) (opening_moment script) events (omega arith) (λ j s line is. (legal.numbered j s line is).0) legal.fits (omega (arith, none, many, most, room)))
+        (never_full (limits_of script) (suc i) (moment_at script start) events (omega arith) (λ j s line is. (legal.numbered j s line is).0) legal.fits (omega (arith, none, many, most, room)))

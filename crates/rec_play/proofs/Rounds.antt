@@ -16,32 +16,32 @@ use Rattle.rec_mutator.specs.declared.work.Work.TheVariants as works
 use Rattle.rec_collector.specs.Next.{next_of}
 use Rattle.rec_collector.specs.declared.phase.Phase.TheVariants.{Looking}
 use Rattle.rec_collector.specs.declared.turn.Turn.{Turn}
-use Rattle.rec_core.specs.Core.{opened, Core, mutator}
+use Rattle.rec_core.specs.Core.{Core, mutator}
 use Rattle.rec_core.specs.Kept.{IsKept}
 use Rattle.rec_core.specs.Moves.{turned}
 use Rattle.rec_core.specs.Worked.{AreIdle, IsWorked}
 use Rattle.rec_core.proofs.Runs.{looked_is}
 use Rattle.rec_order.specs.Events.{swept_by}
-use Rattle.rec_order.specs.Naming.{Naming, NamesGoOn, first_naming}
+use Rattle.rec_order.specs.Naming.{Naming, NamesGoOn}
 use Rattle.rec_world.specs.Journal.{Notes, no_notes}
 use Rattle.rec_world.specs.Order.{Turns}
 use Rattle.rec_world.specs.World.{IsWorld}
-use Rattle.rec_world.proofs.Calls.{opened_world, world_kept}
+use Rattle.rec_world.proofs.Calls.{world_kept}
 use Rattle.rec_script.specs.Script.{ScriptContents, IsScript}
 use Rattle.rec_settle.specs.Collecting.{Follows}
 use Rattle.rec_play.specs.declared.actor.Actor.{Actor}
 use Rattle.rec_play.specs.declared.actor.Actor.TheVariants.{Mutator, Collector}
 use Rattle.rec_play.specs.Moves.{AreThere, Carries, IsSpent, MakesCommand, MakesStep, Player, made_by}
 use Rattle.rec_play.specs.Played.{AreReady, IsPlayed, config_of, lengths_of, lines_of}
+use Rattle.rec_play.specs.Start.{IsStartOf, MayBegin, Start, names_at}
 use Rattle.rec_play.specs.Playing.{all_turns, generator_of, mutators_of, number_of_actor, order, to_come}
 use Rattle.rec_play.specs.Run.{IsPlayedRun, EndsTurn, commands_of, made_in}
 use Rattle.rec_play.proofs.Due.{HasCommand, commands_are, few_mutators, has_command, is_of_script, lengths_at, none_made, order_is}
 use Rattle.rec_play.proofs.Going.{Went, actors_swept, begun, line_other, line_own, line_swept, turns_are_lines, went_command, went_step}
 use Rattle.rec_play.proofs.Opened.{IsPlayedLegally, played_legally}
 use Rattle.rec_play.proofs.Room.{no_log_full}
-use Rattle.rec_play.proofs.Ready.{script_config}
 use Rattle.rec_play.proofs.Orders.{order_names, order_length, collectors, collectors_few}
-use Rattle.rec_play.proofs.There.{opened_there}
+use Rattle.rec_play.proofs.There.{begun_there}
 
 -- each mutator has made as many commands as were answered
 abbrev pub AreCounted : ScriptContents → (made : List ℕ) → List Event → Type 0
@@ -62,10 +62,10 @@ counted_more script made events t line first there so s some most = elim (cases_
 ]
 
 -- The run goes on with a command,
-pub run_made : (script : ScriptContents) (made : List ℕ) (acted : List Actor) (events : List Event) (n k : Naming) (before after : Core) (t : ℕ) (cmd : Cmd) (told : Told) → AreCounted script made events
-    → Carries script t (made_by made t) before cmd told after → NamesGoOn before after (cmd, told) n k → IsPlayedRun script acted events n before
-    → IsPlayedRun script (acted ++ Mutator t ∷ []) (events ++ Answers t (cmd, told) ∷ []) k after
-run_made script made acted events n k before after t cmd told counted carries names run =
+pub run_made : (script : ScriptContents) (first : Core) (named : Naming) (made : List ℕ) (acted : List Actor) (events : List Event) (n k : Naming) (before after : Core) (t : ℕ) (cmd : Cmd) (told : Told) → AreCounted script made events
+    → Carries script t (made_by made t) before cmd told after → NamesGoOn before after (cmd, told) n k → IsPlayedRun script first named acted events n before
+    → IsPlayedRun script first named (acted ++ Mutator t ∷ []) (events ++ Answers t (cmd, told) ∷ []) k after
+run_made script first named made acted events n k before after t cmd told counted carries names run =
     let there : HasCommand script t (made_by made t) = has_command script t (made_by made t) cmd carries.next in
     IsPlayedRun.turn acted events n k before after t cmd told run
     (record {
@@ -79,9 +79,9 @@ run_made script made acted events n k before after t cmd told counted carries na
     names
 
 -- and with a step of the collector.
-pub run_stepped : (script : ScriptContents) (made : List ℕ) (acted : List Actor) (events : List Event) (n : Naming) (before after : Core) → before.config ≡ config_of script → IsKept before → AreCounted script made events
-    → Follows (IsSpent script made) before after → IsPlayedRun script acted events n before → IsPlayedRun script (acted ++ Collector ∷ []) (events ++ swept_by n (next_of before.collector)) n after
-run_stepped script made acted events n before after config kept counted follows run = IsPlayedRun.collects acted events n before after run (go follows)
+pub run_stepped : (script : ScriptContents) (first : Core) (named : Naming) (made : List ℕ) (acted : List Actor) (events : List Event) (n : Naming) (before after : Core) → before.config ≡ config_of script → IsKept before → AreCounted script made events
+    → Follows (IsSpent script made) before after → IsPlayedRun script first named acted events n before → IsPlayedRun script first named (acted ++ Collector ∷ []) (events ++ swept_by n (next_of before.collector)) n after
+run_stepped script first named made acted events n before after config kept counted follows run = IsPlayedRun.collects acted events n before after run (go follows)
   where
     go : Follows (IsSpent script made) before after → EndsTurn script (made_in events) before (turned before) after
     go (Follows.polls t awaited same spent polled) =
@@ -97,12 +97,12 @@ run_stepped script made acted events n before after config kept counted follows 
         ]) is
 
 -- The answers of a run stand in the order of its turns.
-pub acts_named : (script : ScriptContents) (acted : List Actor) (events : List Event) (n : Naming) (w : Core) → IsPlayedRun script acted events n w → actors events ≡ mutators_of acted
-acts_named script _ _ _ _ IsPlayedRun.starts = refl
-acts_named script _ _ _ _ (IsPlayedRun.turn acted events n k before after t cmd told run is names) =
-    filter_map-append actor events (Answers t (cmd, told) ∷ []) ∙ ap (λ ts. ts ++ t ∷ []) (acts_named script acted events n before run) ∙ sym (filter_map-append number_of_actor acted (Mutator t ∷ []))
-acts_named script _ _ _ _ (IsPlayedRun.collects acted events n before after run ends) =
-    actors_swept events n before ∙ acts_named script acted events n before run ∙ sym (filter_map-append number_of_actor acted (Collector ∷ []) ∙ append-nil (mutators_of acted))
+pub acts_named : (script : ScriptContents) (first : Core) (named : Naming) (acted : List Actor) (events : List Event) (n : Naming) (w : Core) → IsPlayedRun script first named acted events n w → actors events ≡ mutators_of acted
+acts_named script first named _ _ _ _ IsPlayedRun.starts = refl
+acts_named script first named _ _ _ _ (IsPlayedRun.turn acted events n k before after t cmd told run is names) =
+    filter_map-append actor events (Answers t (cmd, told) ∷ []) ∙ ap (λ ts. ts ++ t ∷ []) (acts_named script first named acted events n before run) ∙ sym (filter_map-append number_of_actor acted (Mutator t ∷ []))
+acts_named script first named _ _ _ _ (IsPlayedRun.collects acted events n before after run ends) =
+    actors_swept events n before ∙ acts_named script first named acted events n before run ∙ sym (filter_map-append number_of_actor acted (Collector ∷ []) ∙ append-nil (mutators_of acted))
 
 -- the notes of a mutator, by its index
 abbrev pub notes_at : List Notes → ℕ → Notes
@@ -115,7 +115,7 @@ journal_is journals index t d same some there =
     ∙ get_or_from_slice_get journals (t - 1) (notes_at journals (t - 1)) d (slice_get-get_or journals (t - 1) no_notes (omega arith))
 
 -- what was played so far, what is to come, and what room is left
-pub record Between (script : ScriptContents) (seed turns : ℕ) (world : Core) (journals : List Notes) (noted : Turns) (p : Player) : Type 0 where
+pub record Between (script : ScriptContents) (first : Core) (named : Naming) (seed turns : ℕ) (world : Core) (journals : List Notes) (noted : Turns) (p : Player) : Type 0 where
   pub of : p.script ≡ script
   pub kept : IsWorld world
   pub idle : AreIdle world
@@ -127,8 +127,8 @@ pub record Between (script : ScriptContents) (seed turns : ℕ) (world : Core) (
   pub all : acted ++ to_come p.rest ≡ all_turns (lengths_of script) seed turns
   pub events : List Event
   pub names : Naming
-  pub run : IsPlayedRun script acted events names world
-  pub went : Went script events names world
+  pub run : IsPlayedRun script first named acted events names world
+  pub went : Went script first named events names world
   pub counted : AreCounted script p.made events
   -- the journals and the order tell it
   pub one_each : length journals ≡ length script.commands
@@ -137,28 +137,27 @@ pub record Between (script : ScriptContents) (seed turns : ℕ) (world : Core) (
   pub journal_room : (t : ℕ) → length (commands_of script t) ≤ (notes_at journals (t - 1)).room + made_in events t
   pub order_room : sum (lengths_of script) ≤ noted.room + length noted.list
   -- each turn of the collector that is to come may request one epoch more
-  pub epochs : world.epoch + collectors (to_come p.rest) ≤ 1 + turns
+  pub epochs : world.epoch + collectors (to_come p.rest) ≤ first.epoch + turns
 
 -- Before the first turn.
-pub start : (script : ScriptContents) (seed turns : ℕ) (world : Core) (journals : List Notes) (noted : Turns) (p : Player) → IsScript script → AreIdle world
-    → world ≡ opened (config_of script) → AreReady script.commands journals → noted.list ≡ [] → sum (lengths_of script) ≤ noted.room
+pub start : (script : ScriptContents) (first : Core) (named : Naming) (seed turns : ℕ) (journals : List Notes) (noted : Turns) (p : Player) → IsScript script → MayBegin script first → IsWorld first
+    → AreReady script.commands journals → noted.list ≡ [] → sum (lengths_of script) ≤ noted.room
     → p.script ≡ script → p.rest ≡ record { left = lengths_of script; generator = generator_of seed; turns = turns } → p.made ≡ replicate MOST_MUTATORS 0
-    → Between script seed turns world journals noted p
-start script seed turns world journals noted p valid idle is ready none room of begins made =
-    let P : Core → Type 0 = λ w. IsPlayedRun script [] [] first_naming w in
+    → Between script first named seed turns first journals noted p
+start script first named seed turns journals noted p valid begins world ready none room of rest made =
     record {
       of = of;
-      kept = subst IsWorld (sym is) (opened_world (config_of script) (script_config script valid));
-      idle = idle;
-      present = subst (λ (s : ScriptContents). AreThere s p.made world) (sym of) (subst (AreThere script p.made) (sym is) (opened_there script p.made));
+      kept = world;
+      idle = begins.idle;
+      present = subst (λ (s : ScriptContents). AreThere s p.made first) (sym of) (begun_there script p.made first begins);
       long = ap length made;
-      config = ap (λ (w : Core). w.config) is;
+      config = begins.config;
       acted = [];
-      all = ap to_come begins;
+      all = ap to_come rest;
       events = [];
-      names = first_naming;
-      run = subst P (sym is) IsPlayedRun.starts;
-      went = subst (Went script [] first_naming) (sym is) (begun script valid);
+      names = named;
+      run = IsPlayedRun.starts;
+      went = begun script first named valid begins.config (world_kept first world);
       counted = λ t some most. ap (λ ns. made_by ns t) made ∙ none_made t;
       one_each = ready.one_each;
       lines = λ t some. sym (elim (cases_lt (t - 1) (length journals)) [
@@ -168,10 +167,7 @@ start script seed turns world journals noted p valid idle is ready none room of 
       order_so = none;
       journal_room = room_for;
       order_room = omega (arith, room);
-      epochs =
-          let first : world.epoch ≡ 1 = ap (λ (w : Core). w.epoch) is in
-          let few : collectors (to_come p.rest) ≤ turns = subst (λ r. collectors (to_come r) ≤ turns) (sym begins) (collectors_few (lengths_of script) seed turns) in
-          omega (arith, first, few);
+      epochs = let few : collectors (to_come p.rest) ≤ turns = subst (λ r. collectors (to_come r) ≤ turns) (sym rest) (collectors_few (lengths_of script) seed turns) in omega (arith, few);
     }
   where
     room_for : (t : ℕ) → length (commands_of script t) ≤ (notes_at journals (t - 1)).room + 0
@@ -186,8 +182,8 @@ pub record HasRoom (script : ScriptContents) (journals : List Notes) (noted : Tu
   pub order_room : 0 < noted.room
 
 -- A mutator's turn was made.
-module _ (script : ScriptContents) (seed turns : ℕ) (before after : Core) (journals : List Notes) (noted : Turns) (p q : Player) (t : ℕ) (cmd : Cmd) (told : Told)
-    (so : Between script seed turns before journals noted p) (makes : MakesCommand p q before after t cmd told) where
+module _ (script : ScriptContents) (first : Core) (named : Naming) (seed turns : ℕ) (before after : Core) (journals : List Notes) (noted : Turns) (p q : Player) (t : ℕ) (cmd : Cmd) (told : Told)
+    (so : Between script first named seed turns before journals noted p) (makes : MakesCommand p q before after t cmd told) where
   carries : Carries script t (made_by p.made t) before cmd told after
   carries = subst (λ s. Carries s t (made_by p.made t) before cmd told after) so.of makes.carries
 
@@ -211,10 +207,10 @@ module _ (script : ScriptContents) (seed turns : ℕ) (before after : Core) (jou
 
   -- It was noted.
   pub command_made : (notes : Notes) (more : Turns) → notes.lines ≡ (notes_at journals (t - 1)).lines ++ (cmd, told) ∷ [] → notes.room ≡ (notes_at journals (t - 1)).room - 1
-      → more.list ≡ noted.list ++ t ∷ [] → more.room ≡ noted.room - 1 → q.script ≡ p.script → length q.made ≡ MOST_MUTATORS → IsWorld after → AreIdle after → AreThere q.script q.made after → after.config ≡ config_of script → Between script seed turns after (slice_set journals (t - 1) notes) more q
+      → more.list ≡ noted.list ++ t ∷ [] → more.room ≡ noted.room - 1 → q.script ≡ p.script → length q.made ≡ MOST_MUTATORS → IsWorld after → AreIdle after → AreThere q.script q.made after → after.config ≡ config_of script → Between script first named seed turns after (slice_set journals (t - 1) notes) more q
   command_made notes more line room list less same long kept idle present config =
       let stays : (mutator before t).left ≡ false = subst (λ (s : ScriptContents). AreThere s p.made before) so.of so.present t there.next in
-      let (k, names, went) = went_command script so.events so.names before after t cmd told so.kept so.idle stays (subst (λ m. Carries script t m before cmd told after) counted carries) so.went in
+      let (k, names, went) = went_command script first named so.events so.names before after t cmd told so.kept so.idle stays (subst (λ m. Carries script t m before cmd told after) counted carries) so.went in
       let index : t - 1 < length journals = omega (arith, there.some, there.most, so.one_each) in
       let mine : made_in (so.events ++ Answers t (cmd, told) ∷ []) t ≡ made_in so.events t + 1 = ap length (line_own so.events t (cmd, told)) ∙ length_push (filter_map (line_by t) so.events) (cmd, told) in
       let here : notes_at (slice_set journals (t - 1) notes) (t - 1) ≡ notes = get_or-set_same journals (t - 1) notes no_notes index in
@@ -230,7 +226,7 @@ module _ (script : ScriptContents) (seed turns : ℕ) (before after : Core) (jou
         all = append_assoc so.acted (Mutator t ∷ []) (to_come q.rest) ∙ ap (λ later. so.acted ++ later) (sym makes.turn) ∙ so.all;
         events = so.events ++ Answers t (cmd, told) ∷ [];
         names = k;
-        run = run_made script p.made so.acted so.events so.names k before after t cmd told so.counted carries names so.run;
+        run = run_made script first named p.made so.acted so.events so.names k before after t cmd told so.counted carries names so.run;
         went = went;
         counted = subst (λ made. AreCounted script made (so.events ++ Answers t (cmd, told) ∷ [])) (sym makes.made) (counted_more script p.made so.events t (cmd, told) there.some (omega (arith, there.some, there.most, few_mutators script so.went.valid, so.long)) so.counted);
         one_each = length-set journals (t - 1) notes ∙ so.one_each;
@@ -263,9 +259,9 @@ module _ (script : ScriptContents) (seed turns : ℕ) (before after : Core) (jou
           (subst (λ (j : Notes). length (commands_of script t) ≤ j.room + made_in (so.events ++ Answers t (cmd, told) ∷ []) t) (sym here) (omega (arith, so.journal_room t, has_room.journal_room, room, longer)))
 
 -- A turn of the collector was made.
-pub step_made : (script : ScriptContents) (seed turns : ℕ) (before after : Core) (journals : List Notes) (noted : Turns) (p q : Player) (seen : Option (Op × ℕ)) (turn : Turn) → MakesStep p q before after seen turn
-    → q.script ≡ p.script → IsWorld after → AreIdle after → AreThere q.script q.made after → after.config ≡ config_of script → Between script seed turns before journals noted p → Between script seed turns after journals noted q
-step_made script seed turns before after journals noted p q seen turn makes same world idle present config so =
+pub step_made : (script : ScriptContents) (first : Core) (named : Naming) (seed turns : ℕ) (before after : Core) (journals : List Notes) (noted : Turns) (p q : Player) (seen : Option (Op × ℕ)) (turn : Turn) → MakesStep p q before after seen turn
+    → q.script ≡ p.script → IsWorld after → AreIdle after → AreThere q.script q.made after → after.config ≡ config_of script → Between script first named seed turns before journals noted p → Between script first named seed turns after journals noted q
+step_made script first named seed turns before after journals noted p q seen turn makes same world idle present config so =
     let follows : Follows (IsSpent script p.made) before after = subst (λ s. Follows (IsSpent s p.made) before after) so.of makes.steps.follows in
     let kept : IsKept before = world_kept before so.kept in
     record {
@@ -279,8 +275,8 @@ step_made script seed turns before after journals noted p q seen turn makes same
       all = append_assoc so.acted (Collector ∷ []) (to_come q.rest) ∙ ap (λ later. so.acted ++ later) (sym makes.turn_so) ∙ so.all;
       events = so.events ++ swept_by so.names (next_of before.collector);
       names = so.names;
-      run = run_stepped script p.made so.acted so.events so.names before after so.config kept so.counted follows so.run;
-      went = went_step script (IsSpent script p.made) so.events so.names before after kept so.idle follows so.went;
+      run = run_stepped script first named p.made so.acted so.events so.names before after so.config kept so.counted follows so.run;
+      went = went_step script first named (IsSpent script p.made) so.events so.names before after kept so.idle follows so.went;
       counted = λ t some most. ap (λ made. made_by made t) makes.made ∙ so.counted t some most ∙ sym (ap length (line_swept so.events so.names before t));
       one_each = so.one_each;
       lines = λ t some. line_swept so.events so.names before t ∙ so.lines t some;
@@ -291,18 +287,18 @@ step_made script seed turns before after journals noted p q seen turn makes same
     }
 
 -- After the last turn.
-module _ (script : ScriptContents) (seed turns : ℕ) (world : Core) (journals : List Notes) (noted : Turns) (p : Player) (none : to_come p.rest ≡ []) (so : Between script seed turns world journals noted p) where
+module _ (script : ScriptContents) (first : Core) (named : Naming) (seed turns : ℕ) (world : Core) (journals : List Notes) (noted : Turns) (p : Player) (none : to_come p.rest ≡ []) (so : Between script first named seed turns world journals noted p) where
   -- the order is the rule's
-  named : mutators_of so.acted ≡ order (lengths_of script) seed turns
-  named = sym (append-nil (mutators_of so.acted)) ∙ ap (λ later. mutators_of so.acted ++ mutators_of later) (sym none) ∙ order_is (lengths_of script) seed turns so.acted (to_come p.rest) so.all
+  named_all : mutators_of so.acted ≡ order (lengths_of script) seed turns
+  named_all = sym (append-nil (mutators_of so.acted)) ∙ ap (λ later. mutators_of so.acted ++ mutators_of later) (sym none) ∙ order_is (lengths_of script) seed turns so.acted (to_come p.rest) so.all
 
   pub order_made : noted.list ≡ order (lengths_of script) seed turns
-  order_made = so.order_so ∙ named
+  order_made = so.order_so ∙ named_all
 
   -- all commands were made
   all_commands : (t : ℕ) → 1 ≤ t → t ≤ length script.commands → made_in so.events t ≡ length (commands_of script t)
   all_commands t some most =
-      sym (turns_are_lines t so.events) ∙ ap (times t) (acts_named script so.acted so.events so.names world so.run ∙ named) ∙ (order_names (lengths_of script) seed turns).each t some ∙ lengths_at script t some most
+      sym (turns_are_lines t so.events) ∙ ap (times t) (acts_named script first named so.acted so.events so.names world so.run ∙ named_all) ∙ (order_names (lengths_of script) seed turns).each t some ∙ lengths_at script t some most
 
   one_each : length (lines_of journals) ≡ length script.commands
   one_each = length-map journals (λ (j : Notes). j.lines) ∙ so.one_each
@@ -315,9 +311,6 @@ module _ (script : ScriptContents) (seed turns : ℕ) (world : Core) (journals :
         get_or_past (lines_of journals) (t - 1) [] (subst (λ n. n ≤ t - 1) (sym (length-map journals (λ (j : Notes). j.lines))) past)
         ∙ sym (ap (λ (j : Notes). j.lines) (get_or_past journals (t - 1) no_notes past))
   ])
-
-  pub legally : IsPlayedLegally script world (lines_of journals) so.events so.names
-  legally = played_legally script world (lines_of journals) so.events so.names one_each own so.went
 
   commands : map (map (λ (line : Line). line.0)) (lines_of journals) ≡ script.commands
   commands =
@@ -333,13 +326,22 @@ module _ (script : ScriptContents) (seed turns : ℕ) (world : Core) (journals :
       ∙ commands_are script (i + 1) (omega arith)
       ∙ ap (λ n. slice_index_or script.commands n []) (sym same))
 
-  pub all_played : IsPlayed script seed turns (lines_of journals) so.events world
-  all_played = record {
-    commands = commands;
-    legal = legally.legal;
-    in_order = acts_named script so.acted so.events so.names world so.run ∙ named;
-    names = so.names;
-    run = subst (λ actors. IsPlayedRun script actors so.events so.names world) (sym (append-nil so.acted) ∙ ap (λ later. so.acted ++ later) (sym none) ∙ so.all) so.run;
-    stands = legally.stands;
-    no_log_full = no_log_full script (lines_of journals) so.events commands legally.legal;
-  }
+-- And from a start that stands for the first heap.
+module _ (script : ScriptContents) (at : Start) (seed turns : ℕ) (world : Core) (journals : List Notes) (noted : Turns) (p : Player) (none : to_come p.rest ≡ []) (is : IsStartOf script at)
+    (so : Between script at.world (names_at at) seed turns world journals noted p) where
+  pub legally : IsPlayedLegally script at world (lines_of journals) so.events so.names
+  legally = played_legally script at world (lines_of journals) so.events so.names is (one_each script at.world (names_at at) seed turns world journals noted p none so)
+      (own script at.world (names_at at) seed turns world journals noted p none so) so.went
+
+  pub all_played : IsPlayed script at seed turns (lines_of journals) so.events world
+  all_played =
+      let so_commands : map (map (λ (line : Line). line.0)) (lines_of journals) ≡ script.commands = commands script at.world (names_at at) seed turns world journals noted p none so in
+      record {
+        commands = so_commands;
+        legal = legally.legal;
+        in_order = acts_named script at.world (names_at at) so.acted so.events so.names world so.run ∙ named_all script at.world (names_at at) seed turns world journals noted p none so;
+        names = so.names;
+        run = subst (λ actors. IsPlayedRun script at.world (names_at at) actors so.events so.names world) (sym (append-nil so.acted) ∙ ap (λ later. so.acted ++ later) (sym none) ∙ so.all) so.run;
+        stands = legally.stands;
+        no_log_full = no_log_full script at (lines_of journals) so.events so_commands legally.legal;
+      }

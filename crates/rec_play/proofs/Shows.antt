@@ -7,6 +7,7 @@ use Rattle.rec_collector.specs.Shown.{Shown}
 use Rattle.rec_core.specs.Core.{Core}
 use Rattle.rec_core.specs.Shown.{Shows}
 use Rattle.rec_core.proofs.Shows.{shows_none}
+use Rattle.rec_order.specs.Naming.{Naming}
 use Rattle.rec_world.specs.Journal.{Notes}
 use Rattle.rec_world.specs.Order.{Turns}
 use Rattle.rec_world.proofs.Calls.{world_kept}
@@ -49,16 +50,16 @@ shown_more from first shown p q before after None so makes stays =
 shown_more from first shown p q before after (Some move) so makes stays = IsShownTo.turns shown p q before after move so makes
 
 -- These are what a watch is shown of the moves of mutators and collector that make up a turn of the rule,
-shows_move : (script : ScriptContents) (seed turns : ℕ) (before after : Core) (journals : List Notes) (noted : Turns) (p q : Player) (move : Move) → Between script seed turns before journals noted p → Makes p q before after move
+shows_move : (script : ScriptContents) (first : Core) (named : Naming) (seed turns : ℕ) (before after : Core) (journals : List Notes) (noted : Turns) (p q : Player) (move : Move) → Between script first named seed turns before journals noted p → Makes p q before after move
     → Shows before (move_shown before move) after
-shows_move script seed turns before after journals noted p q (Command t cmd told) so makes =
+shows_move script first named seed turns before after journals noted p q (Command t cmd told) so makes =
     let carries : Carries script t (made_by p.made t) before cmd told after = subst (λ s. Carries s t (made_by p.made t) before cmd told after) so.of makes.carries in
     let there : HasCommand script t (made_by p.made t) = has_command script t (made_by p.made t) cmd carries.next in
     shows_command script (made_by p.made t) t before after cmd told so.went.valid so.config so.kept so.idle (subst (λ (s : ScriptContents). AreThere s p.made before) so.of so.present t there.next) carries
-shows_move script seed turns before after journals noted p q (Step seen turn) so makes = (shows_step (IsSpent p.script p.made) before after (world_kept before so.kept) so.idle makes.steps.follows).shows
+shows_move script first named seed turns before after journals noted p q (Step seen turn) so makes = (shows_step (IsSpent p.script p.made) before after (world_kept before so.kept) so.idle makes.steps.follows).shows
 
 -- or of none.
-pub shows_told : (script : ScriptContents) (seed turns : ℕ) (before after : Core) (journals : List Notes) (noted : Turns) (p q : Player) (told : Option Move) → Between script seed turns before journals noted p → IfSome told (Makes p q before after)
+pub shows_told : (script : ScriptContents) (first : Core) (named : Naming) (seed turns : ℕ) (before after : Core) (journals : List Notes) (noted : Turns) (p q : Player) (told : Option Move) → Between script first named seed turns before journals noted p → IfSome told (Makes p q before after)
     → (IsNone told → (q ≡ p) × (after ≡ before)) → Shows before (told_shown before told) after
-shows_told script seed turns before after journals noted p q None so makes stays = subst (Shows before []) (sym (stays refl).1) (shows_none before)
-shows_told script seed turns before after journals noted p q (Some move) so makes stays = shows_move script seed turns before after journals noted p q move so makes
+shows_told script first named seed turns before after journals noted p q None so makes stays = subst (Shows before []) (sym (stays refl).1) (shows_none before)
+shows_told script first named seed turns before after journals noted p q (Some move) so makes stays = shows_move script first named seed turns before after journals noted p q move so makes

@@ -7,13 +7,14 @@ use Rattle.rec_model.specs.declared.answer.Answer.{Answer}
 use Rattle.rec_model.specs.declared.command.Cmd.{Cmd}
 use Rattle.rec_model.specs.declared.command.Cmd.TheVariants.{Leave}
 use Rattle.rec_mutator.specs.Private.{Private}
-use Rattle.rec_core.specs.Core.{Core, mutator, opened}
-use Rattle.rec_core.proofs.OpenedMutators.{mutator_opened}
+use Rattle.rec_core.specs.Config.{IsMutator}
+use Rattle.rec_core.specs.Core.{Core, mutator}
+use Rattle.rec_core.specs.declared.config.Config.{Config}
 use Rattle.rec_world.specs.World.{is_leave_done}
 use Rattle.rec_script.specs.Script.{ScriptContents, LeavesLast}
 use Rattle.rec_play.specs.Moves.{AreThere, IsSpent, made_by}
-use Rattle.rec_play.specs.Numbers.{config_of}
 use Rattle.rec_play.specs.Run.{commands_of}
+use Rattle.rec_play.specs.Start.{MayBegin}
 use Rattle.rec_play.proofs.Due.{HasCommand, has_next}
 
 -- no command but the last one is that by which the mutator leaves
@@ -21,11 +22,11 @@ pub stays_on : (cmds : List Cmd) (made : ℕ) (cmd : Cmd) (answer : Answer) → 
 stays_on cmds made Leave answer last is more = absurd (omega (arith, more, last made is))
 stays_on cmds made _ answer last is more = refl
 
--- nobody has left as the heap is opened
-pub opened_there : (script : ScriptContents) (made : List ℕ) → AreThere script made (opened (config_of script))
-opened_there script made t next =
+-- nobody has left where a run begins
+pub begun_there : (script : ScriptContents) (made : List ℕ) (w : Core) → MayBegin script w → AreThere script made w
+begun_there script made w begins t next =
     let is : HasCommand script t (made_by made t) = has_next script t (made_by made t) next in
-    ap (λ (p : Private). p.left) (mutator_opened (config_of script) t (is.some, is.most))
+    begins.present t (subst (λ (c : Config). IsMutator c t) (sym begins.config) (is.some, is.most))
 
 -- where all commands are made, nobody has one left
 pub spent_there : (script : ScriptContents) (made : List ℕ) (w : Core) → ((t : ℕ) → 1 ≤ t → t ≤ length script.commands → IsSpent script made t) → AreThere script made w

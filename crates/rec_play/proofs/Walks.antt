@@ -36,7 +36,8 @@ use Rattle.rec_play.specs.declared.stage.Stage.TheVariants.{Playing, Settling, E
 use Rattle.rec_play.proofs.Due.{HasCommand, all_made, few_mutators, has_command, is_of_script, none_made}
 use Rattle.rec_play.proofs.Going.{line_swept}
 use Rattle.rec_play.proofs.Rounds.{counted_more, run_made, run_stepped}
-use Rattle.rec_play.proofs.There.{opened_there, spent_there}
+use Rattle.rec_play.proofs.Opened.{opened_begins}
+use Rattle.rec_play.proofs.There.{begun_there, spent_there}
 
 -- while the rule gives turns
 pub playing_of : (w : Watched) → w.stage ≡ Playing → IsWatched w → IsPlaying w
@@ -60,7 +61,7 @@ module _ (w : Watched) (q : Player) (world : Core) (playing : w.stage ≡ Playin
         all = append_assoc so.acted (Mutator t ∷ []) (to_come q.rest) ∙ ap (λ later. so.acted ++ later) (sym makes.turn) ∙ so.all;
         events = so.events ++ Answers t (cmd, told) ∷ [];
         names = k;
-        run = run_made w.script w.made so.acted so.events so.names k w.world world t cmd told so.counted makes.carries names so.run;
+        run = run_made w.script (opened (config_of w.script)) first_naming w.made so.acted so.events so.names k w.world world t cmd told so.counted makes.carries names so.run;
         counted = subst (λ made. (s : ℕ) → 1 ≤ s → s ≤ length w.script.commands → made_by made s ≡ made_in (so.events ++ Answers t (cmd, told) ∷ []) s) (sym makes.made)
             (counted_more w.script w.made so.events t (cmd, told) there.some (omega (arith, there.some, there.most, few_mutators w.script is.due.valid, is.due.long)) so.counted);
       }
@@ -69,7 +70,7 @@ module _ (w : Watched) (q : Player) (world : Core) (playing : w.stage ≡ Playin
     all = append_assoc so.acted (Collector ∷ []) (to_come q.rest) ∙ ap (λ later. so.acted ++ later) (sym makes.turn_so) ∙ so.all;
     events = so.events ++ swept_by so.names (next_of w.world.collector);
     names = so.names;
-    run = run_stepped w.script w.made so.acted so.events so.names w.world world is.config (world_kept w.world is.kept) so.counted makes.steps.follows so.run;
+    run = run_stepped w.script (opened (config_of w.script)) first_naming w.made so.acted so.events so.names w.world world is.config (world_kept w.world is.kept) so.counted makes.steps.follows so.run;
     counted = λ t some most. ap (λ made. made_by made t) makes.made ∙ so.counted t some most ∙ sym (ap length (line_swept so.events so.names w.world t));
   }
 
@@ -106,7 +107,7 @@ module _ (w : Watched) (playing : w.stage ≡ Playing) (is : IsWatched w) (none 
   has_played = record {
     events = at_end.events;
     names = at_end.names;
-    run = subst (λ acted. IsPlayedRun w.script acted at_end.events at_end.names w.world) (sym (append-nil at_end.acted) ∙ ap (λ later. at_end.acted ++ later) (sym none) ∙ at_end.all) at_end.run;
+    run = subst (λ acted. IsPlayedRun w.script (opened (config_of w.script)) first_naming acted at_end.events at_end.names w.world) (sym (append-nil at_end.acted) ∙ ap (λ later. at_end.acted ++ later) (sym none) ∙ at_end.all) at_end.run;
     all = all_made (player_of w) is.due none;
   }
 
@@ -190,7 +191,7 @@ opens script seed turns w of stage rule rest made world due idle kept = record {
   rule = record { seed = seed; turns = turns; is = rule ∙ ap (λ s. let r : Rest = record { left = lengths_of s; generator = generator_of seed; turns = turns } in r) (sym of) };
   due = due;
   idle = idle;
-  present = subst (λ (s : ScriptContents). AreThere s w.made w.world) (sym of) (subst (AreThere script w.made) (sym world) (opened_there script w.made));
+  present = subst (λ (s : ScriptContents). AreThere s w.made w.world) (sym of) (subst (AreThere script w.made) (sym world) (begun_there script w.made (opened (config_of script)) (opened_begins script)));
   config = ap (λ (x : Core). x.config) world ∙ ap config_of (sym of);
   kept = kept;
 }
@@ -201,6 +202,6 @@ opens script seed turns w of stage rule rest made world due idle kept = record {
       all = ap to_come (rest ∙ sym rule);
       events = [];
       names = first_naming;
-      run = subst (λ s. IsPlayedRun s [] [] first_naming w.world) (sym of) (subst (IsPlayedRun script [] [] first_naming) (sym world) IsPlayedRun.starts);
+      run = subst (λ s. IsPlayedRun s (opened (config_of s)) first_naming [] [] first_naming w.world) (sym of) (subst (IsPlayedRun script (opened (config_of script)) first_naming [] [] first_naming) (sym world) IsPlayedRun.starts);
       counted = λ t some most. ap (λ ns. made_by ns t) made ∙ none_made t;
     }

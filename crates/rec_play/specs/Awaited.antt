@@ -11,9 +11,10 @@ use Rattle.rec_script.specs.Script.{ScriptContents}
 use Rattle.rec_play.specs.Run.{IsPlayedRun, IsTurnOf}
 use Rattle.rec_play.specs.declared.actor.Actor.{Actor}
 
--- A NotYet of a run by these turns: one of them, a turn of mutator t, told the event with this number. The step that answered was the first
--- one of leaving. It loaded the own crossing word, and by that the log that the mutator handed over last was still to be collected.
-pub record IsAwaitedTurn (script : ScriptContents) (turns : List Actor) (events : List Event) (i t : ℕ) (line : Line) : Type 0 where
+-- A NotYet of a run by these turns, from this heap on, whose slots hold these objects: one of them, a turn of mutator t, told the event
+-- with this number. The step that answered was the first one of leaving. It loaded the own crossing word, and by that the log that the
+-- mutator handed over last was still to be collected.
+pub record IsAwaitedTurn (script : ScriptContents) (first : Core) (named : Naming) (turns : List Actor) (events : List Event) (i t : ℕ) (line : Line) : Type 0 where
   pub earlier : List Actor
   pub later : List Actor
   pub all : turns ≡ earlier ++ Actor.Mutator t ∷ later
@@ -22,7 +23,7 @@ pub record IsAwaitedTurn (script : ScriptContents) (turns : List Actor) (events 
   pub names : Naming
   pub from : Core
   pub to : Core
-  pub run : IsPlayedRun script earlier told names from
+  pub run : IsPlayedRun script first named earlier told names from
   pub turn : IsTurnOf script told t line.0 line.1 from to
   pub awaited : IsAwaited (mutator turn.command.last t) (found_by turn.command.last t) line.0
 

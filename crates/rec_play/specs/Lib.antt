@@ -10,4 +10,5 @@ pub mod Played
 pub mod Playing
 pub mod Run
 pub mod Shown
+pub mod Start
 pub mod Watched

@@ -1,8 +1,7 @@
 -- What the commands of a script gave when they were played.
-use Rattle.std.specs.Prelude.{◌≡◌, ℕ, ◌≤◌, true, List, [], ◌∷◌, map, length, replicate, slice_index_or}
+use Rattle.std.specs.Prelude.{◌≡◌, ℕ, ◌≤◌, List, [], map, length, slice_index_or}
 use Rattle.std.specs.List.{All}
 use Rattle.rec_model.specs.declared.command.Cmd.{Cmd}
-use Rattle.rec_model.specs.Heap.{opening}
 use Rattle.rec_model.specs.LegalOrder.{Line, Event, Limits, Moment, after_all, actors, IsLegalOrder, NoLogFull}
 use Rattle.rec_model.specs.Sight.{StandsBy}
 use Rattle.rec_core.specs.Core.{Core, sight}
@@ -11,26 +10,16 @@ use Rattle.rec_order.specs.Naming.{Naming}
 use Rattle.rec_script.specs.Script.{ScriptContents}
 use Rattle.rec_play.specs.Playing.{order, all_turns}
 use Rattle.rec_play.specs.Run.{IsPlayedRun}
+use Rattle.rec_play.specs.Start.{Start, moment_at, names_at}
 pub use Rattle.rec_play.specs.Numbers.{longest, log_room, config_of}
 
 -- the numbers that its one order speaks of
 abbrev pub limits_of : ScriptContents → Limits
 limits_of script = record { fields = script.fields; slots = script.slots; log_entries = log_room script }
 
--- the opening heap, its object not freed, no marks made, and logs that are empty
-abbrev pub opening_moment : ScriptContents → Moment
-opening_moment script =
-    record {
-      heap = opening script.fields script.registers (length script.commands);
-      unfreed = 0 ∷ [];
-      marks = 0;
-      frees = true;
-      done = replicate (length script.commands) 0;
-    }
-
--- the moment after all events of an order
-abbrev pub last_moment : ScriptContents → List Event → Moment
-last_moment script = after_all (limits_of script) (opening_moment script)
+-- the moment after all events of an order from this start
+abbrev pub last_moment : ScriptContents → Start → List Event → Moment
+last_moment script start = after_all (limits_of script) (moment_at script start)
 
 -- how many commands each mutator has
 abbrev pub lengths_of : ScriptContents → List ℕ
@@ -46,16 +35,16 @@ pub record AreReady (commands : List (List Cmd)) (journals : List Notes) : Type 
   pub empty : All (λ journal. journal.lines ≡ []) journals
   pub room : (i : ℕ) → length (slice_index_or commands i []) ≤ (slice_index_or journals i no_notes).room
 
--- The journals hold the script's commands with what was told, and no log was full. One legal order from the opening heap explains
+-- The journals hold the script's commands with what was told, and no log was full. One legal order from the start's heap explains
 -- them, and its answers stand in the order of the playing rule. What was told is what the run tells that the rule's turns make up,
 -- with the frees and the sweeps of the collector's turns, and the world is the one at its end.
-pub record IsPlayed (script : ScriptContents) (seed turns : ℕ) (journals : List (List Line)) (events : List Event) (world : Core) : Type 0 where
+pub record IsPlayed (script : ScriptContents) (start : Start) (seed turns : ℕ) (journals : List (List Line)) (events : List Event) (world : Core) : Type 0 where
   pub commands : map (map (λ line. line.0)) journals ≡ script.commands
-  pub legal : IsLegalOrder (limits_of script) (opening_moment script) journals events
+  pub legal : IsLegalOrder (limits_of script) (moment_at script start) journals events
   pub in_order : actors events ≡ order (lengths_of script) seed turns
   -- which object each slot holds at the end: by this the heap of the order stands for the world
   pub names : Naming
-  pub run : IsPlayedRun script (all_turns (lengths_of script) seed turns) events names world
-  pub stands : StandsBy (last_moment script events).heap (sight world) names.number
+  pub run : IsPlayedRun script start.world (names_at start) (all_turns (lengths_of script) seed turns) events names world
+  pub stands : StandsBy (last_moment script start events).heap (sight world) names.number
   -- no answer is that a log is full
   pub no_log_full : NoLogFull journals

@@ -11,15 +11,14 @@ use Rattle.rec_mutator.specs.Private.{answer_of}
 use Rattle.rec_mutator.specs.declared.made.Made.TheVariants as makes
 use Rattle.rec_mutator.specs.declared.work.Work.TheVariants as works
 use Rattle.rec_collector.specs.Next.{next_of}
-use Rattle.rec_core.specs.Core.{Core, mutator, opened}
+use Rattle.rec_core.specs.Core.{Core, mutator}
 use Rattle.rec_core.specs.Moves.{found_by, turned}
 use Rattle.rec_core.specs.Worked.{IsWorked, WaitsFor}
 use Rattle.rec_order.specs.Events.{swept_by}
-use Rattle.rec_order.specs.Naming.{Naming, NamesGoOn, first_naming}
+use Rattle.rec_order.specs.Naming.{Naming, NamesGoOn}
 use Rattle.rec_script.specs.Script.{ScriptContents}
 use Rattle.rec_play.specs.declared.actor.Actor.{Actor}
 use Rattle.rec_play.specs.declared.actor.Actor.TheVariants.{Mutator, Collector}
-use Rattle.rec_play.specs.Numbers.{config_of}
 
 -- the commands of a mutator, numbered from 1
 abbrev pub commands_of : ScriptContents → ℕ → List Cmd
@@ -47,13 +46,13 @@ pub data EndsTurn (script : ScriptContents) (made : ℕ → ℕ) (before stepped
   polls : (t : ℕ) → WaitsFor before t → length (commands_of script t) ≤ made t → IsWorked stepped t works.Poll after → EndsTurn script made before stepped after
   rests : ((t : ℕ) → WaitsFor before t → made t < length (commands_of script t)) → after ≡ stepped → EndsTurn script made before stepped after
 
--- The run of a script by these turns, one after the other from the opening of its heap: what was told, which object each slot holds
--- then, and the world at its end. A slot that a turn of the collector frees tells the object that it holds.
-pub data IsPlayedRun (script : ScriptContents) : List Actor → List Event → Naming → Core → Type 0 where
-  starts : IsPlayedRun script [] [] first_naming (opened (config_of script))
+-- The run of a script by these turns, one after the other from this heap, whose slots hold these objects: what was told, which object
+-- each slot holds then, and the world at its end. A slot that a turn of the collector frees tells the object that it holds.
+pub data IsPlayedRun (script : ScriptContents) (first : Core) (names : Naming) : List Actor → List Event → Naming → Core → Type 0 where
+  starts : IsPlayedRun script first names [] [] names first
   turn : (actors : List Actor) (events : List Event) (n k : Naming) (before after : Core) (t : ℕ) (cmd : Cmd) (told : Told)
-      → IsPlayedRun script actors events n before → IsTurnOf script events t cmd told before after → NamesGoOn before after (cmd, told) n k
-      → IsPlayedRun script (actors ++ Mutator t ∷ []) (events ++ Answers t (cmd, told) ∷ []) k after
+      → IsPlayedRun script first names actors events n before → IsTurnOf script events t cmd told before after → NamesGoOn before after (cmd, told) n k
+      → IsPlayedRun script first names (actors ++ Mutator t ∷ []) (events ++ Answers t (cmd, told) ∷ []) k after
   collects : (actors : List Actor) (events : List Event) (n : Naming) (before after : Core)
-      → IsPlayedRun script actors events n before → EndsTurn script (made_in events) before (turned before) after
-      → IsPlayedRun script (actors ++ Collector ∷ []) (events ++ swept_by n (next_of before.collector)) n after
+      → IsPlayedRun script first names actors events n before → EndsTurn script (made_in events) before (turned before) after
+      → IsPlayedRun script first names (actors ++ Collector ∷ []) (events ++ swept_by n (next_of before.collector)) n after

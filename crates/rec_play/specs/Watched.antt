@@ -6,9 +6,9 @@ use Rattle.rec_model.specs.LegalOrder.{Event}
 use Rattle.rec_model.specs.declared.command.Cmd.{Cmd}
 use Rattle.rec_model.specs.declared.told.Told.{Told}
 use Rattle.rec_collector.specs.declared.turn.Turn.{Turn}
-use Rattle.rec_core.specs.Core.{Core}
+use Rattle.rec_core.specs.Core.{Core, opened}
 use Rattle.rec_core.specs.Worked.{AreIdle}
-use Rattle.rec_order.specs.Naming.{Naming}
+use Rattle.rec_order.specs.Naming.{Naming, first_naming}
 use Rattle.rec_core.specs.Turn.{step_seen}
 use Rattle.rec_world.specs.World.{IsWorld}
 use Rattle.rec_script.specs.Script.{ScriptContents}
@@ -56,14 +56,14 @@ pub record IsPlaying (w : Watched) : Type 0 where
   pub all : acted ++ to_come w.rest ≡ to_come w.rule
   pub events : List Event
   pub names : Naming
-  pub run : IsPlayedRun w.script acted events names w.world
+  pub run : IsPlayedRun w.script (opened (config_of w.script)) first_naming acted events names w.world
   pub counted : (t : ℕ) → 1 ≤ t → t ≤ length w.script.commands → made_by w.made t ≡ made_in events t
 
 -- All turns of the rule were made, and this is the heap at the end of the run that they make up.
 pub record HasPlayed (w : Watched) (played : Core) : Type 0 where
   pub events : List Event
   pub names : Naming
-  pub run : IsPlayedRun w.script (to_come w.rule) events names played
+  pub run : IsPlayedRun w.script (opened (config_of w.script)) first_naming (to_come w.rule) events names played
   pub all : (t : ℕ) → 1 ≤ t → t ≤ length w.script.commands → IsSpent w.script w.made t
 
 -- From there settling has come so far.

@@ -6,6 +6,7 @@ ghost use Rattle.rec_model.specs.LegalOrder.{Event, Line};
 ghost use Rattle.rec_core.specs.Core.{Core};
 ghost use Rattle.rec_play.specs.Played.{IsPlayed, lengths_of};
 ghost use Rattle.rec_play.specs.Playing.{IsOrderFor, by_mutator, drawn, generator_of, order};
+ghost use Rattle.rec_play.specs.Start.{opening_of};
 ghost use Rattle.rec_play.specs.Watched.{IsWatched, Watched};
 ghost use Rattle.rec_play.specs.declared.stage.Stage.TheVariants.{Settling};
 ghost use Rattle.rec_settle.specs.Collecting.{IsSettling};
@@ -28,5 +29,5 @@ pub fn turns_are_drawn_as_told()
 pub fn walks_end_as_played()
     ensures { (w : Watched) (seed turns : ℕ) (journals : List (List Line)) (events : List Event) (played settled : Core)
         → IsWatched w → w.stage ≡ Settling Settled → w.rule ≡ record { left = lengths_of w.script; generator = generator_of seed; turns = turns }
-        → IsPlayed w.script seed turns journals events played → IsSettling played settled → w.world ≡ settled }
+        → IsPlayed w.script (opening_of w.script) seed turns journals events played → IsSettling played settled → w.world ≡ settled }
 {}

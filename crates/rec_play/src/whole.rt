@@ -6,11 +6,12 @@ ghost use Rattle.rec_io.specs.Faults.{Rose};
 ghost use Rattle.rec_model.specs.LegalOrder.{Event};
 ghost use Rattle.rec_model.specs.Sight.{Represents};
 ghost use Rattle.rec_collector.specs.Shown.{Shown};
-ghost use Rattle.rec_core.specs.Core.{sight, opened};
+ghost use Rattle.rec_core.specs.Core.{sight};
 ghost use Rattle.rec_core.specs.Shown.{Shows};
 ghost use Rattle.rec_order.specs.Legal.{AreIdle};
 ghost use Rattle.rec_play.specs.Played.{AreReady, IsPlayed, config_of, last_moment, lengths_of, lines_of};
 ghost use Rattle.rec_play.specs.Playing.{order as order_of};
+ghost use Rattle.rec_play.specs.Start.{IsStartOf, MayBegin, Start};
 ghost use Rattle.rec_play.specs.Shown.{IsShownWhole, StopsBehind};
 ghost use Rattle.rec_world.specs.World.{IsWorld};
 
@@ -19,7 +20,7 @@ use rec_script::Script;
 use rec_world::{Journal, Order, Unwatched, Watch, World};
 use std::alloc::AllocError as NoMemory;
 
-/// Runs the commands of a script on the heap that was opened for it, by the playing rule with this seed and at most so many
+/// Runs the commands of a script on a heap on which they may begin, by the playing rule with this seed and at most so many
 /// drawn turns; a turn of the collector is one step of its collection. Each mutator's journal gets its commands with what was
 /// told, and `order` the mutators, turn by turn. It takes no memory.
 pub fn play(
@@ -30,25 +31,26 @@ pub fn play(
     journals: &mut [Journal],
     order: &mut Order,
 )
-    // The heap is newly opened with the script's numbers; there is one journal per mutator, empty, with room for its
-    // commands; the order is empty and has room for all commands.
-    requires opened { world.old ≡ opened (config_of script.now) }
+    // The heap is opened with the script's numbers, with one object or from objects, and nothing was done on it; there is one journal
+    // per mutator, empty, with room for its commands; the order is empty and has room for all commands.
+    requires begins { MayBegin script.now world.old }
     requires journals { AreReady script.now.commands journals.old }
     requires order { order.old.list ≡ [] }
     requires room { sum (lengths_of script.now) ≤ order.old.room }
 
-    // Some legal order explains what was told. Its answers stand in the order of the rule, and its heap stands for the world.
-    // Its events are what the run tells that the turns of the rule make up, and the world is the one at its end.
-    ensures played { (events : List Event)
-        × IsPlayed script.now seed turns (lines_of journals.new) events world.new
-        × Represents (last_moment script.now events).heap (sight world.new)
-        × (world.new.made ≡ length (last_moment script.now events).heap.objects) }
+    // From whatever heap stands for the world, some legal order explains what was told. Its answers stand in the order of the rule,
+    // and its heap stands for the world afterwards. Its events are what the run tells that the turns of the rule make up, and the world
+    // is the one at its end.
+    ensures played { (start : Start) → start.world ≡ world.old → IsStartOf script.now start → (events : List Event)
+        × IsPlayed script.now start seed turns (lines_of journals.new) events world.new
+        × Represents (last_moment script.now start events).heap (sight world.new)
+        × (world.new.made ≡ length (last_moment script.now start events).heap.objects) }
     ensures order { order.new.list ≡ order_of (lengths_of script.now) seed turns }
     ensures config { world.new.config ≡ config_of script.now }
     ensures idle { AreIdle world.new }
 
     // Each of the collector's turns requests one epoch more at most.
-    ensures epochs { world.new.epoch ≤ 1 + turns }
+    ensures epochs { world.new.epoch ≤ world.old.epoch + turns }
 {
     match play_watched(script, seed, turns, world, journals, order, &mut Unwatched) {
         Ok(()) => {}
@@ -67,20 +69,20 @@ pub fn play_watched<W: Watch>(
     order: &mut Order,
     watch: &mut W,
 ) -> Result<(), NoMemory>
-    requires opened { world.old ≡ opened (config_of script.now) }
+    requires begins { MayBegin script.now world.old }
     requires journals { AreReady script.now.commands journals.old }
     requires order { order.old.list ≡ [] }
     requires room { sum (lengths_of script.now) ≤ order.old.room }
 
     // What `play` promises.
-    ensures played { IfOk result (λ done. (events : List Event)
-        × IsPlayed script.now seed turns (lines_of journals.new) events world.new
-        × Represents (last_moment script.now events).heap (sight world.new)
-        × (world.new.made ≡ length (last_moment script.now events).heap.objects)) }
+    ensures played { IfOk result (λ done. (start : Start) → start.world ≡ world.old → IsStartOf script.now start → (events : List Event)
+        × IsPlayed script.now start seed turns (lines_of journals.new) events world.new
+        × Represents (last_moment script.now start events).heap (sight world.new)
+        × (world.new.made ≡ length (last_moment script.now start events).heap.objects)) }
     ensures order { IfOk result (λ done. order.new.list ≡ order_of (lengths_of script.now) seed turns) }
     ensures config { world.new.config ≡ config_of script.now }
     ensures idle { AreIdle world.new }
-    ensures epochs { IfOk result (λ done. world.new.epoch ≤ 1 + turns) }
+    ensures epochs { IfOk result (λ done. world.new.epoch ≤ world.old.epoch + turns) }
     ensures kept { IsWorld world.new }
 
     // What the watch was shown: all of the collector's steps, which is what a watch is shown of the moves that the turns make up; or,
@@ -90,6 +92,8 @@ pub fn play_watched<W: Watch>(
     ensures rose { IfErr result (λ error. Rose (W.refused watch.old) (W.refused watch.new)) }
     ensures never_falls { W.refused watch.old ≤ W.refused watch.new }
 {
+    // A clause of the call: the world is kept.
+    let _epoch = world.epoch();
     let mut playing = Playing::start(script, seed, turns);
     while let Some(made) = playing.next_watched(world, watch)? {
         if let Move::Command { mutator, cmd, told } = made {

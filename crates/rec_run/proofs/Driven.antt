@@ -3,17 +3,15 @@ use Rattle.std.proofs.Common.{◌≡◌, ℕ, ◌+◌, ◌<◌, ◌≤◌, suc, 
 use Rattle.std.proofs.Math.ListN.{get_or-map}
 use Rattle.std.proofs.lemmas.List.{length-append}
 use Rattle.rec_model.specs.declared.command.Cmd.{Cmd}
-use Rattle.rec_model.specs.Heap.{Heap}
 use Rattle.rec_model.specs.LegalOrder.{Line, Event}
 use Rattle.rec_model.specs.Sight.{StandsBy}
 use Rattle.rec_model.specs.Unfreed.{AreUnfreed}
-use Rattle.rec_model.proofs.Opened.{opening_number}
 use Rattle.rec_core.specs.Config.{IsConfig}
 use Rattle.rec_core.specs.Core.{Core, mutator, opened, sight}
 use Rattle.rec_core.specs.Moves.{Move, AllFit, after_moves}
 use Rattle.rec_order.specs.Events.{events_of}
 use Rattle.rec_order.specs.Legal.{HasLegalOrder}
-use Rattle.rec_order.specs.Naming.{Naming, first_naming, named_after_all}
+use Rattle.rec_order.specs.Naming.{Naming, named_after_all}
 use Rattle.rec_world.specs.Journal.{Notes, no_notes}
 use Rattle.rec_world.proofs.Calls.{opened_world, world_kept}
 use Rattle.rec_table.specs.Beats.{beats_of}
@@ -25,7 +23,8 @@ use Rattle.rec_threads.specs.Done.{HasDone, HaveDone, begun, commands_at, worker
 use Rattle.rec_script.specs.Script.{ScriptContents}
 use Rattle.rec_play.specs.Played.{config_of, last_moment, lines_of}
 use Rattle.rec_play.proofs.NotYet.{step_told}
-use Rattle.rec_play.proofs.Opened.{IsPlayedLegally, heap_of, ordered_legally, stands_opened, unfreed_opened}
+use Rattle.rec_play.specs.Start.{IsStartOf, Start, names_at, opening_of}
+use Rattle.rec_play.proofs.Opened.{IsPlayedLegally, opened_starts, ordered_legally}
 use Rattle.rec_play.proofs.Room.{no_log_full}
 use Rattle.rec_run.specs.Headline.{HasRun, KeepsRule}
 use Rattle.rec_run.specs.declared.command_line.How.TheVariants as hows
@@ -142,29 +141,30 @@ module _ (script : ScriptContents) (s : Started) (ms ms' : List MutatorView) (js
     mutators = λ k lt. was.stopped.run.mutators k (subst (λ w. k < w.config.mutators) (sym was.opens) lt) ∙ ap (λ w. beats_of (k + 1) w moves) was.opens;
   }
 
-  legally : IsPlayedLegally script world (lines_of js') (events_of first_naming (opened (config_of script)) moves) (named_after_all first_naming (opened (config_of script)) moves)
+  legally : IsPlayedLegally script (opening_of script) world (lines_of js') (events_of (names_at (opening_of script)) (opened (config_of script)) moves) (named_after_all (names_at (opening_of script)) (opened (config_of script)) moves)
   legally =
-      let heap : Heap = heap_of script in
-      let order : HasLegalOrder s.world heap opening_number (0 ∷ []) moves (journals_from s.world 0 (map (λ (m : MutatorView). m.log) ms'))
-      = was.stopped.order heap opening_number (0 ∷ []) (subst (λ w. StandsBy heap (sight w) opening_number) (sym was.opens) (stands_opened script was.config.some_slots))
-      (subst (λ w. AreUnfreed (sight w) opening_number (0 ∷ [])) (sym was.opens) (unfreed_opened script)) in
-      ordered_legally script world moves (lines_of js') (subst (λ w. HasLegalOrder w heap opening_number (0 ∷ []) moves (lines_of js')) was.opens
-      (subst (HasLegalOrder s.world heap opening_number (0 ∷ []) moves) lines_are order)) ends
+      let start : Start = opening_of script in
+      let is : IsStartOf script start = opened_starts script was.config.some_slots in
+      let order : HasLegalOrder s.world start.heap start.number start.unfreed moves (journals_from s.world 0 (map (λ (m : MutatorView). m.log) ms'))
+      = was.stopped.order start.heap start.number start.unfreed (subst (λ w. StandsBy start.heap (sight w) start.number) (sym was.opens) is.stands)
+      (subst (λ w. AreUnfreed (sight w) start.number start.unfreed) (sym was.opens) is.unfreed) in
+      ordered_legally script start is world moves (lines_of js') (subst (λ w. HasLegalOrder w start.heap start.number start.unfreed moves (lines_of js')) was.opens
+      (subst (HasLegalOrder s.world start.heap start.number start.unfreed moves) lines_are order)) ends
 
   abbrev events : List Event
-  events = events_of first_naming (opened (config_of script)) moves
+  events = events_of (names_at (opening_of script)) (opened (config_of script)) moves
 
   abbrev names : Naming
-  names = named_after_all first_naming (opened (config_of script)) moves
+  names = named_after_all (names_at (opening_of script)) (opened (config_of script)) moves
 
-  pub was_driven : (events : List Event) × HasRun script hows.Threads (lines_of js') events world × (world.made ≡ length (last_moment script events).heap.objects)
+  pub was_driven : (events : List Event) × HasRun script (opening_of script) hows.Threads (lines_of js') events world × (world.made ≡ length (last_moment script (opening_of script) events).heap.objects)
   was_driven = (
     events,
     record {
       commands = commands_kept;
       legal = legally.legal;
       given = λ i t cmd told is. (legally.legal.fits i (Event.Answers t (cmd, told)) is).told.answer;
-      full = full_only script (lines_of js') events legally.legal;
+      full = full_only script (opening_of script) (lines_of js') events legally.legal;
       names = names;
       stands = legally.stands;
       steps = record {
@@ -176,9 +176,9 @@ module _ (script : ScriptContents) (s : Started) (ms ms' : List MutatorView) (js
         told = ap (λ w. journals_from w 0 lists) (sym was.opens) ∙ lines_are;
         tells = refl;
         named = refl;
-        not_yet = step_told first_naming (opened (config_of script)) moves (world_kept (opened (config_of script)) (opened_world (config_of script) was.config)) interleaved.fit;
+        not_yet = step_told (names_at (opening_of script)) (opened (config_of script)) moves (world_kept (opened (config_of script)) (opened_world (config_of script) was.config)) interleaved.fit;
       };
-      no_log_full = no_log_full script (lines_of js') events commands_kept legally.legal;
+      no_log_full = no_log_full script (opening_of script) (lines_of js') events commands_kept legally.legal;
     },
     legally.made,
   )

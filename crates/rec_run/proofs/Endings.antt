@@ -24,16 +24,21 @@ use Rattle.rec_script.specs.declared.error.ScriptError.{ScriptError}
 use Rattle.rec_script.specs.declared.error.ScriptError.TheVariants.{Bad}
 use Rattle.rec_run.specs.CommandLine.{Asks, ReadsScript}
 use Rattle.rec_run.specs.Ends.{Passage, Failed, Ends, HasCause, passage}
-use Rattle.rec_run.specs.Headline.{Are, HasRead, IsAnswer, Answers, AnswersTo, TellsOf, HasRun, WroteAnswer, WroteFront, IsReadPast, ReadNoScript, IsTail, is_summary, is_traced, printed, printed_order}
+use Rattle.rec_run.specs.Headline.{Are, HasRead, IsAnswer, Answers, AnswersTo, TellsOf, HasRun, WroteAnswer, WroteFront, IsReadPast, IsRefusedFor, ReadRefused, ResumesTo, IsTail, is_summary, is_traced, printed, printed_order}
 use Rattle.rec_play.specs.Played.{last_moment}
+use Rattle.rec_play.specs.Start.{Start}
 use Rattle.rec_script.proofs.Refusing.{refused_no_text}
 use Rattle.rec_script.proofs.Uniqueness.{refused_once}
 use Rattle.rec_run.specs.declared.command_line.How.{How}
 use Rattle.rec_run.specs.declared.command_line.Keeping.{Keeping}
+use Rattle.rec_run.specs.declared.command_line.Make.{Make}
 use Rattle.rec_run.specs.declared.command_line.Request.{Request}
+use Rattle.rec_run.specs.declared.command_line.Resume.{Resume}
 use Rattle.rec_run.specs.declared.command_line.Request.TheVariants as requests
 use Rattle.rec_script.specs.Script.{ScriptContents, IsText, IsRefused}
+use Rattle.rec_run.specs.Resuming.{IsResumable, IsUnresumed}
 use Rattle.rec_run.specs.Whole.{IsAtEnd}
+use Rattle.rec_run.proofs.Resumed.{unresumed_none}
 
 -- one value in two options
 pub some_same : {X : Type 0} (x y : X) → ◌≡◌ {A = Option X} (Some x) (Some y) → x ≡ y
@@ -47,25 +52,38 @@ all_read rest left bytes passes end whole told =
     passed.front ∙ ap (λ (more : List ℕ). bytes ++ more) none ∙ append-nil bytes
 
 -- bytes that were refused past the limit are refused with all that follow
-past_limit : (bytes more rest : List ℕ) (line : ℕ) (kind : Kind) → 16777216 < length bytes → rest ≡ bytes ++ more → IsRefused bytes line kind → IsRefused rest line kind
-past_limit bytes more rest line kind long is refused =
-    let longer : length rest ≡ length bytes + length more = ap length is ∙ length-append bytes more in
-    elim refused [
-      | inl whole ↦ inl (record { many = omega arith; whole = whole.whole; named = whole.named })
-      | inr stopped ↦ absurd (let few : length bytes ≤ 16777216 = stopped.few in omega arith)
-    ]
+past_limit : (request : Request) (bytes more rest : List ℕ) (line : ℕ) (kind : Kind) → 16777216 < length bytes → rest ≡ bytes ++ more → IsRefusedFor request bytes line kind → IsRefusedFor request rest line kind
+past_limit request bytes more rest line kind long is = go request
+  where
+    beyond : 16777216 < length rest
+    beyond = let longer : length rest ≡ length bytes + length more = ap length is ∙ length-append bytes more in omega (arith, longer, long)
+
+    script : IsRefused bytes line kind → IsRefused rest line kind
+    script (inl whole) = inl (record { many = beyond; whole = whole.whole; named = whole.named })
+    script (inr stopped) = absurd (let few : length bytes ≤ 16777216 = stopped.few in omega (arith, few, long))
+
+    image : IsUnresumed bytes line kind → IsUnresumed rest line kind
+    image (inl whole) = inl (record { many = beyond; whole = whole.whole; named = whole.named })
+    image (inr (few, at)) = absurd (omega (arith, few, long))
+
+    go : (r : Request) → IsRefusedFor r bytes line kind → IsRefusedFor r rest line kind
+    go (requests.Answer how) = script
+    go (requests.Keep asked) = script
+    go (requests.Resume asked) = image
+    go (requests.Make asked) = λ never. never
+    go requests.Audit = λ never. never
 
 -- bytes that were refused, read to the end or past the limit
-pub no_script : (rest left : Option (List ℕ)) (bytes : List ℕ) (line : ℕ) (kind : Kind) → Passes rest left bytes → (length bytes ≤ 16777216 → IsAtEnd rest left)
-    → length bytes ≤ 16777216 + 65536 → IsRefused bytes line kind → ReadNoScript rest left line kind
-no_script None left bytes line kind passes end few refused =
+pub read_refused : (request : Request) (rest left : Option (List ℕ)) (bytes : List ℕ) (line : ℕ) (kind : Kind) → Passes rest left bytes → (length bytes ≤ 16777216 → IsAtEnd rest left)
+    → length bytes ≤ 16777216 + 65536 → IsRefusedFor request bytes line kind → ReadRefused request rest left line kind
+read_refused request None left bytes line kind passes end few refused =
     record {
       bytes = bytes;
       read = λ whole told. untold (λ w. w ≡ bytes) whole told;
       ended = λ whole told. untold (λ w. (left ≡ Some []) ⊎ IsReadPast w left) whole told;
       refused = refused;
     }
-no_script (Some rest) left bytes line kind passes end few refused =
+read_refused request (Some rest) left bytes line kind passes end few refused =
     let passed = passes rest refl in
     elim (cases_lt 16777216 (length bytes)) [
       | inl long ↦
@@ -73,7 +91,7 @@ no_script (Some rest) left bytes line kind passes end few refused =
             bytes = rest;
             read = λ whole told. sym (some_same rest whole told);
             ended = λ whole told. inr (subst (λ w. IsReadPast w left) (some_same rest whole told) (record { bytes = bytes; passed = passed; many = long; few = few }));
-            refused = past_limit bytes passed.left rest line kind long passed.front refused;
+            refused = past_limit request bytes passed.left rest line kind long passed.front refused;
           }
       | inr short ↦
           record {
@@ -129,6 +147,19 @@ pub wrote_kept_front : (asked : Keeping) (rest left before after : Option (List 
     → WroteFront (requests.Keep asked) rest left before after
 wrote_kept_front asked rest left before after bytes text passes end answer (front, back, cut, appends) =
     record { bytes = bytes; read = (all_read rest left bytes passes (end answer.short), end answer.short); text = text; answer = answer; front = front; back = back; cut = cut; written = appends }
+
+-- the answer to a heap that goes on was written whole
+pub wrote_resumed : (asked : Resume) (rest left before after : Option (List ℕ)) (bytes text : List ℕ) → Passes rest left bytes → (length bytes ≤ 16777216 → IsAtEnd rest left)
+    → ResumesTo bytes asked text → Appends before after text → WroteAnswer (requests.Resume asked) rest left before after
+wrote_resumed asked rest left before after bytes text passes end answer appends =
+    record { bytes = bytes; read = (all_read rest left bytes passes (end answer.told.short), end answer.told.short); text = text; answer = answer; written = appends }
+
+-- or a front of it
+pub wrote_resumed_front : (asked : Resume) (rest left before after : Option (List ℕ)) (bytes text : List ℕ) → Passes rest left bytes → (length bytes ≤ 16777216 → IsAtEnd rest left)
+    → ResumesTo bytes asked text → (front back : List ℕ) × (text ≡ front ++ back) × Appends before after front
+    → WroteFront (requests.Resume asked) rest left before after
+wrote_resumed_front asked rest left before after bytes text passes end answer (front, back, cut, appends) =
+    record { bytes = bytes; read = (all_read rest left bytes passes (end answer.told.short), end answer.told.short); text = text; answer = answer; front = front; back = back; cut = cut; written = appends }
 
 -- what was written stays written when it is passed on
 appends_kept : (before after later : Option (List ℕ)) (bytes : List ℕ) → Appends before after bytes → KeepsTold after later → Appends before later bytes
@@ -200,23 +231,30 @@ finished told faults request status result source old wrote new ends rises fault
 -- how a request ended that the words ask for has its cause
 pub caused : (words : List (List ℕ)) (request : Request) (status : Status) (source sink : Passage) → Asks words request → Ends request status source sink → HasCause words status source sink
 caused words request statuses.Usage source sink asks ends = absurd ends
-caused words request (statuses.BadScript line kind) source sink asks ends = ((request, asks, ends.0), ends.1)
+caused words request (statuses.BadScript line kind) source sink asks ends = (request, asks, ends)
 caused words request statuses.ReadFault source sink asks ends = ((request, asks, ends.0), ends.1)
 caused words request statuses.WriteFault source sink asks ends = ends.0
 caused words request _ source sink asks ends = tt
 
+-- what is refused where a script is read is no script
+script_refused : (request : Request) (bytes : List ℕ) (line : ℕ) (kind : Kind) → ReadsScript request → IsRefusedFor request bytes line kind → IsRefused bytes line kind
+script_refused (requests.Answer how) bytes line kind reads refused = refused
+script_refused (requests.Keep asked) bytes line kind reads refused = refused
+script_refused (requests.Resume asked) bytes line kind reads refused = absurd reads
+script_refused (requests.Make asked) bytes line kind reads refused = absurd reads
+script_refused requests.Audit bytes line kind reads refused = absurd reads
+
 -- a script that is told is answered, unless a call fails or memory runs out
-pub completes : (request : Request) (status : Status) (source sink : Passage) → Ends request status source sink
+pub completes : (request : Request) (status : Status) (source sink : Passage) → Ends request status source sink → ReadsScript request
     → (bytes : List ℕ) → source.before ≡ Some bytes → IsText bytes → (Failed source → ⊥) → (Failed sink → ⊥)
     → (status ≡ statuses.Done) ⊎ (status ≡ statuses.NoMemory)
-completes request statuses.Done source sink ends bytes told text no_read no_write = inl refl
-completes request statuses.NoMemory source sink ends bytes told text no_read no_write = inr refl
-completes request statuses.Usage source sink ends bytes told text no_read no_write = absurd ends
-completes request statuses.ReadFault source sink ends bytes told text no_read no_write = absurd (no_read ends.1)
-completes request statuses.WriteFault source sink ends bytes told text no_read no_write = absurd (no_write ends.0)
-completes request (statuses.BadScript line kind) source sink ends bytes told text no_read no_write =
-    let refused = ends.1 in
-    absurd (refused_no_text refused.bytes line kind refused.refused (subst IsText (refused.read bytes told) text))
+completes request statuses.Done source sink ends reads bytes told text no_read no_write = inl refl
+completes request statuses.NoMemory source sink ends reads bytes told text no_read no_write = inr refl
+completes request statuses.Usage source sink ends reads bytes told text no_read no_write = absurd ends
+completes request statuses.ReadFault source sink ends reads bytes told text no_read no_write = absurd (no_read ends.1)
+completes request statuses.WriteFault source sink ends reads bytes told text no_read no_write = absurd (no_write ends.0)
+completes request (statuses.BadScript line kind) source sink refused reads bytes told text no_read no_write =
+    absurd (refused_no_text refused.bytes line kind (script_refused request refused.bytes line kind reads refused.refused) (subst IsText (refused.read bytes told) text))
 
 -- something is said of every journal, unless a call fails or memory runs out
 pub audits : (status : Status) (source sink : Passage) → Ends requests.Audit status source sink → (Failed source → ⊥) → (Failed sink → ⊥)
@@ -226,13 +264,24 @@ audits statuses.NoMemory source sink ends no_read no_write = inr refl
 audits statuses.Usage source sink ends no_read no_write = absurd ends
 audits statuses.ReadFault source sink ends no_read no_write = absurd (no_read ends.1)
 audits statuses.WriteFault source sink ends no_read no_write = absurd (no_write ends.0)
-audits (statuses.BadScript line kind) source sink ends no_read no_write = absurd ends.0
+audits (statuses.BadScript line kind) source sink ends no_read no_write = absurd ends.refused
+
+-- a made script is written, unless a call fails or memory runs out
+pub makes : (m : Make) (status : Status) (source sink : Passage) → Ends (requests.Make m) status source sink → (Failed sink → ⊥)
+    → (status ≡ statuses.Done) ⊎ (status ≡ statuses.NoMemory)
+makes m statuses.Done source sink ends no_write = inl refl
+makes m statuses.NoMemory source sink ends no_write = inr refl
+makes m statuses.Usage source sink ends no_write = absurd ends
+makes m statuses.ReadFault source sink ends no_write = absurd ends.0
+makes m statuses.WriteFault source sink ends no_write = absurd (no_write ends.0)
+makes m (statuses.BadScript line kind) source sink ends no_write = absurd ends.refused
 
 -- what is answered is the text of a script
 answered_text : (request : Request) (rest left : Option (List ℕ)) (bytes text told : List ℕ) → ReadsScript request → HasRead request rest left bytes → IsAnswer request bytes text
     → rest ≡ Some told → IsText told
 answered_text (requests.Answer how) rest left bytes text told reads read answer is = subst IsText (sym (read.0 told is)) (answer.script, answer.short, answer.spelled)
 answered_text (requests.Keep asked) rest left bytes text told reads read answer is = subst IsText (sym (read.0 told is)) (answer.script, answer.short, answer.spelled)
+answered_text (requests.Resume asked) rest left bytes text told reads read answer is = absurd reads
 answered_text (requests.Make make) rest left bytes text told reads read answer is = absurd reads
 answered_text requests.Audit rest left bytes text told reads read answer is = absurd reads
 
@@ -249,9 +298,34 @@ refuses request statuses.WriteFault source sink ends is_read bytes line kind tol
     let wrote = ends.1 in
     absurd (refused_no_text bytes line kind refused (answered_text request source.before source.after wrote.bytes wrote.text bytes is_read wrote.read wrote.answer told))
 refuses request (statuses.BadScript l k) source sink ends is_read bytes line kind told refused no_read =
-    let found = ends.1 in
-    let same = refused_once bytes l line k kind (subst (λ all. IsRefused all l k) (sym (found.read bytes told)) found.refused) refused in
+    let same = refused_once bytes l line k kind (subst (λ all. IsRefused all l k) (sym (ends.read bytes told)) (script_refused request ends.bytes l k is_read ends.refused)) refused in
     inl (ap (λ n. statuses.BadScript n k) same.0 ∙ ap (statuses.BadScript line) same.1)
+
+-- an image that is told, with mutators behind it, goes on, unless a call fails or memory runs out
+pub resumes : (asked : Resume) (status : Status) (source sink : Passage) → Ends (requests.Resume asked) status source sink
+    → (bytes : List ℕ) → source.before ≡ Some bytes → IsResumable bytes → (Failed source → ⊥) → (Failed sink → ⊥)
+    → (status ≡ statuses.Done) ⊎ (status ≡ statuses.NoMemory)
+resumes asked statuses.Done source sink ends bytes told is no_read no_write = inl refl
+resumes asked statuses.NoMemory source sink ends bytes told is no_read no_write = inr refl
+resumes asked statuses.Usage source sink ends bytes told is no_read no_write = absurd ends
+resumes asked statuses.ReadFault source sink ends bytes told is no_read no_write = absurd (no_read ends.1)
+resumes asked statuses.WriteFault source sink ends bytes told is no_read no_write = absurd (no_write ends.0)
+resumes asked (statuses.BadScript line kind) source sink refused bytes told is no_read no_write =
+    absurd (unresumed_none refused.bytes line kind refused.refused (subst IsResumable (refused.read bytes told) is))
+
+-- and bytes that are none are refused, unless a read fails or memory runs out
+pub refuses_resuming : (asked : Resume) (status : Status) (source sink : Passage) → Ends (requests.Resume asked) status source sink
+    → (bytes : List ℕ) → source.before ≡ Some bytes → (IsResumable bytes → ⊥) → (Failed source → ⊥)
+    → ((line : ℕ) × (kind : Kind) × IsUnresumed bytes line kind × (status ≡ statuses.BadScript line kind)) ⊎ (status ≡ statuses.NoMemory)
+refuses_resuming asked statuses.NoMemory source sink ends bytes told none no_read = inr refl
+refuses_resuming asked statuses.Usage source sink ends bytes told none no_read = absurd ends
+refuses_resuming asked statuses.ReadFault source sink ends bytes told none no_read = absurd (no_read ends.1)
+refuses_resuming asked statuses.Done source sink wrote bytes told none no_read =
+    absurd (none (subst IsResumable (sym (wrote.read.0 bytes told)) (wrote.answer.contents, wrote.answer.given, wrote.answer.told)))
+refuses_resuming asked statuses.WriteFault source sink (failed, wrote) bytes told none no_read =
+    absurd (none (subst IsResumable (sym (wrote.read.0 bytes told)) (wrote.answer.contents, wrote.answer.given, wrote.answer.told)))
+refuses_resuming asked (statuses.BadScript line kind) source sink refused bytes told none no_read =
+    inl (line, kind, subst (λ all. IsUnresumed all line kind) (sym (refused.read bytes told)) refused.refused, refl)
 
 -- a fact of each value that was made
 pub if_ok : {T E : Type 0} (r : Result T E) (P Q : T → Type 0) → ((x : T) → P x → Q x) → IfOk r P → IfOk r Q
@@ -271,18 +345,18 @@ counted : (heap : Heap) (rows : List Row) (listing : IsListing heap rows) → ma
 counted heap rows (ns, listed, are) = ap (map (λ (r : Row). r.count)) are ∙ row_counts heap ns ns
 
 -- what was run, settled and listed is the answer
-pub answers_script : (script : ScriptContents) (how : How) (journals : List (List Line)) (events : List Event) (end world : Core) (rows : List Row) (text tail : List ℕ)
-    → HasRun script how journals events end → IsSettling end world → IsSettled world → Represents (last_moment script events).heap (sight world)
+pub answers_script : (script : ScriptContents) (start : Start) (how : How) (journals : List (List Line)) (events : List Event) (end world : Core) (rows : List Row) (text tail : List ℕ)
+    → HasRun script start how journals events end → IsSettling end world → IsSettled world → Represents (last_moment script start events).heap (sight world)
     → length world.headers ≡ script.slots → ListsSlots (sight world) rows → IsTail (is_traced how) end world tail
-    → text ≡ printed script.version (is_summary how) journals (printed_order how (actors events)) rows (length (last_moment script events).heap.objects) world ++ tail → Answers script how text
-answers_script script how journals events end world rows text tail has_run settles settled stands room listed ends written =
+    → text ≡ printed script.version (is_summary how) journals (printed_order how (actors events)) rows (length (last_moment script start events).heap.objects) world ++ tail → Answers script start how text
+answers_script script start how journals events end world rows text tail has_run settles settled stands room listed ends written =
     record {
       journals = journals;
       events = events;
       end = end;
       has_run = has_run;
       rows = rows;
-      settled = let listing : IsListing (last_moment script events).heap rows = listing_carried (last_moment script events).heap (sight world) rows stands settled.collected listed in record {
+      settled = let listing : IsListing (last_moment script start events).heap rows = listing_carried (last_moment script start events).heap (sight world) rows stands settled.collected listed in record {
         world = world;
         settles = settles;
         settled = settled;
@@ -290,7 +364,7 @@ answers_script script how journals events end world rows text tail has_run settl
         room = room;
         stands = stands;
         listing = listing;
-        counts = counted (last_moment script events).heap rows listing;
+        counts = counted (last_moment script start events).heap rows listing;
       };
       tail = tail;
       ends = ends;

@@ -14,6 +14,7 @@ use Rattle.rec_run.specs.declared.command_line.Kept.TheVariants.{Journal, Image}
 use Rattle.rec_run.specs.declared.command_line.Make.{Make}
 use Rattle.rec_run.specs.declared.command_line.Play.{Play}
 use Rattle.rec_run.specs.declared.command_line.Request.{Request}
+use Rattle.rec_run.specs.declared.command_line.Resume.{Resume}
 use Rattle.rec_run.specs.declared.command_line.Request.TheVariants as requests
 
 -- an option with a value, named by this word behind two dashes
@@ -40,6 +41,10 @@ make = record (new_shape (codes "make")) { rules = option (codes "seed") ∷ opt
 abbrev pub audit : Shape
 audit = new_shape (codes "audit")
 
+-- the subcommand `resume` and its options
+abbrev pub resume : Shape
+resume = record (new_shape (codes "resume")) { rules = option (codes "seed") ∷ option (codes "turns") ∷ [] }
+
 -- a command without subcommands
 abbrev pub app_with : Shape → App
 app_with shape = record { top = shape; subs = [] }
@@ -56,7 +61,7 @@ recycler =
             disable_version_flag = true;
             subcommand_required = true;
           };
-      subs = play ∷ threads ∷ make ∷ audit ∷ [];
+      subs = play ∷ threads ∷ make ∷ audit ∷ resume ∷ [];
     }
 
 -- An option says a number up to this most: a plus or none, and then decimal digits. Where it isn't given it says its default.
@@ -96,6 +101,11 @@ pub record AsksKeeping (options : List Row) (asked : Keeping) : Type 0 where
   pub audited : is_set (first_of (codes "audit") options) ≡ is_journal asked.kept
   pub imaged : is_set (first_of (codes "image") options) ≡ is_image asked.kept
 
+-- what the options of `resume` ask for: a seed of 64 bits, and at most ten million turns
+pub record AsksResume (options : List Row) (asked : Resume) : Type 0 where
+  pub seeded : Says (first_of (codes "seed") options) 0 18446744073709551615 asked.seed
+  pub limited : Says (first_of (codes "turns") options) 1000000 MOST_TURNS asked.turns
+
 -- what the options of `make` ask for: a seed of 64 bits, one to eight mutators, and at most 200,000 commands of each
 pub record AsksMake (options : List Row) (asked : Make) : Type 0 where
   pub seeded : Says (first_of (codes "seed") options) 0 18446744073709551615 asked.seed
@@ -109,6 +119,7 @@ AsksBy None request = ⊥
 AsksBy (Some (name, options)) (requests.Answer (hows.Play asked)) = (name ≡ codes "play") × AsksPlay options asked
 AsksBy (Some (name, options)) (requests.Answer hows.Threads) = name ≡ codes "threads"
 AsksBy (Some (name, options)) (requests.Keep asked) = (name ≡ codes "play") × AsksKeeping options asked
+AsksBy (Some (name, options)) (requests.Resume asked) = (name ≡ codes "resume") × AsksResume options asked
 AsksBy (Some (name, options)) (requests.Make asked) = (name ≡ codes "make") × AsksMake options asked
 AsksBy (Some (name, options)) requests.Audit = name ≡ codes "audit"
 
@@ -126,6 +137,7 @@ HasFewTurns hows.Threads = ⊤
 abbrev pub IsInRange : Request → Type 0
 IsInRange (requests.Answer how) = HasFewTurns how
 IsInRange (requests.Keep asked) = asked.turns ≤ MOST_TURNS
+IsInRange (requests.Resume asked) = asked.turns ≤ MOST_TURNS
 IsInRange (requests.Make asked) = (1 ≤ asked.mutators) × (asked.mutators ≤ MOST_SCRIPT_MUTATORS) × (asked.commands ≤ MOST_COMMANDS)
 IsInRange requests.Audit = ⊤
 
@@ -133,6 +145,7 @@ IsInRange requests.Audit = ⊤
 abbrev pub ReadsScript : Request → Type 0
 ReadsScript (requests.Answer how) = ⊤
 ReadsScript (requests.Keep asked) = ⊤
+ReadsScript (requests.Resume asked) = ⊥
 ReadsScript (requests.Make asked) = ⊥
 ReadsScript requests.Audit = ⊥
 
@@ -140,6 +153,7 @@ ReadsScript requests.Audit = ⊥
 abbrev pub ReadsSource : Request → Type 0
 ReadsSource (requests.Answer how) = ⊤
 ReadsSource (requests.Keep asked) = ⊤
+ReadsSource (requests.Resume asked) = ⊤
 ReadsSource (requests.Make asked) = ⊥
 ReadsSource requests.Audit = ⊤
 
@@ -150,6 +164,10 @@ IsCommandLine words = (request : Request) × Asks words request
 -- The words are a command line that asks for what a script is read for.
 abbrev pub AsksToRead : List Text → Type 0
 AsksToRead words = (request : Request) × Asks words request × ReadsScript request
+
+-- The words are a command line that asks for a heap to go on from its image.
+abbrev pub AsksToResume : List Text → Type 0
+AsksToResume words = (asked : Resume) × Asks words (requests.Resume asked)
 
 -- The words are a command line that asks for what a source is read for.
 abbrev pub AsksForSource : List Text → Type 0

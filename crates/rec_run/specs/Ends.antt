@@ -4,8 +4,8 @@ use Rattle.rec_io.specs.Faults.{Rose}
 use Rattle.rec_run.specs.declared.command_line.Request.{Request}
 use Rattle.rec_run.specs.declared.status.Status.{Status}
 use Rattle.rec_run.specs.declared.status.Status.TheVariants.{Done, Usage, BadScript, ReadFault, WriteFault, NoMemory}
-use Rattle.rec_run.specs.CommandLine.{AsksForSource, AsksToRead, IsCommandLine, ReadsScript, ReadsSource}
-use Rattle.rec_run.specs.Headline.{WroteAnswer, WroteFront, ReadNoScript}
+use Rattle.rec_run.specs.CommandLine.{Asks, AsksForSource, IsCommandLine, ReadsSource}
+use Rattle.rec_run.specs.Headline.{WroteAnswer, WroteFront, ReadRefused}
 
 -- What became of a source or a sink: the bytes that it tells of, and how many of its calls failed, before and after.
 pub record Passage : Type 0 where
@@ -26,12 +26,12 @@ untouched told faults = record { before = told; after = told; faults = faults; f
 abbrev pub Failed : Passage → Type 0
 Failed passage = Rose passage.faults passage.faults_after
 
--- Done: the whole answer was written. A script that is bad was read, and it is none; a read or a write failed, and then a front
--- of the answer was written. Whoever carries out a request never finds its words wrong.
+-- Done: the whole answer was written. What was read is refused: it is no script, or no image with mutators behind it; a read or a
+-- write failed, and then a front of the answer was written. Whoever carries out a request never finds its words wrong.
 abbrev pub Ends : Request → Status → (source sink : Passage) → Type 0
 Ends request Done source sink = WroteAnswer request source.before source.after sink.before sink.after
 Ends request Usage source sink = ⊥
-Ends request (BadScript line kind) source sink = ReadsScript request × ReadNoScript source.before source.after line kind
+Ends request (BadScript line kind) source sink = ReadRefused request source.before source.after line kind
 Ends request ReadFault source sink = ReadsSource request × Failed source
 Ends request WriteFault source sink = Failed sink × WroteFront request source.before source.after sink.before sink.after
 Ends request NoMemory source sink = ⊤
@@ -40,7 +40,7 @@ Ends request NoMemory source sink = ⊤
 -- bad and no read of it fails; a journal is never bad, as there is something to say of every text.
 abbrev pub HasCause : (words : List (List ℕ)) → Status → (source sink : Passage) → Type 0
 HasCause words Usage source sink = ¬ IsCommandLine words
-HasCause words (BadScript line kind) source sink = AsksToRead words × ReadNoScript source.before source.after line kind
+HasCause words (BadScript line kind) source sink = (request : Request) × Asks words request × ReadRefused request source.before source.after line kind
 HasCause words ReadFault source sink = AsksForSource words × Failed source
 HasCause words WriteFault source sink = Failed sink
 HasCause words Done source sink = ⊤

@@ -19,17 +19,19 @@ use Rattle.rec_core.specs.Core.{Core, opened, sight}
 use Rattle.rec_core.specs.Settled.{IsSettled}
 use Rattle.rec_settle.specs.Collecting.{IsSettling, taken_slots}
 use Rattle.rec_order.specs.Events.{events_of}
-use Rattle.rec_order.specs.Naming.{Naming, first_naming, named_after_all}
+use Rattle.rec_order.specs.Naming.{Naming, named_after_all}
 use Rattle.rec_table.specs.Ends.{Interleaves}
 use Rattle.rec_table.specs.Journals.{journals_from}
 use Rattle.rec_table.specs.declared.views.Beat.{Beat}
 use Rattle.rec_threads.specs.Done.{begun, commands_at, driving_rule}
 use Rattle.rec_play.specs.Awaited.{IsAwaitedStep, IsAwaitedTurn}
-use Rattle.rec_play.specs.Played.{config_of, last_moment, lengths_of, limits_of, opening_moment}
+use Rattle.rec_play.specs.Played.{config_of, last_moment, lengths_of, limits_of}
 use Rattle.rec_play.specs.Playing.{all_turns, order}
 use Rattle.rec_play.specs.Run.{IsPlayedRun}
+use Rattle.rec_play.specs.Start.{Start, moment_at, names_at, opening_of}
 use Rattle.rec_io.specs.Sink.{Appends}
 use Rattle.rec_io.specs.Source.{BeginsWith}
+use Rattle.rec_script.specs.Behind.{with_all}
 use Rattle.rec_script.specs.Lines.{lines}
 use Rattle.rec_script.specs.Script.{ScriptContents, Spells, IsRefused}
 use Rattle.rec_run.specs.declared.command_line.How.{How}
@@ -39,6 +41,7 @@ use Rattle.rec_run.specs.declared.command_line.Kept.{Kept}
 use Rattle.rec_run.specs.declared.command_line.Kept.TheVariants as kepts
 use Rattle.rec_run.specs.declared.command_line.Play.{Play}
 use Rattle.rec_run.specs.declared.command_line.Request.{Request}
+use Rattle.rec_run.specs.declared.command_line.Resume.{Resume}
 use Rattle.rec_run.specs.declared.command_line.Request.TheVariants as requests
 use Rattle.rec_script.specs.declared.error.Kind.{Kind}
 use Rattle.rec_script.specs.Made.{made_text}
@@ -50,12 +53,14 @@ use Rattle.rec_settle.specs.declared.turns.Settling.TheVariants.{Settled}
 use Rattle.rec_play.specs.Shown.{IsShownWhole}
 use Rattle.rec_image.specs.Image.{ImageContents, IsImage, text as image_text}
 use Rattle.rec_image.specs.Standing.{IsOfWorld, StandsFor}
-use Rattle.rec_audit.specs.Journal.{journal}
+use Rattle.rec_audit.specs.Journal.{journal, sets_passed}
 use Rattle.rec_audit.specs.Lines.{text_of}
 use Rattle.rec_audit.specs.declared.form.Heap.{Heap as HeapNumbers}
 use Rattle.rec_audit.specs.declared.verdict.Verdict.{Verdict}
+use Rattle.rec_audit.specs.declared.verdict.Verdict.TheVariants.{Yes}
 use Rattle.rec_audit.specs.Said.{verdict_text}
 use Rattle.rec_audit.specs.Verdicts.{IsVerdict}
+use Rattle.rec_run.specs.Resuming.{IsRestoredFor, IsUnresumed, Tells, numbers_of}
 use Rattle.rec_run.specs.Whole.{IsAtEnd}
 
 -- The world is settled and these are its rows: just the slots that registers reach hold objects, a row for each, with its true count.
@@ -79,54 +84,54 @@ pub record KeepsRule (cmds : List Cmd) (list : List Beat) : Type 0 where
   pub few : polls ≤ MOST_POLLS
   pub begins : begun list ≡ driving_rule cmds polls
 
--- The run on threads. The collector and each mutator have a list of their own steps, and one run from the opening of the script's heap
+-- The run on threads. The collector and each mutator have a list of their own steps, and one run from the script's start
 -- to this world has these lists, each step once and in order, and no other step. Each mutator kept the driving rule, and the collector
 -- made at most 10,000,000 turns, and one that gives a mailbox back. The journals are what the mutators' lists tell. The events are those
 -- of that run: an answer stands among them where the step was made that decided it.
-pub record IsDriven (script : ScriptContents) (journals : List (List Line)) (events : List Event) (names : Naming) (world : Core) : Type 0 where
+pub record IsDriven (script : ScriptContents) (start : Start) (journals : List (List Line)) (events : List Event) (names : Naming) (world : Core) : Type 0 where
   pub collected : List Beat
   pub lists : List (List Beat)
-  pub interleaved : Interleaves (opened (config_of script)) collected lists world
+  pub interleaved : Interleaves start.world collected lists world
   pub turns : length collected ≤ MOST_TURNS + 1
   pub ruled : (k : ℕ) → k < length script.commands → KeepsRule (commands_at script.commands k) (slice_index_or lists k [])
-  pub told : journals_from (opened (config_of script)) 0 lists ≡ journals
-  pub tells : events ≡ events_of first_naming (opened (config_of script)) interleaved.run
-  pub named : names ≡ named_after_all first_naming (opened (config_of script)) interleaved.run
+  pub told : journals_from start.world 0 lists ≡ journals
+  pub tells : events ≡ events_of (names_at start) start.world interleaved.run
+  pub named : names ≡ named_after_all (names_at start) start.world interleaved.run
   -- each NotYet was decided by a step of this run that found a log which was still to be collected
-  pub not_yet : (i t : ℕ) (line : Line) → slice_get events i ≡ Some (Event.Answers t line) → line.1.answer ≡ answers.NotYet → IsAwaitedStep first_naming (opened (config_of script)) interleaved.run i t line
+  pub not_yet : (i t : ℕ) (line : Line) → slice_get events i ≡ Some (Event.Answers t line) → line.1.answer ≡ answers.NotYet → IsAwaitedStep (names_at start) start.world interleaved.run i t line
 
 -- The run that is played: its turns are those that the playing rule draws, and its answers stand in their order. The events are what
 -- these turns tell, with the frees and the sweeps of the collector's.
-pub record IsDrawn (script : ScriptContents) (play : Play) (events : List Event) (names : Naming) (world : Core) : Type 0 where
+pub record IsDrawn (script : ScriptContents) (start : Start) (play : Play) (events : List Event) (names : Naming) (world : Core) : Type 0 where
   pub in_order : actors events ≡ order (lengths_of script) play.seed play.turns
-  pub run : IsPlayedRun script (all_turns (lengths_of script) play.seed play.turns) events names world
+  pub run : IsPlayedRun script start.world (names_at start) (all_turns (lengths_of script) play.seed play.turns) events names world
   -- each NotYet was decided by a step of this run that found a log which was still to be collected
-  pub not_yet : (i t : ℕ) (line : Line) → slice_get events i ≡ Some (Event.Answers t line) → line.1.answer ≡ answers.NotYet → IsAwaitedTurn script (all_turns (lengths_of script) play.seed play.turns) events i t line
+  pub not_yet : (i t : ℕ) (line : Line) → slice_get events i ≡ Some (Event.Answers t line) → line.1.answer ≡ answers.NotYet → IsAwaitedTurn script start.world (names_at start) (all_turns (lengths_of script) play.seed play.turns) events i t line
 
 -- the steps of the run, by the way it was made
-abbrev pub MakesSteps : ScriptContents → How → List (List Line) → List Event → Naming → Core → Type 0
-MakesSteps script (hows.Play play) journals events names world = IsDrawn script play events names world
-MakesSteps script hows.Threads journals events names world = IsDriven script journals events names world
+abbrev pub MakesSteps : ScriptContents → Start → How → List (List Line) → List Event → Naming → Core → Type 0
+MakesSteps script start (hows.Play play) journals events names world = IsDrawn script start play events names world
+MakesSteps script start hows.Threads journals events names world = IsDriven script start journals events names world
 
--- what stands before the event with this number, in an order from the opening heap
-abbrev pub before : ScriptContents → List Event → ℕ → Moment
-before script events i = moment (limits_of script) (opening_moment script) events i
+-- what stands before the event with this number, in an order from this start
+abbrev pub before : ScriptContents → Start → List Event → ℕ → Moment
+before script start events i = moment (limits_of script) (moment_at script start) events i
 
--- A script was run. The journals have its commands, each with what was told, and no log was full. One legal order from the opening
--- heap has their lines: it keeps each mutator's own, and the heap that never frees explains it.
-pub record HasRun (script : ScriptContents) (how : How) (journals : List (List Line)) (events : List Event) (world : Core) : Type 0 where
+-- A script was run from this start. The journals have its commands, each with what was told, and no log was full. One legal order from
+-- the start's heap has their lines: it keeps each mutator's own, and the heap that never frees explains it.
+pub record HasRun (script : ScriptContents) (start : Start) (how : How) (journals : List (List Line)) (events : List Event) (world : Core) : Type 0 where
   pub commands : map (map (λ line. line.0)) journals ≡ script.commands
-  pub legal : IsLegalOrder (limits_of script) (opening_moment script) journals events
+  pub legal : IsLegalOrder (limits_of script) (moment_at script start) journals events
   -- each answer is the one that the heap that never frees gives there; where it gives none, the command is refused, and changes nothing
   pub given : (i t : ℕ) (cmd : Cmd) (told : Told) → slice_get events i ≡ Some (Event.Answers t (cmd, told))
-      → AnswersAs cmd (asks script.fields (before script events i).heap t cmd (is_done told.answer) told.left).answer told.answer
+      → AnswersAs cmd (asks script.fields (before script start events i).heap t cmd (is_done told.answer) told.left).answer told.answer
   -- an allocation is answered full only where as many objects as there are slots are not freed
   pub full : (i t reg label : ℕ) (leaf : Bool) (told : Told) → slice_get events i ≡ Some (Event.Answers t (allocation leaf reg label, told))
-      → told.answer ≡ answers.Full → length (before script events i).unfreed ≡ script.slots
+      → told.answer ≡ answers.Full → length (before script start events i).unfreed ≡ script.slots
   -- which object each slot holds at the end: by this the heap of the order stands for the world
   pub names : Naming
-  pub stands : StandsBy (last_moment script events).heap (sight world) names.number
-  pub steps : MakesSteps script how journals events names world
+  pub stands : StandsBy (last_moment script start events).heap (sight world) names.number
+  pub steps : MakesSteps script start how journals events names world
   pub no_log_full : NoLogFull journals
 
 -- whether a summary is printed in place of the whole text
@@ -165,28 +170,28 @@ abbrev pub IsTail : (traced : Bool) → (end world : Core) → List ℕ → Type
 IsTail false end world tail = tail ≡ []
 IsTail true end world tail = IsTraceLine end world tail
 
--- The text answers the script: each printed answer is the one that the heap that never frees gives to the script's commands in one order
--- that keeps each mutator's own; an allocation is answered full only where no slot was free; and after settling just the objects that
--- registers reach hold slots, listed with true counts. The order of a played run is the one that the playing rule draws. A summary
--- counts the same answers and objects. Where a trace is asked for, its line stands behind.
-pub record Answers (script : ScriptContents) (how : How) (text : List ℕ) : Type 0 where
+-- The text answers the script, run from this start: each printed answer is the one that the heap that never frees gives to the
+-- script's commands in one order that keeps each mutator's own; an allocation is answered full only where no slot was free; and after
+-- settling just the objects that registers reach hold slots, listed with true counts. The order of a played run is the one that the
+-- playing rule draws. A summary counts the same answers and objects. Where a trace is asked for, its line stands behind.
+pub record Answers (script : ScriptContents) (start : Start) (how : How) (text : List ℕ) : Type 0 where
   pub journals : List (List Line)
   pub events : List Event
   -- the world after the last turn
   pub end : Core
-  pub has_run : HasRun script how journals events end
+  pub has_run : HasRun script start how journals events end
   pub rows : List Row
-  pub settled : IsSettledAs end (last_moment script events).heap script.slots rows
+  pub settled : IsSettledAs end (last_moment script start events).heap script.slots rows
   pub tail : List ℕ
   pub ends : IsTail (is_traced how) end settled.world tail
-  pub written : text ≡ printed script.version (is_summary how) journals (printed_order how (actors events)) rows (length (last_moment script events).heap.objects) settled.world ++ tail
+  pub written : text ≡ printed script.version (is_summary how) journals (printed_order how (actors events)) rows (length (last_moment script start events).heap.objects) settled.world ++ tail
 
 -- The bytes are the text of a script within the limits, and the answer is the script's, run so.
 pub record AnswersTo (bytes : List ℕ) (how : How) (text : List ℕ) : Type 0 where
   pub script : ScriptContents
   pub short : length bytes ≤ MOST_BYTES
   pub spelled : Spells (lines bytes) script
-  pub answered : Answers script how text
+  pub answered : Answers script (opening_of script) how text
 
 -- The bytes are a journal's, or none's, and the text says what is to be said of them.
 pub record SaysVerdict (bytes text : List ℕ) : Type 0 where
@@ -208,6 +213,8 @@ pub record IsJournal (script : ScriptContents) (asked : Keeping) (end world : Co
   pub settling : List Shown
   pub shown_settling : IsShownTo end settling Settled world
   pub written : text ≡ text_of (journal (heap_told script) (played ++ settling))
+  -- it is answered yes, unless it is too long, with as many sets as passed both tests
+  pub answered : length text ≤ MOST_BYTES → IsVerdict text (Yes (sets_passed (played ++ settling)))
 
 -- The text is the image of the settled heap: it is of the heap's numbers, and stands for it in all but the field words.
 pub record IsImageText (world : Core) (text : List ℕ) : Type 0 where
@@ -222,13 +229,21 @@ abbrev pub IsKept : Kept → ScriptContents → Keeping → (end world : Core) �
 IsKept kepts.Journal script asked end world text = IsJournal script asked end world text
 IsKept kepts.Image script asked end world text = IsImageText world text
 
+-- how commands are played where neither a summary nor a trace is asked for
+abbrev pub plainly : (seed turns : ℕ) → Play
+plainly seed turns = record { seed = seed; turns = turns; summary = false; trace = false }
+
+-- how a script is played of which something else than its answers is written
+abbrev pub played : Keeping → Play
+played asked = plainly asked.seed asked.turns
+
 -- The script was played and its heap settled afterwards, and the text is what was asked to be kept of that.
 pub record TellsRun (script : ScriptContents) (asked : Keeping) (text : List ℕ) : Type 0 where
   pub journals : List (List Line)
   pub events : List Event
   -- the world after the last turn
   pub end : Core
-  pub has_run : HasRun script (hows.Play (record { seed = asked.seed; turns = asked.turns; summary = false; trace = false })) journals events end
+  pub has_run : HasRun script (opening_of script) (hows.Play (played asked)) journals events end
   pub world : Core
   pub settles : IsSettling end world
   pub settled : IsSettled world
@@ -241,10 +256,21 @@ pub record TellsOf (bytes : List ℕ) (asked : Keeping) (text : List ℕ) : Type
   pub spelled : Spells (lines bytes) script
   pub told : TellsRun script asked text
 
+-- The bytes are the text of an image and of mutators behind it, and the text answers these, run from the heap that the image makes. The
+-- mutators that aren't given have no commands.
+pub record ResumesTo (bytes : List ℕ) (asked : Resume) (text : List ℕ) : Type 0 where
+  pub contents : ImageContents
+  pub given : ScriptContents
+  pub told : Tells bytes contents given
+  pub start : Start
+  pub restored : IsRestoredFor contents (with_all (numbers_of contents) given) start
+  pub answered : Answers (with_all (numbers_of contents) given) start (hows.Play (plainly asked.seed asked.turns)) text
+
 -- the answer of the bytes to a request; a made script is that of its seed, whatever the bytes
 abbrev pub IsAnswer : Request → (bytes text : List ℕ) → Type 0
 IsAnswer (requests.Answer how) bytes text = AnswersTo bytes how text
 IsAnswer (requests.Keep asked) bytes text = TellsOf bytes asked text
+IsAnswer (requests.Resume asked) bytes text = ResumesTo bytes asked text
 IsAnswer (requests.Make asked) bytes text = text ≡ made_text asked.seed asked.mutators asked.commands
 IsAnswer requests.Audit bytes text = SaysVerdict bytes text
 
@@ -269,6 +295,7 @@ IsReadOut before after = ForSome before (λ rest. (after ≡ Some []) ⊎ IsRead
 abbrev pub HasRead : Request → (rest left : Option (List ℕ)) → (bytes : List ℕ) → Type 0
 HasRead (requests.Answer how) rest left bytes = Are rest bytes × IsAtEnd rest left
 HasRead (requests.Keep asked) rest left bytes = Are rest bytes × IsAtEnd rest left
+HasRead (requests.Resume asked) rest left bytes = Are rest bytes × IsAtEnd rest left
 HasRead (requests.Make asked) rest left bytes = (left ≡ rest) × (bytes ≡ [])
 HasRead requests.Audit rest left bytes = Are rest bytes × IsReadOut rest left
 
@@ -291,9 +318,17 @@ pub record WroteFront (request : Request) (rest left before after : Option (List
   pub cut : text ≡ front ++ back
   pub written : Appends before after front
 
--- The source was read to its end or past the limit, and its bytes are no script, with this line and kind.
-pub record ReadNoScript (rest left : Option (List ℕ)) (line : ℕ) (kind : Kind) : Type 0 where
+-- the bytes are refused with this line and this kind: they are no script, or no image with mutators behind it
+abbrev pub IsRefusedFor : Request → List ℕ → (line : ℕ) → Kind → Type 0
+IsRefusedFor (requests.Answer how) bytes line kind = IsRefused bytes line kind
+IsRefusedFor (requests.Keep asked) bytes line kind = IsRefused bytes line kind
+IsRefusedFor (requests.Resume asked) bytes line kind = IsUnresumed bytes line kind
+IsRefusedFor (requests.Make asked) bytes line kind = ⊥
+IsRefusedFor requests.Audit bytes line kind = ⊥
+
+-- The source was read to its end or past the limit, and its bytes are refused with this line and kind.
+pub record ReadRefused (request : Request) (rest left : Option (List ℕ)) (line : ℕ) (kind : Kind) : Type 0 where
   pub bytes : List ℕ
   pub read : Are rest bytes
   pub ended : IsReadOut rest left
-  pub refused : IsRefused bytes line kind
+  pub refused : IsRefusedFor request bytes line kind

@@ -4,6 +4,7 @@ pub mod CommandLine
 pub mod Ends
 pub mod Headline
 pub mod Outcome
+pub mod Resuming
 pub mod Running
 pub mod Status
 pub mod Tracing

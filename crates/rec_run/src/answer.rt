@@ -10,11 +10,13 @@ ghost use Rattle.rec_report.specs.Report.{AreFor};
 ghost use Rattle.rec_report.specs.Text.{IsOrderOf};
 ghost use Rattle.rec_world.specs.World.{opened, sight};
 ghost use Rattle.rec_play.specs.Played.{config_of, lines_of};
+ghost use Rattle.rec_play.specs.Start.{MayBegin, Start, opening_of};
 ghost use Rattle.rec_run.specs.CommandLine.{HasFewTurns};
 ghost use Rattle.rec_run.specs.Headline.{Answers, is_summary, printed};
 ghost use Rattle.rec_run.specs.Outcome.{IsOutcome};
 ghost use Rattle.rec_run.specs.Tracing.{tail_of};
 
+use crate::auditing::Auditor;
 use crate::command_line::How;
 use crate::driving::drive_script;
 use crate::outcome::Outcome;
@@ -39,9 +41,25 @@ pub fn answer_script<R: Threads + Wait + Sync, G: Gate>(
     gate: &G,
 ) -> Result<Text, NoMemory>
     requires { HasFewTurns how }
-    ensures { IfOk result (λ text. Answers script.now how (flat_map (λ line. line) text)) }
+    ensures { IfOk result (λ text. Answers script.now (opening_of script.now) how (flat_map (λ line. line) text)) }
 {
-    let mut outcome = carry_out(rt, alloc, script, how, gate)?;
+    let outcome = carry_out(rt, alloc, script, how, gate)?;
+    answer_outcome(rt, alloc, script, how, outcome)
+}
+
+/// The answer of a run that left this: its heap is settled, and what was told and what is left are written. Whichever way a script was
+/// run, from whichever start, it ends here.
+pub fn answer_outcome<R: Threads + Sync>(
+    rt: &R,
+    alloc: Global,
+    script: &Script,
+    how: How,
+    mut outcome: Outcome,
+) -> Result<Text, NoMemory>
+    requires outcome { (start : Start) × IsOutcome script.now start how outcome }
+    requires epochs { outcome.world.epoch ≤ MOST_TURNS + 1 }
+    ensures { (start : Start) → IsOutcome script.now start how outcome → IfOk result (λ text. Answers script.now start how (flat_map (λ line. line) text)) }
+{
     let traced = trace_world(rt, alloc, how, &outcome.world)?;
     // There are epochs enough left to settle.
     let Ok(settled) = settle(&mut outcome.world) else {
@@ -60,11 +78,11 @@ fn carry_out<R: Threads + Wait + Sync, G: Gate>(
     gate: &G,
 ) -> Result<Outcome, NoMemory>
     requires { HasFewTurns how }
-    ensures outcome { IfOk result (IsOutcome script.now how) }
+    ensures outcome { IfOk result (IsOutcome script.now (opening_of script.now) how) }
     ensures epochs { IfOk result (λ outcome. outcome.world.epoch ≤ MOST_TURNS + 1) }
 {
     match how {
-        How::Play(play) => play_script(alloc, script, play),
+        How::Play(play) => play_script(alloc, script, play, &mut Auditor::without_audit()),
         How::Threads => drive_script(rt, alloc, script, gate),
     }
 }
@@ -79,8 +97,7 @@ fn wants_summary(how: How) -> bool
     }
 }
 
-// The whole text of a run whose heap is settled, or its summary. Both ways of running end here: one writer, with one caller, is put
-// into it by the compiler.
+// The whole text of a run whose heap is settled, or its summary. It has one caller, so the compiler puts the writer into it.
 fn write_text(
     alloc: Global,
     script: &Script,
@@ -118,6 +135,8 @@ fn end_text(alloc: Global, text: Text, traced: Option<Traced>, live: u32) -> Res
 /// The heap of a script.
 pub fn open_world(alloc: Global, script: &Script) -> Result<World, NoMemory>
     ensures opened { IfOk result (λ world. world ≡ opened (config_of script.now)) }
+    ensures begins { IfOk result (MayBegin script.now) }
+    ensures first { IfOk result (λ world. world.epoch ≡ 1) }
     ensures config { IfOk result (λ world. IsConfig world.config) }
 {
     match World::open(alloc, config_for(script)) {

@@ -1,11 +1,12 @@
 //! The words that the program is called with.
 ghost use Rattle.std.specs.Prelude.{◌≡◌, ◌≢◌, false, ◌≤◌, ℕ, [], map, option_map, Err, IfOk, IfSome, IfNone};
 ghost use Rattle.clap.specs.Words.{app_of, fault_of, found_of, rows_of, rule_of, subcommand_of, subcommand_rows_of};
-ghost use Rattle.rec_run.specs.CommandLine.{app_with, flag, option, make as make_shape, play as play_shape, recycler, is_set, Says, AsksKeeping, AsksPlay, AsksMake, AsksBy, Asks, IsCommandLine};
+ghost use Rattle.rec_run.specs.CommandLine.{app_with, flag, option, make as make_shape, play as play_shape, recycler, resume as resume_shape, is_set, Says, AsksKeeping, AsksPlay, AsksMake, AsksResume, AsksBy, Asks, IsCommandLine};
 ghost use Rattle.rec_run.specs.declared.command_line.Keeping.{Keeping as Keeps};
 ghost use Rattle.rec_run.specs.declared.command_line.Make.{Make as Making};
 ghost use Rattle.rec_run.specs.declared.command_line.Play.{Play as Playing};
 ghost use Rattle.rec_run.specs.declared.command_line.Request.{Request as Asking};
+ghost use Rattle.rec_run.specs.declared.command_line.Resume.{Resume as Resumes};
 
 use clap::error::ErrorKind;
 use clap::{Arg, ArgAction, ArgMatches, Command};
@@ -36,6 +37,8 @@ pub enum Request {
     Answer(How),
     /// Play the script that is read so, and write what is kept of it.
     Keep(Keeping),
+    /// Go on with the heap of the image that is read, by the commands behind it, and answer these.
+    Resume(Resume),
     /// Write a script.
     Make(Make),
     /// Say what is to be said of the journal that is read.
@@ -82,6 +85,15 @@ pub enum Kept {
     Journal,
     /// The image of its settled heap.
     Image,
+}
+
+/// How commands go on with the heap of an image.
+#[derive(Clone, Copy)]
+pub struct Resume {
+    /// What the order of the commands is drawn from.
+    pub seed: u64,
+    /// How many draws there are at most, up to 10,000,000.
+    pub turns: u32,
 }
 
 /// Which script is made.
@@ -135,6 +147,7 @@ fn command<'a>(alloc: Global) -> Result<Command<'a>, NoMemory>
 {
     let play = play_command(alloc)?;
     let make = make_command(alloc)?;
+    let resume = resume_command(alloc)?;
     Command::new(alloc, "recycler")
         .disable_help_flag(true)
         .disable_help_subcommand(true)
@@ -143,7 +156,8 @@ fn command<'a>(alloc: Global) -> Result<Command<'a>, NoMemory>
         .subcommand(play)?
         .subcommand(Command::new(alloc, "threads"))?
         .subcommand(make)?
-        .subcommand(Command::new(alloc, "audit"))
+        .subcommand(Command::new(alloc, "audit"))?
+        .subcommand(resume)
 }
 
 // The subcommand that plays a script.
@@ -194,6 +208,15 @@ fn make_command<'a>(alloc: Global) -> Result<Command<'a>, NoMemory>
         .arg(commands)
 }
 
+// The subcommand that goes on with the heap of an image.
+fn resume_command<'a>(alloc: Global) -> Result<Command<'a>, NoMemory>
+    ensures { IfOk result (λ command. app_of command ≡ app_with resume_shape) }
+{
+    let seed = option(alloc, "seed");
+    let turns = option(alloc, "turns");
+    Command::new(alloc, "resume").arg(seed)?.arg(turns)
+}
+
 // What the subcommand that was found asks for.
 fn asked(matches: &ArgMatches) -> Option<Request>
     ensures some { IfSome result (AsksBy (subcommand_rows_of matches.now)) }
@@ -207,6 +230,7 @@ fn asked(matches: &ArgMatches) -> Option<Request>
         Some(("threads", _)) => Some(Request::Answer(How::Threads)),
         Some(("make", options)) => make_options(options).map(Request::Make),
         Some(("audit", _)) => Some(Request::Audit),
+        Some(("resume", options)) => resume_options(options).map(Request::Resume),
         _ => None,
     }
 }
@@ -252,6 +276,19 @@ fn keeping_options(options: &ArgMatches) -> Option<Keeping>
         seed,
         turns: turns as u32,
         kept: if audit { Kept::Journal } else { Kept::Image },
+    })
+}
+
+// What the options of `resume` ask for, where their numbers are in range.
+fn resume_options(options: &ArgMatches) -> Option<Resume>
+    ensures some { IfSome result (AsksResume (rows_of (found_of options.now))) }
+    ensures none { IfNone result ((asked : Resumes) → ¬ AsksResume (rows_of (found_of options.now)) asked) }
+{
+    let seed = number(options.get_str("seed"), SEED, u64::MAX)?;
+    let turns = number(options.get_str("turns"), TURNS, MOST_TURNS)?;
+    Some(Resume {
+        seed,
+        turns: turns as u32,
     })
 }
 

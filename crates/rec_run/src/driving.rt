@@ -4,6 +4,7 @@ ghost use Rattle.rec_model.specs.declared.limits.TheConstants.{MOST_TURNS};
 ghost use Rattle.rec_core.specs.Worked.{AreIdle};
 ghost use Rattle.rec_table.specs.Ends.{IsStopped};
 ghost use Rattle.rec_table.specs.Views.{AreMutatorsOf, IsCollectorOf, collector_now};
+ghost use Rattle.rec_play.specs.Start.{opening_of};
 ghost use Rattle.rec_run.specs.Outcome.{IsOutcome};
 ghost use Rattle.rec_run.specs.Running.{IsSetRunning, IsStarted};
 ghost use Rattle.rec_run.specs.declared.command_line.How.TheVariants as hows;
@@ -25,7 +26,7 @@ pub fn drive_script<R: Threads + Wait + Sync, G: Gate>(
     script: &Script,
     gate: &G,
 ) -> Result<Outcome, NoMemory>
-    ensures outcome { IfOk result (IsOutcome script.now hows.Threads) }
+    ensures outcome { IfOk result (IsOutcome script.now (opening_of script.now) hows.Threads) }
 
     // Each turn requests one epoch more at most.
     ensures epochs { IfOk result (λ outcome. outcome.world.epoch ≤ MOST_TURNS + 1) }

@@ -4,6 +4,7 @@
 //! the settled heap and the totals, or a summary of them. Where a trace is asked for, the heap is traced before it is settled, and a
 //! line behind the text tells of it. Asked to make a script, it writes one that is drawn from a seed; asked to audit, it writes what is
 //! to be said of a journal. Of a script that is played it can write the collector's journal or the settled heap's image instead.
+//! Asked to resume, it reads such an image and mutators behind it, and their commands go on with that heap.
 //! The rule that it keeps: each printed answer is the one that a heap that never frees gives to the same commands in one
 //! order; an allocation is answered full only where no slot was free; and after settling just the objects that registers
 //! reach hold slots, listed with true counts. Leaving is answered `NotYet` only by a step that found the log that the
@@ -13,6 +14,7 @@
 #![tactic(auto)]
 
 mod answer;
+mod auditing;
 mod command_line;
 mod driving;
 mod finish;
@@ -20,6 +22,7 @@ mod keeping;
 mod outcome;
 mod playing;
 mod reading;
+mod resuming;
 mod running;
 mod status;
 mod tracing;

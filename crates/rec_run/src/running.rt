@@ -7,17 +7,19 @@ ghost use Rattle.rec_io.specs.Source.{Passes};
 ghost use Rattle.rec_io.specs.Told.{KeepsTold};
 ghost use Rattle.rec_script.specs.Script.{IsText, IsRefused};
 ghost use Rattle.rec_script.specs.declared.error.Kind.{Kind};
-ghost use Rattle.rec_run.specs.CommandLine.{Asks, AsksToAudit, AsksToMake, AsksToRead, HasFewTurns, IsCommandLine, IsInRange, ReadsSource};
+ghost use Rattle.rec_run.specs.CommandLine.{Asks, AsksToAudit, AsksToMake, AsksToRead, AsksToResume, HasFewTurns, IsCommandLine, IsInRange, ReadsSource};
 ghost use Rattle.rec_run.specs.Ends.{Ends, HasCause, passage, untouched};
-ghost use Rattle.rec_run.specs.Headline.{AnswersTo, SaysVerdict, TellsOf, WroteAnswer, WroteFront};
+ghost use Rattle.rec_run.specs.Headline.{AnswersTo, ResumesTo, SaysVerdict, TellsOf, WroteAnswer, WroteFront};
+ghost use Rattle.rec_run.specs.Resuming.{IsResumable, IsUnresumed};
 ghost use Rattle.rec_run.specs.Status.{may_write};
 ghost use Rattle.rec_run.specs.declared.command_line.Request.{Request as Asked};
 
-use crate::answer::answer_script;
-use crate::command_line::{How, Keeping, Make, Refusal, Request, read_words};
+use crate::answer::{answer_outcome, answer_script};
+use crate::command_line::{How, Keeping, Make, Play, Refusal, Request, Resume, read_words};
 use crate::finish::finish;
 use crate::keeping::keep_script;
 use crate::reading::{ReadStop, read_all};
+use crate::resuming::{read_resumed, resume_script};
 use crate::status::Status;
 use crate::writing::{write_lines, write_text};
 use rec_audit::check;
@@ -68,6 +70,15 @@ pub fn run<R: Threads + Wait + Sync, S: Source, K: Flush, G: Gate>(
         → ¬ Rose (S.faults source.old) (S.faults source.new) → ¬ Rose (K.faults sink.old) (K.faults sink.new)
         → (result ≡ Status.Done) ⊎ (result ≡ Status.NoMemory) }
 
+    // An image that is told, with mutators behind it, goes on, unless a count rises or memory runs out; and bytes that are none are
+    // refused.
+    ensures resumed { AsksToResume (map (λ word. word.now) words.now) → (bytes : List ℕ) → S.rest source.old ≡ Some bytes → IsResumable bytes
+        → ¬ Rose (S.faults source.old) (S.faults source.new) → ¬ Rose (K.faults sink.old) (K.faults sink.new)
+        → (result ≡ Status.Done) ⊎ (result ≡ Status.NoMemory) }
+    ensures unresumed { AsksToResume (map (λ word. word.now) words.now) → (bytes : List ℕ) → S.rest source.old ≡ Some bytes → ¬ IsResumable bytes
+        → ¬ Rose (S.faults source.old) (S.faults source.new)
+        → ((line : ℕ) × (kind : Kind) × IsUnresumed bytes line kind × (result ≡ Status.BadScript line kind)) ⊎ (result ≡ Status.NoMemory) }
+
     // A text that is told and is no script's is refused with its line and kind, unless a read fails or memory runs out.
     ensures refuses { AsksToRead (map (λ word. word.now) words.now) → (bytes : List ℕ) (line : ℕ) (kind : Kind) → S.rest source.old ≡ Some bytes
         → IsRefused bytes line kind → ¬ Rose (S.faults source.old) (S.faults source.new)
@@ -112,6 +123,7 @@ fn carry_out<R: Threads + Wait + Sync, S: Source, K: Sink, G: Gate>(
     match request {
         Request::Answer(how) => answer_source(rt, alloc, how, source, sink, gate),
         Request::Keep(asked) => keep_source(alloc, asked, source, sink),
+        Request::Resume(asked) => resume_source(rt, alloc, asked, source, sink),
         Request::Make(make) => write_made(alloc, make, sink),
         Request::Audit => audit_source(alloc, source, sink),
     }
@@ -209,6 +221,70 @@ fn keep(alloc: Global, asked: Keeping, bytes: Vec<u8>) -> Result<Vec<u8>, Script
     // The bytes are needed no more: their room is given back before what is kept takes its own.
     drop(bytes);
     keep_script(alloc, &played, asked).map_err(|_| ScriptError::NoMemory)
+}
+
+// Reads an image and the mutators behind it to the end, goes on from there, and writes the answer.
+fn resume_source<R: Threads + Sync, S: Source, K: Sink>(
+    rt: &R,
+    alloc: Global,
+    asked: Resume,
+    source: &mut S,
+    sink: &mut K,
+) -> Status
+    requires { asked.turns ≤ MOST_TURNS }
+    ensures ends { Ends (Request.Resume asked) result (passage S.rest S.faults source.old source.new) (passage K.written K.faults sink.old sink.new) }
+    ensures unwritten { may_write result ≡ false → sink.new ≡ sink.old }
+    ensures reads { result ≢ Status.ReadFault → S.faults source.new ≡ S.faults source.old }
+    ensures writes { result ≢ Status.WriteFault → K.faults sink.new ≡ K.faults sink.old }
+    ensures left { (bytes : List ℕ) × Passes (S.rest source.old) (S.rest source.new) bytes }
+    ensures never_falls { K.faults sink.old ≤ K.faults sink.new }
+{
+    let bytes = match read_all(alloc, source) {
+        Ok(bytes) => bytes,
+        Err(ReadStop::Fault) => return Status::ReadFault,
+        Err(ReadStop::NoMemory) => return Status::NoMemory,
+    };
+    let text = match resume(rt, alloc, asked, bytes) {
+        Ok(text) => text,
+        Err(ScriptError::Bad { line, kind }) => return Status::BadScript { line, kind },
+        Err(ScriptError::NoMemory) => return Status::NoMemory,
+    };
+    match write_lines(sink, &text) {
+        Ok(()) => Status::Done,
+        Err(_) => Status::WriteFault,
+    }
+}
+
+// The answer of the image in the bytes, and of the mutators behind it.
+fn resume<R: Threads + Sync>(
+    rt: &R,
+    alloc: Global,
+    asked: Resume,
+    bytes: Vec<u8>,
+) -> Result<Text, ScriptError>
+    requires { asked.turns ≤ MOST_TURNS }
+    ensures answer { IfOk result (λ text. ResumesTo bytes.items asked (flat_map (λ line. line) text)) }
+    ensures refused { (line : ℕ) (kind : Kind) → result ≡ Err (ScriptError.Bad line kind) → IsUnresumed bytes.items line kind }
+{
+    let (image, script) = match read_resumed(alloc, &bytes) {
+        Ok(read) => read,
+        Err(error) => return Err(error),
+    };
+    // The bytes are needed no more: their room is given back before the heap takes its own.
+    drop(bytes);
+    let how = Play {
+        seed: asked.seed,
+        turns: asked.turns,
+        summary: false,
+        trace: false,
+    };
+    let Ok(outcome) = resume_script(alloc, &script, &image, how) else {
+        return Err(ScriptError::NoMemory);
+    };
+    match answer_outcome(rt, alloc, &script, How::Play(how), outcome) {
+        Ok(text) => Ok(text),
+        Err(_) => Err(ScriptError::NoMemory),
+    }
 }
 
 // Reads a journal to its end, or past its limit, and writes what is to be said of it.

@@ -9,7 +9,7 @@ use Rattle.rec_model.specs.declared.limits.TheConstants.{MOST_SLOTS, MOST_FIELDS
 use Rattle.rec_model.specs.declared.command.Cmd.TheVariants.{New, Leaf, Null, Copy, Get, Put, Value, Same, Leave}
 use Rattle.rec_model.specs.Operands.{HasOperands, HasLabel}
 use Rattle.rec_script.specs.declared.error.Kind.{Kind}
-use Rattle.rec_script.specs.declared.error.Kind.TheVariants.{TooLong, NotUtf8, NoHeader, BadHeap, NoMutator, BadCommand, TooManyMutators, TooManyCommands, BadNumber, Register, Field}
+use Rattle.rec_script.specs.declared.error.Kind.TheVariants.{TooLong, NotUtf8, NoHeader, BadHeap, NoMutator, BadCommand, TooManyMutators, TooManyCommands, BadNumber, Register, Field, BadImage}
 use Rattle.rec_script.specs.Lines.{lines, words, is_counted, counted, AreUtf8}
 
 -- what a script holds: its version, the numbers of its heap, and the commands of each mutator in turn
@@ -250,3 +250,4 @@ name_of TooManyCommands = codes "TooManyCommands"
 name_of BadNumber = codes "BadNumber"
 name_of Register = codes "Register"
 name_of Field = codes "Field"
+name_of BadImage = codes "BadImage"

@@ -3,7 +3,7 @@
 use std::fmt;
 use thiserror::Error;
 
-/// What is wrong with a text. Of one line the first kind in this order is told that fits; the last three are told of the
+/// What is wrong with a text. Of one line the first kind in this order is told that fits; `BadNumber`, `Register` and `Field` are told of the
 /// first operand from the left that is wrong.
 #[derive(Clone, Copy, Debug, PartialEq, Eq)]
 pub enum Kind {
@@ -29,6 +29,8 @@ pub enum Kind {
     Register,
     /// A field is out of range.
     Field,
+    /// No image goes on with the line. No script is refused so: it is told of what stands before the mutators of a heap that goes on.
+    BadImage,
 }
 
 impl fmt::Display for Kind {
@@ -50,6 +52,7 @@ impl fmt::Display for Kind {
             Kind::BadNumber => "BadNumber",
             Kind::Register => "Register",
             Kind::Field => "Field",
+            Kind::BadImage => "BadImage",
         })
     }
 }

@@ -100,8 +100,8 @@ fn leave(heap: &Heap, mutator: &mut Mutator, signals: &Signals)
     }
 }
 
-// Polls until nobody works.
-fn poll_on(heap: &Heap, mutator: &mut Mutator, signals: &Signals)
+/// Polls until nobody works.
+pub fn poll_on(heap: &Heap, mutator: &mut Mutator, signals: &Signals)
     requires { IsMutatorOf heap.now mutator.old }
     ensures { mutator.new ≡ record mutator.old { log = mutator.new.log } }
 {

@@ -2,8 +2,8 @@
 
 ghost use Rattle.std.specs.Prelude.{◌≡◌, ◌≤◌, [], IfOk};
 ghost use Rattle.std.specs.List.{sum};
-ghost use Rattle.rec_core.specs.Core.{opened};
-ghost use Rattle.rec_play.specs.Played.{AreReady, config_of, lengths_of};
+ghost use Rattle.rec_play.specs.Played.{AreReady, lengths_of};
+ghost use Rattle.rec_play.specs.Start.{MayBegin};
 
 use rec_collector::{Sets, Turn};
 use rec_model::Cmd;
@@ -79,12 +79,12 @@ fn collect(world: &mut World) -> (u64, Sets) {
 
 // The heap of a script.
 fn open_world(alloc: Global, script: &Script) -> Result<World, OpenError>
-    ensures { IfOk result (λ world. world ≡ opened (config_of script.now)) }
+    ensures { IfOk result (MayBegin script.now) }
 {
     World::open(alloc, config_for(script))
 }
 
-// Plays a script on the heap that was opened for it.
+// Plays a script on a heap on which it may begin.
 fn play_on(
     script: &Script,
     seed: u64,
@@ -92,7 +92,7 @@ fn play_on(
     journals: &mut [Journal],
     order: &mut Order,
 )
-    requires opened { world.old ≡ opened (config_of script.now) }
+    requires begins { MayBegin script.now world.old }
     requires journals { AreReady script.now.commands journals.old }
     requires order { order.old.list ≡ [] }
     requires room { sum (lengths_of script.now) ≤ order.old.room }

@@ -17,6 +17,11 @@ const LIMITS: Limits = Limits {
     freed: u64::MAX,
 };
 
+const ROUNDS: u32 = 40;
+
+// As many mutators as most races have, at most: a race of many threads on few processors takes long.
+const FEW: u32 = 8;
+
 // Makes a ring, shows it in the first object, takes it off there, and drops one of its two objects. The other is held at the end.
 const RING: [Cmd; 7] = [
     Cmd::New { reg: 1, label: 1 },
@@ -115,13 +120,26 @@ fn race_leaving<R: Abort + Threads + Sync>(
     Ok(leftovers)
 }
 
+// How many mutators a race has: a few in most, and in the first ones up to as many as a heap has.
+fn mutators_in(round: u32) -> u32 {
+    match round {
+        0 => 16,
+        1 => 31,
+        2 => 62,
+        3 => u32::from(MOST_MUTATORS),
+        _ => round % FEW + 1,
+    }
+}
+
 // From one mutator to as many as a heap has, of which all leave or one stays. What is left is the first object, where one stays who holds it.
 #[test]
 fn nothing_is_left_of_those_that_leave(rt: HostRuntime) -> Result<(), Fail> {
     let alloc: Global = rt.alloc();
     let mut is_put_off = false;
-    for round in 0..200u32 {
-        let (mutators, staying) = (round % u32::from(MOST_MUTATORS) + 1, round % 2);
+    for round in 0..ROUNDS {
+        let mutators = mutators_in(round);
+        // By turns, and the other way round at each next walk through the few.
+        let staying = (round + round / FEW) % 2;
         let left = race_leaving(&rt, alloc, mutators, staying)?;
         let present = u64::from(staying.min(mutators));
         assert_eq!(rt; left.present, present, "round {round}");

@@ -77,8 +77,8 @@ pub fn race<R: Abort + Threads + Sync>(
     Ok((world, seen))
 }
 
-// A heap that was opened and set running.
-fn start(
+/// A heap that was opened and set running.
+pub fn start(
     rt: &impl Abort,
     alloc: Global,
     config: Config,
@@ -87,6 +87,18 @@ fn start(
     ensures collector { IfOk result (λ r. IsCollectorOf r.0 r.2) }
 {
     let world = World::open(alloc, config)?;
+    set_running(rt, alloc, world)
+}
+
+/// A heap that was set running, where its world is at rest with the mailboxes at home.
+pub fn set_running(
+    rt: &impl Abort,
+    alloc: Global,
+    world: World,
+) -> Result<(Heap, Vec<Mutator>, Collector), Fail>
+    ensures mutators { IfOk result (λ r. AreMutatorsOf r.0 r.1.items) }
+    ensures collector { IfOk result (λ r. IsCollectorOf r.0 r.2) }
+{
     assert!(rt;
         world.at_rest() && world.boxes_home(),
         "the world may not be started"
@@ -97,8 +109,8 @@ fn start(
     Ok(started)
 }
 
-// The world that a heap is when it is stopped, which is never refused.
-fn stop(alloc: Global, heap: Heap, mutators: Vec<Mutator>, collector: Collector) -> World
+/// The world that a heap is when it is stopped, which is never refused.
+pub fn stop(alloc: Global, heap: Heap, mutators: Vec<Mutator>, collector: Collector) -> World
     requires mutators { AreMutatorsOf heap mutators.items }
     requires collector { IsCollectorOf heap collector }
     ensures { AreIdle result }

@@ -1,14 +1,16 @@
 //! Callers of the library: how a heap is opened, driven, set running on threads, and settled.
 //!
 //! `cycle` drives a world by one thread, and watches the counts of a garbage cycle turn by turn. `threads` lets two mutators of a
-//! running heap make a cycle each, while its collector turns, on a thread each; `main` settles what they leave. Nothing stands on this
-//! crate: it is there to be read. `docs/ONE-CYCLE.md` tells its turns in the field's words.
+//! running heap make a cycle each, while its collector turns, on a thread each; `main` settles what they leave. `finalizer` is told of
+//! each freed object, and drops what that owned outside the heap. Nothing stands on this crate: it is there to be read.
+//! `docs/ONE-CYCLE.md` tells the turns of `cycle` in the field's words.
 //! That a run of threads is one run of the core is a clause of `threads::run`, which passes on what stopping promises.
 #![tactic(auto)]
 
 mod collecting;
 mod crew;
 mod cycle;
+mod finalizer;
 mod ring;
 mod threads;
 
@@ -26,7 +28,7 @@ fn main(rt: HostRuntime) -> anyhow::Result<()> {
     on_one_thread(&rt, alloc)?;
     let (born, live) = on_three_threads(&rt, alloc)?;
     println!(rt; "on three threads: born {born}, live {live}")?;
-    Ok(())
+    with_payloads(&rt, alloc)
 }
 
 // A world that one thread drives, watched turn by turn.
@@ -43,6 +45,14 @@ fn make_and_watch(out: &impl Print, world: &mut World) -> anyhow::Result<()>
     ring::make(world);
     cycle::watch(out, world)?;
     Ok(())
+}
+
+// A running heap whose objects own payloads outside of it.
+fn with_payloads(out: &impl Print, alloc: Global) -> anyhow::Result<()> {
+    match finalizer::open(alloc) {
+        Ok(world) => finalizer::run(out, alloc, world),
+        Err(error) => Err(error.into()),
+    }
 }
 
 // A running heap, settled once its threads have ended: how many objects were born, and how many live.

@@ -3,6 +3,7 @@ pub mod Opened
 pub mod Runs
 pub mod Sends
 pub mod Settles
+pub mod Renews
 pub mod Standings
 pub mod Starts
 pub mod Still

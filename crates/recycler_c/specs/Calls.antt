@@ -7,6 +7,10 @@ use Rattle.rec_core.specs.Config.{IsConfig}
 use Rattle.rec_core.specs.Core.{Core, opened, sight}
 use Rattle.rec_core.specs.declared.config.Config.{Config}
 use Rattle.rec_counts.specs.Counts.{slot_at}
+use Rattle.rec_core.specs.Settled.{IsSettled}
+use Rattle.rec_image.specs.Renewed.{IsRenewed, IsUnrenewed}
+use Rattle.rec_image.specs.declared.error.RenewError.{RenewError}
+use Rattle.rec_image.specs.declared.error.RenewError.TheVariants as renewals
 use Rattle.rec_model.specs.Heap.{Heap}
 use Rattle.rec_model.specs.Sight.{StandsBy}
 use Rattle.rec_model.specs.declared.command.Cmd.{Cmd}
@@ -280,6 +284,29 @@ abbrev pub Settles : Option End → Settled → Code → Option End → Settled 
 Settles h told codes.Ok h' told' = HasSettled h h' told'
 Settles h told codes.EpochsSpent h' told' = HasFewEpochs h × (h' ≡ h) × (told' ≡ told)
 Settles h told code h' told' = LacksRest h code × (h' ≡ h) × (told' ≡ told)
+
+-- A heap at rest began anew, with so many slots: what registers reached is as it was (`IsRenewed`), and who tells goes on.
+pub record HasRenewed (slots : ℕ) (h h' : Option End) : Type 0 where
+  pub before : Core
+  pub was : rests_in h ≡ Some before
+  pub after : Core
+  pub is : rests_in h' ≡ Some after
+  pub renewed : IsRenewed before slots after
+  pub settled : IsSettled after
+  pub teller : tells_in h' ≡ tells_in h
+
+-- it didn't, with the cause
+pub record HasNotRenewed (slots : ℕ) (h : Option End) (error : RenewError) : Type 0 where
+  pub world : Core
+  pub is : rests_in h ≡ Some world
+  pub cause : IsUnrenewed world slots error
+
+abbrev pub Renews : (slots : ℕ) → Option End → Code → Option End → Type 0
+Renews slots h codes.Ok h' = HasRenewed slots h h'
+Renews slots h codes.Slots h' = HasNotRenewed slots h renewals.Slots × (h' ≡ h)
+Renews slots h codes.FewSlots h' = HasNotRenewed slots h renewals.FewSlots × (h' ≡ h)
+Renews slots h codes.NoMemory h' = HasNotRenewed slots h renewals.NoMemory × (h' ≡ h)
+Renews slots h code h' = LacksRest h code × (h' ≡ h)
 
 -- The collector made its turns: as the first relation says where nobody is told, and else as the second.
 pub record HasTurned (makes : CollectorView → CollectorView → Turn → Type 0) (tells : CollectorView → Tellers → CollectorView → Tellers → Telling → Type 0) (h h' : Option End) (told : Turned) : Type 0 where

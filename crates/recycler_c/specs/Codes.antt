@@ -4,6 +4,8 @@ use Rattle.rec_core.specs.declared.part.Part.{Part}
 use Rattle.rec_core.specs.declared.part.Part.TheVariants as parts
 use Rattle.rec_world.specs.declared.open_error.OpenError.{OpenError}
 use Rattle.rec_world.specs.declared.open_error.OpenError.TheVariants as errors
+use Rattle.rec_image.specs.declared.error.RenewError.{RenewError}
+use Rattle.rec_image.specs.declared.error.RenewError.TheVariants as renewals
 use Rattle.recycler_c.specs.declared.code.Code.{Code}
 use Rattle.recycler_c.specs.declared.code.Code.TheVariants as codes
 
@@ -26,6 +28,7 @@ number_of codes.Range = 13
 number_of codes.EpochsSpent = 14
 number_of codes.Shared = 15
 number_of codes.Left = 16
+number_of codes.FewSlots = 17
 
 -- the code of a number that is out of its range
 abbrev pub code_at : Part → Code
@@ -40,6 +43,12 @@ code_at parts.FirstEpoch = codes.FirstEpoch
 abbrev pub code_of : OpenError → Code
 code_of (errors.Config part) = code_at part
 code_of errors.NoMemory = codes.NoMemory
+
+-- the code of a heap that doesn't begin anew
+abbrev pub renewal_code : RenewError → Code
+renewal_code renewals.Slots = codes.Slots
+renewal_code renewals.FewSlots = codes.FewSlots
+renewal_code renewals.NoMemory = codes.NoMemory
 
 -- a call answered this number, and of its code this holds
 abbrev pub Answers : ℕ → (Code → Type 0) → Type 0

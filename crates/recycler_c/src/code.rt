@@ -10,7 +10,7 @@ pub enum Code {
     Ok = 0,
     /// There is no memory for it.
     NoMemory = 1,
-    /// The first number of the heap that is out of its range.
+    /// The first number of the heap that is out of its range, as it is opened or begins anew.
     Slots = 2,
     Fields = 3,
     Registers = 4,
@@ -35,6 +35,8 @@ pub enum Code {
     Shared = 15,
     /// The mutator has left, and is asked nothing any more.
     Left = 16,
+    /// Registers reach more objects than there would be slots.
+    FewSlots = 17,
 }
 
 impl Code {

@@ -1,14 +1,14 @@
 //! What C calls. Each export calls one function of the modules beside this one.
 ghost use Rattle.std.specs.Prelude.{◌≡◌, Some};
 ghost use Rattle.rec_model.specs.declared.command.Cmd.TheVariants as commands;
-ghost use Rattle.recycler_c.specs.Calls.{Asks, AsksNotices, CollectsIn, Closes, Counts, HearsIn, Looks, Opens, Polls, Settles, Starts, Stops, Tallies, TurnsIn, held};
+ghost use Rattle.recycler_c.specs.Calls.{Asks, AsksNotices, CollectsIn, Closes, Counts, HearsIn, Looks, Opens, Polls, Renews, Settles, Starts, Stops, Tallies, TurnsIn, held};
 ghost use Rattle.recycler_c.specs.Codes.{Answers};
 ghost use Rattle.recycler_c.specs.Narrow.{narrow};
 
 use crate::handle::Handle;
 use crate::recycler::Recycler;
 use crate::told::{Asked, Heard, Settled, Slot, Totals, Turned};
-use crate::{collecting, command, looking, noticing, opening, running};
+use crate::{collecting, command, looking, noticing, opening, renewing, running};
 use rec_model::Cmd;
 use rec_world::Config;
 use std::alloc::Global;
@@ -91,6 +91,16 @@ pub extern "C" fn recycler_settle(alloc: Global, r: &mut Recycler, told: &mut Se
     ensures listener { r.new.listener ≡ r.old.listener }
 {
     looking::settle_in(alloc, &mut r.collector, told).number()
+}
+
+/// A heap at rest begins anew, with epochs from 1 and with so many slots: what registers reach is as it was.
+#[unsafe(no_mangle)]
+pub extern "C" fn recycler_renew(alloc: Global, r: &mut Recycler, slots: u32) -> u32
+    ensures renews { Answers result (λ code. Renews slots (held r.old) code (held r.new)) }
+    ensures mutators { r.new.mutators ≡ r.old.mutators }
+    ensures listener { r.new.listener ≡ r.old.listener }
+{
+    renewing::renew_in(alloc, &mut r.collector, slots).number()
 }
 
 /// Looks at a slot of a heap at rest.

@@ -22,6 +22,7 @@ mod noticing;
 mod opening;
 mod owned;
 mod recycler;
+mod renewing;
 mod running;
 mod seating;
 mod told;

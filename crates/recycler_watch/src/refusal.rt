@@ -106,6 +106,7 @@ fn sentence_on(kind: Kind) -> &'static str {
         Kind::BadNumber => "this is no number up to 4294967295 without leading zeros",
         Kind::Register => "there is no such register; the heap's line says how many, from 0",
         Kind::Field => "there is no such field; the heap's line says how many, from 0",
+        Kind::BadImage => "no image goes on with this line",
     }
 }
 

@@ -1,5 +1,5 @@
 -- The space stands before the digits, which end with the buffer.
-use Rattle.std.proofs.Common.{◌≡◌, ◌+◌, ◌-◌, ◌<◌, ◌≤◌, ◌++◌, ◌∷◌, [], ◌∙◌, ap, append-nil, drop, length, decimal, arith}
+use Rattle.std.proofs.Common.{◌≡◌, ◌+◌, ◌-◌, ◌<◌, ◌≤◌, ◌++◌, ◌∷◌, ◌∙◌, ap, append-nil, drop, length, decimal, arith}
 use Rattle.std.proofs.lemmas.List.{drop-set, drop_all}
 use Rattle.rec_audit.proofs.Written.{twenty_digits}
 use Rattle.rec_audit.proofs.lines.write_number.Goals as goal

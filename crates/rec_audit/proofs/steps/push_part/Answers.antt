@@ -1,5 +1,5 @@
 -- The snapshot's line stands behind the entries.
-use Rattle.std.proofs.Common.{◌≡◌, ◌∙◌, ◌++◌, ◌∷◌, [], List, ap, map}
+use Rattle.std.proofs.Common.{◌∙◌, ◌++◌, ◌∷◌, [], ap, map}
 use Rattle.rec_audit.specs.Lines.{text_of, text_of_line}
 use Rattle.rec_audit.specs.Journal.{entry_line, snap_line}
 use Rattle.rec_audit.proofs.Written.{behind_lines, one_line}

@@ -1,5 +1,4 @@
 -- The lines of a step one after the other.
-use Rattle.std.proofs.Common.{◌++◌}
 use Rattle.rec_collector.specs.Shown.{batch_of, completed_of, passed_of}
 use Rattle.rec_audit.specs.Journal.{batch_lines, completed_lines, op_lines, passed_lines}
 use Rattle.rec_audit.proofs.Written.{four_parts}

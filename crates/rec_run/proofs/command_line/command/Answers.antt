@@ -6,7 +6,7 @@ use Rattle.clap.specs.Simple.{app_of_fields, has_plain_fields}
 use Rattle.clap.specs.declared.builder.command.Command.{Command}
 use Rattle.clap.specs.declared.builder.command.Command.TheViews.{out-Command}
 use Rattle.clap.proofs.WalkLemmas.{both}
-use Rattle.rec_run.specs.CommandLine.{app_with, audit, make, play, threads}
+use Rattle.rec_run.specs.CommandLine.{app_with, audit, make, play, resume, threads}
 use Rattle.rec_run.proofs.command_line.command.Goals as goal
 
 -- the settings of the program's command
@@ -42,4 +42,6 @@ returns c =
     c.in_ok-subcommand-2.ensures.shape (no_globals c.new-2.result threads c.new-2.ensures.app refl) ∙ ap₂ with_subcommand one_is (ap (λ (a : App). a.top) c.new-2.ensures.app) in
     let three_is : app_of c.in_ok-subcommand-3.field-0 ≡ with_subcommand (with_subcommand (with_subcommand (settings (new_app (codes "recycler"))) play) threads) make =
     c.in_ok-subcommand-3.ensures.shape (no_globals c.in_ok-make.make make c.in_ok-make.ensures refl) ∙ ap₂ with_subcommand two_is (ap (λ (a : App). a.top) c.in_ok-make.ensures) in
-    IfOk-weaker c.subcommand-4.result _ _ (λ command added. added.shape (no_globals c.new-3.result audit c.new-3.ensures.app refl) ∙ ap₂ with_subcommand three_is (ap (λ (a : App). a.top) c.new-3.ensures.app)) c.subcommand-4.ensures
+    let four_is : app_of c.in_ok-subcommand-4.field-0 ≡ with_subcommand (with_subcommand (with_subcommand (with_subcommand (settings (new_app (codes "recycler"))) play) threads) make) audit =
+    c.in_ok-subcommand-4.ensures.shape (no_globals c.new-3.result audit c.new-3.ensures.app refl) ∙ ap₂ with_subcommand three_is (ap (λ (a : App). a.top) c.new-3.ensures.app) in
+    IfOk-weaker c.subcommand-5.result _ _ (λ command added. added.shape (no_globals c.in_ok-resume.resume resume c.in_ok-resume.ensures refl) ∙ ap₂ with_subcommand four_is (ap (λ (a : App). a.top) c.in_ok-resume.ensures)) c.subcommand-5.ensures

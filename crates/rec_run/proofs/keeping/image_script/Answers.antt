@@ -2,7 +2,10 @@
 use Rattle.std.proofs.Common.{sym, subst}
 use Rattle.rec_core.specs.Core.{Core}
 use Rattle.rec_play.specs.Played.{lines_of}
-use Rattle.rec_run.specs.Headline.{IsKept, TellsRun}
+use Rattle.rec_play.specs.Start.{opening_of}
+use Rattle.rec_run.specs.Headline.{HasRun, IsKept, TellsRun}
+use Rattle.rec_run.specs.declared.command_line.How.TheVariants as hows
+use Rattle.rec_run.specs.declared.command_line.Play.{Play}
 use Rattle.rec_run.proofs.Endings.{if_ok}
 use Rattle.rec_run.proofs.keeping.image_script.Goals as goal
 
@@ -16,7 +19,7 @@ returns c =
       journals = lines_of o.journals.items;
       events = is.events;
       end = o.world;
-      has_run = is.has_run;
+      has_run = subst (λ (p : Play). HasRun c.args.script.now (opening_of c.args.script.now) (hows.Play p) (lines_of o.journals.items) is.events o.world) c.played.ensures is.has_run;
       world = world;
       settles = c.in-Ok.ensures.done.settles;
       settled = c.in-Ok.ensures.done.settled;

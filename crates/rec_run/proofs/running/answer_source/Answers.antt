@@ -1,15 +1,14 @@
 -- The contract of `answer_source`: reads a script to its end, runs it, and writes its answer.
 use Rattle.std.proofs.Common.{refl}
-use Rattle.rec_run.proofs.Endings.{bad_same, no_script, wrote_answer, wrote_front}
+use Rattle.rec_run.specs.declared.command_line.Request.TheVariants as requests
+use Rattle.rec_run.proofs.Endings.{bad_same, read_refused, wrote_answer, wrote_front}
 use Rattle.rec_run.proofs.Fronts.{joined}
 use Rattle.rec_run.proofs.running.answer_source.Goals as goal
 
 pub returns-in-Err-Bad-clause-ends : goal.returns-in-Err-Bad-clause-ends
-returns-in-Err-Bad-clause-ends g c = (
-  tt,
-  no_script (g.S.Source.rest c.args.source.now) (g.S.Source.rest c.read_all.new.source) c.in-Ok.bytes.items _ _ c.in-Ok.ensures.passed c.in-Ok.ensures.whole c.in-Ok.ensures.few
-      (c.in-Err-Bad.ensures.refused _ _ (bad_same c.in-Err-Bad.field-0 c.in-Err-Bad.line _ c.in-Err-Bad.kind _ c.in-Err-Bad.field-0-is refl)),
-)
+returns-in-Err-Bad-clause-ends g c =
+    read_refused (requests.Answer c.args.how) (g.S.Source.rest c.args.source.now) (g.S.Source.rest c.read_all.new.source) c.in-Ok.bytes.items _ _ c.in-Ok.ensures.passed c.in-Ok.ensures.whole c.in-Ok.ensures.few
+    (c.in-Err-Bad.ensures.refused _ _ (bad_same c.in-Err-Bad.field-0 c.in-Err-Bad.line _ c.in-Err-Bad.kind _ c.in-Err-Bad.field-0-is refl))
 
 pub returns-in-Ok-write_lines-clause-ends : goal.returns-in-Ok-write_lines-clause-ends
 returns-in-Ok-write_lines-clause-ends g c =

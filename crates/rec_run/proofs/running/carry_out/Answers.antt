@@ -25,6 +25,14 @@ returns-in-Keep-clause-ends g c =
 pub returns-in-Keep-clause-unread : goal.returns-in-Keep-clause-unread
 returns-in-Keep-clause-unread g c = λ never. absurd (never (subst ReadsSource (sym c.in-Keep.is) tt))
 
+pub returns-in-Resume-clause-ends : goal.returns-in-Resume-clause-ends
+returns-in-Resume-clause-ends g c =
+    subst (λ request. Ends request c.resume_source.result (passage g.S.Source.rest g.S.Source.faults c.args.source.now c.resume_source.new.source) (passage g.K.Sink.written g.K.Sink.faults c.args.sink.now c.resume_source.new.sink))
+    (sym c.in-Resume.is) c.resume_source.ensures.ends
+
+pub returns-in-Resume-clause-unread : goal.returns-in-Resume-clause-unread
+returns-in-Resume-clause-unread g c = λ never. absurd (never (subst ReadsSource (sym c.in-Resume.is) tt))
+
 pub returns-in-Audit-clause-ends : goal.returns-in-Audit-clause-ends
 returns-in-Audit-clause-ends g c =
     subst (λ request. Ends request c.audit_source.result (passage g.S.Source.rest g.S.Source.faults c.args.source.now c.audit_source.new.source) (passage g.K.Sink.written g.K.Sink.faults c.args.sink.now c.audit_source.new.sink))

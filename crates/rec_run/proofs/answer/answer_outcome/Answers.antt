@@ -13,37 +13,36 @@ use Rattle.rec_run.specs.declared.command_line.How.{How}
 use Rattle.rec_run.proofs.Endings.{if_ok, answers_script}
 use Rattle.rec_run.proofs.Outcomes.{in_order, many}
 use Rattle.rec_run.proofs.Tails.{tail_is}
-use Rattle.rec_run.proofs.answer.answer_script.Goals as goal
+use Rattle.rec_run.proofs.answer.answer_outcome.Goals as goal
 
 pub write_text-requires-clause-journals : goal.write_text-requires-clause-journals
 write_text-requires-clause-journals g c =
-    let o = c.in_ok-outcome.outcome in
-    let is = c.in_ok-outcome.ensures.outcome in
-    many c.args.script.now (lines_of o.journals.items) is.events o.world o.journals.items refl is.has_run.commands ∙ sym (ap (λ (k : Config). k.mutators) (c.settle.ensures.config ∙ is.config))
+    let o = c.args.outcome in
+    let (start, is) = c.requires.outcome in
+    many c.args.script.now start (lines_of o.journals.items) is.events o.world o.journals.items refl is.has_run.commands ∙ sym (ap (λ (k : Config). k.mutators) (c.settle.ensures.config ∙ is.config))
 
 pub write_text-requires-clause-order : goal.write_text-requires-clause-order
 write_text-requires-clause-order g c =
-    let o = c.in_ok-outcome.outcome in
-    let is = c.in_ok-outcome.ensures.outcome in
-    in_order c.args.script.now (lines_of o.journals.items) is.events o.world c.args.how is.has_run o.order is.order
+    let o = c.args.outcome in
+    let (start, is) = c.requires.outcome in
+    in_order c.args.script.now start (lines_of o.journals.items) is.events o.world c.args.how is.has_run o.order is.order
 
 pub write_text-requires-clause-room : goal.write_text-requires-clause-room
-write_text-requires-clause-room g c = c.in_ok-outcome.ensures.outcome.has_run.no_log_full
+write_text-requires-clause-room g c = c.requires.outcome.1.has_run.no_log_full
 
 pub returns : goal.returns
-returns g c =
+returns g c = λ start is.
     let script : ScriptContents = c.args.script.now in
     let how : How = c.args.how in
-    let o = c.in_ok-outcome.outcome in
-    let is = c.in_ok-outcome.ensures.outcome in
+    let o = c.args.outcome in
     let journals : List (List Line) = lines_of o.journals.items in
     let world : Core = c.settle.new.world in
     let number : ℕ → ℕ = is.has_run.names.number in
     let (rows, listed, told) = c.in_ok-text.ensures in
     let tail : List ℕ = tail_of c.in_ok-traced.traced c.in-Ok.settled.live in
-    if_ok c.end_text.result _ (λ text. Answers script how (flat_map (λ line. line) text))
-    (λ text whole. answers_script script how journals is.events o.world world rows (flat_map (λ line. line) text) tail is.has_run
-    c.in-Ok.ensures.done.settles c.in-Ok.ensures.done.settled (number, c.settle.ensures.stands (last_moment script is.events).heap number is.has_run.stands)
+    if_ok c.end_text.result _ (λ text. Answers script start how (flat_map (λ line. line) text))
+    (λ text whole. answers_script script start how journals is.events o.world world rows (flat_map (λ line. line) text) tail is.has_run
+    c.in-Ok.ensures.done.settles c.in-Ok.ensures.done.settled (number, c.settle.ensures.stands (last_moment script start is.events).heap number is.has_run.stands)
     (c.settle.ensures.kept.shaped.headers ∙ ap (λ (k : Config). k.slots) (c.settle.ensures.config ∙ is.config))
     listed
     (tail_is (is_traced how) o.world world c.in-Ok.settled c.in_ok-traced.traced is.idle c.in_ok-traced.ensures c.in-Ok.ensures.done)

@@ -1,0 +1,65 @@
+//! What holds of the journal of every run from an opening, each law as the contract of a function that does nothing.
+
+ghost use Rattle.std.specs.Prelude.{◌≡◌, ◌≤◌, ◌++◌, ◌∷◌, ℕ, [], false, List, Some, length};
+ghost use Rattle.rec_collector.specs.Shown.{Shown};
+ghost use Rattle.rec_core.specs.Config.{IsConfig};
+ghost use Rattle.rec_core.specs.Core.{Core, opened};
+ghost use Rattle.rec_core.specs.Logged.{works_in};
+ghost use Rattle.rec_core.specs.Moves.{AllFit, Move, after_moves, turned};
+ghost use Rattle.rec_core.specs.Shown.{Shows, shown_over, turn_shown};
+ghost use Rattle.rec_core.specs.declared.config.Config.{Config};
+ghost use Rattle.rec_audit.specs.Form.{IsInForm, Stand};
+ghost use Rattle.rec_audit.specs.Graph.{IsReachedAt};
+ghost use Rattle.rec_audit.specs.Journal.{batch_lines, journal, op_lines, sets_passed};
+ghost use Rattle.rec_audit.specs.Lines.{Line, text_of};
+ghost use Rattle.rec_audit.specs.Keeping.{Keep, behind_steps, first_place};
+ghost use Rattle.rec_audit.specs.Runs.{IsReachedIn, heap_for, place_of};
+ghost use Rattle.rec_audit.specs.Verdicts.{HasReachFault, HasStampFault, IsVerdict};
+ghost use Rattle.rec_audit.specs.declared.verdict.Verdict.TheVariants.{Yes};
+ghost use Rattle.rec_model.specs.declared.limits.TheConstants.{MOST_BYTES};
+
+/// The steps of the collector of every run keep their order and their ranges: batches follow one another, what is given up and swept
+/// stands between a batch and the end of its collection, and all numbers are of the heap.
+pub fn steps_of_runs_keep_order()
+    ensures keep { (config : Config) (shown : List Shown) (end : Core) → IsConfig config → Shows (opened config) shown end
+        → Keep (heap_for config) (first_place (heap_for config)) shown }
+    ensures place { (config : Config) (shown : List Shown) (end : Core) → IsConfig config → Shows (opened config) shown end
+        → behind_steps (first_place (heap_for config)) shown ≡ place_of end.collector }
+{}
+
+/// So each line of a run's journal may stand behind those before it. Where no collection is left open, the journal is in form.
+pub fn journals_of_runs_are_in_form()
+    ensures stand { (config : Config) (shown : List Shown) (end : Core) → IsConfig config → Shows (opened config) shown end
+        → Stand (journal (heap_for config) shown) }
+    ensures whole { (config : Config) (shown : List Shown) (end : Core) → IsConfig config → Shows (opened config) shown end
+        → works_in end.collector.phase ≡ false → IsInForm (journal (heap_for config) shown) }
+{}
+
+/// No word of such a journal names two references: no line puts a word with a target that an earlier one has put too.
+pub fn words_of_runs_differ()
+    ensures { (config : Config) (shown : List Shown) (end : Core) (before : List Line) (line : Line) (after : List Line) → IsConfig config
+        → Shows (opened config) shown end → journal (heap_for config) shown ≡ before ++ line ∷ after → ¬ HasStampFault before line }
+{}
+
+/// And no member of a set that is given up is on a path of references from a root there.
+pub fn sets_of_runs_are_unreached()
+    ensures { (config : Config) (shown : List Shown) (end : Core) (before : List Line) (line : Line) (after : List Line) → IsConfig config
+        → Shows (opened config) shown end → journal (heap_for config) shown ≡ before ++ line ∷ after → ¬ HasReachFault before line }
+{}
+
+/// What is on a path from a root in such a journal, where the collector's step gives a set up, is in the reach of the run's epoch there,
+/// or is a free slot.
+pub fn reach_of_journals_is_of_runs()
+    ensures { (config : Config) (moves : List Move) (step : Shown) (members : List ℕ) (slot : ℕ) → IsConfig config → AllFit (opened config) moves
+        → turn_shown (after_moves (opened config) moves) ≡ step ∷ [] → step.passed ≡ Some members
+        → IsReachedAt (journal (heap_for config) (shown_over (opened config) moves) ++ (batch_lines step.batch ++ op_lines step.op step.word)) slot
+        → IsReachedIn (turned (after_moves (opened config) moves)) slot }
+{}
+
+/// So the journal of every run from an opening in which no collection is left open is answered yes, with as many sets as passed both
+/// tests, unless its text is too long. No other verdict is that of its text.
+pub fn journals_of_runs_are_answered_yes()
+    ensures { (config : Config) (shown : List Shown) (end : Core) → IsConfig config → Shows (opened config) shown end
+        → works_in end.collector.phase ≡ false → length (text_of (journal (heap_for config) shown)) ≤ MOST_BYTES
+        → IsVerdict (text_of (journal (heap_for config) shown)) (Yes (sets_passed shown)) }
+{}

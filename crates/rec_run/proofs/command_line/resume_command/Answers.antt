@@ -1,0 +1,11 @@
+-- The contract of `resume_command`: the subcommand that goes on with the heap of an image.
+use Rattle.std.proofs.Common.{ap₂, codes, ◌∙◌}
+use Rattle.std.proofs.lemmas.Result.{IfOk-weaker}
+use Rattle.clap.specs.Words.{with_rule}
+use Rattle.rec_run.proofs.command_line.resume_command.Goals as goal
+
+pub returns : goal.returns
+returns c =
+    IfOk-weaker c.arg-2.result _ _
+    (λ command added. added.shape c.option-turns.ensures.own
+    ∙ ap₂ with_rule (c.in_ok-arg.ensures.shape c.option-seed.ensures.own ∙ ap₂ with_rule c.new.ensures.app c.option-seed.ensures.rule) c.option-turns.ensures.rule) c.arg-2.ensures

@@ -1,0 +1,27 @@
+-- The contract of `resume_source`: reads an image and mutators to the end, goes on from there, and writes the answer.
+use Rattle.std.proofs.Common.{refl}
+use Rattle.rec_run.specs.declared.command_line.Request.TheVariants as requests
+use Rattle.rec_run.proofs.Endings.{bad_same, read_refused, wrote_resumed, wrote_resumed_front}
+use Rattle.rec_run.proofs.Fronts.{joined}
+use Rattle.rec_run.proofs.running.resume_source.Goals as goal
+
+pub returns-in-Err-Bad-clause-ends : goal.returns-in-Err-Bad-clause-ends
+returns-in-Err-Bad-clause-ends g c =
+    read_refused (requests.Resume c.args.asked) (g.S.Source.rest c.args.source.now) (g.S.Source.rest c.read_all.new.source) c.in-Ok.bytes.items _ _ c.in-Ok.ensures.passed c.in-Ok.ensures.whole c.in-Ok.ensures.few
+    (c.in-Err-Bad.ensures.refused _ _ (bad_same c.in-Err-Bad.field-0 c.in-Err-Bad.line _ c.in-Err-Bad.kind _ c.in-Err-Bad.field-0-is refl))
+
+pub returns-in-Ok-write_lines-clause-ends : goal.returns-in-Ok-write_lines-clause-ends
+returns-in-Ok-write_lines-clause-ends g c =
+    wrote_resumed c.args.asked (g.S.Source.rest c.args.source.now) (g.S.Source.rest c.read_all.new.source) (g.K.Sink.written c.args.sink.now) (g.K.Sink.written c.write_lines.new.sink)
+    c.in-Ok.bytes.items (joined c.in-Ok-resume.text) c.in-Ok.ensures.passed c.in-Ok.ensures.whole
+    c.in-Ok-resume.ensures.answer
+    c.in-Ok-write_lines.ensures.written
+
+pub returns-clause-ends : goal.returns-clause-ends
+returns-clause-ends g c = (
+  c.in-Err.ensures.fault,
+  wrote_resumed_front c.args.asked (g.S.Source.rest c.args.source.now) (g.S.Source.rest c.read_all.new.source) (g.K.Sink.written c.args.sink.now) (g.K.Sink.written c.write_lines.new.sink)
+      c.in-Ok.bytes.items (joined c.in-Ok-resume.text) c.in-Ok.ensures.passed c.in-Ok.ensures.whole
+      c.in-Ok-resume.ensures.answer
+      c.in-Err.ensures.front,
+)
