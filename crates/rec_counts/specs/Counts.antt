@@ -34,9 +34,13 @@ with_slot s x v = record s { slots = changed_at s.slots x v }
 abbrev pub opened_slots : ℕ → ℕ → List Slot
 opened_slots slots first = changed_at (replicate slots fresh) 0 (record fresh { count = first })
 
+-- these slots, of which no list has any
+abbrev pub unlisted : List Slot → State
+unlisted slots = record { slots = slots; roots = []; sets = []; marked = []; work = []; zeros = []; free = [] }
+
 -- at opening all lists are empty
 abbrev pub opened : ℕ → ℕ → State
-opened slots first = record { slots = opened_slots slots first; roots = []; sets = []; marked = []; work = []; zeros = []; free = [] }
+opened slots first = unlisted (opened_slots slots first)
 
 -- a slot at opening that has this count
 abbrev pub counted : ℕ → Slot
@@ -48,7 +52,7 @@ counted_slots slots counts = map counted counts ++ replicate (slots - length cou
 
 -- at such an opening all lists are empty
 abbrev pub opened_from : ℕ → List ℕ → State
-opened_from slots counts = record { slots = counted_slots slots counts; roots = []; sets = []; marked = []; work = []; zeros = []; free = [] }
+opened_from slots counts = unlisted (counted_slots slots counts)
 
 -- the slot goes where it is due
 abbrev pub sent : Due → State → ℕ → State

@@ -1,8 +1,9 @@
 //! The counts, colours, flags, buffers and lists of all slots.
 ghost use Rattle.std.specs.Prelude.{IfOk, ◌≡◌, ℕ, ◌+◌, ◌-◌, ◌<◌, ◌≤◌, ◌^◌, true, false, Some, None, List, [], ◌∷◌, ◌++◌, length, drop, map, slice_get, slice_index_or as item_at};
 ghost use Rattle.rec_counts.specs.Batched.{batched};
-ghost use Rattle.rec_counts.specs.Counts.{IsKept, IsLastSetNew, counted_slots as counted_slots_of, decremented, opened, opened_from, opened_slots, slot_at, with_joined, with_slot, without_last_set, without_root};
+ghost use Rattle.rec_counts.specs.Counts.{IsKept, IsLastSetNew, counted_slots as counted_slots_of, decremented, opened, opened_from, opened_slots, slot_at, unlisted, with_joined, with_slot, without_last_set, without_root};
 ghost use Rattle.rec_counts.specs.Groups.{last_set};
+ghost use Rattle.rec_counts.specs.Kept.{Kept};
 ghost use Rattle.rec_counts.specs.Lists.{EachOnce, times};
 ghost use Rattle.rec_counts.specs.Slot.{absent, lowered, raised, swept_clean, unbuffered_if, unrooted};
 
@@ -82,22 +83,31 @@ fn counted_slots(alloc: Global, number: u16, counts: &[u64]) -> Result<Vec<Slot>
 }
 
 impl Counts {
+    /// Counts over these slots, which stand in no list.
+    fn of_slots(alloc: Global, number: u16, slots: Vec<Slot>) -> Result<Counts, NoMemory>
+        requires number { length slots.items ≡ number }
+        requires kept { Kept slots.items [] [] [] [] [] [] }
+        ensures { IfOk result (λ counts. counts ≡ unlisted slots.items) }
+    {
+        let room = usize::from(number) * 2;
+        Ok(Counts {
+            slots,
+            roots: Queue::open(alloc, room)?,
+            sets: CycleBuffer::open(alloc, number)?,
+            marked: Queue::open(alloc, room)?,
+            work: Queue::open(alloc, room)?,
+            zeros: Queue::open(alloc, room)?,
+            free: Queue::open(alloc, room)?,
+            touched: Touched::open(alloc, number)?,
+        })
+    }
+
     /// Counts for this many slots. Slot 0 has the true count `first`, every other slot one; all slots are Black and in no
     /// buffer, and all lists are empty. All memory is taken here.
     pub fn open(alloc: Global, slots: u16, first: u64) -> Result<Counts, NoMemory>
         ensures { IfOk result (λ counts. counts ≡ opened slots first) }
     {
-        let room = slots as usize * 2;
-        Ok(Counts {
-            slots: opening_slots(alloc, slots as usize, first)?,
-            roots: Queue::open(alloc, room)?,
-            sets: CycleBuffer::open(alloc, slots)?,
-            marked: Queue::open(alloc, room)?,
-            work: Queue::open(alloc, room)?,
-            zeros: Queue::open(alloc, room)?,
-            free: Queue::open(alloc, room)?,
-            touched: Touched::open(alloc, slots)?,
-        })
+        Counts::of_slots(alloc, slots, opening_slots(alloc, slots as usize, first)?)
     }
 
     /// Counts for this many slots, of which the first have these true counts, and every other one. All slots are Black and in
@@ -106,17 +116,7 @@ impl Counts {
         requires { length counts.now ≤ slots }
         ensures { IfOk result (λ made. made ≡ opened_from slots counts.now) }
     {
-        let room = slots as usize * 2;
-        Ok(Counts {
-            slots: counted_slots(alloc, slots, counts)?,
-            roots: Queue::open(alloc, room)?,
-            sets: CycleBuffer::open(alloc, slots)?,
-            marked: Queue::open(alloc, room)?,
-            work: Queue::open(alloc, room)?,
-            zeros: Queue::open(alloc, room)?,
-            free: Queue::open(alloc, room)?,
-            touched: Touched::open(alloc, slots)?,
-        })
+        Counts::of_slots(alloc, slots, counted_slots(alloc, slots, counts)?)
     }
 
     /// How many slots there are.
