@@ -5,6 +5,7 @@ ghost use Rattle.rec_counts.specs.Counts.{IsKept, IsLastSetNew, counted_slots as
 ghost use Rattle.rec_counts.specs.Groups.{last_set};
 ghost use Rattle.rec_counts.specs.Kept.{Kept};
 ghost use Rattle.rec_counts.specs.Lists.{EachOnce, times};
+ghost use Rattle.rec_counts.specs.Shelf.{empty};
 ghost use Rattle.rec_counts.specs.Slot.{absent, lowered, raised, swept_clean, unbuffered_if, unrooted};
 
 use crate::changes::{Changes, make_changes};
@@ -82,6 +83,30 @@ fn counted_slots(alloc: Global, number: u16, counts: &[u64]) -> Result<Vec<Slot>
     Ok(slots)
 }
 
+/// The lists of slots that are no sets, as they are opened: empty, each with the same room.
+#[derive(Drop)]
+struct Queues {
+    roots: Queue,
+    marked: Queue,
+    work: Queue,
+    zeros: Queue,
+    free: Queue,
+}
+
+impl Queues {
+    fn open(alloc: Global, room: usize) -> Result<Queues, NoMemory>
+        ensures { IfOk result (λ queues. queues ≡ record { roots = empty room; marked = empty room; work = empty room; zeros = empty room; free = empty room }) }
+    {
+        Ok(Queues {
+            roots: Queue::open(alloc, room)?,
+            marked: Queue::open(alloc, room)?,
+            work: Queue::open(alloc, room)?,
+            zeros: Queue::open(alloc, room)?,
+            free: Queue::open(alloc, room)?,
+        })
+    }
+}
+
 impl Counts {
     /// Counts over these slots, which stand in no list.
     fn of_slots(alloc: Global, number: u16, slots: Vec<Slot>) -> Result<Counts, NoMemory>
@@ -89,16 +114,18 @@ impl Counts {
         requires kept { Kept slots.items [] [] [] [] [] [] }
         ensures { IfOk result (λ counts. counts ≡ unlisted slots.items) }
     {
-        let room = usize::from(number) * 2;
+        let sets = CycleBuffer::open(alloc, number)?;
+        let touched = Touched::open(alloc, number)?;
+        let queues = Queues::open(alloc, usize::from(number) * 2)?;
         Ok(Counts {
             slots,
-            roots: Queue::open(alloc, room)?,
-            sets: CycleBuffer::open(alloc, number)?,
-            marked: Queue::open(alloc, room)?,
-            work: Queue::open(alloc, room)?,
-            zeros: Queue::open(alloc, room)?,
-            free: Queue::open(alloc, room)?,
-            touched: Touched::open(alloc, number)?,
+            roots: queues.roots,
+            sets,
+            marked: queues.marked,
+            work: queues.work,
+            zeros: queues.zeros,
+            free: queues.free,
+            touched,
         })
     }
 

@@ -1,5 +1,6 @@
 //! A list of slots that is worked off from its front.
 ghost use Rattle.std.specs.Prelude.{IfOk, ◌≡◌, ℕ, ◌+◌, ◌-◌, ◌<◌, ◌≤◌, [], ◌∷◌, ◌++◌, length, take, drop, slice_get};
+ghost use Rattle.rec_counts.specs.Shelf.{empty};
 
 use std::alloc::{AllocError as NoMemory, Global};
 use std::marker::Model;
@@ -37,7 +38,7 @@ fn move_to_front(items: &mut [u16], head: usize)
 impl Queue {
     /// An empty list with this room.
     pub fn open(alloc: Global, room: usize) -> Result<Queue, NoMemory>
-        ensures { IfOk result (λ queue. queue ≡ record { list = []; room = room }) }
+        ensures { IfOk result (λ queue. queue ≡ empty room) }
     {
         let items = vec![in alloc; 0; room]?;
         Ok(Queue {
