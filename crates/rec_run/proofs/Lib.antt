@@ -9,6 +9,7 @@ pub mod Options
 pub mod Outcomes
 pub mod Requests
 pub mod Resumed
+pub mod Subcommands
 pub mod Tails
 pub mod Turns
 pub mod Audits

@@ -43,8 +43,8 @@ pub fn answer_script<R: Threads + Wait + Sync, G: Gate>(
     requires { HasFewTurns how }
     ensures { IfOk result (λ text. Answers script.now (opening_of script.now) how (flat_map (λ line. line) text)) }
 {
-    let outcome = carry_out(rt, alloc, script, how, gate)?;
-    answer_outcome(rt, alloc, script, how, outcome)
+    let mut outcome = carry_out(rt, alloc, script, how, gate)?;
+    answer_outcome(rt, alloc, script, how, &mut outcome)
 }
 
 /// The answer of a run that left this: its heap is settled, and what was told and what is left are written. Whichever way a script was
@@ -54,18 +54,18 @@ pub fn answer_outcome<R: Threads + Sync>(
     alloc: Global,
     script: &Script,
     how: How,
-    mut outcome: Outcome,
+    outcome: &mut Outcome,
 ) -> Result<Text, NoMemory>
-    requires outcome { (start : Start) × IsOutcome script.now start how outcome }
-    requires epochs { outcome.world.epoch ≤ MOST_TURNS + 1 }
-    ensures { (start : Start) → IsOutcome script.now start how outcome → IfOk result (λ text. Answers script.now start how (flat_map (λ line. line) text)) }
+    requires outcome { (start : Start) × IsOutcome script.now start how outcome.old }
+    requires epochs { outcome.old.world.epoch ≤ MOST_TURNS + 1 }
+    ensures { (start : Start) → IsOutcome script.now start how outcome.old → IfOk result (λ text. Answers script.now start how (flat_map (λ line. line) text)) }
 {
     let traced = trace_world(rt, alloc, how, &outcome.world)?;
     // There are epochs enough left to settle.
     let Ok(settled) = settle(&mut outcome.world) else {
         unreachable!();
     };
-    let text = write_text(alloc, script, wants_summary(how), &outcome)?;
+    let text = write_text(alloc, script, wants_summary(how), outcome)?;
     end_text(alloc, text, traced, settled.live)
 }
 

@@ -1,6 +1,6 @@
 //! The words that the program is called with.
-ghost use Rattle.std.specs.Prelude.{◌≡◌, ◌≢◌, false, ◌≤◌, ℕ, [], map, option_map, Err, IfOk, IfSome, IfNone};
-ghost use Rattle.clap.specs.Words.{app_of, fault_of, found_of, rows_of, rule_of, subcommand_of, subcommand_rows_of};
+ghost use Rattle.std.specs.Prelude.{◌≡◌, ◌≢◌, false, ◌≤◌, ℕ, [], map, option_map, true, Err, IfOk, IsOk, IfSome, IfNone};
+ghost use Rattle.clap.specs.Words.{with_subcommand as joined, app_of, fault_of, found_of, rows_of, rule_of, subcommand_of, subcommand_rows_of};
 ghost use Rattle.rec_run.specs.CommandLine.{app_with, flag, option, make as make_shape, play as play_shape, recycler, resume as resume_shape, is_set, Says, AsksKeeping, AsksPlay, AsksMake, AsksResume, AsksBy, Asks, IsCommandLine};
 ghost use Rattle.rec_run.specs.declared.command_line.Keeping.{Keeping as Keeps};
 ghost use Rattle.rec_run.specs.declared.command_line.Make.{Make as Making};
@@ -145,38 +145,41 @@ fn matches_of<'a>(alloc: Global, words: &'a [&'a str]) -> Result<ArgMatches<'a>,
 fn command<'a>(alloc: Global) -> Result<Command<'a>, NoMemory>
     ensures { IfOk result (λ command. app_of command ≡ recycler) }
 {
-    let play = play_command(alloc)?;
-    let make = make_command(alloc)?;
-    let resume = resume_command(alloc)?;
-    Command::new(alloc, "recycler")
+    let command = Command::new(alloc, "recycler")
         .disable_help_flag(true)
         .disable_help_subcommand(true)
         .disable_version_flag(true)
-        .subcommand_required(true)
-        .subcommand(play)?
-        .subcommand(Command::new(alloc, "threads"))?
-        .subcommand(make)?
-        .subcommand(Command::new(alloc, "audit"))?
-        .subcommand(resume)
+        .subcommand_required(true);
+    let command = with_subcommand(command, play_command(alloc))?;
+    let command = command.subcommand(Command::new(alloc, "threads"))?;
+    let command = with_subcommand(command, make_command(alloc))?;
+    let command = command.subcommand(Command::new(alloc, "audit"))?;
+    with_subcommand(command, resume_command(alloc))
+}
+
+// The command with one subcommand more, where that one was made.
+fn with_subcommand<'a>(
+    command: Command<'a>,
+    made: Result<Command<'a>, NoMemory>,
+) -> Result<Command<'a>, NoMemory>
+    requires plain { IfOk made (λ sub. (app_of sub).top.is_plain ≡ true) }
+    ensures made { IfOk result (λ whole. IsOk made.entry) }
+    ensures joined { IfOk result (λ whole. IfOk made.entry (λ sub. app_of whole ≡ joined (app_of command.entry) (app_of sub).top)) }
+{
+    command.subcommand(made?)
 }
 
 // The subcommand that plays a script.
 fn play_command<'a>(alloc: Global) -> Result<Command<'a>, NoMemory>
     ensures { IfOk result (λ command. app_of command ≡ app_with play_shape) }
 {
-    let seed = option(alloc, "seed");
-    let turns = option(alloc, "turns");
-    let summary = flag(alloc, "summary");
-    let trace = flag(alloc, "trace");
-    let audit = flag(alloc, "audit");
-    let image = flag(alloc, "image");
     Command::new(alloc, "play")
-        .arg(seed)?
-        .arg(turns)?
-        .arg(summary)?
-        .arg(trace)?
-        .arg(audit)?
-        .arg(image)
+        .arg(option(alloc, "seed"))?
+        .arg(option(alloc, "turns"))?
+        .arg(flag(alloc, "summary"))?
+        .arg(flag(alloc, "trace"))?
+        .arg(flag(alloc, "audit"))?
+        .arg(flag(alloc, "image"))
 }
 
 // An option with a value.
@@ -199,22 +202,19 @@ fn flag<'a>(alloc: Global, name: &'a str) -> Arg<'a>
 fn make_command<'a>(alloc: Global) -> Result<Command<'a>, NoMemory>
     ensures { IfOk result (λ command. app_of command ≡ app_with make_shape) }
 {
-    let seed = option(alloc, "seed");
-    let mutators = option(alloc, "mutators");
-    let commands = option(alloc, "commands");
     Command::new(alloc, "make")
-        .arg(seed)?
-        .arg(mutators)?
-        .arg(commands)
+        .arg(option(alloc, "seed"))?
+        .arg(option(alloc, "mutators"))?
+        .arg(option(alloc, "commands"))
 }
 
 // The subcommand that goes on with the heap of an image.
 fn resume_command<'a>(alloc: Global) -> Result<Command<'a>, NoMemory>
     ensures { IfOk result (λ command. app_of command ≡ app_with resume_shape) }
 {
-    let seed = option(alloc, "seed");
-    let turns = option(alloc, "turns");
-    Command::new(alloc, "resume").arg(seed)?.arg(turns)
+    Command::new(alloc, "resume")
+        .arg(option(alloc, "seed"))?
+        .arg(option(alloc, "turns"))
 }
 
 // What the subcommand that was found asks for.

@@ -3,6 +3,7 @@ ghost use Rattle.std.specs.Prelude.{◌≡◌, ◌+◌, ◌≤◌, None, map, If
 ghost use Rattle.rec_model.specs.declared.limits.TheConstants.{MOST_TURNS};
 ghost use Rattle.rec_core.specs.Worked.{AreIdle};
 ghost use Rattle.rec_table.specs.Ends.{IsStopped};
+ghost use Rattle.rec_threads.specs.Done.{HasCollected, HaveDone, IsCrewFor};
 ghost use Rattle.rec_table.specs.Views.{AreMutatorsOf, IsCollectorOf, collector_now};
 ghost use Rattle.rec_play.specs.Start.{opening_of};
 ghost use Rattle.rec_run.specs.Outcome.{IsOutcome};
@@ -32,10 +33,26 @@ pub fn drive_script<R: Threads + Wait + Sync, G: Gate>(
     ensures epochs { IfOk result (λ outcome. outcome.world.epoch ≤ MOST_TURNS + 1) }
 {
     let (heap, crew) = set_running(alloc, script)?;
-    let Ok(crew) = drive(rt, alloc, &heap, crew, script, gate) else {
-        return Err(NoMemory);
-    };
+    let crew = drive_crew(rt, alloc, &heap, crew, script, gate)?;
     Ok(stop(alloc, heap, crew))
+}
+
+// The crew behind the script's commands.
+fn drive_crew<R: Threads + Wait + Sync, G: Gate>(
+    rt: &R,
+    alloc: Global,
+    heap: &Heap,
+    crew: Crew,
+    script: &Script,
+    gate: &G,
+) -> Result<Crew, NoMemory>
+    requires { IsCrewFor heap.now script.now crew }
+    ensures done { IfOk result (λ after. HaveDone script.now.commands crew.mutators.items crew.journals.items after.mutators.items after.journals.items) }
+    ensures mutators { IfOk result (λ after. AreMutatorsOf heap.now after.mutators.items) }
+    ensures collector { IfOk result (λ after. IsCollectorOf heap.now after.collector) }
+    ensures collected { IfOk result (λ after. HasCollected MOST_TURNS crew.collector after.collector) }
+{
+    drive(rt, alloc, heap, crew, script, gate).or(Err(NoMemory))
 }
 
 // What a heap and its crew leave when the heap is stopped, which is never refused.
@@ -48,12 +65,17 @@ fn stop(alloc: Global, heap: Heap, crew: Crew) -> Outcome
     ensures journals { result.journals.items ≡ crew.journals.items }
     ensures order { result.order ≡ None }
 {
-    let Ok(world) = heap.stop(alloc, crew.mutators, crew.collector) else {
+    let Crew {
+        mutators,
+        collector,
+        journals,
+    } = crew;
+    let Some(world) = heap.stop(alloc, mutators, collector).ok() else {
         unreachable!();
     };
     Outcome {
         world,
-        journals: crew.journals,
+        journals,
         order: None,
     }
 }
@@ -77,8 +99,5 @@ fn start(alloc: Global, script: &Script) -> Result<(Heap, Vec<Mutator>, Collecto
     ensures started { IfOk result (λ r. IsStarted script.now r.0 r.1.items r.2) }
 {
     let world = open_world(alloc, script)?;
-    let Ok(started) = Heap::start(alloc, world) else {
-        return Err(NoMemory);
-    };
-    Ok(started)
+    Heap::start(alloc, world).or(Err(NoMemory))
 }

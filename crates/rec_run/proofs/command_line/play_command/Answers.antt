@@ -12,9 +12,9 @@ returns c =
     let four : App = with_rule three (flag (codes "trace")) in
     let five : App = with_rule four (flag (codes "audit")) in
     let two_are : app_of c.in_ok-arg-2.field-0 ≡ two =
-    c.in_ok-arg-2.ensures.shape c.option-turns.ensures.own
-    ∙ ap₂ with_rule (c.in_ok-arg.ensures.shape c.option-seed.ensures.own ∙ ap₂ with_rule c.new.ensures.app c.option-seed.ensures.rule) c.option-turns.ensures.rule in
-    let three_are : app_of c.in_ok-arg-3.field-0 ≡ three = c.in_ok-arg-3.ensures.shape c.flag-summary.ensures.own ∙ ap₂ with_rule two_are c.flag-summary.ensures.rule in
-    let four_are : app_of c.in_ok-arg-4.field-0 ≡ four = c.in_ok-arg-4.ensures.shape c.flag-trace.ensures.own ∙ ap₂ with_rule three_are c.flag-trace.ensures.rule in
-    let five_are : app_of c.in_ok-arg-5.field-0 ≡ five = c.in_ok-arg-5.ensures.shape c.flag-audit.ensures.own ∙ ap₂ with_rule four_are c.flag-audit.ensures.rule in
-    IfOk-weaker c.arg-6.result _ _ (λ command added. added.shape c.flag-image.ensures.own ∙ ap₂ with_rule five_are c.flag-image.ensures.rule) c.arg-6.ensures
+    c.in_ok-arg-2.ensures.shape c.option-2.ensures.own
+    ∙ ap₂ with_rule (c.in_ok-arg.ensures.shape c.option.ensures.own ∙ ap₂ with_rule c.new.ensures.app c.option.ensures.rule) c.option-2.ensures.rule in
+    let three_are : app_of c.in_ok-arg-3.field-0 ≡ three = c.in_ok-arg-3.ensures.shape c.flag.ensures.own ∙ ap₂ with_rule two_are c.flag.ensures.rule in
+    let four_are : app_of c.in_ok-arg-4.field-0 ≡ four = c.in_ok-arg-4.ensures.shape c.flag-2.ensures.own ∙ ap₂ with_rule three_are c.flag-2.ensures.rule in
+    let five_are : app_of c.in_ok-arg-5.field-0 ≡ five = c.in_ok-arg-5.ensures.shape c.flag-3.ensures.own ∙ ap₂ with_rule four_are c.flag-3.ensures.rule in
+    IfOk-weaker c.arg-6.result _ _ (λ command added. added.shape c.flag-4.ensures.own ∙ ap₂ with_rule five_are c.flag-4.ensures.rule) c.arg-6.ensures

@@ -7,5 +7,5 @@ use Rattle.rec_run.proofs.command_line.resume_command.Goals as goal
 pub returns : goal.returns
 returns c =
     IfOk-weaker c.arg-2.result _ _
-    (λ command added. added.shape c.option-turns.ensures.own
-    ∙ ap₂ with_rule (c.in_ok-arg.ensures.shape c.option-seed.ensures.own ∙ ap₂ with_rule c.new.ensures.app c.option-seed.ensures.rule) c.option-turns.ensures.rule) c.arg-2.ensures
+    (λ command added. added.shape c.option-2.ensures.own
+    ∙ ap₂ with_rule (c.in_ok-arg.ensures.shape c.option.ensures.own ∙ ap₂ with_rule c.new.ensures.app c.option.ensures.rule) c.option-2.ensures.rule) c.arg-2.ensures

@@ -29,7 +29,7 @@ returns-clause-outcome g c =
     let ms : List MutatorView = c.in_ok-heap.crew.mutators.items in
     let js : List Notes = c.in_ok-heap.crew.journals.items in
     let one_each = so.whole.ready.one_each in
-    let (events, has_run, made) = was_driven script c.in_ok-heap.heap ms c.in-Ok.crew.mutators.items js c.stop.result.journals.items c.in-Ok.crew.collector.collecting.log c.stop.result.world
+    let (events, has_run, made) = was_driven script c.in_ok-heap.heap ms c.in_ok-crew.crew.mutators.items js c.stop.result.journals.items c.in_ok-crew.crew.collector.collecting.log c.stop.result.world
     (record {
       opens = so.started.opens;
       config = so.started.config;
@@ -37,8 +37,8 @@ returns-clause-outcome g c =
       one_each = one_each;
       fresh_all = so.started.fresh_mutators;
       empty = λ k lt. (so.whole.ready.each k (fresh c.in_ok-heap.heap 1) (omega (arith, lt, one_each))).empty;
-      turns = few_turns c.in_ok-heap.heap c.in_ok-heap.crew.collector c.in-Ok.crew.collector so.started.fresh_collector c.in-Ok.ensures.collected;
-      done = subst (λ (ns : List Notes). HaveDone script.commands ms js c.in-Ok.crew.mutators.items ns) (sym c.stop.ensures.journals) c.in-Ok.ensures.done;
+      turns = few_turns c.in_ok-heap.heap c.in_ok-heap.crew.collector c.in_ok-crew.crew.collector so.started.fresh_collector c.in_ok-crew.ensures.collected;
+      done = subst (λ (ns : List Notes). HaveDone script.commands ms js c.in_ok-crew.crew.mutators.items ns) (sym c.stop.ensures.journals) c.in_ok-crew.ensures.done;
       stopped = c.stop.ensures.stopped;
     }) in
     let run = c.stop.ensures.stopped.run in

@@ -1,5 +1,6 @@
 -- The heap is started as the script's opening, with mutators and a collector that are new.
 use Rattle.std.proofs.Common.{◌≡◌, ◌∙◌, sym, ap, subst}
+use Rattle.std.proofs.lemmas.Result.{IfOk-at_ok}
 use Rattle.rec_mutator.specs.Private.{is_busy}
 use Rattle.rec_core.specs.Core.{Core, opened}
 use Rattle.rec_core.specs.Config.{IsConfig}
@@ -7,6 +8,7 @@ use Rattle.rec_core.specs.Worked.{AreIdle}
 use Rattle.rec_core.specs.declared.config.Config.{Config}
 use Rattle.rec_core.proofs.OpenedMutators.{mutator_opened}
 use Rattle.rec_play.specs.Played.{config_of}
+use Rattle.rec_run.proofs.Endings.{each_ok, if_ok_or}
 use Rattle.rec_run.proofs.driving.start.Goals as goal
 
 -- nobody works in a newly opened heap
@@ -19,12 +21,16 @@ start-requires-clause-idle c = idle_opened (config_of c.args.script.now) c.in_ok
 pub returns : goal.returns
 returns c =
     record {
-      started = record {
-        config = subst (λ (w : Core). IsConfig w.config) c.in_ok-world.ensures.opened c.in_ok-world.ensures.config;
-        opens = c.in-Ok.ensures.started ∙ c.in_ok-world.ensures.opened;
-        all = c.in-Ok.ensures.mutators;
-        fresh_mutators = c.in-Ok.ensures.fresh;
-        own = c.in-Ok.ensures.collector.0;
-        fresh_collector = c.in-Ok.ensures.collector.1;
-      };
+      started =
+          rw c.or.ensures
+          (if_ok_or c.start.result _ _
+          (each_ok c.start.result _
+          (λ made is. record {
+            config = subst (λ (w : Core). IsConfig w.config) c.in_ok-world.ensures.opened c.in_ok-world.ensures.config;
+            opens = IfOk-at_ok _ is c.start.ensures.started ∙ c.in_ok-world.ensures.opened;
+            all = IfOk-at_ok _ is c.start.ensures.mutators;
+            fresh_mutators = IfOk-at_ok _ is c.start.ensures.fresh;
+            own = (IfOk-at_ok _ is c.start.ensures.collector).0;
+            fresh_collector = (IfOk-at_ok _ is c.start.ensures.collector).1;
+          })));
     }
