@@ -278,8 +278,13 @@ fn resume<R: Threads + Sync>(
         summary: false,
         trace: false,
     };
-    let mut outcome = resume_script(alloc, &script, &image, how).or(Err(ScriptError::NoMemory))?;
-    answer_outcome(rt, alloc, &script, How::Play(how), &mut outcome).or(Err(ScriptError::NoMemory))
+    let Ok(mut outcome) = resume_script(alloc, &script, &image, how) else {
+        return Err(ScriptError::NoMemory);
+    };
+    match answer_outcome(rt, alloc, &script, How::Play(how), &mut outcome) {
+        Ok(text) => Ok(text),
+        Err(_) => Err(ScriptError::NoMemory),
+    }
 }
 
 // Reads a journal to its end, or past its limit, and writes what is to be said of it.

@@ -17,13 +17,13 @@ use Rattle.rec_run.proofs.answer.answer_outcome.Goals as goal
 
 pub write_text-requires-clause-journals : goal.write_text-requires-clause-journals
 write_text-requires-clause-journals g c =
-    let o = c.args.outcome.old in
+    let o = c.args.outcome.now in
     let (start, is) = c.requires.outcome in
     many c.args.script.now start (lines_of o.journals.items) is.events o.world o.journals.items refl is.has_run.commands ∙ sym (ap (λ (k : Config). k.mutators) (c.settle.ensures.config ∙ is.config))
 
 pub write_text-requires-clause-order : goal.write_text-requires-clause-order
 write_text-requires-clause-order g c =
-    let o = c.args.outcome.old in
+    let o = c.args.outcome.now in
     let (start, is) = c.requires.outcome in
     in_order c.args.script.now start (lines_of o.journals.items) is.events o.world c.args.how is.has_run o.order is.order
 
@@ -34,7 +34,7 @@ pub returns : goal.returns
 returns g c = λ start is.
     let script : ScriptContents = c.args.script.now in
     let how : How = c.args.how in
-    let o = c.args.outcome.old in
+    let o = c.args.outcome.now in
     let journals : List (List Line) = lines_of o.journals.items in
     let world : Core = c.settle.new.world in
     let number : ℕ → ℕ = is.has_run.names.number in
