@@ -47,3 +47,13 @@ pub reports : (hired : Result (PromisedHandle Report Duty) Report) (report : Rep
     → MatchBool report.orders.value (HasDone cmds w report.worker) (report.worker ≡ w)
 reports (Ok h) report cmds w was own done _ _ = subst (λ (x : List Cmd × Worker). MatchBool report.orders.value (HasDone x.0 x.1 report.worker) (report.worker ≡ x.1)) (λ i. (own i, was i)) done
 reports (Err r) report cmds w _ _ _ done is = subst (λ (x : Report). MatchBool x.orders.value (HasDone cmds w x.worker) (x.worker ≡ w)) (sym is) done
+
+-- as many came back as were sent out
+pub all_back : (b : Bool) (h : Started) (cmds : List (List Cmd)) (rest back : Crew) → HasEnded b h cmds rest back → (length back.mutators.items ≡ length rest.mutators.items) × (length back.journals.items ≡ length rest.journals.items)
+all_back true h cmds rest back ended = (ended.done.mutators_all, ended.done.journals_all)
+all_back false h cmds rest back ended = (ap length ended.mutators, ap length ended.journals)
+
+-- Its orders are those of all, whether its thread was had or not.
+pub ordered : (hired : Result (PromisedHandle Report Duty) Report) (report : Report) (id : ℕ) → IfOk hired (λ h. h.promise.signals.now.orders.id ≡ id) → IfOk hired (λ h. report.orders.of ≡ h.promise.signals.now.orders.id) → IfErr hired (λ r. r.orders.of ≡ id) → IfErr hired (λ r. report ≡ r) → report.orders.of ≡ id
+ordered (Ok h) report id is of _ _ = of ∙ is
+ordered (Err r) report id _ _ of is = ap (λ (x : Report). x.orders.of) is ∙ of

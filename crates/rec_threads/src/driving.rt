@@ -115,9 +115,12 @@ fn hire<'s, 'e, R: Threads + Wait + Sync, G: Gate>(
     let worker = Worker { mutator, journal };
     let hired = hire_one(rt, scope, heap, gate, signals, worker, commands);
     let (crew, orders) = hire(rt, scope, heap, script, gate, signals, crew);
-    let report = report(rt, hired);
-    report.orders.agrees(&orders);
-    (taken_back(crew, report.worker), orders)
+    let Report {
+        worker,
+        orders: told,
+    } = report_of(rt, hired);
+    told.agrees(&orders);
+    (taken_back(crew, worker), orders)
 }
 
 // Starts the thread of one worker. Where it can't be had that is told, so the worker doesn't begin, and its report is here at once.
@@ -169,7 +172,7 @@ fn hire_one<'s, 'e, R: Threads + Wait + Sync, G: Gate>(
 }
 
 // What a worker reports once its thread has ended.
-fn report<'e, R: Threads>(
+fn report_of<'e, R: Threads>(
     rt: &R,
     hired: Result<PromisedHandle<Report<'e>, Duty<'e>>, Report<'e>>,
 ) -> Report<'e>

@@ -1,10 +1,10 @@
 -- The contract of `+hire`: starts a worker for each mutator.
-use Rattle.std.proofs.Common.{◌≡◌, ◌≤◌, ℕ, Bool, MatchBool, List, length, refl, sym, subst, ◌∙◌}
+use Rattle.std.proofs.Common.{◌≡◌, ◌≤◌, ℕ, Bool, MatchBool, List, length, refl, sym, subst, ◌∙◌, arith}
 use Rattle.rec_model.specs.declared.command.Cmd.{Cmd}
 use Rattle.rec_threads.specs.Done.{HasDone, IsReady, commands_at}
 use Rattle.rec_threads.specs.declared.crew.Crew.{Crew}
 use Rattle.rec_threads.specs.declared.worker.Worker.{Worker}
-use Rattle.rec_threads.proofs.Crews.{one_more, own_commands, reports, rest_ready}
+use Rattle.rec_threads.proofs.Crews.{all_back, one_more, ordered, own_commands, reports, rest_ready}
 use Rattle.rec_threads.proofs.Lists.{together}
 use Rattle.rec_threads.proofs.Works.{all_operands}
 use Rattle.rec_threads.proofs.driving.+hire.Goals as goal
@@ -57,13 +57,31 @@ pub returns-clause-ended : goal.returns-clause-ended
 returns-clause-ended g t c =
     let rest : Crew = record c.args.crew { mutators = c.pop.new.self; journals = c.pop-2.new.self } in
     let w : Worker = together c.in-Some.mutator c.in-Some-pop.journal in
-    let v : Worker = c.report-report.result.worker in
+    let v : Worker = c.report_of-worker.result.worker in
     let k : ℕ = length c.pop.new.self.items in
     let both = rest_ready c.args.heap.now c.args.script.now c.args.crew rest w c.in-Some.ensures.items c.in-Some-pop.ensures.items c.requires.ready in
     let cmds : commands_at c.args.script.now.commands k ≡ c.commands-commands.result.now = own_commands c.args.script.now.commands k c.number.result c.commands-commands.result.now (c.number.ensures.number ∙ both.1.named) c.commands-commands.ensures.value in
     let hired = c.hire_one-hired.ensures in
-    let report = c.report-report.ensures in
-    let last : MatchBool c.report-report.result.orders.value (HasDone c.commands-commands.result.now w v) (v ≡ w) = reports c.hire_one-hired.result c.report-report.result c.commands-commands.result.now w hired.was hired.commands report.done hired.done report.ended in
+    let report = c.report_of-worker.ensures in
+    let last : MatchBool c.report_of-worker.result.orders.value (HasDone c.commands-commands.result.now w v) (v ≡ w) = reports c.hire_one-hired.result c.report_of-worker.result c.commands-commands.result.now w hired.was hired.commands report.done hired.done report.ended in
     let agreed : MatchBool c.hire-crew.result.1.value (HasDone (commands_at c.args.script.now.commands k) w v) (v ≡ w) = subst (λ (x : Bool × List Cmd). MatchBool x.0 (HasDone x.1 w v) (v ≡ w)) (λ i. (c.agrees.ensures i, sym cmds i)) last in
     one_more c.hire-crew.result.1.value c.args.heap.now c.args.script.now.commands c.args.crew rest c.hire-crew.result.0 c.taken_back.result w v c.in-Some.ensures.items c.in-Some-pop.ensures.items refl both.0.one_each c.hire-crew.ensures.ended agreed
     c.taken_back.ensures.mutators c.taken_back.ensures.journals c.taken_back.ensures.collector
+
+pub taken_back-requires-clause-mutators_room : goal.taken_back-requires-clause-mutators_room
+taken_back-requires-clause-mutators_room g t c =
+    let rest : Crew = record c.args.crew { mutators = c.pop.new.self; journals = c.pop-2.new.self } in
+    let back : length c.hire-crew.result.0.mutators.items ≡ length rest.mutators.items = (all_back c.hire-crew.result.1.value c.args.heap.now c.args.script.now.commands rest c.hire-crew.result.0 c.hire-crew.ensures.ended).0 in
+    grind (arith, back, c.in-Some.ensures.len, c.in-Some-pop.ensures.len)
+
+pub taken_back-requires-clause-journals_room : goal.taken_back-requires-clause-journals_room
+taken_back-requires-clause-journals_room g t c =
+    let rest : Crew = record c.args.crew { mutators = c.pop.new.self; journals = c.pop-2.new.self } in
+    let back : length c.hire-crew.result.0.journals.items ≡ length rest.journals.items = (all_back c.hire-crew.result.1.value c.args.heap.now c.args.script.now.commands rest c.hire-crew.result.0 c.hire-crew.ensures.ended).1 in
+    grind (arith, back, c.in-Some.ensures.len, c.in-Some-pop.ensures.len)
+
+pub agrees-requires : goal.agrees-requires
+agrees-requires g t c =
+    let hired = c.hire_one-hired.ensures in
+    let report = c.report_of-worker.ensures in
+    ordered c.hire_one-hired.result c.report_of-worker.result c.args.signals.now.orders.id hired.signals report.orders hired.orders report.ended ∙ sym c.hire-crew.ensures.orders
