@@ -1,12 +1,15 @@
 -- A crew with one worker more.
-use Rattle.std.proofs.Common.{◌≡◌, ℕ, ◌+◌, ◌-◌, Bool, MatchBool, true, false, List, [], ◌∷◌, ◌++◌, Some, length, slice_get, sym, ap, subst, ◌∙◌, arith}
+use Rattle.std.proofs.Common.{◌≡◌, ℕ, ◌+◌, ◌-◌, Bool, MatchBool, IfErr, IfOk, Result, Ok, Err, true, false, List, [], ◌∷◌, ◌++◌, Some, length, slice_get, sym, ap, subst, ◌∙◌, arith}
 use Rattle.std.proofs.lemmas.Option.{get_or_from_slice_get}
+use Rattle.std.specs.declared.thread.PromisedHandle.{PromisedHandle}
 use Rattle.rec_model.specs.declared.command.Cmd.{Cmd}
 use Rattle.rec_script.specs.Script.{ScriptContents}
 use Rattle.rec_table.specs.Views.{CollectorView, MutatorView, Started, IsCollectorOf}
 use Rattle.rec_world.specs.Journal.{Notes}
 use Rattle.rec_threads.specs.Done.{AreReady, HasCollected, HasDone, HasEnded, HaveDone, IsReady, commands_at}
 use Rattle.rec_threads.specs.declared.crew.Crew.{Crew}
+use Rattle.rec_threads.specs.declared.duty.Duty.{Duty}
+use Rattle.rec_threads.specs.declared.duty.Report.{Report}
 use Rattle.rec_threads.specs.declared.worker.Worker.{Worker}
 use Rattle.rec_threads.proofs.Lists.{done_more, earlier_ready, last_ready}
 
@@ -37,3 +40,20 @@ pub own_commands : (all : List (List Cmd)) (k number : ℕ) (cmds : List Cmd) �
 own_commands all k number cmds is there =
     let index : number - 1 ≡ k = omega (arith, is) in
     get_or_from_slice_get all k cmds [] (ap (slice_get all) (sym index) ∙ there)
+
+-- What a worker reports at last is what it owes, whether its thread was had or not.
+pub reports : (hired : Result (PromisedHandle Report Duty) Report) (report : Report) (cmds : List Cmd) (w : Worker) → IfOk hired (λ h. h.promise.was.value ≡ w) → IfOk hired (λ h. h.promise.commands.now ≡ cmds)
+    → IfOk hired (λ h. MatchBool report.orders.value (HasDone h.promise.commands.now h.promise.was.value report.worker) (report.worker ≡ h.promise.was.value)) → IfErr hired (λ r. MatchBool r.orders.value (HasDone cmds w r.worker) (r.worker ≡ w)) → IfErr hired (λ r. report ≡ r)
+    → MatchBool report.orders.value (HasDone cmds w report.worker) (report.worker ≡ w)
+reports (Ok h) report cmds w was own done _ _ = subst (λ (x : List Cmd × Worker). MatchBool report.orders.value (HasDone x.0 x.1 report.worker) (report.worker ≡ x.1)) (λ i. (own i, was i)) done
+reports (Err r) report cmds w _ _ _ done is = subst (λ (x : Report). MatchBool x.orders.value (HasDone cmds w x.worker) (x.worker ≡ w)) (sym is) done
+
+-- as many came back as were sent out
+pub all_back : (b : Bool) (h : Started) (cmds : List (List Cmd)) (rest back : Crew) → HasEnded b h cmds rest back → (length back.mutators.items ≡ length rest.mutators.items) × (length back.journals.items ≡ length rest.journals.items)
+all_back true h cmds rest back ended = (ended.done.mutators_all, ended.done.journals_all)
+all_back false h cmds rest back ended = (ap length ended.mutators, ap length ended.journals)
+
+-- Its orders are those of all, whether its thread was had or not.
+pub ordered : (hired : Result (PromisedHandle Report Duty) Report) (report : Report) (id : ℕ) → IfOk hired (λ h. h.promise.signals.now.orders.id ≡ id) → IfOk hired (λ h. report.orders.of ≡ h.promise.signals.now.orders.id) → IfErr hired (λ r. r.orders.of ≡ id) → IfErr hired (λ r. report ≡ r) → report.orders.of ≡ id
+ordered (Ok h) report id is of _ _ = of ∙ is
+ordered (Err r) report id _ _ of is = ap (λ (x : Report). x.orders.of) is ∙ of

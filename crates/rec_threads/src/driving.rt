@@ -14,13 +14,14 @@ use crate::duty::{Duty, Report, follow};
 use crate::gate::Gate;
 use crate::signals::Signals;
 use crate::worker::Worker;
+use rec_model::Cmd;
 use rec_script::Script;
 use rec_table::Heap;
 use std::alloc::{AllocError as NoMemory, Global};
 use std::snapshot::Snapshot;
 use std::sync::{OnceToken, Wait};
 use std::thread;
-use std::thread::{Scope, Threads};
+use std::thread::{PromisedHandle, Scope, Threads};
 
 /// Carries out the commands of a script on a running heap, each mutator's on a thread of its own, with the collector beside them.
 ///
@@ -112,6 +113,39 @@ fn hire<'s, 'e, R: Threads + Wait + Sync, G: Gate>(
     };
     let commands = script.commands(mutator.number());
     let worker = Worker { mutator, journal };
+    let hired = hire_one(rt, scope, heap, gate, signals, worker, commands);
+    let (crew, orders) = hire(rt, scope, heap, script, gate, signals, crew);
+    let Report {
+        worker,
+        orders: told,
+    } = report_of(rt, hired);
+    told.agrees(&orders);
+    (taken_back(crew, worker), orders)
+}
+
+// Starts the thread of one worker. Where it can't be had that is told, so the worker doesn't begin, and its report is here at once.
+fn hire_one<'s, 'e, R: Threads + Wait + Sync, G: Gate>(
+    rt: &'e R,
+    scope: &Scope<'s, &'e ()>,
+    heap: &'e Heap,
+    gate: &'e G,
+    signals: &'e Signals,
+    worker: Worker,
+    commands: &'e [Cmd],
+) -> Result<PromisedHandle<Report<'e>, Duty<'e>>, Report<'e>>
+    requires shared { IsSync R.row × IsSync G.row }
+    requires own { IsMutatorOf heap.now worker.mutator }
+    requires room { length commands.now ≤ worker.journal.room }
+    requires valid { All (MayAsk (mutator_now worker.mutator)) commands.now }
+    requires leaves_last { LeavesLast commands.now }
+    requires few { length commands.now ≤ MOST_COMMANDS }
+
+    ensures signals { IfOk result (λ handle. handle.promise.signals.now.orders.id ≡ signals.now.orders.id) }
+    ensures was { IfOk result (λ handle. handle.promise.was.value ≡ worker) }
+    ensures commands { IfOk result (λ handle. handle.promise.commands.now ≡ commands.now) }
+    ensures orders { IfErr result (λ report. report.orders.of ≡ signals.now.orders.id) }
+    ensures done { IfErr result (λ report. MatchBool report.orders.value (HasDone commands.now worker report.worker) (report.worker ≡ worker)) }
+{
     let duty = Duty {
         was: Snapshot::of(&worker),
         commands,
@@ -129,19 +163,26 @@ fn hire<'s, 'e, R: Threads + Wait + Sync, G: Gate>(
             ensures done { MatchBool result.orders.value (HasDone commands.entry.now worker result.worker) (result.worker ≡ worker) }
         { follow(rt, heap, gate, signals, worker, commands) },
     ) {
-        Ok(handle) => {
-            let (crew, orders) = hire(rt, scope, heap, script, gate, signals, crew);
-            let report = handle.join(rt);
-            report.orders.agrees(&orders);
-            (taken_back(crew, report.worker), orders)
-        }
+        Ok(handle) => Ok(handle),
         Err(refused) => {
             signals.order(rt, false);
-            let report = (refused.value)();
-            let (crew, orders) = hire(rt, scope, heap, script, gate, signals, crew);
-            report.orders.agrees(&orders);
-            (taken_back(crew, report.worker), orders)
+            Err((refused.value)())
         }
+    }
+}
+
+// What a worker reports once its thread has ended.
+fn report_of<'e, R: Threads>(
+    rt: &R,
+    hired: Result<PromisedHandle<Report<'e>, Duty<'e>>, Report<'e>>,
+) -> Report<'e>
+    ensures orders { IfOk hired.entry (λ handle. result.orders.of ≡ handle.promise.signals.now.orders.id) }
+    ensures done { IfOk hired.entry (λ handle. MatchBool result.orders.value (HasDone handle.promise.commands.now handle.promise.was.value result.worker) (result.worker ≡ handle.promise.was.value)) }
+    ensures ended { IfErr hired.entry (λ report. result ≡ report) }
+{
+    match hired {
+        Ok(handle) => handle.join(rt),
+        Err(report) => report,
     }
 }
 

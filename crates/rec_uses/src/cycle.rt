@@ -42,8 +42,7 @@ pub fn watch(out: &impl Print, world: &mut World) -> io::Result<()>
 {
     for turn in 1..=TURNS {
         let told = world.turn();
-        let (first, second, third) = (world.count(0), world.count(1), world.count(2));
-        println!(out; "turn {turn}: counts {first} {second} {third}, {told:?}")?;
+        print_turn(out, turn, told, world)?;
         match told {
             Turn::Waiting { mutator } => {
                 world.poll(mutator);
@@ -53,4 +52,11 @@ pub fn watch(out: &impl Print, world: &mut World) -> io::Result<()>
         }
     }
     Ok(())
+}
+
+fn print_turn(out: &impl Print, turn: u32, told: Turn, world: &World) -> io::Result<()>
+    requires { IsReady world.now }
+{
+    let (first, second, third) = (world.count(0), world.count(1), world.count(2));
+    println!(out; "turn {turn}: counts {first} {second} {third}, {told:?}")
 }

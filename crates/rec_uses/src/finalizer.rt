@@ -45,10 +45,9 @@ struct Payloads {
 impl Payloads {
     // Payloads of three bytes for the two owners. The heap's first object has label 0, and none.
     fn of_owners(alloc: Global) -> Result<Payloads, NoMemory> {
-        let mut of = Vec::new(alloc);
-        of.push(None)?;
-        of.push(Some(Vec::from_array(alloc, *b"one")?))?;
-        of.push(Some(Vec::from_array(alloc, *b"two")?))?;
+        let one = Vec::from_array(alloc, *b"one")?;
+        let two = Vec::from_array(alloc, *b"two")?;
+        let of = Vec::from_array(alloc, [None, Some(one), Some(two)])?;
         Ok(Payloads { of })
     }
 
@@ -73,9 +72,14 @@ pub fn run(out: &impl Print, alloc: Global, world: World) -> anyhow::Result<()>
 {
     match Heap::start(alloc, world) {
         Ok((heap, mut mutators, mut collector)) => {
-            work(out, alloc, &heap, &mut mutators, &mut collector)
+            let worked = work(out, alloc, &heap, &mut mutators, &mut collector);
+            drop((heap, mutators, collector));
+            worked
         }
-        Err((_, error)) => Err(error.into()),
+        Err((world, error)) => {
+            drop(world);
+            Err(error.into())
+        }
     }
 }
 

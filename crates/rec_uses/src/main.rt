@@ -34,7 +34,11 @@ fn main(rt: HostRuntime) -> anyhow::Result<()> {
 // A world that one thread drives, watched turn by turn.
 fn on_one_thread(out: &impl Print, alloc: Global) -> anyhow::Result<()> {
     match cycle::open(alloc) {
-        Ok(mut world) => make_and_watch(out, &mut world),
+        Ok(mut world) => {
+            let watched = make_and_watch(out, &mut world);
+            drop(world);
+            watched
+        }
         Err(error) => Err(error.into()),
     }
 }
@@ -72,7 +76,11 @@ fn run_and_settle<R: Threads + Sync>(
     requires home { All (λ word. word % 2 ≡ 0) world.crossing }
 {
     match threads::run(rt, alloc, world) {
-        Ok(mut stopped) => born_and_live(&mut stopped),
+        Ok(mut stopped) => {
+            let counted = born_and_live(&mut stopped);
+            drop(stopped);
+            counted
+        }
         Err(error) => Err(error.into()),
     }
 }

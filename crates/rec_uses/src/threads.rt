@@ -20,7 +20,10 @@ pub fn run<R: Threads + Sync>(rt: &R, alloc: Global, world: World) -> Result<Wor
 {
     match Heap::start(alloc, world) {
         Ok((heap, mutators, collector)) => Ok(work_through(rt, alloc, heap, mutators, collector)),
-        Err((_, error)) => Err(error),
+        Err((world, error)) => {
+            drop(world);
+            Err(error)
+        }
     }
 }
 
