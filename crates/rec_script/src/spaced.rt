@@ -86,15 +86,15 @@ fn operand(below: u32, bytes: &[u8], end: u8) -> Option<(u8, &[u8])>
     }
 }
 
-/// Two operands below a limit that end a line, and what is behind it.
+/// Two operands, each below its limit, that end a line, and what is behind it.
 #[inline(always)]
-fn two_operands(below: u32, bytes: &[u8]) -> Option<(u8, u8, &[u8])>
-    requires { below ≤ 64 }
+fn two_operands(limits: (u32, u32), bytes: &[u8]) -> Option<(u8, u8, &[u8])>
+    requires { (limits.0 ≤ 64) × (limits.1 ≤ 64) }
     ensures found { IfSome result (λ x. bytes.now ≡ spaced (decimal x.0 ∷ decimal x.1 ∷ []) x.2.now) }
-    ensures below { IfSome result (λ x. (x.0 < below) × (x.1 < below)) }
+    ensures below { IfSome result (λ x. (x.0 < limits.0) × (x.1 < limits.1)) }
 {
-    let (first, rest) = operand(below, bytes, b' ')?;
-    let (second, rest) = operand(below, rest, b'\n')?;
+    let (first, rest) = operand(limits.0, bytes, b' ')?;
+    let (second, rest) = operand(limits.1, rest, b'\n')?;
     Some((first, second, rest))
 }
 
@@ -107,8 +107,7 @@ fn three_operands(limits: (u32, u32, u32), bytes: &[u8]) -> Option<(u8, u8, u8, 
     ensures below { IfSome result (λ x. (x.0 < limits.0) × (x.1 < limits.1) × (x.2 < limits.2)) }
 {
     let (first, rest) = operand(limits.0, bytes, b' ')?;
-    let (second, rest) = operand(limits.1, rest, b' ')?;
-    let (third, rest) = operand(limits.2, rest, b'\n')?;
+    let (second, third, rest) = two_operands((limits.1, limits.2), rest)?;
     Some((first, second, third, rest))
 }
 
@@ -135,7 +134,7 @@ fn behind(first: u8, bytes: &[u8]) -> Option<&[u8]>
     }
 }
 
-/// The command with these operands, behind the name that its line begins with.
+/// The command that reads a field, behind the name and the blank at the front of its line, and what is behind the line.
 #[inline(always)]
 fn get(registers: u32, fields: u32, bytes: &[u8]) -> Option<(Cmd, &[u8])>
     requires registers { registers ≤ 64 }
@@ -148,7 +147,7 @@ fn get(registers: u32, fields: u32, bytes: &[u8]) -> Option<(Cmd, &[u8])>
     Some((Cmd::Get { dst, src, field }, rest))
 }
 
-/// The same of the command that puts.
+/// The same of the command that writes a field.
 #[inline(always)]
 fn put(registers: u32, fields: u32, bytes: &[u8]) -> Option<(Cmd, &[u8])>
     requires registers { registers ≤ 64 }
@@ -205,7 +204,7 @@ fn copy(registers: u32, bytes: &[u8]) -> Option<(Cmd, &[u8])>
     ensures in_range { (fields : ℕ) → IfSome result (λ x. IsCommand registers fields x.0) }
     ensures since { IfSome result (λ x. since x.0 ≡ 1) }
 {
-    let (dst, src, rest) = two_operands(registers, bytes)?;
+    let (dst, src, rest) = two_operands((registers, registers), bytes)?;
     Some((Cmd::Copy { dst, src }, rest))
 }
 
@@ -217,7 +216,7 @@ fn same(registers: u32, bytes: &[u8]) -> Option<(Cmd, &[u8])>
     ensures in_range { (fields : ℕ) → IfSome result (λ x. IsCommand registers fields x.0) }
     ensures since { IfSome result (λ x. since x.0 ≡ 1) }
 {
-    let (a, b, rest) = two_operands(registers, bytes)?;
+    let (a, b, rest) = two_operands((registers, registers), bytes)?;
     Some((Cmd::Same { a, b }, rest))
 }
 
