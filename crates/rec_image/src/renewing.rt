@@ -32,7 +32,10 @@ pub fn renew(alloc: Global, world: World, slots: u32) -> Result<World, (World, R
 {
     let (world, log_entries) = with_log_entries(world);
     match open_anew(alloc, &world, slots, log_entries) {
-        Ok(new) => Ok(new),
+        Ok(new) => {
+            drop(world);
+            Ok(new)
+        }
         Err(error) => Err((world, error)),
     }
 }

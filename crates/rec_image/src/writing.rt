@@ -25,8 +25,12 @@ const FRAME: usize = 64;
 
 /// How many bytes an image of this heap has at most, with so many objects.
 fn most_bytes(objects: usize, heap: Heap) -> usize {
-    let of_object = (heap.fields as usize).saturating_mul(WORD).saturating_add(LINE);
-    let of_mutator = (heap.registers as usize).saturating_mul(WORD).saturating_add(LINE);
+    let of_object = (heap.fields as usize)
+        .saturating_mul(WORD)
+        .saturating_add(LINE);
+    let of_mutator = (heap.registers as usize)
+        .saturating_mul(WORD)
+        .saturating_add(LINE);
     let of_objects = objects.saturating_mul(of_object);
     let of_mutators = (heap.mutators as usize).saturating_mul(of_mutator);
     of_objects.saturating_add(of_mutators).saturating_add(FRAME)

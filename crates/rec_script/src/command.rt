@@ -153,7 +153,7 @@ fn birth(registers: u32, count: usize, rest: &[u8]) -> Result<(u8, u32), Kind>
     Ok((reg as u8, label))
 }
 
-/// The operands of a line that has two registers and then a field.
+/// The command that reads a field, of a line that has its operands: two registers and a field.
 fn get(registers: u32, fields: u32, count: usize, rest: &[u8]) -> Result<Cmd, Kind>
     requires few { count ≤ MOST_COMMANDS }
     requires registers { registers ≤ 64 }
@@ -174,7 +174,7 @@ fn get(registers: u32, fields: u32, count: usize, rest: &[u8]) -> Result<Cmd, Ki
     })
 }
 
-/// The operands of a line that has a register, a field and a register.
+/// The command that writes a field, of a line that has its operands: a register, a field and a register.
 fn put(registers: u32, fields: u32, count: usize, rest: &[u8]) -> Result<Cmd, Kind>
     requires few { count ≤ MOST_COMMANDS }
     requires registers { registers ≤ 64 }
@@ -214,10 +214,19 @@ fn with_operands(
         (limits_of registers fields named) (words rest.now) kind) }
 {
     match named {
-        Cmd::New { .. } => birth(registers, count, rest).map(|(reg, label)| Cmd::New { reg, label }),
-        Cmd::Leaf { .. } => birth(registers, count, rest).map(|(reg, label)| Cmd::Leaf { reg, label }),
+        Cmd::New { .. } => birth(registers, count, rest).map(|(reg, label)| Cmd::New {
+            reg,
+            label,
+        }),
+        Cmd::Leaf { .. } => birth(registers, count, rest).map(|(reg, label)| Cmd::Leaf {
+            reg,
+            label,
+        }),
         Cmd::Null { .. } => register(registers, count, rest).map(|reg| Cmd::Null { reg }),
-        Cmd::Copy { .. } => two_registers(registers, count, rest).map(|(dst, src)| Cmd::Copy { dst, src }),
+        Cmd::Copy { .. } => two_registers(registers, count, rest).map(|(dst, src)| Cmd::Copy {
+            dst,
+            src,
+        }),
         Cmd::Get { .. } => get(registers, fields, count, rest),
         Cmd::Put { .. } => put(registers, fields, count, rest),
         Cmd::Value { .. } => register(registers, count, rest).map(|reg| Cmd::Value { reg }),

@@ -117,7 +117,13 @@ fn push_two(text: &mut String, name: &str, left: u8, right: u32) -> Result<(), N
 }
 
 /// Adds a line of a name and three operands.
-fn push_three(text: &mut String, name: &str, left: u8, middle: u8, right: u8) -> Result<(), NoMemory>
+fn push_three(
+    text: &mut String,
+    name: &str,
+    left: u8,
+    middle: u8,
+    right: u8,
+) -> Result<(), NoMemory>
     ensures { OnOk result (string_bytes text.new ≡ string_bytes text.old ++ spaced (name.now ∷ decimal left ∷ decimal middle ∷ decimal right ∷ []) []) }
 {
     writeln!(text, "{name} {left} {middle} {right}")

@@ -1,5 +1,5 @@
 -- A mutator's line that no image goes on with is the first one; so is the first of them where objects are named that there aren't.
-use Rattle.std.proofs.Common.{◌≡◌, ◌+◌, ◌++◌, ℕ, sym, ap, arith}
+use Rattle.std.proofs.Common.{◌+◌, ◌++◌, ℕ, sym, ap, arith}
 use Rattle.std.specs.List.{flat_map}
 use Rattle.rec_image.specs.Drafts.{rows_of}
 use Rattle.rec_image.specs.Image.{registers_line}

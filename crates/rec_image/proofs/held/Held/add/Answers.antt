@@ -1,5 +1,5 @@
 -- An image with one mutator more has named enough by then.
-use Rattle.std.proofs.Common.{◌+◌, refl, sym, ◌∙◌, arith}
+use Rattle.std.proofs.Common.{◌+◌, refl, sym, ◌∙◌}
 use Rattle.std.proofs.lemmas.Bool.{both_ways}
 use Rattle.rec_image.proofs.Adding.{length-objects}
 use Rattle.rec_image.proofs.Endings.{few_objects}

@@ -1,5 +1,5 @@
 -- The contract of `Script::has_left`: whether the last mutator has left.
-use Rattle.std.proofs.Common.{◌≡◌, ◌-◌, List, Option, None, Some, length, map, sym, ap, subst, ◌∙◌}
+use Rattle.std.proofs.Common.{◌≡◌, ◌-◌, List, Some, length, map, sym, ap, subst, ◌∙◌}
 use Rattle.std.specs.Prelude.{slice_get}
 use Rattle.std.specs.Option.{option_copied}
 use Rattle.std.proofs.lemmas.Option.{none-some, same_Some}
