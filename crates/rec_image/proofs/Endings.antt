@@ -1,13 +1,16 @@
 -- The places where `read` stops, and the image that it reads.
-use Rattle.std.proofs.Common.{◌≡◌, ℕ, zero, suc, ◌+◌, ◌-◌, ◌*◌, ◌<◌, ◌≤◌, List, [], ◌∷◌, ◌++◌, Option, None, Some, All, length, refl, sym, ap, subst, ◌∙◌, arith, length-append, append_assoc, append-nil}
+use Rattle.std.proofs.Common.{◌≡◌, ℕ, zero, suc, ◌+◌, ◌-◌, ◌*◌, ◌<◌, ◌≤◌, List, [], ◌∷◌, ◌++◌, Option, None, Some, All, Result, Err, length, refl, sym, ap, subst, ◌∙◌, arith, length-append, append_assoc, append-nil}
 use Rattle.std.specs.List.{flat_map}
+use Rattle.std.proofs.lemmas.Grind.{flat_map-append}
 use Rattle.std.proofs.lemmas.List.Elements.{All-nil}
 use Rattle.rec_report.specs.Text.{line_feed}
+use Rattle.rec_image.specs.declared.error.ImageError.{ImageError}
+use Rattle.rec_image.specs.declared.error.ImageError.TheVariants.{Bad}
 use Rattle.rec_image.specs.declared.held.Held.{Held}
 use Rattle.rec_image.specs.declared.line.Heap.{Heap}
 use Rattle.rec_image.specs.declared.objects.Objects.{Objects}
 use Rattle.rec_image.specs.declared.meeting.Meeting.{Meeting}
-use Rattle.rec_image.specs.Drafts.{AreHeld, AreObjects, BeginsObject, CanClose, NoObjectNext, NoRowNext, draft, held_in, meeting, naming, objects_in, rows_of, so_far, unmet}
+use Rattle.rec_image.specs.Drafts.{AreHeld, AreObjects, BeginsObject, CanClose, IsObjectRead, IsRowRead, NoObjectNext, NoRowNext, draft, held_in, meeting, naming, objects_in, rows_of, so_far, unmet}
 use Rattle.rec_image.specs.Image.{AreRegisters, ImageContents, IsContinued, IsImage, IsNode, IsSized, Node, StopsAt, end_line, header_line, heap_line, object_line, registers_line, text}
 use Rattle.rec_image.proofs.Adding.{length-objects}
 use Rattle.rec_image.proofs.Continuing.{closed, continued_open, continued_told, has_told, open_closes, regroup}
@@ -170,3 +173,29 @@ more_stops heap x held bytes rest behind line are all e f some number =
     nothing w t image is some_more =
         let same = same_image heap (objects_in heap x) (held_in heap held) are.can (full heap held all) w (end_line ++ t) image (is ∙ append_assoc (so_far (draft heap (objects_in heap x) (held_in heap held))) end_line t) in
         omega (arith, ap (length {A = ℕ}) same.1, length-append end_line t)
+
+-- ---- one line more
+pub objects_on : (heap : Heap) (before after : Objects) (bytes rest behind : List ℕ) → bytes ≡ flat_map object_line (objects_in heap before) ++ rest → IsObjectRead heap rest behind before after → bytes ≡ flat_map object_line (objects_in heap after) ++ behind
+objects_on heap before after bytes rest behind e read =
+    let first : List ℕ = flat_map object_line (objects_in heap before) in
+    let step : flat_map object_line (objects_in heap after) ≡ first ++ object_line read.node
+    = ap (flat_map object_line) read.more ∙ flat_map-append object_line (objects_in heap before) (read.node ∷ []) ∙ ap (λ (bs : List ℕ). first ++ bs) (append-nil (object_line read.node)) in
+    e ∙ ap (λ (bs : List ℕ). first ++ bs) read.line ∙ sym (append_assoc first (object_line read.node) behind) ∙ ap (λ (bs : List ℕ). bs ++ behind) (sym step)
+
+pub rows_on : (heap : Heap) (objects : List Node) (before after : Held) (bytes rest behind : List ℕ) → bytes ≡ flat_map registers_line (held_in heap before) ++ rest → IsRowRead heap objects rest behind before after → bytes ≡ flat_map registers_line (held_in heap after) ++ behind
+rows_on heap objects before after bytes rest behind e read =
+    let first : List ℕ = flat_map registers_line (held_in heap before) in
+    let step : flat_map registers_line (held_in heap after) ≡ first ++ registers_line read.own
+    = ap (flat_map registers_line) read.more ∙ flat_map-append registers_line (held_in heap before) (read.own ∷ []) ∙ ap (λ (bs : List ℕ). first ++ bs) (append-nil (registers_line read.own)) in
+    e ∙ ap (λ (bs : List ℕ). first ++ bs) read.line ∙ sym (append_assoc first (registers_line read.own) behind) ∙ ap (λ (bs : List ℕ). bs ++ behind) (sym step)
+
+-- ---- what is told is what was made
+pub told_line : {T : Type 0} (a b : ℕ) → ◌≡◌ {A = Result T ImageError} (Err (Bad a)) (Err (Bad b)) → a ≡ b
+told_line a b e = cc
+
+pub told_error : {T : Type 0} (x y : ImageError) → ◌≡◌ {A = Result T ImageError} (Err x) (Err y) → x ≡ y
+told_error x y e = cc
+
+-- ---- there are no more objects than slots
+pub few_objects : (heap : Heap) (x : Objects) → AreObjects heap x → length x.nodes.items ≤ 65535
+few_objects heap x are = omega (arith, length-objects heap.fields x.nodes.items x.targets.items, are.is_open.few, are.is_open.sized.heap.most_slots)

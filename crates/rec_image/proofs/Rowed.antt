@@ -1,5 +1,5 @@
 -- The rows of a world are those of its image.
-use Rattle.std.proofs.Common.{◌≡◌, ℕ, zero, suc, ◌+◌, ◌-◌, ◌*◌, ◌<◌, inl, inr, Bool, true, List, [], ◌∷◌, ◌++◌, Option, None, Some, All, length, map, get_or, take, drop, refl, sym, ap, subst, ◌∙◌, arith, append-nil}
+use Rattle.std.proofs.Common.{◌≡◌, ℕ, zero, suc, ◌+◌, ◌-◌, ◌*◌, ◌<◌, inl, inr, Bool, true, List, [], ◌∷◌, ◌++◌, Option, None, Some, All, length, map, get_or, take, drop, refl, sym, ap, subst, ◌∙◌, arith, append-nil, append_assoc}
 use Rattle.std.specs.Prelude.{option_map, slice_range, unwrap_or}
 use Rattle.std.specs.List.{flat_map}
 use Rattle.std.proofs.Math.Seq.{drop-append-add}
@@ -71,6 +71,12 @@ header_label header = elim (cases_eq header 0) [
   | inl e ↦ rw e refl
   | inr apart ↦ rw (ne_eqb header 0 apart) refl
 ]
+
+-- ---- what is put behind the others, one by one
+pub one_put : {A B : Type 0} (f : A → B) (xs : List A) (i : ℕ) (d : A) (first so_far more : List B) (x : B) → i < length xs → so_far ≡ first ++ map f (take i xs) → x ≡ f (get_or xs i d) → more ≡ so_far ++ x ∷ [] → more ≡ first ++ map f (take (i + 1) xs)
+one_put {A} {B} f xs i d first so_far more x within so here is =
+    is ∙ (λ j. so j ++ here j ∷ []) ∙ append_assoc first (map f (take i xs)) (f (get_or xs i d) ∷ [])
+    ∙ ap (λ (ys : List B). first ++ ys) (sym (ap (map f) (take_more xs i d within) ∙ map-append f (take i xs) (get_or xs i d ∷ [])))
 
 -- ---- the rows of the objects so far
 pub node_more : (w : Core) (fields : ℕ) (n : Numbered) (i label : ℕ) (leaf : Bool) (found : Option ℕ) (now : List ℕ) (so_far more : List (ℕ × Bool)) → IsNumbered w fields n → now ≡ n.list → i < length now

@@ -15,9 +15,9 @@ ghost use Rattle.rec_image.specs.Image.{IsImage};
 
 use crate::held::Held;
 use crate::line::Heap;
-use crate::live::{object_rows, register_rows};
+use crate::live::{heap_of, numbered, object_rows, register_rows};
 use crate::objects::Objects;
-use rec_world::{Config, Numbering, OpenError, World};
+use rec_world::{Config, OpenError, World};
 use std::alloc::{AllocError as NoMemory, Global};
 use std::marker::Model;
 
@@ -63,20 +63,12 @@ impl Image {
         ensures image { IfOk result (λ image. IsImageOf world.now image) }
         ensures kept { IsWorld world.now }
     {
-        let slots = world.slots();
+        let numbering = numbered(alloc, world)?;
         let fields = world.fields();
-        let mut numbering = Numbering::open(alloc, slots)?;
-        world.number(&mut numbering);
         let (nodes, targets) = object_rows(alloc, world, fields, &numbering)?;
         let registers = register_rows(alloc, world, fields, &numbering)?;
-        let heap = Heap {
-            slots: u32::from(slots),
-            fields: u32::from(fields),
-            registers: world.registers(1).len() as u32,
-            mutators: u32::from(world.mutators()),
-        };
         Ok(Image {
-            heap,
+            heap: heap_of(world),
             nodes,
             fields: targets,
             registers,

@@ -5,7 +5,7 @@ ghost use Rattle.rec_image.specs.Drafts.{AreRead, AreRegistersRead, AreUnread};
 ghost use Rattle.rec_image.specs.Image.{AreRegisters, IsSized, heap_line as heap_line_of, node_head as node_head_of, registers_line as registers_line_of};
 
 use crate::meeting::Meeting;
-use crate::piece::{behind, behind_byte, numeral, size, word};
+use crate::piece::{behind, behind_byte, numeral, two_sizes, word};
 use rec_model::limits::{MOST_FIELDS, MOST_MUTATORS, MOST_REGISTERS, MOST_SLOTS};
 use std::alloc::AllocError as NoMemory;
 
@@ -26,10 +26,9 @@ pub(crate) fn heap_line(bytes: &[u8]) -> Option<(Heap, &[u8])>
         → bytes.now ≢ heap_line_of slots fields registers mutators ++ t) }
 {
     let rest = behind(b"heap ", bytes)?;
-    let (slots, rest) = size(MOST_SLOTS, b' ', rest)?;
-    let (fields, rest) = size(MOST_FIELDS, b' ', rest)?;
-    let (registers, rest) = size(MOST_REGISTERS, b' ', rest)?;
-    let (mutators, rest) = size(u32::from(MOST_MUTATORS), b'\n', rest)?;
+    let (slots, fields, rest) = two_sizes((MOST_SLOTS, MOST_FIELDS), b' ', rest)?;
+    let most = (MOST_REGISTERS, u32::from(MOST_MUTATORS));
+    let (registers, mutators, rest) = two_sizes(most, b'\n', rest)?;
     let heap = Heap {
         slots,
         fields,

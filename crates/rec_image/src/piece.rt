@@ -73,7 +73,7 @@ pub(crate) fn numeral(bytes: &[u8]) -> Option<(u32, &[u8])>
 }
 
 /// A number from 1 to the greatest one at the front, with this byte behind it, and what is behind that.
-pub(crate) fn size(most: u32, end: u8, bytes: &[u8]) -> Option<(u32, &[u8])>
+fn size(most: u32, end: u8, bytes: &[u8]) -> Option<(u32, &[u8])>
     requires { end < 48 }
     ensures found { IfSome result (λ x. (bytes.now ≡ decimal x.0 ++ end ∷ x.1.now) × (1 ≤ x.0) × (x.0 ≤ most)) }
     ensures only { MatchOption result
@@ -89,6 +89,21 @@ pub(crate) fn size(most: u32, end: u8, bytes: &[u8]) -> Option<(u32, &[u8])>
         return None;
     }
     Some((number, rest))
+}
+
+/// Two such numbers with a blank between them at the front, with this byte behind them, and what is behind that.
+pub(crate) fn two_sizes(most: (u32, u32), end: u8, bytes: &[u8]) -> Option<(u32, u32, &[u8])>
+    requires { end < 48 }
+    ensures found { IfSome result (λ x. bytes.now ≡ decimal x.0 ++ 32 ∷ (decimal x.1 ++ end ∷ x.2.now)) }
+    ensures sized { IfSome result (λ x. (1 ≤ x.0) × (x.0 ≤ most.0) × (1 ≤ x.1) × (x.1 ≤ most.1)) }
+    ensures only { MatchOption result
+        ((m n : ℕ) (t : List ℕ) → 1 ≤ m → m ≤ most.0 → 1 ≤ n → n ≤ most.1 → bytes.now ≢ decimal m ++ 32 ∷ (decimal n ++ end ∷ t))
+        (λ x. (m n : ℕ) (t : List ℕ) → 1 ≤ m → m ≤ most.0 → 1 ≤ n → n ≤ most.1 → bytes.now ≡ decimal m ++ 32 ∷ (decimal n ++ end ∷ t)
+        → (m ≡ x.0) × (n ≡ x.1) × (t ≡ x.2.now)) }
+{
+    let (first, rest) = size(most.0, b' ', bytes)?;
+    let (second, rest) = size(most.1, end, rest)?;
+    Some((first, second, rest))
 }
 
 /// What a field or register leads to at the front, where it is null or an object that the heap has room for, and what is

@@ -1,10 +1,12 @@
 //! A heap begins anew, with epochs from 1.
 
-ghost use Rattle.std.specs.Prelude.{◌≡◌, IfErr, IfOk};
+ghost use Rattle.std.specs.Prelude.{◌≡◌, ◌≢◌, ◌<◌, ◌≤◌, IfErr, IfOk, length};
 ghost use Rattle.rec_core.specs.Settled.{IsSettled};
 ghost use Rattle.rec_core.specs.Worked.{AreIdle};
 ghost use Rattle.rec_world.specs.World.{IsWorld};
-ghost use Rattle.rec_image.specs.Renewed.{IsRenewed, IsUnrenewed};
+ghost use Rattle.rec_image.specs.Renewed.{IsRenewed, IsSlots, IsUnrenewed, in_slots};
+ghost use Rattle.rec_image.specs.Restored.{restored};
+ghost use Rattle.rec_image.specs.declared.error.RenewError.TheVariants.{FewSlots, Slots};
 
 use crate::error::RenewError;
 use crate::image::{Image, restore};
@@ -28,14 +30,24 @@ pub fn renew(alloc: Global, world: World, slots: u32) -> Result<World, (World, R
     ensures idle { IfOk result AreIdle }
     ensures kept { IfOk result IsWorld }
 {
-    // Its parts tell how many entries its logs have.
-    let parts = world.into_parts();
-    let log_entries = parts.config.log_entries;
-    let world = World::of_parts(parts);
+    let (world, log_entries) = with_log_entries(world);
     match open_anew(alloc, &world, slots, log_entries) {
-        Ok(new) => Ok(new),
+        Ok(new) => {
+            drop(world);
+            Ok(new)
+        }
         Err(error) => Err((world, error)),
     }
+}
+
+// The same world, and how many entries its logs have, which its parts tell.
+fn with_log_entries(world: World) -> (World, u32)
+    ensures same { result.0 ≡ world }
+    ensures entries { result.1 ≡ world.config.log_entries }
+{
+    let parts = world.into_parts();
+    let log_entries = parts.config.log_entries;
+    (World::of_parts(parts), log_entries)
 }
 
 // Another heap that holds what this one holds.
@@ -56,6 +68,25 @@ fn open_anew(
         return Err(RenewError::Slots);
     }
     let image = Image::of_world(alloc, world)?;
+    restore_in(alloc, image, slots, log_entries)
+}
+
+// The heap that the image is of, with so many slots.
+fn restore_in(
+    alloc: Global,
+    image: Image,
+    slots: u32,
+    log_entries: u32,
+) -> Result<World, RenewError>
+    requires { IsSlots slots }
+    ensures opened { IfOk result (λ new. (length image.objects ≤ slots)
+        × (new ≡ restored (in_slots image slots) log_entries)) }
+    ensures refused { IfErr result (λ error. (error ≢ Slots)
+        × (error ≡ FewSlots → slots < length image.objects)) }
+    ensures settled { IfOk result IsSettled }
+    ensures idle { IfOk result AreIdle }
+    ensures kept { IfOk result IsWorld }
+{
     if image.count() > slots {
         return Err(RenewError::FewSlots);
     }

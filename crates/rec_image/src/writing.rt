@@ -1,14 +1,16 @@
 //! Writing the image of a settled world.
 
-ghost use Rattle.std.specs.Prelude.{◌≡◌, ◌≤◌, ◌++◌, ℕ, List, map, length, IfOk, OnOk};
+ghost use Rattle.std.specs.Prelude.{◌≡◌, ◌≤◌, ◌++◌, ℕ, List, [], map, length, IfOk, OnOk};
 ghost use Rattle.std.specs.List.{flat_map};
 ghost use Rattle.rec_core.specs.Settled.{IsSettled};
 ghost use Rattle.rec_model.specs.Sight.{NumbersSlots};
 ghost use Rattle.rec_world.specs.World.{sight};
 ghost use Rattle.rec_report.specs.Report.{IsNumbered};
-ghost use Rattle.rec_image.specs.Image.{ImageContents, IsImage, heap_line, object_line, registers_line, text};
+ghost use Rattle.rec_image.specs.Image.{ImageContents, IsImage, header_line, heap_line, object_line, registers_line, text};
 ghost use Rattle.rec_image.specs.Standing.{IsOfWorld, StandsFor, held_of, image_of, node_of};
 
+use crate::line::Heap;
+use crate::live::{heap_of, numbered};
 use crate::spelling::Line;
 use rec_world::{Numbering, World};
 use std::alloc::{AllocError as NoMemory, Global};
@@ -21,10 +23,16 @@ const WORD: usize = 7;
 // How many bytes the first two lines and the last one have at most.
 const FRAME: usize = 64;
 
-/// How many bytes an image has at most, with so many objects and mutators.
-fn most_bytes(objects: usize, fields: usize, mutators: usize, registers: usize) -> usize {
-    let of_objects = objects.saturating_mul(fields.saturating_mul(WORD).saturating_add(LINE));
-    let of_mutators = mutators.saturating_mul(registers.saturating_mul(WORD).saturating_add(LINE));
+/// How many bytes an image of this heap has at most, with so many objects.
+fn most_bytes(objects: usize, heap: Heap) -> usize {
+    let of_object = (heap.fields as usize)
+        .saturating_mul(WORD)
+        .saturating_add(LINE);
+    let of_mutator = (heap.registers as usize)
+        .saturating_mul(WORD)
+        .saturating_add(LINE);
+    let of_objects = objects.saturating_mul(of_object);
+    let of_mutators = (heap.mutators as usize).saturating_mul(of_mutator);
     of_objects.saturating_add(of_mutators).saturating_add(FRAME)
 }
 
@@ -72,6 +80,40 @@ fn add_registers(
     Ok(())
 }
 
+/// The lines in front of the objects.
+fn add_front(text: &mut Vec<u8>, heap: Heap) -> Result<(), NoMemory>
+    ensures { OnOk result (text.new.items ≡ (text.old.items ++ header_line)
+        ++ heap_line heap.slots heap.fields heap.registers heap.mutators) }
+{
+    text.extend_from_slice(b"recycler image 1\n")?;
+    let mut line = Line::new();
+    line.spell_heap(heap.slots, heap.fields, heap.registers, heap.mutators);
+    text.extend_from_slice(line.bytes())
+}
+
+/// All lines of the image.
+fn add_lines(
+    lines: &mut Vec<u8>,
+    world: &World,
+    heap: Heap,
+    numbering: &Numbering,
+) -> Result<(), NoMemory>
+    requires slots { heap.slots ≡ world.now.config.slots }
+    requires fields { heap.fields ≡ world.now.config.fields }
+    requires registers { heap.registers ≡ world.now.config.registers }
+    requires mutators { heap.mutators ≡ world.now.config.mutators }
+    requires numbers { NumbersSlots (sight world.now) numbering.now.list }
+    requires none { lines.old.items ≡ [] }
+    ensures { OnOk result (text (image_of world.now numbering.now.list) ≡ lines.new.items) }
+{
+    add_front(lines, heap)?;
+    let fields = world.fields();
+    add_objects(lines, world, fields, numbering)?;
+    add_registers(lines, world, fields, numbering)?;
+    lines.extend_from_slice(b"end\n")?;
+    Ok(())
+}
+
 /// The image of a settled world, as text.
 pub fn write(alloc: Global, world: &World) -> Result<Vec<u8>, NoMemory>
     requires settled { IsSettled world.now }
@@ -83,26 +125,10 @@ pub fn write(alloc: Global, world: &World) -> Result<Vec<u8>, NoMemory>
     ensures listed { IfOk result (λ bytes. (slots : List ℕ) × NumbersSlots (sight world.now) slots
         × (text (image_of world.now slots) ≡ bytes.items)) }
 {
-    let slots = world.slots();
-    let fields = world.words().len() / usize::from(slots);
-    let registers = world.registers(1).len();
-    let mutators = world.mutators();
-    let mut numbering = Numbering::open(alloc, slots)?;
-    world.number(&mut numbering);
-    let objects = numbering.list().len();
-    let room = most_bytes(objects, fields, usize::from(mutators), registers);
+    let numbering = numbered(alloc, world)?;
+    let heap = heap_of(world);
+    let room = most_bytes(numbering.list().len(), heap);
     let mut text = Vec::with_capacity(alloc, room)?;
-    text.extend_from_slice(b"recycler image 1\n")?;
-    let mut line = Line::new();
-    line.spell_heap(
-        u32::from(slots),
-        fields as u32,
-        registers as u32,
-        u32::from(mutators),
-    );
-    text.extend_from_slice(line.bytes())?;
-    add_objects(&mut text, world, fields as u8, &numbering)?;
-    add_registers(&mut text, world, fields as u8, &numbering)?;
-    text.extend_from_slice(b"end\n")?;
+    add_lines(&mut text, world, heap, &numbering)?;
     Ok(text)
 }

@@ -31,6 +31,24 @@ pub fn size(most: u32, word: &[u8]) -> Option<u32>
     Some(number)
 }
 
+/// The heap with the numbers that three words spell.
+fn heap_of(slots: &[u8], fields: &[u8], registers: &[u8]) -> Option<Heap>
+    ensures limits { IfSome result (λ x. IsHeap x.slots x.fields x.registers) }
+    ensures found { IfSome result (λ x. (slots.now ≡ decimal x.slots)
+        × (fields.now ≡ decimal x.fields) × (registers.now ≡ decimal x.registers)) }
+    ensures none { IfNone result ((s f r : ℕ) → IsHeap s f r
+        → slots.now ≡ decimal s → fields.now ≡ decimal f → registers.now ≢ decimal r) }
+{
+    let slots = size(MOST_SLOTS, slots)?;
+    let fields = size(MOST_FIELDS, fields)?;
+    let registers = size(MOST_REGISTERS, registers)?;
+    Some(Heap {
+        slots,
+        fields,
+        registers,
+    })
+}
+
 /// The heap of a line with this first word and what is behind it.
 pub fn read_heap(word: &[u8], rest: &[u8]) -> Option<Heap>
     ensures limits { IfSome result (λ x. IsHeap x.slots x.fields x.registers) }
@@ -43,12 +61,5 @@ pub fn read_heap(word: &[u8], rest: &[u8]) -> Option<Heap>
         return None;
     }
     let (slots, fields, registers) = three_words(rest)?;
-    let slots = size(MOST_SLOTS, slots)?;
-    let fields = size(MOST_FIELDS, fields)?;
-    let registers = size(MOST_REGISTERS, registers)?;
-    Some(Heap {
-        slots,
-        fields,
-        registers,
-    })
+    heap_of(slots, fields, registers)
 }

@@ -1,7 +1,8 @@
 //! Scripts that are made from a seed.
 
-ghost use Rattle.std.specs.Prelude.{◌≡◌, ◌≤◌, ◌<◌, ◌+◌, ◌%◌, [], ◌++◌, length, map, string_bytes, IfOk, OnOk};
+ghost use Rattle.std.specs.Prelude.{◌≡◌, ◌≤◌, ◌<◌, ◌+◌, ◌%◌, [], ◌∷◌, ◌++◌, length, map, string_bytes, IfOk, OnOk};
 ghost use Rattle.rec_model.specs.declared.limits.TheConstants.{MOST_BYTES, MOST_COMMANDS, MOST_SCRIPT_MUTATORS};
+ghost use Rattle.std.specs.Fmt.{decimal};
 ghost use Rattle.rand_pcg.specs.Lcg.{Lcg};
 ghost use Rattle.rec_script.specs.Lines.{lines, spaced};
 ghost use Rattle.rec_script.specs.Script.{Spells, command_line};
@@ -101,19 +102,46 @@ fn draw_command(generator: &mut Pcg32) -> Cmd
     }
 }
 
+/// Adds a line of a name and one operand.
+fn push_one(text: &mut String, name: &str, operand: u8) -> Result<(), NoMemory>
+    ensures { OnOk result (string_bytes text.new ≡ string_bytes text.old ++ spaced (name.now ∷ decimal operand ∷ []) []) }
+{
+    writeln!(text, "{name} {operand}")
+}
+
+/// Adds a line of a name and two operands.
+fn push_two(text: &mut String, name: &str, left: u8, right: u32) -> Result<(), NoMemory>
+    ensures { OnOk result (string_bytes text.new ≡ string_bytes text.old ++ spaced (name.now ∷ decimal left ∷ decimal right ∷ []) []) }
+{
+    writeln!(text, "{name} {left} {right}")
+}
+
+/// Adds a line of a name and three operands.
+fn push_three(
+    text: &mut String,
+    name: &str,
+    left: u8,
+    middle: u8,
+    right: u8,
+) -> Result<(), NoMemory>
+    ensures { OnOk result (string_bytes text.new ≡ string_bytes text.old ++ spaced (name.now ∷ decimal left ∷ decimal middle ∷ decimal right ∷ []) []) }
+{
+    writeln!(text, "{name} {left} {middle} {right}")
+}
+
 /// Adds the line of a command.
 fn push_command(text: &mut String, cmd: &Cmd) -> Result<(), NoMemory>
     ensures { OnOk result (string_bytes text.new ≡ string_bytes text.old ++ spaced (command_line cmd.now) []) }
 {
-    match cmd {
-        Cmd::New { reg, label } => writeln!(text, "new {reg} {label}"),
-        Cmd::Leaf { reg, label } => writeln!(text, "leaf {reg} {label}"),
-        Cmd::Null { reg } => writeln!(text, "null {reg}"),
-        Cmd::Copy { dst, src } => writeln!(text, "copy {dst} {src}"),
-        Cmd::Get { dst, src, field } => writeln!(text, "get {dst} {src} {field}"),
-        Cmd::Put { src, field, val } => writeln!(text, "put {src} {field} {val}"),
-        Cmd::Value { reg } => writeln!(text, "value {reg}"),
-        Cmd::Same { a, b } => writeln!(text, "same {a} {b}"),
+    match *cmd {
+        Cmd::New { reg, label } => push_two(text, "new", reg, label),
+        Cmd::Leaf { reg, label } => push_two(text, "leaf", reg, label),
+        Cmd::Null { reg } => push_one(text, "null", reg),
+        Cmd::Copy { dst, src } => push_two(text, "copy", dst, u32::from(src)),
+        Cmd::Get { dst, src, field } => push_three(text, "get", dst, src, field),
+        Cmd::Put { src, field, val } => push_three(text, "put", src, field, val),
+        Cmd::Value { reg } => push_one(text, "value", reg),
+        Cmd::Same { a, b } => push_two(text, "same", a, u32::from(b)),
         Cmd::Leave => writeln!(text, "leave"),
     }
 }

@@ -1,6 +1,7 @@
 //! A script that was read, or its first mutators and commands while it grows.
 
 ghost use Rattle.std.specs.Prelude.{◌≡◌, ◌↔◌, ◌<◌, ◌≤◌, ◌+◌, ◌-◌, ℕ, List, [], ◌∷◌, ◌++◌, Err, Ok, Some, length, All, Any, IfOk, IsTrue, slice_get};
+ghost use Rattle.rec_model.specs.declared.command.Cmd.TheVariants.{Leave};
 ghost use Rattle.rec_model.specs.declared.limits.TheConstants.{MOST_COMMANDS};
 ghost use Rattle.rec_script.specs.Script.{Allows, AreCommands, HasLeft, IsCommand, IsHeap, IsScript, IsVersion, command_line, last_commands, most_mutators, mutator_line, spelled};
 
@@ -31,6 +32,13 @@ impl Model for Script {
     ghost view = { contents };
 
     ghost invariant = { λ s. IsScript (contents s) };
+}
+
+/// The command is the one by which a mutator leaves.
+fn is_leave(cmd: &Cmd) -> bool
+    ensures { IsTrue result ↔ (cmd.now ≡ Leave) }
+{
+    matches!(cmd, Cmd::Leave)
 }
 
 impl Script {
@@ -142,7 +150,10 @@ impl Script {
         ensures value { IsTrue result ↔ HasLeft (last_commands self.now.commands) }
         ensures valid { IsScript self.now }
     {
-        self.last.last() == Some(&Cmd::Leave)
+        match self.last.last() {
+            Some(cmd) => is_leave(cmd),
+            None => false,
+        }
     }
 
     /// A command more for the last mutator.

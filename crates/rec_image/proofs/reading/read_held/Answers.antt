@@ -1,24 +1,23 @@
 -- A mutator's line that no image goes on with is the first one; so is the first of them where objects are named that there aren't.
-use Rattle.std.proofs.Common.{◌≡◌, ◌+◌, ◌++◌, ℕ, sym, ap, arith}
+use Rattle.std.proofs.Common.{◌+◌, ◌++◌, ℕ, sym, ap, arith}
 use Rattle.std.specs.List.{flat_map}
 use Rattle.rec_image.specs.Drafts.{rows_of}
 use Rattle.rec_image.specs.Image.{registers_line}
-use Rattle.rec_image.proofs.Adding.{length-objects}
-use Rattle.rec_image.proofs.Endings.{row_stops, rows_first, rows_stop}
+use Rattle.rec_image.proofs.Endings.{few_objects, row_stops, rows_first, rows_on, rows_stop, told_line}
 use Rattle.rec_image.proofs.reading.read_held.Goals as goal
 
 pub count-first-requires : goal.count-first-requires
-count-first-requires c = omega (arith, length-objects c.args.heap.fields c.args.objects.now.nodes.items c.args.objects.now.targets.items, c.requires.objects.is_open.few, c.requires.objects.is_open.sized.heap.most_slots)
+count-first-requires c = few_objects c.args.heap c.args.objects.now c.requires.objects
 
 pub overflow_add-first : goal.overflow_add-first
-overflow_add-first c = omega (arith, length-objects c.args.heap.fields c.args.objects.now.nodes.items c.args.objects.now.targets.items, c.requires.objects.is_open.few, c.requires.objects.is_open.sized.heap.most_slots)
+overflow_add-first c = omega (arith, few_objects c.args.heap c.args.objects.now c.requires.objects)
 
 pub count-requires : goal.count-requires
-count-requires c = omega (arith, length-objects c.args.heap.fields c.args.objects.now.nodes.items c.args.objects.now.targets.items, c.requires.objects.is_open.few, c.requires.objects.is_open.sized.heap.most_slots)
+count-requires c = few_objects c.args.heap c.args.objects.now c.requires.objects
 
 pub returns-then-objects-count-clause-bad : goal.returns-then-objects-count-clause-bad
 returns-then-objects-count-clause-bad c = λ line e.
-    let at : c.count-first.result + 3 ≡ line = cc in
+    let at = told_line (c.count-first.result + 3) line e in
     rows_stop c.args.heap c.args.objects.now c.args.bytes.now line c.requires.objects c.requires.ends (omega (arith, c.count.ensures, c.if-objects-count.true)) (omega (arith, c.count-first.ensures))
 
 pub loop-held-init : goal.loop-held-init
@@ -29,10 +28,19 @@ loop-held-init c = record {
 }
 
 pub overflow_add-line : goal.overflow_add-line
-overflow_add-line c = omega (arith, length-objects c.args.heap.fields c.args.objects.now.nodes.items c.args.objects.now.targets.items, c.requires.objects.is_open.few, c.requires.objects.is_open.sized.heap.most_slots, c.requires.objects.is_open.sized.most_mutators, c.loop-held.invariant.within)
+overflow_add-line c = omega (arith, few_objects c.args.heap c.args.objects.now c.requires.objects, c.requires.objects.is_open.sized.most_mutators, c.loop-held.invariant.within)
 
 pub returns-in-Ok-None-clause-bad : goal.returns-in-Ok-None-clause-bad
 returns-in-Ok-None-clause-bad c = λ line e.
-    let at : c.count-first.result + 3 + c.loop-held.held.rows ≡ line = cc in
+    let at = told_line (c.count-first.result + 3 + c.loop-held.held.rows) line e in
     row_stops c.args.heap c.args.objects.now c.loop-held.held c.args.bytes.now c.loop-held.rest.now line c.loop-held.invariant.are c.loop-held.invariant.lines c.requires.ends c.loop-held-test.true
     (rw c.in-Ok-None.field-0-is at c.in-Ok-None.ensures).none (omega (arith, c.count-first.ensures))
+
+pub loop-held-preserved : goal.loop-held-preserved
+loop-held-preserved c =
+    let read = (rw c.in-Ok-Some.field-0-is at c.in-Ok-Some.ensures).found in
+    record {
+      are = read.are;
+      lines = rows_on c.args.heap _ c.loop-held.held c.add.new.self c.args.bytes.now c.loop-held.rest.now c.in-Ok-Some.behind.now c.loop-held.invariant.lines read;
+      within = omega (arith, read.rows, c.loop-held-test.true);
+    }

@@ -1,15 +1,16 @@
 -- An image with one mutator more has named enough by then.
-use Rattle.std.proofs.Common.{◌+◌, refl, sym, ◌∙◌, arith}
+use Rattle.std.proofs.Common.{◌+◌, refl, sym, ◌∙◌}
 use Rattle.std.proofs.lemmas.Bool.{both_ways}
 use Rattle.rec_image.proofs.Adding.{length-objects}
+use Rattle.rec_image.proofs.Endings.{few_objects}
 use Rattle.rec_image.proofs.Rows.{least_of, row_read, not_enough}
 use Rattle.rec_image.proofs.held.Held.add.Goals as goal
 
 pub least-least-requires : goal.least-least-requires
-least-least-requires c = omega (arith, length-objects c.args.heap.fields c.args.objects.now.nodes.items c.args.objects.now.targets.items, c.requires.objects.is_open.few, c.requires.objects.is_open.sized.heap.most_slots)
+least-least-requires c = few_objects c.args.heap c.args.objects.now c.requires.objects
 
 pub count-requires : goal.count-requires
-count-requires c = omega (arith, length-objects c.args.heap.fields c.args.objects.now.nodes.items c.args.objects.now.targets.items, c.requires.objects.is_open.few, c.requires.objects.is_open.sized.heap.most_slots)
+count-requires c = few_objects c.args.heap c.args.objects.now c.requires.objects
 
 pub returns-then-names_enough-clause-found : goal.returns-then-names_enough-clause-found
 returns-then-names_enough-clause-found c =
