@@ -1,10 +1,10 @@
 //! Commands as most scripts spell them: one space between each two words, and an LF behind the last one. Such a line is
 //! read in one pass. Any other line has no answer here, right or wrong, and is read by its words.
 
-ghost use Rattle.std.specs.Prelude.{◌≡◌, ◌≢◌, ℕ, ◌<◌, ◌≤◌, ◌^◌, ◌++◌, [], ◌∷◌, slice_index, codes, IfSome};
+ghost use Rattle.std.specs.Prelude.{◌≡◌, ◌≢◌, ℕ, ◌<◌, ◌≤◌, ◌^◌, ◌++◌, [], ◌∷◌, slice_index, IfSome};
 ghost use Rattle.std.specs.Fmt.{decimal};
 ghost use Rattle.rec_script.specs.Lines.{spaced};
-ghost use Rattle.rec_script.specs.Script.{Allows, IsCommand, IsVersion, command_line, since};
+ghost use Rattle.rec_script.specs.Script.{Allows, IsCommand, IsVersion, command_line};
 
 use rec_model::Cmd;
 
@@ -86,15 +86,15 @@ fn operand(below: u32, bytes: &[u8], end: u8) -> Option<(u8, &[u8])>
     }
 }
 
-/// Two operands, each below its limit, that end a line, and what is behind it.
+/// Two operands below a limit that end a line, and what is behind it.
 #[inline(always)]
-fn two_operands(limits: (u32, u32), bytes: &[u8]) -> Option<(u8, u8, &[u8])>
-    requires { (limits.0 ≤ 64) × (limits.1 ≤ 64) }
+fn two_operands(below: u32, bytes: &[u8]) -> Option<(u8, u8, &[u8])>
+    requires { below ≤ 64 }
     ensures found { IfSome result (λ x. bytes.now ≡ spaced (decimal x.0 ∷ decimal x.1 ∷ []) x.2.now) }
-    ensures below { IfSome result (λ x. (x.0 < limits.0) × (x.1 < limits.1)) }
+    ensures below { IfSome result (λ x. (x.0 < below) × (x.1 < below)) }
 {
-    let (first, rest) = operand(limits.0, bytes, b' ')?;
-    let (second, rest) = operand(limits.1, rest, b'\n')?;
+    let (first, rest) = operand(below, bytes, b' ')?;
+    let (second, rest) = operand(below, rest, b'\n')?;
     Some((first, second, rest))
 }
 
@@ -107,7 +107,8 @@ fn three_operands(limits: (u32, u32, u32), bytes: &[u8]) -> Option<(u8, u8, u8, 
     ensures below { IfSome result (λ x. (x.0 < limits.0) × (x.1 < limits.1) × (x.2 < limits.2)) }
 {
     let (first, rest) = operand(limits.0, bytes, b' ')?;
-    let (second, third, rest) = two_operands((limits.1, limits.2), rest)?;
+    let (second, rest) = operand(limits.1, rest, b' ')?;
+    let (third, rest) = operand(limits.2, rest, b'\n')?;
     Some((first, second, third, rest))
 }
 
@@ -134,105 +135,6 @@ fn behind(first: u8, bytes: &[u8]) -> Option<&[u8]>
     }
 }
 
-/// The command that reads a field, behind the name and the blank at the front of its line, and what is behind the line.
-#[inline(always)]
-fn get(registers: u32, fields: u32, bytes: &[u8]) -> Option<(Cmd, &[u8])>
-    requires registers { registers ≤ 64 }
-    requires fields { fields ≤ 16 }
-    ensures found { IfSome result (λ x. codes "get " ++ bytes.now ≡ spaced (command_line x.0) x.1.now) }
-    ensures in_range { IfSome result (λ x. IsCommand registers fields x.0) }
-    ensures since { IfSome result (λ x. since x.0 ≡ 1) }
-{
-    let (dst, src, field, rest) = three_operands((registers, registers, fields), bytes)?;
-    Some((Cmd::Get { dst, src, field }, rest))
-}
-
-/// The same of the command that writes a field.
-#[inline(always)]
-fn put(registers: u32, fields: u32, bytes: &[u8]) -> Option<(Cmd, &[u8])>
-    requires registers { registers ≤ 64 }
-    requires fields { fields ≤ 16 }
-    ensures found { IfSome result (λ x. codes "put " ++ bytes.now ≡ spaced (command_line x.0) x.1.now) }
-    ensures in_range { IfSome result (λ x. IsCommand registers fields x.0) }
-    ensures since { IfSome result (λ x. since x.0 ≡ 1) }
-{
-    let (src, field, val, rest) = three_operands((registers, fields, registers), bytes)?;
-    Some((Cmd::Put { src, field, val }, rest))
-}
-
-/// The same of the command that makes an object.
-#[inline(always)]
-fn new(registers: u32, bytes: &[u8]) -> Option<(Cmd, &[u8])>
-    requires registers { registers ≤ 64 }
-    ensures found { IfSome result (λ x. codes "new " ++ bytes.now ≡ spaced (command_line x.0) x.1.now) }
-    ensures in_range { (fields : ℕ) → IfSome result (λ x. IsCommand registers fields x.0) }
-    ensures since { IfSome result (λ x. since x.0 ≡ 1) }
-{
-    let (reg, label, rest) = birth(registers, bytes)?;
-    Some((Cmd::New { reg, label }, rest))
-}
-
-/// The same of the command that makes a leaf.
-#[inline(always)]
-fn leaf(registers: u32, bytes: &[u8]) -> Option<(Cmd, &[u8])>
-    requires registers { registers ≤ 64 }
-    ensures found { IfSome result (λ x. codes "leaf " ++ bytes.now ≡ spaced (command_line x.0) x.1.now) }
-    ensures in_range { (fields : ℕ) → IfSome result (λ x. IsCommand registers fields x.0) }
-    ensures since { IfSome result (λ x. since x.0 ≡ 2) }
-{
-    let (reg, label, rest) = birth(registers, bytes)?;
-    Some((Cmd::Leaf { reg, label }, rest))
-}
-
-/// The same of the command that empties a register.
-#[inline(always)]
-fn null(registers: u32, bytes: &[u8]) -> Option<(Cmd, &[u8])>
-    requires registers { registers ≤ 64 }
-    ensures found { IfSome result (λ x. codes "null " ++ bytes.now ≡ spaced (command_line x.0) x.1.now) }
-    ensures in_range { (fields : ℕ) → IfSome result (λ x. IsCommand registers fields x.0) }
-    ensures since { IfSome result (λ x. since x.0 ≡ 1) }
-{
-    let (reg, rest) = operand(registers, bytes, b'\n')?;
-    Some((Cmd::Null { reg }, rest))
-}
-
-/// The same of the command that copies a register.
-#[inline(always)]
-fn copy(registers: u32, bytes: &[u8]) -> Option<(Cmd, &[u8])>
-    requires registers { registers ≤ 64 }
-    ensures found { IfSome result (λ x. codes "copy " ++ bytes.now ≡ spaced (command_line x.0) x.1.now) }
-    ensures in_range { (fields : ℕ) → IfSome result (λ x. IsCommand registers fields x.0) }
-    ensures since { IfSome result (λ x. since x.0 ≡ 1) }
-{
-    let (dst, src, rest) = two_operands((registers, registers), bytes)?;
-    Some((Cmd::Copy { dst, src }, rest))
-}
-
-/// The same of the command that compares two registers.
-#[inline(always)]
-fn same(registers: u32, bytes: &[u8]) -> Option<(Cmd, &[u8])>
-    requires registers { registers ≤ 64 }
-    ensures found { IfSome result (λ x. codes "same " ++ bytes.now ≡ spaced (command_line x.0) x.1.now) }
-    ensures in_range { (fields : ℕ) → IfSome result (λ x. IsCommand registers fields x.0) }
-    ensures since { IfSome result (λ x. since x.0 ≡ 1) }
-{
-    let (a, b, rest) = two_operands((registers, registers), bytes)?;
-    Some((Cmd::Same { a, b }, rest))
-}
-
-/// The same of the command that tells a label, behind the first four letters of its name.
-#[inline(always)]
-fn value(registers: u32, bytes: &[u8]) -> Option<(Cmd, &[u8])>
-    requires registers { registers ≤ 64 }
-    ensures found { IfSome result (λ x. codes "valu" ++ bytes.now ≡ spaced (command_line x.0) x.1.now) }
-    ensures in_range { (fields : ℕ) → IfSome result (λ x. IsCommand registers fields x.0) }
-    ensures since { IfSome result (λ x. since x.0 ≡ 1) }
-{
-    let bytes = behind(b' ', behind(b'e', bytes)?)?;
-    let (reg, rest) = operand(registers, bytes, b'\n')?;
-    Some((Cmd::Value { reg }, rest))
-}
-
 /// A command at the front, spaced, and what is behind its line.
 #[inline(always)]
 pub fn spaced_command(
@@ -249,37 +151,21 @@ pub fn spaced_command(
     ensures allowed { IfSome result (λ x. Allows version x.0) }
 {
     let (name, rest) = bytes.split_first_chunk::<4>()?;
-    named(version, registers, fields, name, rest)
-}
-
-/// The same behind the first four bytes.
-#[inline(always)]
-fn named<'a>(
-    version: u32,
-    registers: u32,
-    fields: u32,
-    name: &[u8; 4],
-    rest: &'a [u8],
-) -> Option<(Cmd, &'a [u8])>
-    requires version { IsVersion version }
-    requires registers { registers ≤ 64 }
-    requires fields { fields ≤ 16 }
-    ensures found { IfSome result (λ x. name.now ++ rest.now ≡ spaced (command_line x.0) x.1.now) }
-    ensures in_range { IfSome result (λ x. IsCommand registers fields x.0) }
-    ensures allowed { IfSome result (λ x. Allows version x.0) }
-{
     if name == b"get " {
-        get(registers, fields, rest)
+        let (dst, src, field, rest) = three_operands((registers, registers, fields), rest)?;
+        Some((Cmd::Get { dst, src, field }, rest))
     } else if name == b"put " {
-        put(registers, fields, rest)
+        let (src, field, val, rest) = three_operands((registers, fields, registers), rest)?;
+        Some((Cmd::Put { src, field, val }, rest))
     } else if name == b"new " {
-        new(registers, rest)
+        let (reg, label, rest) = birth(registers, rest)?;
+        Some((Cmd::New { reg, label }, rest))
     } else {
         longer(version, registers, name, rest)
     }
 }
 
-/// The same of a command whose name has more than three letters.
+/// The same of a command whose name has more than three letters, behind the first four.
 #[inline(always)]
 fn longer<'a>(
     version: u32,
@@ -293,35 +179,22 @@ fn longer<'a>(
     ensures in_range { (fields : ℕ) → IfSome result (λ x. IsCommand registers fields x.0) }
     ensures allowed { IfSome result (λ x. Allows version x.0) }
 {
-    if name == b"valu" {
-        value(registers, rest)
-    } else {
-        of_four_letters(version, registers, name, behind(b' ', rest)?)
-    }
-}
-
-/// The same of a command whose name has four letters, behind the blank.
-#[inline(always)]
-fn of_four_letters<'a>(
-    version: u32,
-    registers: u32,
-    name: &[u8; 4],
-    rest: &'a [u8],
-) -> Option<(Cmd, &'a [u8])>
-    requires version { IsVersion version }
-    requires registers { registers ≤ 64 }
-    ensures found { IfSome result (λ x. name.now ++ 32 ∷ rest.now ≡ spaced (command_line x.0) x.1.now) }
-    ensures in_range { (fields : ℕ) → IfSome result (λ x. IsCommand registers fields x.0) }
-    ensures allowed { IfSome result (λ x. Allows version x.0) }
-{
     if name == b"null" {
-        null(registers, rest)
+        let (reg, rest) = operand(registers, behind(b' ', rest)?, b'\n')?;
+        Some((Cmd::Null { reg }, rest))
     } else if name == b"copy" {
-        copy(registers, rest)
+        let (dst, src, rest) = two_operands(registers, behind(b' ', rest)?)?;
+        Some((Cmd::Copy { dst, src }, rest))
+    } else if name == b"valu" {
+        let rest = behind(b' ', behind(b'e', rest)?)?;
+        let (reg, rest) = operand(registers, rest, b'\n')?;
+        Some((Cmd::Value { reg }, rest))
     } else if name == b"same" {
-        same(registers, rest)
+        let (a, b, rest) = two_operands(registers, behind(b' ', rest)?)?;
+        Some((Cmd::Same { a, b }, rest))
     } else if version >= 2 && name == b"leaf" {
-        leaf(registers, rest)
+        let (reg, label, rest) = birth(registers, behind(b' ', rest)?)?;
+        Some((Cmd::Leaf { reg, label }, rest))
     } else {
         None
     }

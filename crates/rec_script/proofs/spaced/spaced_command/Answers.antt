@@ -4,7 +4,7 @@ use Rattle.std.proofs.lemmas.List.{take-append-drop}
 use Rattle.std.proofs.lemmas.Option.{IfSome_then}
 use Rattle.rec_script.proofs.spaced.spaced_command.Goals as goal
 
-pub returns-clause-found : goal.returns-clause-found
-returns-clause-found c =
+pub returns-else-eq-3-clause-found : goal.returns-else-eq-3-clause-found
+returns-else-eq-3-clause-found c =
     let front : c.args.bytes.now ≡ c.in_ok-name.name.now ++ c.in_ok-name.rest.now = rw (c.in_ok-name.ensures.cases.0, c.in_ok-name.ensures.cases.1) (sym (take-append-drop 4 c.args.bytes.now)) in
-    IfSome_then c.named.result c.named.ensures.found (λ x h. front ∙ h)
+    IfSome_then c.longer.result c.longer.ensures.found (λ x h. front ∙ h)
