@@ -44,7 +44,9 @@ pub fn answer_script<R: Threads + Wait + Sync, G: Gate>(
     ensures { IfOk result (λ text. Answers script.now (opening_of script.now) how (flat_map (λ line. line) text)) }
 {
     let mut outcome = carry_out(rt, alloc, script, how, gate)?;
-    answer_outcome(rt, alloc, script, how, &mut outcome)
+    let answered = answer_outcome(rt, alloc, script, how, &mut outcome);
+    drop(outcome);
+    answered
 }
 
 /// The answer of a run that left this: its heap is settled, and what was told and what is left are written. Whichever way a script was

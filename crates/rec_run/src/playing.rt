@@ -69,7 +69,7 @@ pub fn play_on(
     // Each turn requests one epoch more at most.
     ensures epochs { IfOk result (λ outcome. outcome.world.epoch ≤ world.epoch + how.turns) }
 {
-    play_watched(
+    let played = play_watched(
         script,
         how.seed,
         how.turns,
@@ -77,10 +77,17 @@ pub fn play_on(
         journals.as_mut_slice(),
         &mut order,
         auditor,
-    )?;
-    Ok(Outcome {
+    );
+    let outcome = Outcome {
         world,
         journals,
         order: Some(order),
-    })
+    };
+    match played {
+        Ok(()) => Ok(outcome),
+        Err(error) => {
+            drop(outcome);
+            Err(error)
+        }
+    }
 }

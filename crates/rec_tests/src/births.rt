@@ -52,10 +52,13 @@ fn race_births<R: Abort + Threads + Sync>(
         first_epoch: 1,
     };
     let (world, seen) = race(rt, alloc, config, tasks, NO_TURNS)?;
+    let labels = labels(&world);
+    let made = world.made();
+    drop(world);
     Ok(Born {
         is_refused: seen.is_refused,
-        labels: labels(&world),
-        made: world.made(),
+        labels,
+        made,
     })
 }
 

@@ -112,7 +112,9 @@ fn play_and_collect(alloc: Global, script: &Script, seed: u64) -> Result<(u64, S
     let mut order = order_for(alloc, script)?;
     let mut world = open_world(alloc, script)?;
     play_on(script, seed, &mut world, &mut journals, &mut order);
-    Ok(collect(&mut world))
+    let collected = collect(&mut world);
+    drop(world);
+    Ok(collected)
 }
 
 fn sum_of(a: Sets, b: Sets) -> Sets {

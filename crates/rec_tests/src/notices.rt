@@ -110,9 +110,10 @@ struct InMemory {
 
 fn tell_memory(rt: &impl Abort, alloc: Global) -> Result<InMemory, Fail> {
     let mut teller = Teller::over(RoomTube::open(alloc, 1)?);
-    let (heap, _mutators, mut collector) = started(rt, alloc)?;
+    let (heap, mutators, mut collector) = started(rt, alloc)?;
     let first = tell_on(&heap, &mut collector, &mut teller);
     let second = tell_on(&heap, &mut collector, &mut teller);
+    drop((heap, mutators, collector));
     Ok(InMemory {
         held: [first, second],
         is_first_sent: teller.tube().labels() == [1].as_slice(),
@@ -141,13 +142,14 @@ struct OverRing {
 
 fn tell_ring(rt: &impl Abort, alloc: Global) -> Result<OverRing, Fail> {
     let (mut teller, mut listener) = notices(alloc, 1)?;
-    let (heap, _mutators, mut collector) = started(rt, alloc)?;
+    let (heap, mutators, mut collector) = started(rt, alloc)?;
     let first = tell_on(&heap, &mut collector, &mut teller);
     let second = tell_on(&heap, &mut collector, &mut teller);
     let one = listener.hear();
     let done = tell_on(&heap, &mut collector, &mut teller);
     let two = listener.hear();
     let none = listener.hear();
+    drop((heap, mutators, collector));
     Ok(OverRing {
         held: [first, second],
         done,
@@ -247,17 +249,19 @@ struct OnThreads {
 
 fn tell_thread<R: Abort + Threads>(rt: &R, alloc: Global) -> Result<OnThreads, Fail> {
     let (teller, listener) = notices(alloc, 1)?;
-    let (heap, _mutators, collector) = started(rt, alloc)?;
+    let (heap, mutators, collector) = started(rt, alloc)?;
     let ((mut tells, is_done), mut heard) = tell_and_hear(
         rt,
         &heap,
         Tells { collector, teller },
         listener,
     );
+    let waiting = together(&mut tells.teller, &mut heard.listener);
+    drop((heap, mutators, tells));
     Ok(OnThreads {
         is_done,
         heard: heard.labels,
-        waiting: together(&mut tells.teller, &mut heard.listener),
+        waiting,
         rest: heard.listener.hear(),
     })
 }

@@ -103,10 +103,13 @@ pub fn set_running(
         world.at_rest() && world.boxes_home(),
         "the world may not be started"
     );
-    let Ok(started) = Heap::start(alloc, world) else {
-        return Err(Fail::new("no memory"));
-    };
-    Ok(started)
+    match Heap::start(alloc, world) {
+        Ok(started) => Ok(started),
+        Err((world, _)) => {
+            drop(world);
+            Err(Fail::new("no memory"))
+        }
+    }
 }
 
 /// The world that a heap is when it is stopped, which is never refused.

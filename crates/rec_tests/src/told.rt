@@ -348,10 +348,12 @@ fn race<R: Abort + Threads + Sync>(rt: &R, alloc: Global) -> Result<Outcome, Fai
     } = listens;
     hear_rest(&mut teller, &mut listener, &mut heard);
     let world = stop(alloc, heap, mutators, collector);
+    let left = left_in(&world);
+    drop(world);
     Ok(Outcome {
         made: shared.made(),
         heard,
-        left: left_in(&world),
+        left,
     })
 }
 

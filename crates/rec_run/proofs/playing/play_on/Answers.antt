@@ -8,23 +8,23 @@ use Rattle.rec_run.specs.Headline.{HasRun}
 use Rattle.rec_run.proofs.Outcomes.{many, played_run, written}
 use Rattle.rec_run.proofs.playing.play_on.Goals as goal
 
-pub returns-clause-outcome : goal.returns-clause-outcome
-returns-clause-outcome c = λ start first is.
-    let (events, played, stood, made) = c.in_ok-play_watched.ensures.played start first is in
-    let js : List Notes = c.play_watched.new.journals in
+pub returns-in-Ok-clause-outcome : goal.returns-in-Ok-clause-outcome
+returns-in-Ok-clause-outcome c = λ start first is.
+    let (events, played, stood, made) = c.in-Ok.ensures.played start first is in
+    let js : List Notes = c.play_watched-played.new.journals in
     let script : ScriptContents = c.args.script.now in
-    let all : length js ≡ length script.commands = many script start (lines_of js) events c.play_watched.new.world js refl played.commands in
+    let all : length js ≡ length script.commands = many script start (lines_of js) events c.play_watched-played.new.world js refl played.commands in
     let len : c.args.journals.len ≡ length js = sym c.as_mut_slice.ensures.len ∙ ap length c.as_mut_slice.ensures.value ∙ c.requires.journals.one_each ∙ sym all in
     record {
       events = events;
-      has_run = subst (λ (ns : List Notes). HasRun script start (hows.Play c.args.how) (lines_of ns) events c.play_watched.new.world)
+      has_run = subst (λ (ns : List Notes). HasRun script start (hows.Play c.args.how) (lines_of ns) events c.play_watched-played.new.world)
           (written c.args.journals.len c.args.journals.items js len)
-          (played_run script start c.args.how (lines_of js) events c.play_watched.new.world played);
+          (played_run script start c.args.how (lines_of js) events c.play_watched-played.new.world played);
       made = made;
-      order = ap Some (c.in_ok-play_watched.ensures.order ∙ sym played.in_order);
-      config = c.play_watched.ensures.config;
-      idle = c.play_watched.ensures.idle;
+      order = ap Some (c.in-Ok.ensures.order ∙ sym played.in_order);
+      config = c.play_watched-played.ensures.config;
+      idle = c.play_watched-played.ensures.idle;
     }
 
-pub returns-clause-shown : goal.returns-clause-shown
-returns-clause-shown c = c.in_ok-play_watched.ensures.shown
+pub returns-in-Ok-clause-shown : goal.returns-in-Ok-clause-shown
+returns-in-Ok-clause-shown c = c.in-Ok.ensures.shown
