@@ -30,6 +30,21 @@ command_words (commands.Value reg) = codes "value " ++ decimal reg
 command_words (commands.Same a b) = codes "same " ++ decimal a ++ codes " " ++ decimal b
 command_words commands.Leave = codes "leave"
 
+-- an answer's word, without the numbers behind it
+abbrev pub answer_name : Answer → List ℕ
+answer_name answers.Done = codes "done"
+answer_name answers.Null = codes "null"
+answer_name answers.Object = codes "object"
+answer_name (answers.Value label) = codes "value"
+answer_name answers.Yes = codes "yes"
+answer_name answers.No = codes "no"
+answer_name answers.NoObject = codes "none"
+answer_name answers.Full = codes "full"
+answer_name (answers.Busy before after) = codes "busy"
+answer_name answers.NoField = codes "nofield"
+answer_name answers.NotYet = codes "notyet"
+answer_name answers.LogFull = codes "logfull"
+
 -- an object, or null
 abbrev pub target_words : Option ℕ → List ℕ
 target_words None = codes "null"
@@ -92,6 +107,10 @@ outcome_words t cmd answer saw left s = []
 abbrev pub batch_words : (phase : List ℕ) → List ℕ
 batch_words phase = if bytes_eq phase (codes "gather") then [] else codes ", applies the batch"
 
+-- whether a sweep begins or ends, by the freed word before
+abbrev pub sweep_words : (freed : ℕ) → List ℕ
+sweep_words freed = if freed % 2 == 0 then codes "begins a sweep" else codes "ends the sweep"
+
 -- an operation of the collector, the word that it found, and the phase behind it
 abbrev pub op_words : Op → (found : ℕ) → (phase : List ℕ) → (fields : ℕ) → List ℕ
 op_words (StoreEpoch epoch) found phase fields = codes "requests epoch " ++ decimal epoch ++ batch_words phase
@@ -100,7 +119,7 @@ op_words (ReturnBox t epoch) found phase fields = codes "gives mutator " ++ deci
 op_words (LoadChild place) found phase fields = codes "loads " ++ field_words place fields ++ codes ", which is " ++ target_words (target_of found)
 op_words (ClearField place) found phase fields = codes "clears " ++ field_words place fields ++ codes ", which was " ++ target_words (target_of found)
 op_words (FreeHeader slot) found phase fields = codes "sweeps #" ++ decimal slot ++ codes ", whose slot is free now"
-op_words AddFreed found phase fields = if found % 2 == 0 then codes "begins a sweep" else codes "ends the sweep"
+op_words AddFreed found phase fields = sweep_words found
 op_words _ found phase fields = codes "makes a step"
 
 abbrev pub step_words : Option (Op × ℕ) → (phase : List ℕ) → (fields : ℕ) → List ℕ

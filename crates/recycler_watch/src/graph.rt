@@ -12,12 +12,17 @@ const HEAD: &str =
 /// Draws a heap: slots, what their fields lead to, registers by mutator, and sets as clusters.
 pub fn write_graph<W: Write>(out: &mut W, alloc: Global, state: &State) -> io::Result<()> {
     out.write_all(HEAD.as_bytes())?;
-    for seen in &state.slots {
-        write_node(out, drawn_slot(alloc, seen)?)?;
-    }
+    write_slots(out, alloc, &state.slots)?;
     write_mutators(out, alloc, &state.mutators)?;
     write_sets(out, alloc, &state.lists.sets)?;
     out.write_all(b"}\n")
+}
+
+fn write_slots<W: Write>(out: &mut W, alloc: Global, slots: &[Slot]) -> io::Result<()> {
+    for seen in slots {
+        write_node(out, drawn_slot(alloc, seen)?)?;
+    }
+    Ok(())
 }
 
 fn write_mutators<W: Write>(out: &mut W, alloc: Global, mutators: &[Mutator]) -> io::Result<()> {
@@ -48,39 +53,71 @@ fn drawn_slot(alloc: Global, seen: &Slot) -> Result<String, NoMemory> {
 
 // A box with label, counts and colour, or a dotted one where the slot is free.
 fn add_slot(text: &mut String, seen: &Slot) -> Result<(), NoMemory> {
-    let slot = seen.slot;
     match seen.label {
-        None => writeln!(text, "  s{slot} [label=\"#{slot}\\nfree\", style=dotted];"),
+        None => add_free(text, seen.slot),
         Some(label) => {
-            let kind = if seen.leaf { "leaf" } else { "label" };
-            write!(text, "  s{slot} [label=\"#{slot} {kind} {label}\\n")?;
+            add_label(text, seen, label)?;
             add_object(text, seen)
         }
     }
 }
 
+// The dotted box of a free slot.
+fn add_free(text: &mut String, slot: u16) -> Result<(), NoMemory> {
+    writeln!(text, "  s{slot} [label=\"#{slot}\\nfree\", style=dotted];")
+}
+
+// The first line in the box of an object.
+fn add_label(text: &mut String, seen: &Slot, label: u32) -> Result<(), NoMemory> {
+    let slot = seen.slot;
+    let kind = if seen.leaf { "leaf" } else { "label" };
+    write!(text, "  s{slot} [label=\"#{slot} {kind} {label}\\n")
+}
+
 // The rest of the box of an object.
 fn add_object(text: &mut String, seen: &Slot) -> Result<(), NoMemory> {
-    let (count, cyclic, colour) = (seen.count, seen.cyclic, seen.colour);
-    let is_dark = colour == "Black" || colour == "Purple";
-    let ink = if is_dark { "white" } else { "black" };
-    let released = if seen.released { "\\nreleased" } else { "" };
-    write!(text, "count {count} cyclic {cyclic}\\n{colour}{released}\"")?;
-    writeln!(text, ", fillcolor={colour}, fontcolor={ink}];")
+    write!(text, "count {} cyclic {}\\n", seen.count, seen.cyclic)?;
+    text.push_str(seen.colour)?;
+    text.push_str(if seen.released { "\\nreleased" } else { "" })?;
+    add_fill(text, seen.colour)
+}
+
+// What fills a box, and an ink that is seen on it.
+fn add_fill(text: &mut String, colour: &str) -> Result<(), NoMemory> {
+    writeln!(
+        text,
+        "\", fillcolor={colour}, fontcolor={}];",
+        ink_on(colour)
+    )
+}
+
+fn ink_on(colour: &str) -> &'static str {
+    if colour == "Black" || colour == "Purple" {
+        "white"
+    } else {
+        "black"
+    }
 }
 
 // A mutator, with an arrow for each of its registers.
 fn drawn_mutator(alloc: Global, seen: &Mutator) -> Result<String, NoMemory> {
     let mut text = String::new(alloc);
-    let (t, epoch, mailbox) = (seen.mutator, seen.epoch, seen.mailbox);
-    let left = if seen.left { ", has left" } else { "" };
-    write!(
-        text,
-        "  m{t} [label=\"mutator {t}{left}\\nepoch {epoch}\\nmailbox {mailbox}\""
-    )?;
-    text.push_str(", shape=ellipse, fillcolor=white];\n")?;
-    add_arrows(&mut text, 'm', u32::from(t), &seen.registers)?;
+    add_mutator(&mut text, seen)?;
+    add_arrows(&mut text, 'm', u32::from(seen.mutator), &seen.registers)?;
     Ok(text)
+}
+
+fn add_mutator(text: &mut String, seen: &Mutator) -> Result<(), NoMemory> {
+    let t = seen.mutator;
+    let left = if seen.left { ", has left" } else { "" };
+    write!(text, "  m{t} [label=\"mutator {t}{left}\\n")?;
+    add_mailbox(text, seen.epoch, seen.mailbox)
+}
+
+// The epoch of a mutator, and where its mailbox is.
+fn add_mailbox(text: &mut String, epoch: u32, mailbox: &str) -> Result<(), NoMemory> {
+    write!(text, "epoch {epoch}\\nmailbox {mailbox}\"")?;
+    text.push_str(", shape=ellipse, fillcolor=white];\n")
 }
 
 // An arrow for each field of a slot, or each register of a mutator, that names an object. Those of registers are dashed.

@@ -19,7 +19,7 @@ ghost use Rattle.std.specs.Prelude.{◌≡◌};
 use anyhow::Context;
 use clap::ArgMatches;
 use rec_model::limits::MOST_BYTES;
-use rec_script::{Script, ScriptError, read};
+use rec_script::{Kind, Script, ScriptError, read};
 use refusal::refusal;
 use request::{Asked, Request, command, what_is_asked};
 use std::alloc::Global;
@@ -33,7 +33,14 @@ fn main(rt: HostRuntime) -> anyhow::Result<ExitCode> {
     let alloc = rt.alloc();
     let words: Vec<String> = env::args(&rt)?.collect(alloc)?;
     let terminal = free_terminal(&rt, &words);
-    match run(&rt, alloc, &words, terminal) {
+    let done = run(&rt, alloc, &words, terminal);
+    drop(words);
+    status_of(&rt, done)
+}
+
+// What the program ends with. What went wrong is told on standard error.
+fn status_of<R: Eprint>(rt: &R, done: anyhow::Result<u8>) -> anyhow::Result<ExitCode> {
+    match done {
         Ok(status) => Ok(ExitCode::from(status)),
         Err(error) => {
             eprintln!(rt; "recycler_watch: {error:#}")?;
@@ -57,12 +64,23 @@ fn run<R: Files + AllocGlobal + Input + Print + Eprint>(
     terminal: Option<Stderr>,
 ) -> anyhow::Result<u8> {
     match command(alloc)?.try_get_matches_from(words) {
-        Ok(matches) => answer(rt, alloc, &matches, terminal),
+        Ok(matches) => {
+            let status = answer(rt, alloc, &matches, terminal);
+            drop(matches);
+            status
+        }
         Err(error) => {
-            error.print(rt)?;
-            Ok(u8::try_from(error.exit_code())?)
+            let status = refuse_words(rt, &error);
+            drop(error);
+            status
         }
     }
+}
+
+// Tells what is wrong with the words, or the help for which they ask.
+fn refuse_words<R: Print + Eprint>(rt: &R, error: &clap::Error) -> anyhow::Result<u8> {
+    error.print(rt)?;
+    Ok(u8::try_from(error.exit_code())?)
 }
 
 // Does what was matched.
@@ -74,9 +92,24 @@ fn answer<R: Files + AllocGlobal + Input + Print + Eprint>(
 ) -> anyhow::Result<u8> {
     let asked = what_is_asked(matches).context("no such word")?;
     if asked.from > asked.to {
-        eprintln!(rt; "recycler_watch: --from is past --to, so there is no move to tell")?;
-        return Ok(2); // as for other words that ask for nothing
+        return refuse_window(rt);
     }
+    tell_file(rt, alloc, asked, terminal)
+}
+
+// Says that the window has no move.
+fn refuse_window<R: Print + Eprint>(rt: &R) -> anyhow::Result<u8> {
+    eprintln!(rt; "recycler_watch: --from is past --to, so there is no move to tell")?;
+    Ok(2) // as for other words that ask for nothing
+}
+
+// Tells the run of the script in a file.
+fn tell_file<R: Files + AllocGlobal + Input + Print + Eprint>(
+    rt: &R,
+    alloc: Global,
+    asked: Asked<'_>,
+    terminal: Option<Stderr>,
+) -> anyhow::Result<u8> {
     let bytes = read_bytes(rt, alloc, asked.script).context(asked.script)?;
     tell_bytes(rt, alloc, asked, &bytes, terminal)
 }
@@ -92,13 +125,26 @@ fn tell_bytes<R: Files + Print + Eprint>(
     match read(alloc, bytes) {
         Ok(script) => tell_script(rt, alloc, asked, &script, terminal),
         Err(ScriptError::Bad { line, kind }) => {
-            rt.eprintln(&refusal(alloc, asked.script, bytes, line, kind)?)?;
-            Ok(3) // as `recycler` has it
+            tell_refusal(rt, alloc, asked.script, bytes, line, kind)
         }
         Err(error) => Err(error.into()),
     }
 }
 
+// Tells why the bytes of a file are no script.
+fn tell_refusal<R: Print + Eprint>(
+    rt: &R,
+    alloc: Global,
+    file: &str,
+    bytes: &[u8],
+    line: u32,
+    kind: Kind,
+) -> anyhow::Result<u8> {
+    rt.eprintln(&refusal(alloc, file, bytes, line, kind)?)?;
+    Ok(3) // as `recycler` has it
+}
+
+// Tells the run of a script. The run ends by name, so that its heap's end is one step here.
 fn tell_script<R: Files + Print + Eprint>(
     rt: &R,
     alloc: Global,
@@ -106,10 +152,10 @@ fn tell_script<R: Files + Print + Eprint>(
     script: &Script,
     terminal: Option<Stderr>,
 ) -> anyhow::Result<u8> {
-    match Teller::open(alloc, asked, script, terminal) {
-        Ok(mut teller) => watch(rt, &mut teller),
-        Err(error) => Err(error.into()),
-    }
+    let mut teller = Teller::open(alloc, asked, script, terminal)?;
+    let status = watch(rt, &mut teller);
+    drop(teller);
+    status
 }
 
 // Tells a run, and says how many moves it has where it ends before the window.
@@ -131,11 +177,25 @@ fn watch<R: Files + Print + Eprint>(rt: &R, teller: &mut Teller<'_>) -> anyhow::
 fn write_out<R: Files + Print>(rt: &R, teller: &mut Teller<'_>) -> anyhow::Result<bool>
     requires { teller.old.moves ≡ 0 }
 {
-    if let Request::Page(output) = teller.asked.request {
-        let file = fs::create(rt, output).context(output)?;
-        let mut out = BufWriter::new(teller.alloc, file)?;
-        return teller.tell(&mut out).context(output);
+    match teller.asked.request {
+        Request::Page(output) => write_page(rt, teller, output),
+        _ => print(rt, teller),
     }
+}
+
+// Tells a run to the file of a page.
+fn write_page<R: Files>(rt: &R, teller: &mut Teller<'_>, output: &str) -> anyhow::Result<bool>
+    requires { teller.old.moves ≡ 0 }
+{
+    let file = fs::create(rt, output).context(output)?;
+    let mut out = BufWriter::new(teller.alloc, file)?;
+    teller.tell(&mut out).context(output)
+}
+
+// Tells a run to standard output.
+fn print<R: Print>(rt: &R, teller: &mut Teller<'_>) -> anyhow::Result<bool>
+    requires { teller.old.moves ≡ 0 }
+{
     let mut out = BufWriter::new(teller.alloc, io::writer(rt))?;
     match teller.tell(&mut out) {
         // Whoever stops to read has seen enough.
@@ -144,14 +204,17 @@ fn write_out<R: Files + Print>(rt: &R, teller: &mut Teller<'_>) -> anyhow::Resul
     }
 }
 
-// The bytes of a file, or of standard input where the file is `-`. What is longer than a script may be is cut.
+// The bytes of a file, or of standard input where the file is `-`.
 fn read_bytes<R: Files + Input>(rt: &R, alloc: Global, file: &str) -> io::Result<Vec<u8>> {
-    let most = MOST_BYTES as u64 + 1;
-    let mut bytes = Vec::new(alloc);
     if file == "-" {
-        rt.reader().take(most).read_to_end(&mut bytes)?;
-    } else {
-        fs::open(rt, file)?.take(most).read_to_end(&mut bytes)?;
+        return read_input(alloc, rt.reader());
     }
+    read_input(alloc, fs::open(rt, file)?)
+}
+
+// What is longer than a script may be is cut.
+fn read_input<I: Read + Drop>(alloc: Global, input: I) -> io::Result<Vec<u8>> {
+    let mut bytes = Vec::new(alloc);
+    input.take(MOST_BYTES as u64 + 1).read_to_end(&mut bytes)?;
     Ok(bytes)
 }

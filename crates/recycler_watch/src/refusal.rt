@@ -61,10 +61,14 @@ fn add_marked(
 // What isn't printable ASCII could be wider than a byte, or do anything, and is a `?`.
 fn add_shown(text: &mut String, line: &[u8], before: usize) -> Result<(), NoMemory> {
     for byte in line.iter().skip(before).take(100) {
-        let is_shown = byte.is_ascii_graphic() || *byte == b' ' || *byte == b'\t';
-        text.push(if is_shown { char::from(*byte) } else { '?' })?;
+        text.push(shown(*byte))?;
     }
     Ok(())
+}
+
+fn shown(byte: u8) -> char {
+    let is_shown = byte.is_ascii_graphic() || byte == b' ' || byte == b'\t';
+    if is_shown { char::from(byte) } else { '?' }
 }
 
 // Tabs are in both lines, so that the mark stands under the word wherever a terminal has its stops.
@@ -77,9 +81,8 @@ fn add_mark(
 ) -> Result<(), NoMemory> {
     let mut is_empty = true;
     for (at, byte) in line.iter().enumerate().skip(before).take(100) {
-        let blank = if *byte == b'\t' { '\t' } else { ' ' };
         if at < end {
-            text.push(if at < column { blank } else { '^' })?;
+            text.push(if at < column { blank(*byte) } else { '^' })?;
             is_empty = false;
         }
     }
@@ -87,6 +90,11 @@ fn add_mark(
         text.push('^')?;
     }
     Ok(())
+}
+
+// What stands in a line of marks for a byte that isn't marked.
+fn blank(byte: u8) -> char {
+    if byte == b'\t' { '\t' } else { ' ' }
 }
 
 fn sentence_on(kind: Kind) -> &'static str {
@@ -125,21 +133,45 @@ fn nth_word(line: &[u8], index: usize) -> (usize, &str) {
 
 // The word that a kind speaks of: the first operand that it fits, the first byte that isn't UTF-8, or else the first word.
 fn wrong_word(line: &[u8], registers: u32, kind: Kind) -> (usize, &str) {
-    let word = |index: usize| nth_word(line, index);
-    let is_register = |index: usize| word(index).1.parse::<u32>().is_ok_and(|n| n < registers);
-    let is_put = word(0).1 == "put";
-    let error = str::from_utf8(line).err();
     match kind {
-        Kind::NotUtf8 => (error.map_or(0, |error| error.valid_up_to()), "?"),
-        Kind::BadNumber if !is_numeral(word(1).1) => word(1),
-        Kind::BadNumber if !is_numeral(word(2).1) => word(2),
-        Kind::BadNumber => word(3),
-        Kind::Register if !is_register(1) => word(1),
-        Kind::Register if is_put => word(3),
-        Kind::Field if !is_put => word(3),
-        Kind::Register | Kind::Field => word(2),
-        _ => word(0),
+        Kind::NotUtf8 => (valid_up_to(line), "?"),
+        Kind::BadNumber => nth_word(line, bad_number(line)),
+        Kind::Register => nth_word(line, bad_register(line, registers)),
+        Kind::Field => nth_word(line, if is_put(line) { 2 } else { 3 }),
+        _ => nth_word(line, 0),
     }
+}
+
+// How many bytes stand before the first one that isn't UTF-8.
+fn valid_up_to(line: &[u8]) -> usize {
+    let error = str::from_utf8(line).err();
+    error.map_or(0, |error| error.valid_up_to())
+}
+
+// Which word is the first operand that is no number.
+fn bad_number(line: &[u8]) -> usize {
+    if !is_numeral(nth_word(line, 1).1) {
+        return 1;
+    }
+    if is_numeral(nth_word(line, 2).1) {
+        3
+    } else {
+        2
+    }
+}
+
+// Which word is the first operand that names no register.
+fn bad_register(line: &[u8], registers: u32) -> usize {
+    let first = nth_word(line, 1).1.parse::<u32>();
+    if !first.is_ok_and(|n| n < registers) {
+        return 1;
+    }
+    if is_put(line) { 3 } else { 2 }
+}
+
+// Whether a line puts: then its third word is a field, and its last one a register.
+fn is_put(line: &[u8]) -> bool {
+    nth_word(line, 0).1 == "put"
 }
 
 // A numeral is spelled by digits alone, without leading zeros. `parse` takes such zeros, and a sign.

@@ -87,28 +87,55 @@ pub fn command<'a>(alloc: Global) -> Result<Command<'a>, NoMemory> {
         .subcommand_required(true)
         .arg_required_else_help(true);
     for word in &WORDS {
-        command = command.subcommand(subcommand(alloc, *word)?)?;
+        command = with_word(alloc, command, *word)?;
     }
     Ok(command)
+}
+
+// The command with one of its words.
+fn with_word<'a>(alloc: Global, command: Command<'a>, word: Word) -> Result<Command<'a>, NoMemory> {
+    match subcommand(alloc, word) {
+        Ok(subcommand) => command.subcommand(subcommand),
+        Err(error) => {
+            drop(command);
+            Err(error)
+        }
+    }
 }
 
 /// What the matches ask for.
 pub fn what_is_asked<'a>(matches: &ArgMatches<'a>) -> Option<Asked<'a>> {
     let (word, options) = matches.subcommand()?;
-    let request = match word {
-        "trace" if options.get_flag("json") => Request::Data,
-        "trace" => Request::Text,
-        "graph" => Request::Graph,
-        _ => Request::Page(options.get_str("output")?),
-    };
+    asked_of(request_of(word, options)?, options)
+}
+
+// A request on a script with its options.
+fn asked_of<'a>(request: Request<'a>, options: &ArgMatches<'a>) -> Option<Asked<'a>> {
+    let (from, to) = window_of(options);
     Some(Asked {
         request,
         script: options.get_str("script")?,
         seed: options.get_one("seed")?,
         turns: options.get_one("turns")?,
-        from: options.get_one("from").unwrap_or(0), // a graph has no begin
-        to: options.get_one("to").unwrap_or(u64::MAX),
+        from,
+        to,
     })
+}
+
+// The first move that is told, and the last one.
+fn window_of(options: &ArgMatches<'_>) -> (u64, u64) {
+    let from = options.get_one("from").unwrap_or(0); // a graph has no begin
+    (from, options.get_one("to").unwrap_or(u64::MAX))
+}
+
+// What a word asks for.
+fn request_of<'a>(word: &str, options: &ArgMatches<'a>) -> Option<Request<'a>> {
+    match word {
+        "trace" if options.get_flag("json") => Some(Request::Data),
+        "trace" => Some(Request::Text),
+        "graph" => Some(Request::Graph),
+        _ => options.get_str("output").map(Request::Page),
+    }
 }
 
 fn subcommand<'a>(alloc: Global, word: Word) -> Result<Command<'a>, NoMemory> {

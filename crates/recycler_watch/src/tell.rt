@@ -167,10 +167,22 @@ impl Teller<'_> {
         ensures asked { self.new.asked ≡ self.old.asked }
         ensures told { self.old.asked.request ≡ Text → OnOk result (HasTold self.old.walk self.old.moves to self.new.walk self.new.moves (W.contents out.old) (W.contents out.new)) }
     {
-        let mut seen = State::of(self.alloc, &self.walk)?;
-        self.begin(out, &seen)?;
+        let mut known = State::of(self.alloc, &self.walk)?;
+        let told = self.tell_from(out, to, &mut known);
+        drop(known);
+        told
+    }
+
+    // Tells the moves from here on up to this one, and what stands before them.
+    fn tell_from<W: Write>(&mut self, out: &mut W, to: u64, known: &mut State) -> io::Result<()>
+        requires { seen known.old ≡ seen_of self.old.walk }
+
+        ensures asked { self.new.asked ≡ self.old.asked }
+        ensures told { self.old.asked.request ≡ Text → OnOk result (HasTold self.old.walk self.old.moves to self.new.walk self.new.moves (W.contents out.old) (W.contents out.new)) }
+    {
+        self.begin(out, known)?;
         for _ in self.moves..to.max(self.moves) {
-            if !self.tell_next(out, &mut seen)? {
+            if !self.tell_next(out, known)? {
                 break;
             }
         }

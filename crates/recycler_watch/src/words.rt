@@ -1,12 +1,12 @@
 //! A move in words that a person reads. `#3` is the object in slot 3, and `#3.0` its first field.
 //! The words are a function of the move and of what was seen before and behind it (`specs/Sentence`).
 
-ghost use Rattle.std.specs.Prelude.{◌≡◌, ◌++◌, codes, length, map, not, string_bytes, IfOk, OnOk};
+ghost use Rattle.std.specs.Prelude.{◌≡◌, ◌++◌, codes, decimal, length, map, not, string_bytes, IfOk, OnOk};
 ghost use Rattle.std.specs.List.{flat_map};
 ghost use Rattle.rec_report.specs.Text.{answer_word};
 ghost use Rattle.rec_word.specs.Word.{target_of};
 ghost use Rattle.recycler_watch.specs.Seen.{collector_seen, mutator_seen, seen, slot_seen};
-ghost use Rattle.recycler_watch.specs.Sentence.{batch_words, birth_words, change_words, changed_slots, changes_words, colour_words, command_words, counts_words, crossed, crossed_before, crosses_words, epoch_then, field_words, is_same_slot, loss_words, more_words, outcome_words, polls_words, put_words, root_words, sentence, set_words, sets_words, step_words, target_words, turn_words};
+ghost use Rattle.recycler_watch.specs.Sentence.{answer_name, batch_words, birth_words, change_words, changed_slots, changes_words, colour_words, command_words, counts_words, crossed, crossed_before, crosses_words, epoch_then, field_words, is_same_slot, loss_words, more_words, op_words, outcome_words, polls_words, put_words, root_words, sentence, set_words, sets_words, step_words, sweep_words, target_words, turn_words};
 
 use crate::state::{Collector, Mutator, Slot, State, add_field, add_target};
 use rec_model::Answer;
@@ -24,35 +24,68 @@ pub fn command_text(alloc: Global, cmd: Cmd) -> Result<String, NoMemory>
     ensures { IfOk result (λ text. string_bytes text ≡ command_words cmd) }
 {
     match cmd {
-        Cmd::New { reg, label } => format!(in alloc; "new {reg} {label}"),
-        Cmd::Leaf { reg, label } => format!(in alloc; "leaf {reg} {label}"),
-        Cmd::Null { reg } => format!(in alloc; "null {reg}"),
-        Cmd::Copy { dst, src } => format!(in alloc; "copy {dst} {src}"),
-        Cmd::Get { dst, src, field } => format!(in alloc; "get {dst} {src} {field}"),
-        Cmd::Put { src, field, val } => format!(in alloc; "put {src} {field} {val}"),
-        Cmd::Value { reg } => format!(in alloc; "value {reg}"),
-        Cmd::Same { a, b } => format!(in alloc; "same {a} {b}"),
+        Cmd::New { reg, label } => with_two(alloc, "new", reg, label),
+        Cmd::Leaf { reg, label } => with_two(alloc, "leaf", reg, label),
+        Cmd::Null { reg } => with_one(alloc, "null", reg),
+        Cmd::Copy { dst, src } => with_two(alloc, "copy", dst, u32::from(src)),
+        Cmd::Get { dst, src, field } => with_three(alloc, "get", dst, src, field),
+        Cmd::Put { src, field, val } => with_three(alloc, "put", src, field, val),
+        Cmd::Value { reg } => with_one(alloc, "value", reg),
+        Cmd::Same { a, b } => with_two(alloc, "same", a, u32::from(b)),
         Cmd::Leave => format!(in alloc; "leave"),
     }
+}
+
+// A command's word with its one operand.
+fn with_one(alloc: Global, word: &str, reg: u8) -> Result<String, NoMemory>
+    ensures { IfOk result (λ text. string_bytes text ≡ word.now ++ codes " " ++ decimal reg) }
+{
+    format!(in alloc; "{word} {reg}")
+}
+
+// A command's word with its two operands.
+fn with_two(alloc: Global, word: &str, reg: u8, operand: u32) -> Result<String, NoMemory>
+    ensures { IfOk result (λ text. string_bytes text ≡ word.now ++ codes " " ++ decimal reg ++ codes " " ++ decimal operand) }
+{
+    format!(in alloc; "{word} {reg} {operand}")
+}
+
+// A command's word with its three operands.
+fn with_three(alloc: Global, word: &str, a: u8, b: u8, c: u8) -> Result<String, NoMemory>
+    ensures { IfOk result (λ text. string_bytes text ≡ word.now ++ codes " " ++ decimal a ++ codes " " ++ decimal b ++ codes " " ++ decimal c) }
+{
+    format!(in alloc; "{word} {a} {b} {c}")
 }
 
 /// An answer as a run's text spells it.
 pub fn answer_text(alloc: Global, answer: Answer) -> Result<String, NoMemory>
     ensures { IfOk result (λ text. string_bytes text ≡ answer_word answer) }
 {
+    let name = answer_name(answer);
     match answer {
-        Answer::Done => format!(in alloc; "done"),
-        Answer::Null => format!(in alloc; "null"),
-        Answer::Object => format!(in alloc; "object"),
-        Answer::Value(label) => format!(in alloc; "value {label}"),
-        Answer::Yes => format!(in alloc; "yes"),
-        Answer::No => format!(in alloc; "no"),
-        Answer::NoObject => format!(in alloc; "none"),
-        Answer::Full => format!(in alloc; "full"),
-        Answer::Busy { before, after } => format!(in alloc; "busy {before} {after}"),
-        Answer::NoField => format!(in alloc; "nofield"),
-        Answer::NotYet => format!(in alloc; "notyet"),
-        Answer::LogFull => format!(in alloc; "logfull"),
+        Answer::Value(label) => format!(in alloc; "{name} {label}"),
+        Answer::Busy { before, after } => format!(in alloc; "{name} {before} {after}"),
+        _ => format!(in alloc; "{name}"),
+    }
+}
+
+// An answer's word, without the numbers behind it.
+fn answer_name(answer: Answer) -> &'static str
+    ensures { result.now ≡ answer_name answer }
+{
+    match answer {
+        Answer::Done => "done",
+        Answer::Null => "null",
+        Answer::Object => "object",
+        Answer::Value(_) => "value",
+        Answer::Yes => "yes",
+        Answer::No => "no",
+        Answer::NoObject => "none",
+        Answer::Full => "full",
+        Answer::Busy { .. } => "busy",
+        Answer::NoField => "nofield",
+        Answer::NotYet => "notyet",
+        Answer::LogFull => "logfull",
     }
 }
 
@@ -196,27 +229,57 @@ fn add_put(text: &mut String, object: Option<u16>, field: u8, told: Told) -> Res
 fn add_step(text: &mut String, seen: Option<(Op, u64)>, is: &State) -> Result<(), NoMemory>
     ensures { OnOk result (string_bytes text.new ≡ string_bytes text.old ++ step_words seen (collector_seen is.now.collector).phase is.now.fields) }
 {
-    let Some((op, found)) = seen else {
-        return text.push_str("finds the epochs spent");
-    };
+    match seen {
+        None => text.push_str("finds the epochs spent"),
+        Some((op, found)) => add_op(text, op, found, is.collector.phase, is.fields),
+    }
+}
+
+// An operation of the collector with the word that it found, by the phase behind it.
+fn add_op(text: &mut String, op: Op, found: u64, phase: &str, fields: u32) -> Result<(), NoMemory>
+    ensures { OnOk result (string_bytes text.new ≡ string_bytes text.old ++ op_words op found phase.now fields) }
+{
     match op {
-        Op::StoreEpoch(epoch) => {
-            write!(text, "requests epoch {epoch}")?;
-            text.push_str(batch(is.collector.phase))
+        Op::StoreEpoch(epoch) => add_numbered(text, "requests epoch ", epoch, batch(phase)),
+        Op::LookBox(t, _) => add_numbered(text, "looks at mutator ", u32::from(t), "'s mailbox"),
+        Op::ReturnBox(t, _) => add_return(text, t, phase),
+        Op::LoadChild(place) => add_found(text, "loads ", place, ", which is ", found, fields),
+        Op::ClearField(place) => add_found(text, "clears ", place, ", which was ", found, fields),
+        Op::FreeHeader(slot) => {
+            add_numbered(
+                text,
+                "sweeps #",
+                u32::from(slot),
+                ", whose slot is free now",
+            )
         }
-        Op::LookBox(t, _) => write!(text, "looks at mutator {t}'s mailbox"),
-        Op::ReturnBox(t, _) => {
-            write!(text, "gives mutator {t}'s mailbox back")?;
-            text.push_str(batch(is.collector.phase))
-        }
-        Op::LoadChild(place) => add_found(text, "loads ", place, ", which is ", found, is.fields),
-        Op::ClearField(place) => {
-            add_found(text, "clears ", place, ", which was ", found, is.fields)
-        }
-        Op::FreeHeader(slot) => write!(text, "sweeps #{slot}, whose slot is free now"),
-        Op::AddFreed if found % 2 == 0 => text.push_str("begins a sweep"),
-        Op::AddFreed => text.push_str("ends the sweep"),
+        Op::AddFreed => text.push_str(side_of_sweep(found)),
         _ => text.push_str("makes a step"),
+    }
+}
+
+// A number between words.
+fn add_numbered(text: &mut String, words: &str, number: u32, behind: &str) -> Result<(), NoMemory>
+    ensures { OnOk result (string_bytes text.new ≡ string_bytes text.old ++ (words.now ++ decimal number ++ behind.now)) }
+{
+    write!(text, "{words}{number}{behind}")
+}
+
+// A mailbox that its mutator has back, and whether the batch was applied.
+fn add_return(text: &mut String, t: u8, phase: &str) -> Result<(), NoMemory>
+    ensures { OnOk result (string_bytes text.new ≡ string_bytes text.old ++ (codes "gives mutator " ++ decimal t ++ codes "'s mailbox back" ++ batch_words phase.now)) }
+{
+    write!(text, "gives mutator {t}'s mailbox back{}", batch(phase))
+}
+
+// Whether a sweep begins or ends, by the freed word before.
+fn side_of_sweep(freed: u64) -> &'static str
+    ensures { result.now ≡ sweep_words freed }
+{
+    if freed % 2 == 0 {
+        "begins a sweep"
+    } else {
+        "ends the sweep"
     }
 }
 

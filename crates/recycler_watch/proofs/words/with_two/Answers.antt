@@ -1,0 +1,7 @@
+-- The pieces of the format one after another.
+use Rattle.std.proofs.Common.{append_assoc}
+use Rattle.std.proofs.lemmas.Result.{IfOk-weaker}
+use Rattle.recycler_watch.proofs.words.with_two.Goals as goal
+
+pub returns : goal.returns
+returns c = IfOk-weaker c.format.result _ _ (λ text h. simp append_assoc h) c.format.ensures.ok
