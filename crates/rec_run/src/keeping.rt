@@ -32,8 +32,10 @@ fn audit_script(alloc: Global, script: &Script, asked: Keeping) -> Result<Vec<u8
 {
     let mut auditor = Auditor::open(alloc, script)?;
     let mut outcome = play_script(alloc, script, played(asked), &mut auditor)?;
+    let settled = settle_watched(&mut outcome.world, &mut auditor);
+    drop(outcome);
     // There are epochs enough left to settle.
-    let Ok(_settled) = settle_watched(&mut outcome.world, &mut auditor)? else {
+    let Ok(_settled) = settled? else {
         unreachable!();
     };
     Ok(auditor.into_text())
@@ -51,7 +53,9 @@ fn image_script(alloc: Global, script: &Script, asked: Keeping) -> Result<Vec<u8
     let Ok(_settled) = settle(&mut outcome.world) else {
         unreachable!();
     };
-    write(alloc, &outcome.world)
+    let image = write(alloc, &outcome.world);
+    drop(outcome);
+    image
 }
 
 // How the script is played.

@@ -5,13 +5,17 @@ ghost use Rattle.rec_model.specs.declared.limits.TheConstants.{MOST_COMMANDS, MO
 ghost use Rattle.rec_io.specs.Faults.{Rose};
 ghost use Rattle.rec_io.specs.Source.{Passes};
 ghost use Rattle.rec_io.specs.Told.{KeepsTold};
+ghost use Rattle.rec_image.specs.Restored.{config_of as config_in};
+ghost use Rattle.rec_play.specs.Played.{config_of, log_room};
+ghost use Rattle.rec_play.specs.Start.{Start};
 ghost use Rattle.rec_script.specs.Script.{IsText, IsRefused};
 ghost use Rattle.rec_script.specs.declared.error.Kind.{Kind};
 ghost use Rattle.rec_run.specs.CommandLine.{Asks, AsksToAudit, AsksToMake, AsksToRead, AsksToResume, HasFewTurns, IsCommandLine, IsInRange, ReadsSource};
 ghost use Rattle.rec_run.specs.Ends.{Ends, HasCause, passage, untouched};
-ghost use Rattle.rec_run.specs.Headline.{AnswersTo, ResumesTo, SaysVerdict, TellsOf, WroteAnswer, WroteFront};
-ghost use Rattle.rec_run.specs.Resuming.{IsResumable, IsUnresumed};
+ghost use Rattle.rec_run.specs.Headline.{Answers, AnswersTo, ResumesTo, SaysVerdict, TellsOf, WroteAnswer, WroteFront};
+ghost use Rattle.rec_run.specs.Resuming.{IsRestoredFor, IsResumable, IsUnresumed};
 ghost use Rattle.rec_run.specs.Status.{may_write};
+ghost use Rattle.rec_run.specs.declared.command_line.How.TheVariants as hows;
 ghost use Rattle.rec_run.specs.declared.command_line.Request.{Request as Asked};
 
 use crate::answer::{answer_outcome, answer_script};
@@ -23,9 +27,10 @@ use crate::resuming::{read_resumed, resume_script};
 use crate::status::Status;
 use crate::writing::{write_lines, write_text};
 use rec_audit::check;
+use rec_image::Image;
 use rec_io::{Flush, Sink, Source};
 use rec_report::Text;
-use rec_script::{ScriptError, read};
+use rec_script::{Script, ScriptError, read};
 use rec_threads::Gate;
 use std::alloc::{AllocError as NoMemory, Global};
 use std::sync::Wait;
@@ -278,13 +283,30 @@ fn resume<R: Threads + Sync>(
         summary: false,
         trace: false,
     };
-    let Ok(mut outcome) = resume_script(alloc, &script, &image, how) else {
-        return Err(ScriptError::NoMemory);
-    };
-    match answer_outcome(rt, alloc, &script, How::Play(how), &mut outcome) {
+    let answered = answer_resumed(rt, alloc, &image, &script, how);
+    drop((image, script));
+    match answered {
         Ok(text) => Ok(text),
         Err(_) => Err(ScriptError::NoMemory),
     }
+}
+
+// The answer of a script that goes on from an image with its numbers.
+fn answer_resumed<R: Threads + Sync>(
+    rt: &R,
+    alloc: Global,
+    image: &Image,
+    script: &Script,
+    how: Play,
+) -> Result<Text, NoMemory>
+    requires turns { how.turns ≤ MOST_TURNS }
+    requires numbers { config_in image.now (log_room script.now) ≡ config_of script.now }
+    ensures { IfOk result (λ text. (start : Start) × IsRestoredFor image.now script.now start × Answers script.now start (hows.Play how) (flat_map (λ line. line) text)) }
+{
+    let mut outcome = resume_script(alloc, script, image, how)?;
+    let answered = answer_outcome(rt, alloc, script, How::Play(how), &mut outcome);
+    drop(outcome);
+    answered
 }
 
 // Reads a journal to its end, or past its limit, and writes what is to be said of it.

@@ -27,16 +27,16 @@ returns c =
       events = is.events;
       end = o.world;
       has_run = subst (λ (p : Play). HasRun script (opening_of script) (hows.Play p) (lines_of o.journals.items) is.events o.world) c.played.ensures is.has_run;
-      world = c.settle_watched.new.world;
+      world = c.settle_watched-settled.new.world;
       settles = done.settles;
       settled = done.settled;
-      kept = subst (λ k. IsKept k script c.args.asked o.world c.settle_watched.new.world c.into_text.result.items) (sym c.requires.journal)
+      kept = subst (λ k. IsKept k script c.args.asked o.world c.settle_watched-settled.new.world c.into_text.result.items) (sym c.requires.journal)
           (record {
             played = first;
             shown_played = subst (λ (p : Play). IsShownWhole script p.seed p.turns (opened (config_of script)) first o.world) c.played.ensures shown_first;
             settling = later;
             shown_settling = shown_later;
             written = written;
-            answered = run_answered (config_of script) o.world done.settles.tried c.settle_watched.new.world first later c.into_text.result.items c.in_ok-outcome.ensures.valid run_first run_later done.settles.frees written;
+            answered = run_answered (config_of script) o.world done.settles.tried c.settle_watched-settled.new.world first later c.into_text.result.items c.in_ok-outcome.ensures.valid run_first run_later done.settles.frees written;
           });
     }

@@ -14,7 +14,7 @@ returns c =
     let o = c.in_ok-outcome.outcome in
     let is = c.in_ok-outcome.ensures.outcome in
     let world : Core = c.settle.new.world in
-    if_ok c.write.result _ (λ image. TellsRun c.args.script.now c.args.asked image.items)
+    if_ok c.write-image.result _ (λ image. TellsRun c.args.script.now c.args.asked image.items)
     (λ image written. record {
       journals = lines_of o.journals.items;
       events = is.events;
@@ -26,4 +26,4 @@ returns c =
       kept = subst (λ k. IsKept k c.args.script.now c.args.asked o.world world image.items) (sym c.requires.image)
           (record { contents = written.0; image = written.1; numbers = written.3; stands = written.4; written = sym written.2 });
     })
-    c.write.ensures.image
+    c.write-image.ensures.image

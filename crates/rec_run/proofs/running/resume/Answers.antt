@@ -17,21 +17,21 @@ returns-in-Err-clause-refused g c = λ line kind is.
     let same : c.in-Err.error ≡ Bad line kind = cc in
     subst (λ bytes. IsUnresumed bytes line kind) c.deref.ensures.value (c.in-Err.ensures.refused line kind (ap (λ (e : ScriptError). Err e) same))
 
-pub resume_script-requires-clause-numbers : goal.resume_script-requires-clause-numbers
-resume_script-requires-clause-numbers g c = numbers_same c.deref.result.now c.in-Ok.read.0 c.in-Ok.read.1 c.in-Ok.ensures.found
+pub answer_resumed-answered-requires-clause-numbers : goal.answer_resumed-answered-requires-clause-numbers
+answer_resumed-answered-requires-clause-numbers g c = λ κs lives. numbers_same c.deref.result.now c.in-Ok.read.0 c.in-Ok.read.1 c.in-Ok.ensures.found
 
-pub returns-in-Ok-answer_outcome-clause-answer : goal.returns-in-Ok-answer_outcome-clause-answer
-returns-in-Ok-answer_outcome-clause-answer g c =
+pub returns-in-Ok-answered-clause-answer : goal.returns-in-Ok-answered-clause-answer
+returns-in-Ok-answered-clause-answer g c =
     let v : ImageContents = c.in-Ok.read.0 in
-    let text : List ℕ = flat_map (λ line. line) c.in-Ok-answer_outcome.text in
+    let text : List ℕ = flat_map (λ line. line) c.in-Ok-answered.text in
     let how : How = hows.Play (record { seed = c.args.asked.seed; turns = c.args.asked.turns; summary = false; trace = false }) in
     let is : IsResumedAs c.deref.result.now v c.in-Ok.read.1 = c.in-Ok.ensures.found in
-    let (start, restored, outcome) = c.in-Ok-resume_script.ensures.outcome in
+    let (start, restored, answered) = c.in-Ok-answered.ensures in
     record {
       contents = v;
       given = is.given;
       told = subst (λ bytes. Tells bytes v is.given) c.deref.ensures.value is.told;
       start = start;
       restored = subst (λ (script : ScriptContents). IsRestoredFor v script start) is.all restored;
-      answered = subst (λ (script : ScriptContents). Answers script start how text) is.all (c.in-Ok-answer_outcome.ensures start outcome);
+      answered = subst (λ (script : ScriptContents). Answers script start how text) is.all answered;
     }
