@@ -52,17 +52,36 @@ pub fn read_back(alloc: Global, asked: &str) -> Result<String, NoMemory> {
 /// The heap of the image that a line spells behind its first word, with logs for 16 entries. Where there is none it is this one, and
 /// what is told is why.
 pub fn restored(alloc: Global, world: World, asked: &str) -> (World, Result<String, NoMemory>) {
-    let bytes = match spelled(alloc, asked) {
-        Ok(bytes) => bytes,
-        Err(error) => return (world, Err(error)),
-    };
-    let image = match read(alloc, &bytes) {
-        Ok(image) => image,
-        Err(error) => return (world, told(alloc, Err(error))),
-    };
-    match restore(alloc, &image, LOG_ENTRIES) {
-        Ok(heap) => (heap, Ok(String::new(alloc))),
-        Err(error) => (world, refusal(alloc, &error)),
+    match heap_of(alloc, asked) {
+        Ok(heap) => {
+            drop(world);
+            (heap, Ok(String::new(alloc)))
+        }
+        Err(told) => (world, told),
+    }
+}
+
+// The heap of the image that a line spells, or what is told where there is none.
+fn heap_of(alloc: Global, asked: &str) -> Result<World, Result<String, NoMemory>> {
+    match spelled(alloc, asked) {
+        Ok(bytes) => {
+            let heap = heap_in(alloc, &bytes);
+            drop(bytes);
+            heap
+        }
+        Err(error) => Err(Err(error)),
+    }
+}
+
+// The same, of an image's bytes.
+fn heap_in(alloc: Global, bytes: &[u8]) -> Result<World, Result<String, NoMemory>> {
+    match read(alloc, bytes) {
+        Ok(image) => {
+            let heap = restore(alloc, &image, LOG_ENTRIES);
+            drop(image);
+            heap.map_err(|error| refusal(alloc, &error))
+        }
+        Err(error) => Err(told(alloc, Err(error))),
     }
 }
 

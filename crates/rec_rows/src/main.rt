@@ -32,15 +32,26 @@ use std::{env, fs};
 fn main(rt: HostRuntime) -> anyhow::Result<ExitCode> {
     let alloc = rt.alloc();
     let words: Vec<String> = env::args(&rt)?.collect(alloc)?;
+    let status = carry_out_files(&rt, alloc, &words);
+    drop(words);
+    Ok(ExitCode::from(status?))
+}
+
+// Carries out the rows of the files behind the program's name, and tells how that went at worst.
+fn carry_out_files<R: Files + AllocGlobal + Print + Eprint + Threads + Sync>(
+    rt: &R,
+    alloc: Global,
+    words: &[String],
+) -> anyhow::Result<u8> {
     if words.len() < 2 {
         eprintln!(rt; "usage: rec_rows FILE..")?;
-        return Ok(ExitCode::from(2));
+        return Ok(2);
     }
     let mut status = 0;
     for file in words.iter().skip(1) {
-        status = carry_out(&rt, alloc, file.as_str())?.max(status);
+        status = carry_out(rt, alloc, file.as_str())?.max(status);
     }
-    Ok(ExitCode::from(status))
+    Ok(status)
 }
 
 // Carries out the rows of a file. The answer is 0 where each is as it should be, 1 where one isn't, and 2 where there are none.
@@ -50,15 +61,34 @@ fn carry_out<R: Files + AllocGlobal + Print + Eprint + Threads + Sync>(
     file: &str,
 ) -> anyhow::Result<u8> {
     let text = fs::read_to_string(rt, file).context(file)?;
-    let rows = match rows(alloc, text.as_str()) {
-        Ok(rows) => rows,
+    let status = carry_out_text(rt, alloc, file, text.as_str());
+    drop(text);
+    status
+}
+
+// The same, of a file's text.
+fn carry_out_text<R: Print + Eprint + Threads + Sync>(
+    rt: &R,
+    alloc: Global,
+    file: &str,
+    text: &str,
+) -> anyhow::Result<u8> {
+    match rows(alloc, text) {
+        Ok(rows) => {
+            let failed = failures(rt, alloc, file, &rows);
+            let count = rows.len();
+            drop(rows);
+            tell(rt, file, count, failed?)
+        }
         Err(bad) => {
             eprintln!(rt; "{file}:{bad}")?;
-            return Ok(2);
+            Ok(2)
         }
-    };
-    let failed = failures(rt, alloc, file, &rows)?;
-    let count = rows.len();
+    }
+}
+
+// Tells how many rows a file has, and how many of them failed.
+fn tell<R: Print>(rt: &R, file: &str, count: usize, failed: u32) -> anyhow::Result<u8> {
     if failed == 0 {
         println!(rt; "{file}: {count} rows, all as they should be")?;
         Ok(0)

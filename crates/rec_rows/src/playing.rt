@@ -41,8 +41,12 @@ fn play_on<R: Threads + Sync>(
         } else {
             run(alloc, world, steps)
         };
-        went?;
+        if let Err(failure) = went {
+            drop(world);
+            return Err(failure);
+        }
     }
+    drop(world);
     Ok(())
 }
 
@@ -65,24 +69,43 @@ fn play_apart<R: Threads + Sync>(
     before: &[Step<'_>],
     after: &[Step<'_>],
 ) -> Result<(), Failure> {
-    let (world, went) = go_on(rt, alloc, world, before);
-    went?;
-    go_on(rt, alloc, World::of_parts(world.into_parts()), after).1
+    let (world, went) = match go_on(rt, alloc, world, before) {
+        (world, Ok(())) => go_on(rt, alloc, World::of_parts(world.into_parts()), after),
+        failed => failed,
+    };
+    drop(world);
+    went
 }
 
 // The heap of a row, or nothing where it is refused as it should be.
 fn open(alloc: Global, opening: &Opening<'_>) -> Result<Option<World>, Failure> {
     match World::open(alloc, opening.config) {
-        Ok(world) => {
-            check(alloc, opening.line, opening.told, String::new(alloc))?;
-            Ok(Some(world))
-        }
+        Ok(world) => opened(alloc, opening, world),
         Err(error) => {
-            let told = refusal(alloc, &error)?;
-            check(alloc, opening.line, opening.told, told)?;
+            check_opening(alloc, opening, refusal(alloc, &error))?;
             Ok(None)
         }
     }
+}
+
+// A heap of which nothing is to be told. Where something is, the heap ends here by name: that is one step, and not one a part of it.
+fn opened(alloc: Global, opening: &Opening<'_>, world: World) -> Result<Option<World>, Failure> {
+    match check_opening(alloc, opening, Ok(String::new(alloc))) {
+        Ok(()) => Ok(Some(world)),
+        Err(failure) => {
+            drop(world);
+            Err(failure)
+        }
+    }
+}
+
+// What is told of the heap has to be what the row says.
+fn check_opening(
+    alloc: Global,
+    opening: &Opening<'_>,
+    told: Result<String, NoMemory>,
+) -> Result<(), Failure> {
+    check(alloc, opening.line, opening.told, told?)
 }
 
 // Makes these steps of a heap that doesn't run, up to one of which something else is told. The heap is given back then too: so it is

@@ -75,17 +75,22 @@ pub fn rows<'a>(alloc: Global, text: &'a str) -> Result<Vec<Row<'a>>, BadLine> {
         steps: Vec::new(alloc),
         runs: false,
     };
-    let mut line = 0u32;
-    for text in text.lines() {
-        line = line.saturating_add(1);
-        if let Err(wrong) = draft.take(line, text.trim()) {
-            return Err(BadLine { line, wrong });
-        }
-    }
-    match draft.close() {
+    match draft.read(text) {
         Ok(()) => Ok(draft.rows),
-        Err(wrong) => Err(BadLine { line, wrong }),
+        Err(bad) => Err(bad),
     }
+}
+
+// What a line asks that a heap is asked.
+fn action_of(alloc: Global, asked: &str, told: &str) -> Result<Action, Wrong> {
+    let words: Vec<&str> = asked.split_whitespace().collect(alloc)?;
+    action(&words, told.contains(" saw "))
+}
+
+// The numbers of a heap.
+fn config_of(alloc: Global, numbers: &str) -> Result<Config, Wrong> {
+    let words: Vec<&str> = numbers.split_whitespace().collect(alloc)?;
+    config(&words)
 }
 
 // What stands on both sides of the equals sign. Where there is none, nothing is to be told.
@@ -95,6 +100,21 @@ fn asked_and_told(text: &str) -> (&str, &str) {
 }
 
 impl<'a> Draft<'a> {
+    // Takes the lines of a text.
+    fn read(&mut self, text: &'a str) -> Result<(), BadLine> {
+        let mut line = 0u32;
+        for text in text.lines() {
+            line = line.saturating_add(1);
+            if let Err(wrong) = self.take(line, text.trim()) {
+                return Err(BadLine { line, wrong });
+            }
+        }
+        match self.close() {
+            Ok(()) => Ok(()),
+            Err(wrong) => Err(BadLine { line, wrong }),
+        }
+    }
+
     // Takes a line. One without a word is skipped, and so is one that begins with `#`.
     fn take(&mut self, line: u32, text: &'a str) -> Result<(), Wrong> {
         if text.is_empty() || text.starts_with('#') {
@@ -153,8 +173,7 @@ impl<'a> Draft<'a> {
             return Err(Wrong::NoHeap);
         };
         let (numbers, told) = asked_and_told(text);
-        let words: Vec<&str> = numbers.split_whitespace().collect(self.alloc)?;
-        let config = config(&words)?;
+        let config = config_of(self.alloc, numbers)?;
         self.head = Head::Row(Opening {
             line,
             config,
@@ -210,8 +229,7 @@ impl<'a> Draft<'a> {
     fn step(&mut self, line: u32, text: &'a str) -> Result<(), Wrong> {
         self.begun()?;
         let (asked, told) = asked_and_told(text);
-        let words: Vec<&str> = asked.split_whitespace().collect(self.alloc)?;
-        let action = action(&words, told.contains(" saw "))?;
+        let action = action_of(self.alloc, asked, told)?;
         if self.runs && !action.may_run() {
             return Err(Wrong::Running);
         }

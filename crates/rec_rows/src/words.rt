@@ -23,16 +23,17 @@ pub fn action(line: &[&str], words: bool) -> Result<Action, Wrong> {
 // What a line asks that begins with another word than a mutator's number.
 fn collecting(line: &[&str], first: &str, rest: &[&str]) -> Result<Action, Wrong> {
     match first {
-        "turn" | "move" | "collect" | "finish" | "sweep" => Ok(Action::Collector(turns(line)?)),
-        "reach" => Ok(Action::Collector(Turns::Reach(stage(rest)?))),
-        "apart" => Ok(Action::Apart(piece(rest)?)),
-        "says" => Ok(Action::Say(message(rest)?)),
-        "trace" => Ok(Action::Trace(pieces(rest)?)),
+        "turn" | "move" | "collect" | "finish" | "sweep" | "reach" => {
+            turns(line).map(Action::Collector)
+        }
+        "apart" => piece(rest).map(Action::Apart),
+        "says" => message(rest).map(Action::Say),
+        "trace" => pieces(rest).map(Action::Trace),
         "offer" | "settle" => settling(line),
         "image" if rest.is_empty() => Ok(Action::Write),
         "reads" => Ok(Action::Read),
         "restores" => Ok(Action::Restore),
-        _ => Ok(Action::Show(fact(line)?)),
+        _ => fact(line).map(Action::Show),
     }
 }
 
@@ -91,11 +92,10 @@ fn slot(word: &str) -> Result<u16, Wrong> {
 // What a mutator does.
 fn deed(line: &[&str], words: bool) -> Result<Deed, Wrong> {
     match line {
-        ["begin", "poll"] => Ok(Deed::Begin(Work::Poll)),
-        ["begin", rest @ ..] => Ok(Deed::Begin(Work::Command(command(rest)?))),
+        ["begin", rest @ ..] => work(rest).map(Deed::Begin),
         ["step"] => Ok(Deed::Step),
         ["poll"] => Ok(Deed::Poll),
-        ["births", most] => Ok(Deed::Births(number(most)?)),
+        ["births", most] => number(most).map(Deed::Births),
         _ => {
             let cmd = command(line)?;
             Ok(Deed::Ask { cmd, words })
@@ -103,19 +103,38 @@ fn deed(line: &[&str], words: bool) -> Result<Deed, Wrong> {
     }
 }
 
+// A work that is made step by step.
+fn work(line: &[&str]) -> Result<Work, Wrong> {
+    match line {
+        ["poll"] => Ok(Work::Poll),
+        _ => command(line).map(Work::Command),
+    }
+}
+
 // A command, spelled as in a script.
 fn command(line: &[&str]) -> Result<Cmd, Wrong> {
     match line {
         ["leave"] => Ok(Cmd::Leave),
-        ["null", reg] => Ok(Cmd::Null { reg: short(reg)? }),
-        ["value", reg] => Ok(Cmd::Value { reg: short(reg)? }),
-        ["new", reg, label] => birth(false, reg, label),
-        ["leaf", reg, label] => birth(true, reg, label),
-        [name, first, second] => command_of_two(name, short(first)?, short(second)?),
-        [name, first, second, third] => {
-            command_of_three(name, short(first)?, short(second)?, short(third)?)
-        }
+        [name, reg] => command_of_one(name, reg),
+        [name, first, second] => command_of_two(name, first, second),
+        [name, first, second, third] => command_of_three(name, first, second, third),
         _ => Err(Wrong::Unknown),
+    }
+}
+
+fn command_of_one(name: &str, reg: &str) -> Result<Cmd, Wrong> {
+    match name {
+        "null" => Ok(Cmd::Null { reg: short(reg)? }),
+        "value" => Ok(Cmd::Value { reg: short(reg)? }),
+        _ => Err(Wrong::Unknown),
+    }
+}
+
+fn command_of_two(name: &str, first: &str, second: &str) -> Result<Cmd, Wrong> {
+    match name {
+        "new" => birth(false, first, second),
+        "leaf" => birth(true, first, second),
+        _ => command_of_two_registers(name, short(first)?, short(second)?),
     }
 }
 
@@ -128,7 +147,7 @@ fn birth(leaf: bool, reg: &str, label: &str) -> Result<Cmd, Wrong> {
     })
 }
 
-fn command_of_two(name: &str, first: u8, second: u8) -> Result<Cmd, Wrong> {
+fn command_of_two_registers(name: &str, first: u8, second: u8) -> Result<Cmd, Wrong> {
     match name {
         "copy" => Ok(Cmd::Copy {
             dst: first,
@@ -142,7 +161,8 @@ fn command_of_two(name: &str, first: u8, second: u8) -> Result<Cmd, Wrong> {
     }
 }
 
-fn command_of_three(name: &str, first: u8, second: u8, third: u8) -> Result<Cmd, Wrong> {
+fn command_of_three(name: &str, first: &str, second: &str, third: &str) -> Result<Cmd, Wrong> {
+    let (first, second, third) = (short(first)?, short(second)?, short(third)?);
     match name {
         "get" => Ok(Cmd::Get {
             dst: first,
@@ -162,10 +182,11 @@ fn command_of_three(name: &str, first: u8, second: u8, third: u8) -> Result<Cmd,
 fn turns(line: &[&str]) -> Result<Turns, Wrong> {
     match line {
         ["turn"] => Ok(Turns::One),
-        ["move", turns] => Ok(Turns::Moves(number(turns)?)),
+        ["move", turns] => number(turns).map(Turns::Moves),
         ["collect"] => Ok(Turns::Collect),
         ["finish"] => Ok(Turns::Finish),
         ["sweep", word] => Ok(Turns::Sweep(u64::from(number(word)?))),
+        ["reach", rest @ ..] => stage(rest).map(Turns::Reach),
         _ => Err(Wrong::Unknown),
     }
 }
@@ -173,9 +194,9 @@ fn turns(line: &[&str]) -> Result<Turns, Wrong> {
 // A stage of a collection.
 fn stage(line: &[&str]) -> Result<Stage, Wrong> {
     match line {
-        ["look", mutator] => Ok(Stage::Looks(short(mutator)?)),
-        ["return", mutator] => Ok(Stage::Returns(short(mutator)?)),
-        ["sweep", slots] => Ok(Stage::Sweeps(number(slots)?)),
+        ["look", mutator] => short(mutator).map(Stage::Looks),
+        ["return", mutator] => short(mutator).map(Stage::Returns),
+        ["sweep", slots] => number(slots).map(Stage::Sweeps),
         [name] => stage_alone(name),
         _ => Err(Wrong::Unknown),
     }
@@ -213,7 +234,7 @@ fn pieces(line: &[&str]) -> Result<u16, Wrong> {
 // A part of a heap that is taken apart.
 fn piece(line: &[&str]) -> Result<Piece, Wrong> {
     match line {
-        ["word", index] => Ok(Piece::Word(number(index)?)),
+        ["word", index] => number(index).map(Piece::Word),
         ["words"] => Ok(Piece::Words),
         ["mailboxes"] => Ok(Piece::Mailboxes),
         ["made"] => Ok(Piece::Made),
@@ -234,28 +255,45 @@ fn message(line: &[&str]) -> Result<Message, Wrong> {
 // What a heap shows.
 fn fact(line: &[&str]) -> Result<Fact, Wrong> {
     match line {
-        ["register", mutator, reg] => Ok(Fact::Register(short(mutator)?, short(reg)?)),
-        ["valid", mutator, rest @ ..] => Ok(Fact::Valid(short(mutator)?, command(rest)?)),
-        ["epoch", "of", mutator] => Ok(Fact::EpochOf(short(mutator)?)),
+        ["register", mutator, reg] => register(mutator, reg),
+        ["valid", mutator, rest @ ..] => validity(mutator, rest),
+        ["epoch", "of", mutator] => short(mutator).map(Fact::EpochOf),
         ["freed", "word"] => Ok(Fact::Whole(Whole::FreedWord)),
         [name, at] => fact_at(name, at),
-        ["sets"] => Ok(Fact::Sets),
-        ["mailboxes"] => Ok(Fact::Mailboxes),
-        [name] => Ok(Fact::Whole(whole(name)?)),
+        [name] => fact_alone(name),
         _ => Err(Wrong::Unknown),
+    }
+}
+
+// What a register names.
+fn register(mutator: &str, reg: &str) -> Result<Fact, Wrong> {
+    Ok(Fact::Register(short(mutator)?, short(reg)?))
+}
+
+// Whether a mutator may ask what stands behind its number.
+fn validity(mutator: &str, line: &[&str]) -> Result<Fact, Wrong> {
+    Ok(Fact::Valid(short(mutator)?, command(line)?))
+}
+
+// What it shows by one word.
+fn fact_alone(name: &str) -> Result<Fact, Wrong> {
+    match name {
+        "sets" => Ok(Fact::Sets),
+        "mailboxes" => Ok(Fact::Mailboxes),
+        _ => whole(name).map(Fact::Whole),
     }
 }
 
 // What it shows of one slot, field or mutator.
 fn fact_at(name: &str, at: &str) -> Result<Fact, Wrong> {
     match name {
-        "slot" => Ok(Fact::Slot(slot(at)?)),
-        "label" => Ok(Fact::Label(slot(at)?)),
-        "leaf" => Ok(Fact::Leaf(slot(at)?)),
-        "number" => Ok(Fact::Number(slot(at)?)),
-        "field" => Ok(Fact::Field(number(at)?)),
-        "busy" => Ok(Fact::Busy(short(at)?)),
-        "left" => Ok(Fact::Left(short(at)?)),
+        "slot" => slot(at).map(Fact::Slot),
+        "label" => slot(at).map(Fact::Label),
+        "leaf" => slot(at).map(Fact::Leaf),
+        "number" => slot(at).map(Fact::Number),
+        "field" => number(at).map(Fact::Field),
+        "busy" => short(at).map(Fact::Busy),
+        "left" => short(at).map(Fact::Left),
         _ => Err(Wrong::Unknown),
     }
 }
