@@ -1,7 +1,6 @@
 //! A batch in which a write and its replacement cancel: they leave a slot's count, and touch it.
-ghost use Rattle.std.specs.Prelude.{◌≡◌, ◌∷◌, [], false, IfOk, length};
-ghost use Rattle.rec_log.specs.declared.entry.Entry.TheVariants.{Put};
-ghost use Rattle.rec_tests.specs.Paired.{IsSetOfOne};
+ghost use Rattle.std.specs.Prelude.{◌≡◌, ◌∷◌, [], IfOk};
+ghost use Rattle.rec_tests.specs.Paired.{IsSetOfOne, one_write};
 
 use rec_apply::apply;
 use rec_counts::{Colour, Counts};
@@ -14,15 +13,35 @@ use std::test::Fail;
 #[test]
 fn a_cancelled_pair_touches_its_slot(rt: HostRuntime) -> Result<(), Fail> {
     let mut counts = set_of_one(rt.alloc())?;
-    assert!(rt; delta(&counts, 0));
-    let newer = [log_of(&rt, rt.alloc(), 2, 0)?];
-    let older = [log_of(&rt, rt.alloc(), 0, 2)?];
-    apply(&mut counts, &newer, &older);
+    let applied = apply_pair(&rt, rt.alloc(), &mut counts);
+    drop(counts);
+    applied?;
+    Ok(())
+}
+
+// The set passes the second test before the pair is applied, and not behind it. The slot's count is as it was, and it is no root.
+fn apply_pair(rt: &impl Abort, alloc: Global, counts: &mut Counts) -> Result<(), NoMemory>
+    requires { IsSetOfOne counts.old }
+{
+    assert!(rt; delta(counts, 0));
+    let (newer, older) = pair(rt, alloc)?;
+    apply(counts, &newer, &older);
+    drop((newer, older));
     assert_eq!(rt; counts.count(1), 1);
     assert_eq!(rt; counts.colour(1), Colour::Purple);
     assert!(rt; counts.roots().is_empty());
-    assert!(rt; !delta(&counts, 0));
+    assert!(rt; !delta(counts, 0));
     Ok(())
+}
+
+// The logs of a write of slot 1 and of its replacement, an epoch later and in it.
+fn pair(rt: &impl Abort, alloc: Global) -> Result<([Buffer; 1], [Buffer; 1]), NoMemory>
+    ensures newer { IfOk result (λ pair. pair.0 ≡ one_write 2 0 ∷ []) }
+    ensures older { IfOk result (λ pair. pair.1 ≡ one_write 0 2 ∷ []) }
+{
+    let newer = log_of(rt, alloc, 2, 0)?;
+    let older = log_of(rt, alloc, 0, 2)?;
+    Ok(([newer], [older]))
 }
 
 // Two slots, of which slot 1 has one reference, and is Orange and alone in set 0.
@@ -38,7 +57,7 @@ fn set_of_one(alloc: Global) -> Result<Counts, NoMemory>
 
 // A log with one write: this word in the place of that one. The word 2 leads to slot 1.
 fn log_of(rt: &impl Abort, alloc: Global, new: u64, old: u64) -> Result<Buffer, NoMemory>
-    ensures { IfOk result (λ log. log ≡ record { entries = Put 0 new old ∷ []; snapshot = []; capacity = 1; last = false }) }
+    ensures { IfOk result (λ log. log ≡ one_write new old) }
 {
     let mut log = Buffer::open(alloc, 1, 0)?;
     let pushed = log.push(Entry::Put { place: 0, new, old });

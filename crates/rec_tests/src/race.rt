@@ -118,7 +118,7 @@ pub fn stop(alloc: Global, heap: Heap, mutators: Vec<Mutator>, collector: Collec
     requires collector { IsCollectorOf heap collector }
     ensures { AreIdle result }
 {
-    let Ok(world) = heap.stop(alloc, mutators, collector) else {
+    let Some(world) = heap.stop(alloc, mutators, collector).ok() else {
         unreachable!();
     };
     world
