@@ -1,2 +1,1 @@
 -- The modules of the proofs.
-pub mod Sends

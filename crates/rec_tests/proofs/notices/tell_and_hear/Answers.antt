@@ -1,7 +1,7 @@
 -- The contract of `tell_and_hear`: the collector tells on one thread, and the listener hears on another.
 use denote.Param.Send.{sendable}
 use Rattle.rec_table.proofs.heap.Heap.TheSendSync as heaps
-use Rattle.rec_tests.proofs.Sends.{tells_send}
+use Rattle.rec_tests.proofs.told.Sends.{tells_send}
 use Rattle.rec_tests.proofs.notices.tell_and_hear.Goals as goal
 
 pub join-requires-send-F : goal.join-requires-send-F

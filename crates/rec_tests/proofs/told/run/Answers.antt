@@ -1,7 +1,7 @@
 -- The contract of `run`: the collector turns and tells beside the mutators and the listener.
 use denote.Param.Send.{sendable}
 use Rattle.rec_table.proofs.heap.Heap.TheSendSync as heaps
-use Rattle.rec_tests.proofs.Sends.{shared_sync, tells_send}
+use Rattle.rec_tests.proofs.told.Sends.{shared_sync, tells_send}
 use Rattle.rec_tests.proofs.told.run.Goals as goal
 
 pub join-tells-requires-send-F : goal.join-tells-requires-send-F

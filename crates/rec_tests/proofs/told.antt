@@ -1,0 +1,2 @@
+-- The modules of the proofs about a race with a listener.
+pub mod Sends
