@@ -1,5 +1,5 @@
 -- What every heap that counts late keeps sees the lists through their sums alone.
-use Rattle.std.proofs.Common.{◌≡◌, ℕ, ◌<◌, true, cond, not, sym, ap, subst, ◌∙◌, arith}
+use Rattle.std.proofs.Common.{◌≡◌, ℕ, ◌<◌, ◌==◌, Bool, true, false, nat_le, nat_lt, cond, not, refl, sym, ap, subst, ◌∙◌, arith}
 use Rattle.std.proofs.lemmas.Bool.Decides.{nat_tests}
 use Rattle.rec_model.proofs.Common.{only_if, one_if_same, sum_at, HasSameSums, HasSameSumsAt, node_of, epoch_of, home, Write, Dated, dated, Pending, is_at, KeepsEpochs, KeepsSlots, KeepsLogs, Drops, is_late_word, is_wrong_write, is_wrong_register, is_late_snapshot, names, puts_after, replaces_from, is_from, is_leaf_from, is_after, is_node, late, put_late, replaced_late, touches, is_dead, names_unreleased, IsAccounted}
 use Rattle.rec_model.proofs.Sums.{sum_at_same}
@@ -70,14 +70,30 @@ null_from : (epoch node e : ℕ) → 0 < node → is_from epoch node (dated e 0)
 null_from epoch node e pos = grind (arith, nat_tests)
 
 -- nor does what is of an earlier epoch count
+early_is : (epoch e n : ℕ) → e < epoch → only_if (epoch == e) n ≡ 0
+early_is epoch e n early = grind (arith, nat_tests)
+
+early_le : (epoch e n : ℕ) → e < epoch → only_if (nat_le epoch e) n ≡ 0
+early_le epoch e n early = grind (arith, nat_tests)
+
+early_lt : (epoch e n : ℕ) → e < epoch → only_if (nat_lt epoch e) n ≡ 0
+early_lt epoch e n early = grind (arith, nat_tests)
+
 early_from : (epoch node : ℕ) (d : Dated) → d.epoch < epoch → is_from epoch node d ≡ 0
-early_from epoch node d early = grind (arith, nat_tests)
+early_from epoch node d early = early_le epoch d.epoch (one_if_same node d.node) early
 
 early_puts : (epoch node : ℕ) (e : Write) → epoch_of e.new < epoch → puts_after epoch node e ≡ 0
-early_puts epoch node e early = grind (arith, nat_tests)
+early_puts epoch node e early = early_lt epoch (epoch_of e.new) (one_if_same node (node_of e.new)) early
 
 early_replaces : (epoch node : ℕ) (e : Write) → epoch_of e.new < epoch → replaces_from epoch node e ≡ 0
-early_replaces epoch node e early = grind (arith, nat_tests)
+early_replaces epoch node e early = early_le epoch (epoch_of e.new) (one_if_same node (node_of e.old)) early
+
+early_closed : (fields epoch source node : ℕ) (e : Write) → epoch_of e.new < epoch → closed_out_of fields epoch source node e ≡ 0
+early_closed fields epoch source node e early = ap (only_if (source == home fields e.place)) (early_le epoch (epoch_of e.new) _ early) ∙ none (source == home fields e.place)
+  where
+    none : (b : Bool) → only_if b 0 ≡ 0
+    none true = refl
+    none false = refl
 
 -- what is of an epoch before the applied one may go, and what is null
 pub dropping_accounted : (w v : Pending) → Drops w v → IsAccounted w → IsAccounted (record w { writes = v.writes; births = v.births; snapshots = v.snapshots })
@@ -97,18 +113,18 @@ dropping_accounted w v s i =
         i.ledger x pos,
         s.writes.1 (puts_after a x) (early_puts a x),
         s.writes.1 (replaces_from a x) (early_replaces a x),
-        s.snapshots.1 (is_at a x) (λ d l. grind (arith, nat_tests)) (λ e. null_at a x e pos),
+        s.snapshots.1 (is_at a x) (λ d l. early_is a d.epoch _ l) (λ e. null_at a x e pos),
         s.births.1 (is_from a x) (early_from a x) (λ e. null_from a x e pos),
       );
-      late = λ q. omega (arith, i.late q, s.writes.1 (put_late a q) (λ e l. grind (arith, nat_tests)), s.writes.1 (replaced_late a q) (λ e l. grind (arith, nat_tests)));
+      late = λ q. omega (arith, i.late q, s.writes.1 (put_late a q) (λ e l. early_lt a (epoch_of e.new) _ l), s.writes.1 (replaced_late a q) (λ e l. early_le a (epoch_of e.new) _ l));
       held = λ j from below x pos h. reach_stays
           w
           (record w { writes = v.writes; births = v.births; snapshots = v.snapshots })
           j
-          (λ z some k. omega (arith, k, s.snapshots.1 (is_at j z) (λ d l. grind (arith, nat_tests)) (λ e. null_at j z e some), s.births.1 (is_from j z) (λ d l. grind (arith, nat_tests)) (λ e. null_from j z e some)))
-          (λ y z _ _ _ k. omega (arith, k, s.writes.1 (closed_out_of w.fields j y z) (λ e l. grind (arith, nat_tests))))
+          (λ z some k. omega (arith, k, s.snapshots.1 (is_at j z) (λ d l. early_is j d.epoch _ (omega (arith, l, from))) (λ e. null_at j z e some), s.births.1 (is_from j z) (λ d l. early_from j z d (omega (arith, l, from))) (λ e. null_from j z e some)))
+          (λ y z _ _ _ k. omega (arith, k, s.writes.1 (closed_out_of w.fields j y z) (λ e l. early_closed w.fields j y z e (omega (arith, l, from)))))
           x
-          (i.held j from below x pos (omega (arith, h, s.writes.1 (touches w.fields j x) (λ e l. grind (arith, nat_tests)))));
+          (i.held j from below x pos (omega (arith, h, s.writes.1 (touches w.fields j x) (λ e l. early_lt j (epoch_of e.new) _ (omega (arith, l, from))))));
       unnamed = λ x pos d. omega (
         arith,
         i.unnamed x pos d,

@@ -30,18 +30,23 @@ impl Cmd {
     pub fn has_operands(&self, registers: usize, fields: usize) -> bool
         ensures { IsTrue result ↔ HasOperands registers fields self.now }
     {
-        let is_register = |r: u8| usize::from(r) < registers;
         match *self {
             Cmd::New { reg, .. } | Cmd::Leaf { reg, .. } | Cmd::Null { reg } | Cmd::Value { reg } =>
-                is_register(reg),
-            Cmd::Copy { dst, src } => is_register(dst) && is_register(src),
-            Cmd::Get { dst, src, field } => is_register(dst)
-                && is_register(src)
+                usize::from(reg) < registers,
+            Cmd::Copy { dst: a, src: b } | Cmd::Same { a, b } => usize::from(a) < registers
+                && usize::from(b) < registers,
+            Cmd::Get {
+                dst: a,
+                src: b,
+                field,
+            }
+            | Cmd::Put {
+                src: a,
+                field,
+                val: b,
+            } => usize::from(a) < registers
+                && usize::from(b) < registers
                 && usize::from(field) < fields,
-            Cmd::Put { src, field, val } => is_register(src)
-                && usize::from(field) < fields
-                && is_register(val),
-            Cmd::Same { a, b } => is_register(a) && is_register(b),
             Cmd::Leave => true,
         }
     }

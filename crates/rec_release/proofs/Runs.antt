@@ -189,6 +189,11 @@ unfolding took_of
 idle_stays fields lowers s [] = refl
 idle_stays fields lowers s (word ∷ words) = idle_stays fields lowers s words
 
+-- the first of the places goes with the first word
+one_first : (P : (words from : List ℕ) → Type 0) (words from more due rest : List ℕ) (word place : ℕ) → due ≡ place ∷ rest → P ((words ++ word ∷ []) ++ take (length rest) more) ((from ++ place ∷ []) ++ rest) → P (words ++ take (length due) (word ∷ more)) (from ++ due)
+one_first P words from more due rest word place e p =
+    subst (λ ds. P (words ++ take (length ds) (word ∷ more)) (from ++ ds)) (sym e) (subst (λ ws. P ws (from ++ place ∷ rest)) (append_assoc words (word ∷ []) (take (length rest) more)) (subst (P ((words ++ word ∷ []) ++ take (length rest) more)) (append_assoc from (place ∷ []) rest) p))
+
 came_by : (more : List ℕ) (fields : ℕ) (lowers : Bool) (before : State) (at : Option At) (s : State) (words from slots : List ℕ) → IfSome at (λ (a : At). a.field < fields) → Released fields before at s words from slots →
     (let w : Work = at_work fields lowers at s in Came fields lowers before (fold took_of w more) (words ++ take (length (exchanged w more)) more) (from ++ exchanged w more))
 came_by [] fields lowers before at s words from slots d r =
@@ -196,10 +201,17 @@ came_by [] fields lowers before at s words from slots d r =
 came_by (word ∷ more) fields lowers before None s words from slots d r =
     rw (idle_exchanges fields lowers s (word ∷ more), idle_stays fields lowers s (word ∷ more), append-nil words, append-nil from) (record { at = None; counts = s; is = refl; due = d; slots = slots; law = r })
 came_by (word ∷ more) fields lowers before (Some a) s words from slots d r =
+    let w : Work = at_work fields lowers (Some a) s in
     let p : take 1 (places_from fields a.slot a.field) ≡ place_of a.slot a.field fields ∷ [] = ap (take 1) (places_step fields a.slot a.field d) in
     let c = came_more fields lowers before a s words from slots word d r in
-    let i = came_by more fields lowers before c.at c.counts (words ++ word ∷ []) (from ++ take 1 (places_from fields a.slot a.field)) c.slots c.due c.law in
-    rw (given-cons took_of (λ (v : Work) word. place_due v.machine) (at_work fields lowers (Some a) s) word more, took_some fields lowers a s word, c.is, p) (simp append_assoc at (rw p at i))
+    let v : Work = at_work fields lowers c.at c.counts in
+    let is : took_of w word ≡ v = took_some fields lowers a s word ∙ c.is in
+    let due : exchanged w (word ∷ more) ≡ place_of a.slot a.field fields ∷ exchanged v more =
+    given-cons took_of (λ (u : Work) due. place_due u.machine) w word more ∙ ap (λ ps. ps ++ exchanged (took_of w word) more) p ∙ ap (λ (u : Work). place_of a.slot a.field fields ∷ exchanged u more) is in
+    one_first (Came fields lowers before (fold took_of w (word ∷ more))) words from more (exchanged w (word ∷ more)) (exchanged v more) word (place_of a.slot a.field fields) due
+    (subst (λ (u : Work). Came fields lowers before (fold took_of u more) ((words ++ word ∷ []) ++ take (length (exchanged v more)) more) ((from ++ place_of a.slot a.field fields ∷ []) ++ exchanged v more)) (sym is)
+    (came_by more fields lowers before c.at c.counts (words ++ word ∷ []) (from ++ place_of a.slot a.field fields ∷ []) c.slots c.due
+    (subst (λ ps. Released fields before c.at c.counts (words ++ word ∷ []) (from ++ ps) c.slots) p c.law)))
 
 -- a whole release
 pub whole_release : (fields : ℕ) (lowers : Bool) (before : State) (words : List ℕ) → 0 < fields → IsReady before → HasReleased fields lowers before words

@@ -1,9 +1,10 @@
 ghost use Rattle.std.specs.Prelude.{◌≡◌};
 
 use crate::{Atom, Cell, Mailbox, crossing};
+use std::fmt;
 
 /// One atomic operation on one shared word: `cell` tells which word that is, and `atom` what is done to it.
-#[derive(Clone, Copy, Debug, PartialEq, Eq)]
+#[derive(Clone, Copy, PartialEq, Eq)]
 pub enum Op {
     /// Load a field.
     LoadField(u32),
@@ -114,5 +115,15 @@ impl Op {
             Op::TakeBox(t, _) | Op::LookBox(t, _) => Some(t),
             _ => None,
         }
+    }
+}
+
+/// Shows the word that it names, and what it does to that.
+impl fmt::Debug for Op {
+    fn fmt<W: fmt::Write>(&self, f: &mut fmt::Formatter<W>) -> fmt::Result {
+        f.debug_struct("Op")
+            .field("cell", &self.cell())
+            .field("atom", &self.atom())
+            .finish()
     }
 }

@@ -1,0 +1,73 @@
+-- A read of bytes in memory fails where its number is listed, ends where nothing is left, and else gives the front of what is left.
+use Rattle.std.proofs.Common.{◌≡◌, ℕ, ◌+◌, ◌-◌, ◌<◌, ◌≤◌, List, [], Some, length, take, drop, min, false, IsTrue, refl, arith, sym, ◌∙◌, ap, subst}
+use Rattle.std.proofs.lemmas.Bool.{false≢true}
+use Rattle.std.proofs.lemmas.List.{drop-drop, nil_from_length, take_rest}
+use Rattle.rec_io.specs.BytesSource.{after_read, BytesState}
+use Rattle.rec_io.specs.declared.source.Given.TheVariants.{Bytes}
+use Rattle.rec_io.specs.Faults.{counted_up}
+use Rattle.rec_io.specs.Calls.{NextFails}
+use Rattle.rec_io.specs.Source.{GivesFront}
+use Rattle.rec_io.proofs.Told.{told}
+use Rattle.rec_io.proofs.bytes_source.BytesSourceSource.read.Goals as goal
+
+-- what is copied from is what is left
+left : (at : ℕ) (held bytes rest : List ℕ) → held ≡ bytes → drop at bytes ≡ rest → take (length held - at) (drop at held) ≡ rest
+left at held bytes rest h r = rw h (take_rest bytes at ∙ r)
+
+none_left : (room count : ℕ) (from rest : List ℕ) → 0 < room → from ≡ rest → count ≡ min room (length from) → count ≡ 0 → rest ≡ []
+none_left room count from rest l f n z = nil_from_length rest (omega (arith, ap length f))
+
+some_left : (room count : ℕ) (from rest : List ℕ) → from ≡ rest → count ≡ min room (length from) → rest ≡ [] → count ≡ 0
+some_left room count from rest f n e = omega (arith, ap length f, ap length e)
+
+front : (at room count : ℕ) (from bytes rest into : List ℕ) → drop at bytes ≡ rest → from ≡ rest → count ≡ min room (length from) → take count into ≡ take count from → GivesFront (Some rest) (Some (drop (at + count) bytes)) count into
+front at room count from bytes rest into r f n t = record {
+  within = told (λ xs. count ≤ length xs) rest (omega (arith, n, ap length f));
+  bytes = told (λ xs. take count into ≡ take count xs) rest (t ∙ ap (take count) f);
+  moves_on = told (λ xs. Some (drop (at + count) bytes) ≡ Some (drop count xs)) rest (ap Some (sym (drop-drop count at bytes) ∙ ap (drop count) r));
+}
+
+moved : (at count : ℕ) (bytes fails : List ℕ) (calls faults : ℕ) (now : BytesState) → drop at bytes ≡ now.rest → fails ≡ now.fails → calls ≡ counted_up now.calls → faults ≡ now.faults →
+    record { rest = drop (at + count) bytes; fails = fails; calls = calls; faults = faults } ≡ after_read (Bytes count) now
+moved at count bytes fails calls faults now r f m h = rw (sym (drop-drop count at bytes), r, f, m, h) refl
+
+-- a call that is not listed doesn't fail
+unlisted : (s now : BytesState) (P : Type 0) → s ≡ now → (NextFails s.fails s.calls → IsTrue false) → NextFails now.fails now.calls → P
+unlisted s now P v l n = absurd (false≢true (l (subst (λ (t : BytesState). NextFails t.fails t.calls) (sym v) n)))
+
+pub returns-then-count-eq0-clause-ended : goal.returns-then-count-eq0-clause-ended
+returns-then-count-eq0-clause-ended c =
+    let r : drop c.self.inside.at c.self.inside.bytes.items ≡ c.args.self.now.rest = ap (λ (s : BytesState). s.rest) c.self.view_is in
+    let e : c.args.self.now.rest ≡ [] = none_left _ _ _ _ c.requires (left c.self.inside.at _ _ _ c.deref.ensures.value r) c.copy_front-count.ensures.count c.if-count-eq0.true in
+    record { empty = told (λ xs. xs ≡ []) c.args.self.now.rest e; told = told (λ xs. Some (drop c.self.inside.at c.self.inside.bytes.items) ≡ Some []) c.args.self.now.rest (ap Some (r ∙ e)) }
+
+pub returns-then-count-eq0-clause-ends : goal.returns-then-count-eq0-clause-ends
+returns-then-count-eq0-clause-ends c =
+    let e : c.args.self.now.rest ≡ [] = none_left _ _ _ _ c.requires (left c.self.inside.at _ _ _ c.deref.ensures.value (ap (λ (s : BytesState). s.rest) c.self.view_is)) c.copy_front-count.ensures.count c.if-count-eq0.true in
+    (λ q. (unlisted _ _ ⊥ c.self.view_is c.if-next_fails.ensures.listed.1, e), λ q. refl)
+
+pub returns-clause-in_order : goal.returns-clause-in_order
+returns-clause-in_order c =
+    let r : drop c.self.inside.at c.self.inside.bytes.items ≡ c.args.self.now.rest = ap (λ (s : BytesState). s.rest) c.self.view_is in
+    front c.self.inside.at _ _ _ _ _ _ r (left c.self.inside.at _ _ _ c.deref.ensures.value r) c.copy_front-count.ensures.count c.copy_front-count.ensures.bytes
+
+pub returns-clause-fails : goal.returns-clause-fails
+returns-clause-fails c = (λ e. cc, unlisted _ _ _ c.self.view_is c.if-next_fails.ensures.listed.1)
+
+pub returns-clause-ends : goal.returns-clause-ends
+returns-clause-ends c =
+    let r : drop c.self.inside.at c.self.inside.bytes.items ≡ c.args.self.now.rest = ap (λ (s : BytesState). s.rest) c.self.view_is in
+    (λ e. cc, λ p. absurd (c.if-count-eq0.false (some_left _ _ _ _ (left c.self.inside.at _ _ _ c.deref.ensures.value r) c.copy_front-count.ensures.count p.1)))
+
+pub returns-clause-gives : goal.returns-clause-gives
+returns-clause-gives c =
+    c.copy_front-count.ensures.count ∙ ap (λ xs. min (length c.args.into.now) (length xs)) (left c.self.inside.at _ _ _ c.deref.ensures.value (ap (λ (s : BytesState). s.rest) c.self.view_is))
+
+pub returns-clause-after : goal.returns-clause-after
+returns-clause-after c =
+    let v : drop c.self.inside.at c.self.inside.bytes.items ≡ c.args.self.now.rest = ap (λ (s : BytesState). s.rest) c.self.view_is in
+    moved c.self.inside.at c.copy_front-count.result c.self.inside.bytes.items _ _ _ c.args.self.now v (c.next_fails.ensures.fails ∙ ap (λ (s : BytesState). s.fails) c.self.view_is)
+    (c.next_fails.ensures.made ∙ ap (λ (s : BytesState). counted_up s.calls) c.self.view_is) (c.next_fails.ensures.faults ∙ ap (λ (s : BytesState). s.faults) c.self.view_is)
+
+pub returns-then-next_fails-clause-fails : goal.returns-then-next_fails-clause-fails
+returns-then-next_fails-clause-fails c = (λ e. subst (λ (t : BytesState). NextFails t.fails t.calls) c.self.view_is (c.next_fails.ensures.listed.0 c.if-next_fails.true), λ n. refl)
