@@ -44,7 +44,7 @@ swap_sized p i box z k = λ j l.
       | inr q ↦ subst (λ (b : Contents). IsSized p.registers p.capacity b) (sym (get_or-set_other p.newer i j box (blank 0 0) q)) (k j m)
     ]
 
-swap_keeps : (p : Private) (t : ℕ) (box : Contents) → IsSized p.registers p.capacity box → IsMachine p → p.phase ≡ Swapping t → IsMachine (swapped_at p box (Swapping t))
+pub swap_keeps : (p : Private) (t : ℕ) (box : Contents) → IsSized p.registers p.capacity box → IsMachine p → p.phase ≡ Swapping t → IsMachine (swapped_at p box (Swapping t))
 unfolding swapped_at
 swap_keeps p t box z k e =
     let a : IsAt p (Swapping t) = now_at p (Swapping t) k e in

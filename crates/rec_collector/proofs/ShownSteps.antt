@@ -1,5 +1,5 @@
 -- What is shown of a step is what it did.
-use Rattle.std.proofs.Common.{◌≡◌, IsSome, map, ℕ, ◌+◌, ◌-◌, ◌<◌, ◌≤◌, ◌==◌, Bool, true, false, cond, Option, None, Some, List, [], ◌∷◌, ◌++◌, length, refl, arith, sym, ap, subst, ◌∙◌}
+use Rattle.std.proofs.Common.{◌≡◌, IsSome, map, ℕ, ◌+◌, ◌-◌, ◌<◌, ◌==◌, Bool, true, false, cond, Option, None, Some, List, [], ◌∷◌, ◌++◌, refl, arith, sym, ap, subst, ◌∙◌}
 use Rattle.std.proofs.lemmas.Bool.{ne_eqb}
 use Rattle.rec_word.specs.declared.op.Op.TheVariants.{StoreEpoch, ReturnBox}
 use Rattle.rec_counts.specs.Groups.{last_set}
@@ -14,16 +14,15 @@ use Rattle.rec_sigma.specs.Prepare as preps
 use Rattle.rec_sigma.specs.declared.at.At as prep_at
 use Rattle.rec_trial.specs.Trial as trials
 use Rattle.rec_trial.specs.declared.phase.Phase as trial_phase
-use Rattle.rec_collector.specs.Shown.{IsShownAsMade, Batch, applied_in, applied_newer, applied_newer_in, applied_of, batch_made, batch_of, batch_with, begun_at, completed_in, completed_of, epoch_told, if_passes, members_or, passed_among, passed_in, passed_of, set_passed}
+use Rattle.rec_collector.specs.Shown.{IsShownAsMade, Batch, applied_in, applied_newer, applied_of, batch_made, batch_with, begun_at, completed_in, completed_of, epoch_told, if_passes, members_or, passed_among, passed_in, passed_of, set_passed}
 use Rattle.rec_collector.specs.Step.{ClearsOn, Ends, GoesOn, IsNext, IsTested, PreparesOn, Step, TriesOn}
 use Rattle.rec_collector.specs.declared.turn.Turn.{Turn}
 use Rattle.rec_collector.specs.declared.turn.Turn.TheVariants.{Moved}
-use Rattle.rec_collector.proofs.Common.{Begun, Closing, Contents, Freeing, Idle, IsClearing, IsClearingIn, IsGiven, IsGivenAt, IsMachine, Looking, MayGatherBehind, Op, Opening, Parts, Phase, Preparing, Private, Releasing, Returning, State, Swapping, Sweeping, Trying, Held, Passed, Touched, batched, cleared, counted_by, emptied, freeing_at, listed_if, new_freeing, new_release, next_from, noted, parts_of, releasing_at, requested, slot_at, with_freed, with_freeing, with_parts, with_release, with_released, without_first, zeros_released}
+use Rattle.rec_collector.proofs.Common.{Begun, Contents, Freeing, Idle, IsClearingIn, IsGiven, IsGivenAt, IsMachine, Looking, MayGatherBehind, Op, Opening, Parts, Phase, Preparing, Private, Releasing, Returning, State, Trying, Held, Passed, Touched, batched, cleared, counted_by, emptied, freeing_at, listed_if, new_freeing, new_release, noted, parts_of, releasing_at, requested, slot_at, with_freed, with_freeing, with_parts, with_release, with_released, zeros_released}
 use Rattle.rec_collector.proofs.Clearing.{Clears}
 use Rattle.rec_collector.proofs.Following.{HasCleared, begun_has, freed_has, released_has}
 use Rattle.rec_collector.proofs.Gathering.{noted_gathers, noted_keeps, requested_gathers, requested_keeps}
 use Rattle.rec_collector.proofs.Goings.{freed_by, freed_listed}
-use Rattle.rec_collector.proofs.Landing.{now_at}
 
 -- a collection is under way, and no mailbox is looked at
 abbrev IsUnder : Phase → Type 0

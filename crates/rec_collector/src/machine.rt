@@ -84,6 +84,7 @@ impl Machine {
         let newer = open_row(alloc, mutators, cap, regs, &frame)?;
         frame.set(0, 0);
         let older = open_row(alloc, mutators, cap, regs, &frame)?;
+        drop(frame);
         let left = vec![in alloc; false; usize::from(mutators)]?;
         let counts = Counts::open(alloc, slots, u64::from(mutators))?;
         counts.rules();
@@ -128,6 +129,7 @@ impl Machine {
     {
         let frame = Frame::open(alloc, regs)?;
         let newer = open_row(alloc, mutators, cap, regs, &frame)?;
+        drop(frame);
         let older = open_rows(alloc, mutators, cap, regs, registers)?;
         let left = vec![in alloc; false; usize::from(mutators)]?;
         let counts = Counts::open_from(alloc, slots, counts)?;

@@ -1,6 +1,7 @@
 -- A step of a machine leaves a machine.
 use Rattle.std.proofs.Common.{◌≡◌, ◌≢◌, inl, inr, Bool, true, false, ℕ, ◌+◌, ◌^◌, ◌<◌, ◌≤◌, List, [], ◌∷◌, ◌++◌, Option, None, Some, length, refl, sym, subst, ◌∙◌, arith, length-append}
 use Rattle.std.specs.List.{All}
+use Rattle.std.specs.Option.{IfSome}
 use Rattle.std.proofs.lemmas.List.Elements.{All-set, All-get_or, All-replicate}
 use Rattle.std.proofs.lemmas.Bool.{cases_lt, false≢true}
 use Rattle.std.proofs.lemmas.List.{get_or_past, length-replicate, length-set}
@@ -13,10 +14,12 @@ use Rattle.rec_model.specs.declared.told.Told.{Told}
 use Rattle.rec_model.specs.Asking.{allocation}
 use Rattle.rec_log.specs.declared.contents.Contents.{Contents}
 use Rattle.rec_log.specs.declared.entry.Entry.{Entry}
-use Rattle.rec_mutator.specs.Private.{Private, register, HasOperands, limit_of, probe_of, HasNext, IsAt, IsMachine}
+use Rattle.rec_mutator.specs.Private.{Private, register, HasOperands, work_of, work_at, limit_of, probe_of, HasNext, IsAt, IsMachine}
 use Rattle.rec_mutator.specs.Step.{Step, Decides, GoesOn, LetsGo, HasLeft, Crosses, HasRoom}
-use Rattle.rec_mutator.specs.Took.{nulls_of, IsFound}
+use Rattle.rec_mutator.specs.Took.{moved, nulls_of, IsFound}
+use Rattle.rec_mutator.specs.declared.made.Made.TheVariants as makes
 use Rattle.rec_mutator.specs.declared.phase.Phase.{Phase}
+use Rattle.rec_mutator.specs.declared.phase.Phase.TheVariants.{Idle, Begun, Scanning, Scanned, Storing, Crossing, Swapping, Giving, Leaving, Retiring, Parting, Finished}
 use Rattle.rec_mutator.specs.declared.work.Work.TheVariants as works
 use Rattle.rec_mutator.proofs.Around.{behind_below}
 use Rattle.rec_mutator.proofs.Refusals.{at_phase}
@@ -32,44 +35,45 @@ register_target p r m = elim (cases_lt r (length p.registers)) [
   | inr past ↦ subst IsTarget (sym (get_or_past p.registers r None past)) tt
 ]
 
--- an answer leaves a machine
+-- a step leaves a machine, if its registers may be there, its entries fit, and that holds which its phase wants
+stepped_machine : {p : Private} {registers : List (Option ℕ)} {entries : List Entry} {phase : Phase}
+    → IsMachine p → All IsTarget registers → length entries ≤ p.log.capacity → length registers ≡ length p.registers → IsAt (moved (record p { registers = registers; log = record p.log { entries = entries } }) phase) phase
+    → IsMachine (moved (record p { registers = registers; log = record p.log { entries = entries } }) phase)
+stepped_machine m targets few many now = record {
+  number = m.number;
+  epoch = m.epoch;
+  stamped = m.stamped;
+  first_slot = m.first_slot;
+  last_slot = m.last_slot;
+  capacity = m.capacity;
+  entries = few;
+  registers = targets;
+  snapshot = m.snapshot ∙ sym many;
+  from = m.from;
+  now = now;
+}
+
+-- so does an answer
+pub answered_machine : {p : Private} {registers : List (Option ℕ)} {entries : List Entry} {cmd : Cmd} {told : Told} {phase : Phase}
+    → IsMachine p → All IsTarget registers → length entries ≤ p.log.capacity → length registers ≡ length p.registers → p.steps + 1 ≤ limit_of p.slots (works.Command cmd) → phase ≡ Finished (works.Command cmd) (makes.Answered told)
+    → IsMachine (moved (record p { registers = registers; log = record p.log { entries = entries } }) phase)
+answered_machine {p = p} {registers = registers} {entries = entries} m targets few many steps is =
+    subst (λ (at : Phase). IsMachine (moved (record p { registers = registers; log = record p.log { entries = entries } }) at)) (sym is) (stepped_machine m targets few many steps)
+
 decided_machine : {p : Private} {op : Op} {q : Private} {cmd : Cmd} {at : Phase} {its_op : Op} {registers : List (Option ℕ)} {entries : List Entry} {told : Told}
     → IsMachine p → All IsTarget registers → length entries ≤ p.log.capacity → length registers ≡ length p.registers → p.steps + 1 ≤ limit_of p.slots (works.Command cmd) → Decides p op q cmd at its_op registers entries told → IsMachine q
-decided_machine {p = p} m targets few many steps d =
-    subst IsMachine (sym d.after) (record {
-      number = m.number;
-      epoch = m.epoch;
-      stamped = m.stamped;
-      first_slot = m.first_slot;
-      last_slot = m.last_slot;
-      capacity = m.capacity;
-      entries = few;
-      registers = targets;
-      snapshot = m.snapshot ∙ sym many;
-      from = m.from;
-      now = steps;
-    })
+decided_machine m targets few many steps d = subst IsMachine (sym d.after) (answered_machine m targets few many steps refl)
 
 -- so does a step after which the work goes on, if that holds which its phase wants
+pub moved_machine : {p : Private} {phase : Phase} → IsMachine p → IsAt (moved p phase) phase → IsMachine (moved p phase)
+moved_machine m now = stepped_machine m m.registers m.entries refl now
+
 going_on_machine : {p : Private} {op : Op} {q : Private} {at : Phase} {its_op : Op} {next_phase : Phase}
-    → IsMachine p → IsAt (record p { phase = next_phase; steps = p.steps + 1 }) next_phase → GoesOn p op q at its_op next_phase → IsMachine q
-going_on_machine m now g =
-    subst IsMachine (sym g.after) (record {
-      number = m.number;
-      epoch = m.epoch;
-      stamped = m.stamped;
-      first_slot = m.first_slot;
-      last_slot = m.last_slot;
-      capacity = m.capacity;
-      entries = m.entries;
-      registers = m.registers;
-      snapshot = m.snapshot;
-      from = m.from;
-      now = now;
-    })
+    → IsMachine p → IsAt (moved p next_phase) next_phase → GoesOn p op q at its_op next_phase → IsMachine q
+going_on_machine m now g = subst IsMachine (sym g.after) (moved_machine m now)
 
 -- a command's first step is within its limit
-first_step : (p : Private) (cmd : Cmd) → p.steps ≡ 0 → p.steps + 1 ≤ limit_of p.slots (works.Command cmd)
+pub first_step : (p : Private) (cmd : Cmd) → p.steps ≡ 0 → p.steps + 1 ≤ limit_of p.slots (works.Command cmd)
 first_step p (commands.New reg label) none = omega arith
 first_step p (commands.Leaf reg label) none = omega arith
 first_step p (commands.Null reg) none = omega arith
@@ -85,17 +89,36 @@ pub allocation_limit : (slots reg label : ℕ) (leaf : Bool) → limit_of slots 
 allocation_limit slots reg label true = refl
 allocation_limit slots reg label false = refl
 
+-- the steps of a work that isn't over are within its limit, by phase
+within_at : (p : Private) (at : Phase) → IsAt p at → IfSome (work_at at) (λ work. p.steps ≤ limit_of p.slots work)
+within_at p (Begun work) is = omega (arith, is.1)
+within_at p (Scanning reg label leaf before probed) is = rw (allocation_limit p.slots reg label leaf) (omega (arith, is.1, is.2))
+within_at p (Scanned reg label leaf before) is = rw (allocation_limit p.slots reg label leaf) (omega (arith, is.1))
+within_at p (Storing src f val slot) is = omega (arith, is.1)
+within_at p Crossing is = omega (arith, is.0)
+within_at p Swapping is = omega (arith, is.0)
+within_at p Giving is = omega (arith, is.0)
+within_at p Leaving is = omega (arith, is.0)
+within_at p Retiring is = omega (arith, is.0)
+within_at p Parting is = omega (arith, is.0)
+within_at p (Finished work made) is = is
+within_at p Idle is = tt
+
+-- the steps of every work are
+pub within_limit : (p : Private) → IsMachine p → IfSome (work_of p) (λ work. p.steps ≤ limit_of p.slots work)
+within_limit p m = within_at p p.phase m.now
+
 -- its register is there
 allocation_register : (p : Private) (reg label : ℕ) (leaf : Bool) → HasOperands p (allocation leaf reg label) → reg < length p.registers
 allocation_register p reg label true there = there
 allocation_register p reg label false there = there
 
 -- so many steps of it are within the limit
-within_scan : (p : Private) (reg label : ℕ) (leaf : Bool) → p.steps ≤ p.slots + 1 → p.steps + 1 ≤ limit_of p.slots (works.Command (allocation leaf reg label))
+pub within_scan : (p : Private) (reg label : ℕ) (leaf : Bool) → p.steps ≤ p.slots + 1 → p.steps + 1 ≤ limit_of p.slots (works.Command (allocation leaf reg label))
 within_scan p reg label leaf few = let limit : limit_of p.slots (works.Command (allocation leaf reg label)) ≡ p.slots + 2 = allocation_limit p.slots reg label leaf in omega (arith, few)
 
 -- one entry more fits
-one_more : (p : Private) (entry : Entry) → length p.log.entries < p.log.capacity → length (p.log.entries ++ entry ∷ []) ≤ p.log.capacity
+pub one_more : (p : Private) (entry : Entry) → length p.log.entries < p.log.capacity → length (p.log.entries ++ entry ∷ []) ≤ p.log.capacity
 one_more p entry room = let more : length (p.log.entries ++ entry ∷ []) ≡ length p.log.entries + 1 = length-append p.log.entries (entry ∷ []) in omega arith
 
 -- a log with room has room for one
@@ -103,7 +126,7 @@ pub has_room : (p : Private) → IsMachine p → HasRoom p → length p.log.entr
 has_room p m room = let most : length p.log.entries ≤ p.log.capacity = m.entries in omega arith
 
 -- a slot of a machine's heap fits a field word
-slot_target : (p : Private) (slot : ℕ) → IsMachine p → slot < p.slots → IsTarget (Some slot)
+pub slot_target : (p : Private) (slot : ℕ) → IsMachine p → slot < p.slots → IsTarget (Some slot)
 slot_target p slot m there = let few : p.slots < 2 ^ 16 = m.last_slot in omega arith
 
 -- the buffer in a mailbox is as large as the log, and holds no more than it can

@@ -8,10 +8,10 @@ use Rattle.rec_model.specs.declared.told.Told.{Told}
 use Rattle.rec_log.specs.declared.contents.Contents.{Contents}
 use Rattle.rec_log.specs.declared.entry.Entry.{Entry}
 use Rattle.rec_mutator.specs.Private.{Private, KeepsSizes, is_busy, is_busy_at, work_of, work_at}
-use Rattle.rec_mutator.specs.Took.{took_of, took_at, begun_by}
+use Rattle.rec_mutator.specs.Took.{IsBetween, took_of, took_at, begun_by}
 use Rattle.rec_mutator.specs.Step.{Step, Decides, GoesOn, LetsGo, HasLeft, Crosses}
 use Rattle.rec_mutator.specs.declared.phase.Phase.{Phase}
-use Rattle.rec_mutator.specs.declared.phase.Phase.TheVariants.{Begun, Parting}
+use Rattle.rec_mutator.specs.declared.phase.Phase.TheVariants.{Begun, Crossing, Swapping, Leaving, Retiring, Parting}
 use Rattle.rec_mutator.specs.declared.work.Work.{Work}
 use Rattle.rec_mutator.specs.declared.work.Work.TheVariants as works
 use Rattle.rec_mutator.proofs.Steps.{TakesNone, learnt_made}
@@ -131,6 +131,26 @@ first_counts p q word work begun is =
     let took : took_of p word ≡ begun_by p word work = ap (took_at p word) begun in
     let busy : is_busy p ≡ true = ap is_busy_at begun in
     subst (λ (x : Private). x.steps ≡ p.steps + 1) (sym (is ∙ sym took)) (step_counts (learnt_made p word p.log busy (subst TakesNone (sym begun) tt)))
+
+-- what is learnt of the word keeps sizes and work, and counts, by phase
+learnt_at : (p : Private) (word : ℕ) (at : Phase) → p.phase ≡ at → is_busy_at at ≡ true → IsBetween at → KeepsSizes p (took_at p word at) × (work_of (took_at p word at) ≡ work_of p) × ((took_at p word at).steps ≡ p.steps + 1)
+unfolding took_of took_at
+learnt_at p word Crossing is busy between = (record { number = refl; slots = refl; fields = refl; registers = refl; capacity = refl }, sym (ap work_at is), refl)
+learnt_at p word Swapping is busy between = absurd between
+learnt_at p word Leaving is busy between =
+    (record { number = refl; slots = refl; fields = refl; registers = length-replicate (length p.registers) None; capacity = refl }, sym (ap work_at is), refl)
+learnt_at p word Retiring is busy between = absurd between
+learnt_at p word at is busy between =
+    let took : took_of p word ≡ took_at p word at = ap (took_at p word) is in
+    let now : is_busy p ≡ true = ap is_busy_at is ∙ busy in
+    let none : TakesNone p.phase = subst TakesNone (sym is) tt in
+    let keeps = took_keeps p word now none in
+    subst (λ (q : Private). KeepsSizes p q × (work_of q ≡ work_of p) × (q.steps ≡ p.steps + 1)) took (keeps.0, keeps.1, step_counts (learnt_made p word p.log now none))
+
+-- what is learnt keeps sizes and work, and counts
+pub learnt_keeps : (p : Private) (word : ℕ) → is_busy p ≡ true → IsBetween p.phase → KeepsSizes p (took_of p word) × (work_of (took_of p word) ≡ work_of p) × ((took_of p word).steps ≡ p.steps + 1)
+unfolding took_of
+learnt_keeps p word busy between = learnt_at p word p.phase refl busy between
 
 -- no step but the one by which a mutator has left marks that it has
 pub step_left : {p : Private} {word : ℕ} {box : Contents} {op : Op} {q : Private} → p.phase ≢ Parting → Step p word box op q → q.left ≡ p.left

@@ -1,8 +1,8 @@
 //! What a mutator's machine learns of the word that a step found, by phase and by command.
-ghost use Rattle.std.specs.Prelude.{◌≡◌, ◌+◌, ◌<◌, ◌≤◌, ◌∷◌, ◌++◌, [], true, length, slice_set, IfSome};
+ghost use Rattle.std.specs.Prelude.{◌≡◌, ◌+◌, ◌<◌, ◌≤◌, ◌∷◌, ◌++◌, [], true, length, slice_set};
 ghost use Rattle.rec_model.specs.Asking.{allocation, same, yes_or_no, plain};
 ghost use Rattle.rec_mutator.specs.Next.{next_of, begun_op, first_op};
-ghost use Rattle.rec_mutator.specs.Private.{register, is_full, is_busy, work_of, HasOperands, IsValid, limit_of, IsScan, IsStore, HasStamp, IsMachine, KeepsSizes};
+ghost use Rattle.rec_mutator.specs.Private.{register, is_full, is_busy, HasOperands, IsValid, IsScan, IsStore, HasStamp, IsMachine};
 ghost use Rattle.rec_mutator.specs.Took.{begun_by, took_of, took_at, answered, with_register, first_by, new_by, stored, polled, probed, none_free, is_uncollected, leaving_by, IsFound, IsRequested, IsBetween};
 
 use super::Machine;
@@ -26,10 +26,6 @@ impl Machine {
 
         ensures was { IsMachine self.old }
         ensures took { self.new ≡ took_of self.old word }
-        ensures same { KeepsSizes self.old self.new }
-        ensures steps { self.new.steps ≡ self.old.steps + 1 }
-        ensures work { work_of self.new ≡ work_of self.old }
-        ensures limit { IfSome (work_of self.new) (λ work. self.new.steps ≤ limit_of self.new.slots work) }
         ensures kept { IsMachine self.new }
     {
         match self.phase {

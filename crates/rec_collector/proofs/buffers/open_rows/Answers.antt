@@ -1,10 +1,41 @@
 -- The next row is opened, and is left no more.
-use Rattle.std.proofs.Common.{◌≡◌, ℕ, suc, ◌+◌, ◌-◌, ◌*◌, ◌++◌, ◌∷◌, List, [], length, map, take, drop, ap, sym, ◌∙◌, arith, length-drop}
+use Rattle.std.proofs.Common.{◌≡◌, ℕ, suc, ◌+◌, ◌-◌, ◌*◌, ◌++◌, ◌∷◌, List, [], None, length, map, take, drop, ap, sym, ◌∙◌, arith, length-drop}
 use Rattle.std.proofs.Math.Nat.{suc-mul}
+use Rattle.std.proofs.lemmas.List.{append-nil, length-replicate}
 use Rattle.rec_collector.proofs.Common.{Contents, retired}
 use Rattle.rec_collector.specs.Rows.{rows_of}
 use Rattle.rec_collector.proofs.Rows.{rows_more}
 use Rattle.rec_collector.proofs.buffers.open_rows.Goals as goal
+
+pub loop-init : goal.loop-init
+loop-init c =
+    let opens : ℕ → List Contents = λ n. map (λ own. retired own c.args.capacity) (rows_of c.args.registers n c.args.held.now) in
+    let all : c.args.mutators ≡ c.args.mutators - 0 = omega arith in
+    record {
+      rows = ap opens all ∙ ap (λ row. row ++ opens (c.args.mutators - 0)) (sym c.in_ok-row.ensures.items);
+      left = c.requires ∙ ap (λ n. n * c.args.registers) all;
+    }
+
+pub split_at-requires : goal.split_at-requires
+split_at-requires c =
+    let left : ℕ = c.args.mutators - (c.loop.counter + 1) in
+    let more : c.args.mutators - c.loop.counter ≡ suc left = omega arith in
+    let size : length c.loop.rest.now ≡ left * c.args.registers + c.args.registers = c.loop.invariant.left ∙ ap (λ n. n * c.args.registers) more ∙ suc-mul left c.args.registers in
+    omega (arith, size, c.from-in-loop.ensures)
+
+pub retire-requires : goal.retire-requires
+retire-requires c =
+    ap length c.in_ok-frame.ensures
+    ∙ c.split_at.ensures.front_len
+    ∙ c.from-in-loop.ensures
+    ∙ sym (ap (λ (b : Contents). length b.snapshot) c.in_ok-buffer.ensures ∙ length-replicate c.args.registers None)
+
+pub returns : goal.returns
+returns c =
+    let none : c.args.mutators - c.loop.counter ≡ 0 = omega arith in
+    sym (c.loop.invariant.rows
+    ∙ ap (λ n. c.loop.row.items ++ map (λ own. retired own c.args.capacity) (rows_of c.args.registers n c.loop.rest.now)) none
+    ∙ append-nil c.loop.row.items)
 
 pub loop-preserved : goal.loop-preserved
 loop-preserved c =

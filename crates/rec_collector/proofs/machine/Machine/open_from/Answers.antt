@@ -1,6 +1,6 @@
 -- The contract of `Machine::open_from`: the collector of a heap of which the first slots have these counts, and registers named these slots.
-use Rattle.std.proofs.Common.{◌≡◌, refl, subst}
-use Rattle.rec_collector.proofs.Common.{State}
+use Rattle.std.proofs.Common.{refl, sym, subst}
+use Rattle.rec_collector.proofs.Common.{State, IsMachine}
 use Rattle.rec_counts.specs.Counts.{IsKept as IsKeptCounts, opened_from as counted_from}
 use Rattle.rec_collector.proofs.Opening.{opened_from_keeps}
 use Rattle.rec_collector.proofs.machine.Machine.open_from.Goals as goal
@@ -12,11 +12,8 @@ returns-clause-opened c =
 pub invariant_of-result : goal.invariant_of-result
 invariant_of-result c =
     let counts : IsKeptCounts (counted_from c.args.slots c.args.counts.now) = subst (λ (s : State). IsKeptCounts s) c.in_ok-counts.ensures c.rules.ensures in
-    rw (c.of.ensures, c.in_ok-counts.ensures, c.in_ok-newer.ensures, c.in_ok-older.ensures, c.in_ok-left.ensures.items_if_clones_equal (λ y e. e), c.from.ensures, c.in_ok-frame.ensures)
+    subst IsMachine (sym (returns-clause-opened c))
     (opened_from_keeps c.args.slots c.args.fields c.args.regs c.args.mutators c.args.cap c.args.first_epoch c.args.counts.now c.args.registers.now c.requires.fields c.ranges.fields.fits c.requires.mutators c.ranges.mutators.fits c.requires.epoch c.requires.some c.requires.registers counts)
 
 pub returns-clause-kept : goal.returns-clause-kept
-returns-clause-kept c =
-    let counts : IsKeptCounts (counted_from c.args.slots c.args.counts.now) = subst (λ (s : State). IsKeptCounts s) c.in_ok-counts.ensures c.rules.ensures in
-    rw (c.of.ensures, c.in_ok-counts.ensures, c.in_ok-newer.ensures, c.in_ok-older.ensures, c.in_ok-left.ensures.items_if_clones_equal (λ y e. e), c.from.ensures, c.in_ok-frame.ensures)
-    (opened_from_keeps c.args.slots c.args.fields c.args.regs c.args.mutators c.args.cap c.args.first_epoch c.args.counts.now c.args.registers.now c.requires.fields c.ranges.fields.fits c.requires.mutators c.ranges.mutators.fits c.requires.epoch c.requires.some c.requires.registers counts)
+returns-clause-kept c = invariant_of-result c
