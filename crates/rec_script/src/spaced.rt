@@ -1,7 +1,7 @@
 //! Commands as most scripts spell them: one space between each two words, and an LF behind the last one. Such a line is
 //! read in one pass. Any other line has no answer here, right or wrong, and is read by its words.
 
-ghost use Rattle.std.specs.Prelude.{◌≡◌, ◌≢◌, ℕ, ◌<◌, ◌≤◌, ◌^◌, ◌++◌, [], ◌∷◌, slice_index, IfSome};
+ghost use Rattle.std.specs.Prelude.{◌≡◌, ◌≢◌, ℕ, ◌<◌, ◌≤◌, ◌^◌, ◌++◌, [], ◌∷◌, codes, slice_index, IfSome};
 ghost use Rattle.std.specs.Fmt.{decimal};
 ghost use Rattle.rec_script.specs.Lines.{spaced};
 ghost use Rattle.rec_script.specs.Script.{Allows, IsCommand, IsVersion, command_line};
@@ -150,15 +150,25 @@ pub fn spaced_command(
     ensures in_range { IfSome result (λ x. IsCommand registers fields x.0) }
     ensures allowed { IfSome result (λ x. Allows version x.0) }
 {
-    let (name, rest) = bytes.split_first_chunk::<4>()?;
+    let Some((name, rest)) = bytes.split_first_chunk::<4>() else {
+        return None;
+    };
     if name == b"get " {
-        let (dst, src, field, rest) = three_operands((registers, registers, fields), rest)?;
+        let Some((dst, src, field, rest)) = three_operands((registers, registers, fields), rest)
+        else {
+            return None;
+        };
         Some((Cmd::Get { dst, src, field }, rest))
     } else if name == b"put " {
-        let (src, field, val, rest) = three_operands((registers, fields, registers), rest)?;
+        let Some((src, field, val, rest)) = three_operands((registers, fields, registers), rest)
+        else {
+            return None;
+        };
         Some((Cmd::Put { src, field, val }, rest))
     } else if name == b"new " {
-        let (reg, label, rest) = birth(registers, rest)?;
+        let Some((reg, label, rest)) = birth(registers, rest) else {
+            return None;
+        };
         Some((Cmd::New { reg, label }, rest))
     } else {
         longer(version, registers, name, rest)
@@ -180,22 +190,101 @@ fn longer<'a>(
     ensures allowed { IfSome result (λ x. Allows version x.0) }
 {
     if name == b"null" {
-        let (reg, rest) = operand(registers, behind(b' ', rest)?, b'\n')?;
-        Some((Cmd::Null { reg }, rest))
+        null(registers, rest)
     } else if name == b"copy" {
-        let (dst, src, rest) = two_operands(registers, behind(b' ', rest)?)?;
-        Some((Cmd::Copy { dst, src }, rest))
+        copy(registers, rest)
     } else if name == b"valu" {
-        let rest = behind(b' ', behind(b'e', rest)?)?;
-        let (reg, rest) = operand(registers, rest, b'\n')?;
-        Some((Cmd::Value { reg }, rest))
+        value(registers, rest)
     } else if name == b"same" {
-        let (a, b, rest) = two_operands(registers, behind(b' ', rest)?)?;
-        Some((Cmd::Same { a, b }, rest))
+        same(registers, rest)
     } else if version >= 2 && name == b"leaf" {
-        let (reg, label, rest) = birth(registers, behind(b' ', rest)?)?;
-        Some((Cmd::Leaf { reg, label }, rest))
+        leaf(registers, rest)
     } else {
         None
     }
+}
+
+/// The same behind the letters `null`.
+#[inline(always)]
+fn null(registers: u32, bytes: &[u8]) -> Option<(Cmd, &[u8])>
+    requires { registers ≤ 64 }
+    ensures found { IfSome result (λ x. codes "null" ++ bytes.now ≡ spaced (command_line x.0) x.1.now) }
+    ensures in_range { (fields : ℕ) → IfSome result (λ x. IsCommand registers fields x.0) }
+    ensures allowed { (version : ℕ) → 1 ≤ version → IfSome result (λ x. Allows version x.0) }
+{
+    let Some(rest) = behind(b' ', bytes) else {
+        return None;
+    };
+    let Some((reg, rest)) = operand(registers, rest, b'\n') else {
+        return None;
+    };
+    Some((Cmd::Null { reg }, rest))
+}
+
+/// The same behind the letters `copy`.
+#[inline(always)]
+fn copy(registers: u32, bytes: &[u8]) -> Option<(Cmd, &[u8])>
+    requires { registers ≤ 64 }
+    ensures found { IfSome result (λ x. codes "copy" ++ bytes.now ≡ spaced (command_line x.0) x.1.now) }
+    ensures in_range { (fields : ℕ) → IfSome result (λ x. IsCommand registers fields x.0) }
+    ensures allowed { (version : ℕ) → 1 ≤ version → IfSome result (λ x. Allows version x.0) }
+{
+    let Some(rest) = behind(b' ', bytes) else {
+        return None;
+    };
+    let Some((dst, src, rest)) = two_operands(registers, rest) else {
+        return None;
+    };
+    Some((Cmd::Copy { dst, src }, rest))
+}
+
+/// The same behind the letters `valu`.
+#[inline(always)]
+fn value(registers: u32, bytes: &[u8]) -> Option<(Cmd, &[u8])>
+    requires { registers ≤ 64 }
+    ensures found { IfSome result (λ x. codes "valu" ++ bytes.now ≡ spaced (command_line x.0) x.1.now) }
+    ensures in_range { (fields : ℕ) → IfSome result (λ x. IsCommand registers fields x.0) }
+    ensures allowed { (version : ℕ) → 1 ≤ version → IfSome result (λ x. Allows version x.0) }
+{
+    let [b'e', b' ', rest @ ..] = bytes else {
+        return None;
+    };
+    let Some((reg, rest)) = operand(registers, rest, b'\n') else {
+        return None;
+    };
+    Some((Cmd::Value { reg }, rest))
+}
+
+/// The same behind the letters `same`.
+#[inline(always)]
+fn same(registers: u32, bytes: &[u8]) -> Option<(Cmd, &[u8])>
+    requires { registers ≤ 64 }
+    ensures found { IfSome result (λ x. codes "same" ++ bytes.now ≡ spaced (command_line x.0) x.1.now) }
+    ensures in_range { (fields : ℕ) → IfSome result (λ x. IsCommand registers fields x.0) }
+    ensures allowed { (version : ℕ) → 1 ≤ version → IfSome result (λ x. Allows version x.0) }
+{
+    let Some(rest) = behind(b' ', bytes) else {
+        return None;
+    };
+    let Some((a, b, rest)) = two_operands(registers, rest) else {
+        return None;
+    };
+    Some((Cmd::Same { a, b }, rest))
+}
+
+/// The same behind the letters `leaf`.
+#[inline(always)]
+fn leaf(registers: u32, bytes: &[u8]) -> Option<(Cmd, &[u8])>
+    requires { registers ≤ 64 }
+    ensures found { IfSome result (λ x. codes "leaf" ++ bytes.now ≡ spaced (command_line x.0) x.1.now) }
+    ensures in_range { (fields : ℕ) → IfSome result (λ x. IsCommand registers fields x.0) }
+    ensures allowed { (version : ℕ) → 2 ≤ version → IfSome result (λ x. Allows version x.0) }
+{
+    let Some(rest) = behind(b' ', bytes) else {
+        return None;
+    };
+    let Some((reg, label, rest)) = birth(registers, rest) else {
+        return None;
+    };
+    Some((Cmd::Leaf { reg, label }, rest))
 }

@@ -6,5 +6,5 @@ use Rattle.rec_script.proofs.spaced.spaced_command.Goals as goal
 
 pub returns-else-eq-3-clause-found : goal.returns-else-eq-3-clause-found
 returns-else-eq-3-clause-found c =
-    let front : c.args.bytes.now ≡ c.in_ok-name.name.now ++ c.in_ok-name.rest.now = rw (c.in_ok-name.ensures.cases.0, c.in_ok-name.ensures.cases.1) (sym (take-append-drop 4 c.args.bytes.now)) in
+    let front : c.args.bytes.now ≡ c.in-Some.name.now ++ c.in-Some.rest.now = rw (c.in-Some.ensures.cases.0, c.in-Some.ensures.cases.1) (sym (take-append-drop 4 c.args.bytes.now)) in
     IfSome_then c.longer.result c.longer.ensures.found (λ x h. front ∙ h)
