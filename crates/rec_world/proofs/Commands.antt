@@ -358,6 +358,16 @@ parted_all w last v t gone parts =
       };
     }
 
+-- no work ends in two ways
+unfinished : (made : Made) → ◌≡◌ {A = Option Made} None (Some made) → ⊥
+unfinished made is = cc
+
+crossed_told : (crossed : Option ℕ) (told : Told) → ◌≡◌ {A = Option Made} (Some (makes.Crossed crossed)) (Some (makes.Answered told)) → ⊥
+crossed_told crossed told is = cc
+
+not_polled : (cmd : Cmd) → ◌≡◌ {A = Option Work} (Some (works.Command cmd)) (Some works.Poll) → ⊥
+not_polled cmd is = cc
+
 -- what was said of the command that was answered
 decided_of : (w v : Core) (t : ℕ) (q : Private) (cmd : Cmd) (told : Told) → work_of (mutator w t) ≡ Some (works.Command cmd) → answer_of q ≡ Some (makes.Answered told) → Says w t q v
     → IsDecided w t cmd told v × IsStaying cmd told.answer × (is_refusal told.answer ≡ true → OnlyWorks w v t)
@@ -366,25 +376,15 @@ decided_of w v t q cmd told work answer (Says.decided its_cmd its_told its_work 
     let tolds : its_told ≡ told = same_told its_told told (sym its_answer ∙ answer) in
     let P : Cmd → Told → Type 0 = λ c x. IsDecided w t c x v × IsStaying c x.answer × (is_refusal x.answer ≡ true → OnlyWorks w v t) in
     subst (λ x. P cmd x) tolds (subst (λ c. P c its_told) cmds (said, staying, refused))
-decided_of w v t q cmd told work answer (Says.going none only found) =
-    let not_so : ◌≡◌ {A = Option Made} None (Some (makes.Answered told)) = sym none ∙ answer in
-    (cc)
-decided_of w v t q cmd told work answer (Says.holding none phase still epoch) =
-    let not_so : ◌≡◌ {A = Option Made} None (Some (makes.Answered told)) = sym none ∙ answer in
-    (cc)
-decided_of w v t q cmd told work answer (Says.stayed crossed poll here only) =
-    let not_so : ◌≡◌ {A = Option Made} (Some (makes.Crossed None)) (Some (makes.Answered told)) = sym crossed ∙ answer in
-    (cc)
-decided_of w v t q cmd told work answer (Says.crossed crossed poll phase still epoch log) =
-    let not_so : ◌≡◌ {A = Option Made} (Some (makes.Crossed (Some ((mutator w t).epoch + 1)))) (Some (makes.Answered told)) = sym crossed ∙ answer in
-    (cc)
+decided_of w v t q cmd told work answer (Says.going none only found) = absurd (unfinished (makes.Answered told) (sym none ∙ answer))
+decided_of w v t q cmd told work answer (Says.holding none phase still epoch) = absurd (unfinished (makes.Answered told) (sym none ∙ answer))
+decided_of w v t q cmd told work answer (Says.stayed crossed poll here only) = absurd (crossed_told None told (sym crossed ∙ answer))
+decided_of w v t q cmd told work answer (Says.crossed crossed poll phase still epoch log) = absurd (crossed_told (Some ((mutator w t).epoch + 1)) told (sym crossed ∙ answer))
 
 -- a command that doesn't leave never holds the mailbox
 command_works : (before w : Core) (t : ℕ) (cmd : Cmd) → IsStayingIn (mutator w t).phase → Waits before w t → work_of (mutator w t) ≡ Some (works.Command cmd) → OnlyWorks before w t × HasFound w (mutator w t).from (mutator w t).phase
 command_works before w t cmd stays (Waits.works only found since) work = (only, found)
-command_works before w t cmd stays (Waits.holds phase still epoch) work =
-    let not_so : ◌≡◌ {A = Option Work} (Some works.Poll) (Some (works.Command cmd)) = sym (ap work_at phase) ∙ work in
-    (cc)
+command_works before w t cmd stays (Waits.holds phase still epoch) work = absurd (not_polled cmd (sym (sym (ap work_at phase) ∙ work)))
 command_works before w t cmd stays (Waits.parts phase gone) work = absurd (subst IsStayingIn phase stays)
 
 -- and one that leaves has let its registers go before its last step
@@ -407,8 +407,7 @@ data Ends (last v : Core) (t : ℕ) (q : Private) : Type 0 where
 ends_so : (before v : Core) (t : ℕ) (made : Made) → IsMutator before.config t → (f : IsFinished before t made v) → IsKept f.last → Ends f.last v t (mutator v t)
 ends_so before v t made is f kept = elim (leaves_or_stays (mutator f.last t).phase) [
   | inl leaving ↦
-      let not_so : ◌≡◌ {A = Option Made} None (Some made) = sym (ap answer_at (leaving_says f.last t kept there leaving).0) ∙ ap (λ (x : Core). answer_of (mutator x t)) (sym f.steps) ∙ f.answer in
-      (cc)
+      absurd (unfinished made (sym (ap answer_at (leaving_says f.last t kept there leaving).0) ∙ ap (λ (x : Core). answer_of (mutator x t)) (sym f.steps) ∙ f.answer))
   | inr (inl parting) ↦ Ends.departs parting (subst (λ (x : Core). Parts f.last t (mutator x t) x) (sym f.steps) (parting_says f.last t kept there parting))
   | inr (inr stays) ↦ Ends.remains stays (end_says before v t made is f kept stays)
 ]
@@ -457,24 +456,12 @@ command_crosses w b v t cmd crossed kept is begins its f last_kept =
     go (f.work ∙ its) f.answer (ends_so b v t (makes.Crossed crossed) there f last_kept)
   where
     go : {last : Core} {q : Private} → work_of (mutator last t) ≡ Some (works.Command cmd) → answer_of q ≡ Some (makes.Crossed crossed) → Ends last v t q → ⊥
-    go work answer (Ends.departs phase parts) =
-        let not_so : ◌≡◌ {A = Option Made} (Some (makes.Answered (plain answers.Done))) (Some (makes.Crossed crossed)) = sym parts.answer ∙ answer in
-        (cc)
-    go work answer (Ends.remains stays (Says.decided its_cmd told its_work its_answer said staying refused)) =
-        let not_so : ◌≡◌ {A = Option Made} (Some (makes.Answered told)) (Some (makes.Crossed crossed)) = sym its_answer ∙ answer in
-        (cc)
-    go work answer (Ends.remains stays (Says.going none only found)) =
-        let not_so : ◌≡◌ {A = Option Made} None (Some (makes.Crossed crossed)) = sym none ∙ answer in
-        (cc)
-    go work answer (Ends.remains stays (Says.holding none phase still epoch)) =
-        let not_so : ◌≡◌ {A = Option Made} None (Some (makes.Crossed crossed)) = sym none ∙ answer in
-        (cc)
-    go work answer (Ends.remains stays (Says.stayed its_answer poll here only)) =
-        let not_so : ◌≡◌ {A = Option Work} (Some (works.Command cmd)) (Some works.Poll) = sym work ∙ poll in
-        (cc)
-    go work answer (Ends.remains stays (Says.crossed its_answer poll phase still epoch log)) =
-        let not_so : ◌≡◌ {A = Option Work} (Some (works.Command cmd)) (Some works.Poll) = sym work ∙ poll in
-        (cc)
+    go work answer (Ends.departs phase parts) = absurd (crossed_told crossed (plain answers.Done) (sym (sym parts.answer ∙ answer)))
+    go work answer (Ends.remains stays (Says.decided its_cmd told its_work its_answer said staying refused)) = absurd (crossed_told crossed told (sym (sym its_answer ∙ answer)))
+    go work answer (Ends.remains stays (Says.going none only found)) = absurd (unfinished (makes.Crossed crossed) (sym none ∙ answer))
+    go work answer (Ends.remains stays (Says.holding none phase still epoch)) = absurd (unfinished (makes.Crossed crossed) (sym none ∙ answer))
+    go work answer (Ends.remains stays (Says.stayed its_answer poll here only)) = absurd (not_polled cmd (sym work ∙ poll))
+    go work answer (Ends.remains stays (Says.crossed its_answer poll phase still epoch log)) = absurd (not_polled cmd (sym work ∙ poll))
 
 -- nor a poll as a command
 pub poll_answers : (w b v : Core) (t : ℕ) (told : Told) → IsKept w → IsMutator w.config t → b ≡ begun w t works.Poll → work_of (mutator b t) ≡ Some works.Poll
@@ -484,21 +471,11 @@ poll_answers w b v t told kept is begins its f last_kept =
     go (f.work ∙ its) f.answer (end_says b v t (makes.Answered told) there f last_kept (polls_stay (mutator f.last t).phase (f.work ∙ its)))
   where
     go : {last : Core} {q : Private} → work_of (mutator last t) ≡ Some works.Poll → answer_of q ≡ Some (makes.Answered told) → Says last t q v → ⊥
-    go work answer (Says.decided cmd its_told its_work its_answer said staying refused) =
-        let not_so : ◌≡◌ {A = Option Work} (Some (works.Command cmd)) (Some works.Poll) = sym its_work ∙ work in
-        (cc)
-    go work answer (Says.going none only found) =
-        let not_so : ◌≡◌ {A = Option Made} None (Some (makes.Answered told)) = sym none ∙ answer in
-        (cc)
-    go work answer (Says.holding none phase still epoch) =
-        let not_so : ◌≡◌ {A = Option Made} None (Some (makes.Answered told)) = sym none ∙ answer in
-        (cc)
-    go work answer (Says.stayed crossed poll here only) =
-        let not_so : ◌≡◌ {A = Option Made} (Some (makes.Crossed None)) (Some (makes.Answered told)) = sym crossed ∙ answer in
-        (cc)
-    go {last} {q} work answer (Says.crossed crossed poll phase still epoch log) =
-        let not_so : ◌≡◌ {A = Option Made} (Some (makes.Crossed (Some ((mutator last t).epoch + 1)))) (Some (makes.Answered told)) = sym crossed ∙ answer in
-        (cc)
+    go work answer (Says.decided cmd its_told its_work its_answer said staying refused) = absurd (not_polled cmd (sym its_work ∙ work))
+    go work answer (Says.going none only found) = absurd (unfinished (makes.Answered told) (sym none ∙ answer))
+    go work answer (Says.holding none phase still epoch) = absurd (unfinished (makes.Answered told) (sym none ∙ answer))
+    go work answer (Says.stayed crossed poll here only) = absurd (crossed_told None told (sym crossed ∙ answer))
+    go {last} {q} work answer (Says.crossed crossed poll phase still epoch log) = absurd (crossed_told (Some ((mutator last t).epoch + 1)) told (sym crossed ∙ answer))
 
 -- What is said of a poll that ended so: nothing is seen of it, the mutator hasn't left by it, and it stays in its epoch just where that
 -- is the requested one, and else is in the requested one, with an empty log.
@@ -599,15 +576,9 @@ poll_said w b v t crossed kept is present begins its f last_kept =
         (cc)
 
     go : work_of (mutator f.last t) ≡ Some works.Poll → Says f.last t (mutator v t) v → IsPolled w v t crossed
-    go work (Says.decided cmd its_told its_work its_answer said staying refused) =
-        let not_so : ◌≡◌ {A = Option Work} (Some (works.Command cmd)) (Some works.Poll) = sym its_work ∙ work in
-        (cc)
-    go work (Says.going none only found) =
-        let not_so : ◌≡◌ {A = Option Made} None (Some (makes.Crossed crossed)) = sym none ∙ f.answer in
-        (cc)
-    go work (Says.holding none phase still epoch) =
-        let not_so : ◌≡◌ {A = Option Made} None (Some (makes.Crossed crossed)) = sym none ∙ f.answer in
-        (cc)
+    go work (Says.decided cmd its_told its_work its_answer said staying refused) = absurd (not_polled cmd (sym its_work ∙ work))
+    go work (Says.going none only found) = absurd (unfinished (makes.Crossed crossed) (sym none ∙ f.answer))
+    go work (Says.holding none phase still epoch) = absurd (unfinished (makes.Crossed crossed) (sym none ∙ f.answer))
     go work (Says.stayed answer poll stays only) =
         let log : log_length f.last t ≡ log_length w t = waits_log b f.last t f.waits stays ∙ ap (λ (p : Private). length p.log.entries) here.own in
         let requested : f.last.epoch ≡ (mutator f.last t).epoch = stayed_epoch f.last t last_kept last_there f.busy (ap (λ (x : Core). answer_of (mutator x t)) (sym f.steps) ∙ answer) in

@@ -1,14 +1,25 @@
 -- An operation's word is at its number in the row, and what is written there is the operation's.
-use Rattle.std.proofs.Common.{◌≡◌, ℕ, ◌+◌, ◌-◌, ◌<◌, ◌≤◌, List, [], ◌∷◌, ◌++◌, length, get_or, set, take, replicate, append_assoc, length-set, sym, ap, subst, ◌∙◌, arith}
+use Rattle.std.proofs.Common.{◌≡◌, ℕ, ◌+◌, ◌-◌, ◌<◌, ◌≤◌, List, [], ◌∷◌, ◌++◌, length, get_or, set, take, replicate, append_assoc, length-set, refl, sym, ap, subst, ◌∙◌, arith}
 use Rattle.std.specs.Vec.{with_item}
 use Rattle.std.proofs.lemmas.List.{get_or_default, set-get_or, take_all, length-replicate}
 use Rattle.rec_world.proofs.Common.{Cells, IsWithin, with_cell}
-use Rattle.rec_word.specs.Op.{written}
+use Rattle.rec_word.specs.Op.{cell_of, written}
+use Rattle.rec_word.specs.declared.cell.Cell.{Cell}
+use Rattle.rec_word.specs.declared.cell.Cell.TheVariants.{Field, Header, Epoch, Freed, Crossing}
 use Rattle.rec_word.specs.declared.op.Op.{Op}
+use Rattle.rec_core.specs.Cells.{with_word}
 use Rattle.rec_core.specs.Row.{row, index_of, cells_of_row}
 use Rattle.rec_core.proofs.Row.{cells_row, in_row, left_at, slots_are}
-use Rattle.rec_world.specs.Indexed.{cells, Finds, IsLaidOut}
+use Rattle.rec_world.specs.Indexed.{cells, Finds, IsLaidOut, IsNoHeader}
 use Rattle.rec_world.specs.declared.memory.Memory.TheInside.{Inside}
+
+-- a write of a word that is no header leaves the headers
+headers_stay : (c : Cells) (at : Cell) (x : ℕ) → IsNoHeader at → (with_word c at x).headers ≡ c.headers
+headers_stay c (Header slot) x none = absurd none
+headers_stay c (Field place) x none = refl
+headers_stay c Epoch x none = refl
+headers_stay c Freed x none = refl
+headers_stay c (Crossing t) x none = refl
 
 module _ (m : Inside) (laid : IsLaidOut m) where
   -- the row is long enough, with a header for each slot
@@ -45,6 +56,10 @@ module _ (m : Inside) (laid : IsLaidOut m) where
           few = laid.few;
           free = subst (λ (c : Cells). Finds c.headers free) (sym (written_is x)) finds;
         }
+
+    -- and where it is no header that is written
+    pub laid_apart : (there : Cell) → there ≡ cell_of op → IsNoHeader there → (x : ℕ) → IsLaidOut (record m { row = with_item m.row i x })
+    laid_apart there names none x = laid_again x m.free (subst (λ (hs : List ℕ). Finds hs m.free) (sym (ap (λ k. (with_word (cells m) k x).headers) (sym names) ∙ headers_stay (cells m) there x none)) laid.free)
 
 -- a row that is filled up to this length
 pub filled_up : (n len x many : ℕ) (old now : List ℕ) → old ≡ now → length now ≤ n → n - len ≡ many → take n old ++ replicate (n - len) x ≡ now ++ replicate many x

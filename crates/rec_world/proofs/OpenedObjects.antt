@@ -44,17 +44,15 @@ module _ (config : Config) (o : Objects) (is : IsConfig config) (are : AreObject
       is_made ∙ (λ i. cells_of_row (by_words i) (by_headers i) (row_is i)) ∙ cells_row (cells_of w)
 
   -- its parts make it up
-  pub objects_parts : (cells : Cells) (boxes : List (Option Contents)) (mutators : List Private) (collector : collectors.Private) (counts : List ℕ)
+  pub objects_parts : (cells : Cells) (boxes : List (Option Contents)) (mutators : List Private) (collector : collectors.Private)
       → cells ≡ cells_of w → boxes ≡ replicate config.mutators (Some (spare_of config)) → mutators ≡ holding_mutators config 1 (rows_of config.registers config.mutators o.registers)
-      → collector ≡ collectors.opened_from config.slots config.fields config.registers config.mutators config.log_entries config.first_epoch counts o.registers → counts ≡ counts_of o
+      → collector ≡ w.collector
       → ◌≡◌ {A = Core} (record { config = config; headers = cells.headers; words = cells.words; epoch = cells.epoch; freed = cells.freed; crossing = cells.crossing; boxes = map held boxes; mutators = mutators; collector = collector; made = length o.nodes }) w
-  objects_parts cells boxes mutators collector counts is_cells is_boxes is_mutators is_collector is_counts =
+  objects_parts cells boxes mutators collector is_cells is_boxes is_mutators is_collector =
       let make : Cells → List Contents → List Private → collectors.Private → Core
       = λ x b m c. record { config = config; headers = x.headers; words = x.words; epoch = x.epoch; freed = x.freed; crossing = x.crossing; boxes = b; mutators = m; collector = c; made = length o.nodes } in
       let spares : map held boxes ≡ replicate config.mutators (spare_of config) = ap (map held) is_boxes ∙ map-replicate held config.mutators (Some (spare_of config)) in
-      let its : collector ≡ w.collector
-      = is_collector ∙ ap (λ ns. collectors.opened_from config.slots config.fields config.registers config.mutators config.log_entries config.first_epoch ns o.registers) is_counts in
-      (λ i. make (is_cells i) (spares i) (is_mutators i) (its i))
+      (λ i. make (is_cells i) (spares i) (is_mutators i) (is_collector i))
 
   -- it is a world,
   pub objects_world : IsWorld w

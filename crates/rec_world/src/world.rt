@@ -613,7 +613,14 @@ fn open_in_range(alloc: Global, config: Config) -> Result<World, NoMemory>
         config.mutators as u8,
         config.log_entries,
         config.first_epoch,
-    )?;
+    );
+    let collector = match collector {
+        Ok(collector) => collector,
+        Err(error) => {
+            drop((memory, boxes, machines));
+            return Err(error);
+        }
+    };
     Ok(World {
         config,
         memory,

@@ -86,18 +86,13 @@ fn open_objects(
     let free = Index::open(alloc)?;
     let boxes = open_boxes(alloc, &config)?;
     let machines = open_holders(alloc, &config, registers)?;
-    let counts = count_holders(alloc, nodes.len(), fields, registers)?;
-    let collector = Collector::open_from(
-        alloc,
-        config.slots as u16,
-        config.fields as u8,
-        config.registers as u8,
-        config.mutators as u8,
-        config.log_entries,
-        config.first_epoch,
-        counts.as_slice(),
-        registers,
-    )?;
+    let collector = match open_collector(alloc, &config, nodes, fields, registers) {
+        Ok(collector) => collector,
+        Err(error) => {
+            drop((row, free, boxes, machines));
+            return Err(error);
+        }
+    };
     let layout = Layout::new(slots * config.fields as usize, slots);
     Ok(World {
         config,
@@ -107,6 +102,33 @@ fn open_objects(
         collector,
         made: nodes.len() as u64,
     })
+}
+
+// The collector of a heap with these objects.
+fn open_collector(
+    alloc: Global,
+    config: &Config,
+    nodes: &[(u32, bool)],
+    fields: &[Option<u16>],
+    registers: &[Option<u16>],
+) -> Result<Collector, NoMemory>
+    requires config { IsConfig config.now }
+    requires objects { AreObjects config.now (record { nodes = nodes.now; fields = fields.now; registers = registers.now }) }
+    requires labels { HaveLabels nodes.now }
+    ensures { IfOk result (λ collector. collector ≡ (opened_from config.now (record { nodes = nodes.now; fields = fields.now; registers = registers.now })).collector) }
+{
+    let counts = count_holders(alloc, nodes.len(), fields, registers)?;
+    Collector::open_from(
+        alloc,
+        config.slots as u16,
+        config.fields as u8,
+        config.registers as u8,
+        config.mutators as u8,
+        config.log_entries,
+        config.first_epoch,
+        counts.as_slice(),
+        registers,
+    )
 }
 
 // The shared words of a heap with these objects, in one row.

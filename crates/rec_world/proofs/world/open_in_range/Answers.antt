@@ -3,10 +3,10 @@ use Rattle.std.proofs.Common.{◌≡◌, map, sym, subst}
 use Rattle.rec_world.proofs.Common.{Core, opened, held, IsWorld}
 use Rattle.rec_world.proofs.Calls.{opened_parts, opened_world, opened_home}
 use Rattle.rec_world.proofs.world.open_in_range.Goals as goal
-use Rattle.rec_world.proofs.world.open_in_range.Goals.{In_ok-collector}
+use Rattle.rec_world.proofs.world.open_in_range.Goals.{In-Ok}
 
 -- the core that is made
-made : In_ok-collector → Core
+made : In-Ok → Core
 made c =
     record {
       config = c.args.config;
@@ -17,13 +17,13 @@ made c =
       crossing = c.in_ok-memory.memory.crossing;
       boxes = map held c.in_ok-boxes.boxes.items;
       mutators = c.in_ok-machines.machines.items;
-      collector = c.in_ok-collector.collector;
+      collector = c.in-Ok.collector;
       made = 1;
     }
 
-is_opened : (c : In_ok-collector) → made c ≡ opened c.args.config
+is_opened : (c : In-Ok) → made c ≡ opened c.args.config
 unfolding made
-is_opened c = opened_parts c.args.config c.in_ok-memory.memory c.in_ok-boxes.boxes.items c.in_ok-machines.machines.items c.in_ok-collector.collector c.in_ok-memory.ensures c.in_ok-boxes.ensures c.in_ok-machines.ensures c.in_ok-collector.ensures.opened
+is_opened c = opened_parts c.args.config c.in_ok-memory.memory c.in_ok-boxes.boxes.items c.in_ok-machines.machines.items c.in-Ok.collector c.in_ok-memory.ensures c.in_ok-boxes.ensures c.in_ok-machines.ensures c.in-Ok.ensures.opened
 
 pub invariant_of-result : goal.invariant_of-result
 unfolding made

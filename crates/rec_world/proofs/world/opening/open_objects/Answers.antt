@@ -1,23 +1,12 @@
 -- The parts make up the heap as it is opened from objects.
-use Rattle.std.proofs.Common.{◌≡◌, ◌<◌, All, map, length, sym, subst, ◌∙◌}
-use Rattle.rec_core.specs.Objects.{Objects, counts_of}
+use Rattle.std.proofs.Common.{◌≡◌, map, length, sym, subst}
+use Rattle.rec_core.specs.Objects.{Objects}
 use Rattle.rec_core.specs.OpenedFrom.{opened_from}
-use Rattle.rec_core.proofs.OpenedFrom.{counts_some}
 use Rattle.rec_world.proofs.Common.{Core, IsWorld, cells_of, held}
 use Rattle.rec_world.proofs.Calls.{opened_home}
-use Rattle.rec_world.proofs.OpenedObjects.{counts_are, objects_parts, objects_world, row_holds, row_long}
+use Rattle.rec_world.proofs.OpenedObjects.{objects_parts, objects_world, row_holds, row_long}
 use Rattle.rec_world.proofs.world.opening.open_objects.Goals as goal
-use Rattle.rec_world.proofs.world.opening.open_objects.Goals.{After-as_slice, After-of_row}
-
--- the objects
-abbrev objects_of : After-as_slice → Objects
-objects_of c = record { nodes = c.args.nodes.now; fields = c.args.fields.now; registers = c.args.registers.now }
-
-counted : (c : After-as_slice) → c.as_slice.result.now ≡ counts_of (objects_of c)
-counted c = c.as_slice.ensures.value ∙ counts_are (objects_of c) c.in_ok-counts.counts.items c.in_ok-counts.ensures.many c.in_ok-counts.ensures.counts
-
-pub open_from-requires-clause-some : goal.open_from-requires-clause-some
-open_from-requires-clause-some c = subst (All (λ count. 0 < count)) (sym (counted c)) (counts_some c.args.config (objects_of c) c.requires.config c.requires.objects c.in_ok-row.ensures.labels)
+use Rattle.rec_world.proofs.world.opening.open_objects.Goals.{After-of_row}
 
 pub of_row-requires-clause-long : goal.of_row-requires-clause-long
 of_row-requires-clause-long c =
@@ -37,7 +26,7 @@ made c =
       crossing = c.of_row.result.crossing;
       boxes = map held c.in_ok-boxes.boxes.items;
       mutators = c.in_ok-machines.machines.items;
-      collector = c.in_ok-collector.collector;
+      collector = c.in-Ok.collector;
       made = length c.args.nodes.now;
     }
 
@@ -48,9 +37,8 @@ is_opened c =
     let cells : c.of_row.result ≡ cells_of (opened_from c.args.config o)
     = row_holds c.args.config o c.requires.config c.requires.objects c.in_ok-row.ensures.labels c.new-layout.result.places c.new-layout.result.slots c.in_ok-row.row.items c.of_row.result
     c.of_row.ensures c.new-layout.ensures.parts.0 c.new-layout.ensures.parts.1 c.in_ok-row.ensures.row in
-    let counts : c.as_slice.result.now ≡ counts_of o = c.as_slice.ensures.value ∙ counts_are o c.in_ok-counts.counts.items c.in_ok-counts.ensures.many c.in_ok-counts.ensures.counts in
-    objects_parts c.args.config o c.requires.config c.requires.objects c.in_ok-row.ensures.labels c.of_row.result c.in_ok-boxes.boxes.items c.in_ok-machines.machines.items c.in_ok-collector.collector c.as_slice.result.now
-    cells c.in_ok-boxes.ensures c.in_ok-machines.ensures c.in_ok-collector.ensures.opened counts
+    objects_parts c.args.config o c.requires.config c.requires.objects c.in_ok-row.ensures.labels c.of_row.result c.in_ok-boxes.boxes.items c.in_ok-machines.machines.items c.in-Ok.collector
+    cells c.in_ok-boxes.ensures c.in_ok-machines.ensures c.in-Ok.ensures
 
 is_world : (c : After-of_row) → IsWorld (made c)
 is_world c = subst IsWorld (sym (is_opened c)) (objects_world c.args.config (record { nodes = c.args.nodes.now; fields = c.args.fields.now; registers = c.args.registers.now }) c.requires.config c.requires.objects c.in_ok-row.ensures.labels)
