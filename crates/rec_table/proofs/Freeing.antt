@@ -1,6 +1,8 @@
 -- What a turn frees.
-use Rattle.std.proofs.Common.{◌≡◌, true≢false, IsNone, ℕ, List, [], ◌∷◌, ◌++◌, Option, None, Some, refl, sym, ap, ◌∙◌, subst, append_assoc, append-nil}
+use Rattle.std.proofs.Common.{◌≡◌, ℕ, List, [], ◌∷◌, ◌++◌, length, take, Option, None, Some, refl, sym, ap, ◌∙◌, subst, arith, append_assoc, append-nil, length-append}
+use Rattle.std.proofs.Math.Seq.{take-append_seam}
 use Rattle.rec_table.proofs.Common.{Op, gathered, gathered_all, CollectorView, collector_now, collecting_more, word_of, Beat, Saw}
+use Rattle.rec_word.specs.Header.{IsTakenHeader, label_of}
 use Rattle.rec_word.specs.declared.op.Op.TheVariants as ops
 use Rattle.rec_collector.specs.Next.{next_of}
 use Rattle.rec_collector.specs.Private.{Private}
@@ -28,9 +30,19 @@ looks_none op frees t epoch is = subst IsFreeOp is frees
 pub frees_none : (op : Op) (next : Option Op) → ◌≡◌ {A = Option Op} next (Some op) → (IsFreeOp op → ⊥) → (slot : ℕ) → ◌≡◌ {A = Option Op} next (Some (ops.FreeHeader slot)) → ⊥
 frees_none op next named other slot is = other (subst IsFreeOp (sym (some_op op (ops.FreeHeader slot) (sym named ∙ is))) tt)
 
-freed_others : (op : Op) (word : ℕ) → (IsFreeOp op → ⊥) → freed_by (Some op) word ≡ []
+-- such an operation frees no label
+pub freed_others : (op : Op) (word : ℕ) → (IsFreeOp op → ⊥) → freed_by (Some op) word ≡ []
 freed_others (ops.FreeHeader slot) word other = absurd (other tt)
 freed_others _ word other = refl
+
+-- the label of the taken header that a turn found, where it frees a slot, is what it frees
+pub frees_found : (g g' : CollectorView) (op : Op) (word : ℕ) (label : Option ℕ) → ◌≡◌ {A = Option Op} (next_of (collector_now g)) (Some op) → g'.collecting ≡ collecting_more g.collecting (Saw word) → (IsFreeOp op → IsTakenHeader word) → as_list label ≡ freed_by (Some op) word → Frees g g' label
+frees_found g g' (ops.FreeHeader slot) word None named more taken is = absurd (cc)
+frees_found g g' (ops.FreeHeader slot) word (Some label) named more taken is =
+    let same : label ≡ label_of word = cc (is) in
+    subst (λ (l : ℕ). Frees g g' (Some l)) (sym same) (Frees.slot slot word named more (taken tt))
+frees_found g g' op word None named more taken is = Frees.none (frees_none op (next_of (collector_now g)) named (λ frees. frees))
+frees_found g g' op word (Some label) named more taken is = absurd (cc)
 
 -- a list of one beat more
 freed_more : (p : Private) (log : List Beat) (b : Beat) → freed_by_all p (log ++ b ∷ []) ≡ freed_by_all p log ++ freed_by (next_of (gathered_all p log)) (word_of b)
@@ -70,13 +82,15 @@ pub sent_before : {T : Type 0} (sent : T → List ℕ) (old now : Teller T) → 
 sent_before sent old now none same =
     ([], append-nil (told sent old) ∙ sym same ∙ ap (λ o. sent now.tube ++ as_list o) none ∙ append-nil (sent now.tube))
 
-none_kept : (kept : Option ℕ) → IsNone kept → kept ≡ None
-none_kept None is = refl
-none_kept (Some label) is = absurd (true≢false is)
-
--- one that has sent its label keeps none
-pub emptied : {T : Type 0} (now new : Teller T) → now ≡ new → IsNone new.kept → now.kept ≡ None
-emptied now new same none = ap (λ t. t.kept) same ∙ none_kept new.kept none
+-- So has one that is told one label more.
+pub sent_then : {T : Type 0} (sent : T → List ℕ) (old mid now : Teller T) (label : ℕ) → told sent mid ≡ told sent old → told sent now ≡ told sent mid ++ label ∷ [] → IsPrefix (told sent old) (sent now.tube)
+sent_then sent old mid now label same more = by now.kept (more ∙ ap (λ l. l ++ label ∷ []) same)
+  where
+    by : (kept : Option ℕ) → sent now.tube ++ as_list kept ≡ told sent old ++ label ∷ [] → IsPrefix (told sent old) (sent now.tube)
+    by None is = (label ∷ [], sym is ∙ append-nil (sent now.tube))
+    by (Some other) is =
+        let many : length (sent now.tube) ≡ length (told sent old) = omega (arith, ap length is, length-append (sent now.tube) (other ∷ []), length-append (told sent old) (label ∷ [])) in
+        ([], append-nil (told sent old) ∙ sym (take-append_seam (told sent old) (label ∷ [])) ∙ ap (take (length (told sent old))) (sym is) ∙ ap (λ n. take n (sent now.tube ++ other ∷ [])) (sym many) ∙ take-append_seam (sent now.tube) (other ∷ []))
 
 -- no turn tells nothing
 pub tells_none : (g : CollectorView) (was : List ℕ) → TellsTurns g g was was

@@ -1,5 +1,7 @@
 -- What stopping promises, from the run of all lists.
-use Rattle.std.proofs.Common.{◌≡◌, List, length, map, sym, ap, ◌∙◌, subst}
+use Rattle.std.proofs.Common.{◌≡◌, List, length, map, Option, Some, Result, Ok, Err, sym, ap, ◌∙◌, subst}
+use Rattle.std.specs.Option.{IfSome}
+use Rattle.std.specs.Result.{IfOk, result_ok}
 use Rattle.std.proofs.lemmas.List.{length-map}
 use Rattle.rec_table.proofs.Common.{Core, fit_first, moves_kept, AllFit, after_moves, IsKept, gathered_all, boxes_out, AreMutatorsOf, CollectorView, MutatorView, PutsBack, Started, Beat}
 use Rattle.rec_core.specs.Worked.{AreIdle}
@@ -31,3 +33,8 @@ stopped s g h hs w kept idle opened mutators back run =
           (ap (λ (x : CollectorView). x.collecting.log) (sym back.grows) ∙ run.collector) back.once (λ none. back.home (ap (λ p. boxes_out (gathered_all p g.collecting.log)) opened ∙ none));
       always = λ before after is. safe (after_moves s.world before) (moves_kept s.world before kept (fit_first s.world before after (subst (AllFit s.world) (sym is) run.fit)));
     }
+
+-- what is known of a stop's world, where it was taken out of the answer and the refusal left out
+pub was_some : {T E : Type 0} (r : Result T E) (P : T → Type 0) (x : T) → result_ok r ≡ Some x → IfOk r P → P x
+was_some (Ok y) P x is held = subst (λ o. IfSome o P) is held
+was_some (Err e) P x is held = cc

@@ -1,5 +1,5 @@
 //! The collector on the table.
-ghost use Rattle.std.specs.Prelude.{◌≡◌, ◌+◌, ◌%◌, ◌^◌, ◌<◌, ◌≤◌, ◌↔◌, IsTrue, [], ◌∷◌, ◌++◌, false, length, Some, Option, IsSome};
+ghost use Rattle.std.specs.Prelude.{◌≡◌, ◌+◌, ◌%◌, ◌^◌, ◌<◌, ◌≤◌, ◌↔◌, IsTrue, [], ◌∷◌, ◌++◌, false, length, None, Some, Option, IfNone, IfSome, IsSome};
 ghost use Rattle.rec_collector.specs.Given.{IsGiven};
 ghost use Rattle.rec_collector.specs.Kept.{KeepsSizes};
 ghost use Rattle.rec_collector.specs.Next.{next_of as turn_next};
@@ -10,9 +10,10 @@ ghost use Rattle.rec_table.specs.Beats.{gathered, gathered_all, births_told};
 ghost use Rattle.rec_table.specs.Views.{collector_view, collector_now, mutator_now, IsCollectorOf, IsOwn, PutsBack};
 ghost use Rattle.rec_core.specs.Row.{index_of};
 ghost use Rattle.rec_table.specs.Turn.{MakesTurn, MakesTurns, MovesToFewer};
-ghost use Rattle.rec_table.specs.Telling.{Frees, IfHeld, IfTurned, IsFreeOp, TellsTurn, TellsTurns};
+ghost use Rattle.rec_table.specs.Telling.{Frees, IfHeld, IfTurned, IsFreeOp, TellsTurn, TellsTurns, freed_by};
 ghost use Rattle.rec_io.specs.Faults.{Rose};
-ghost use Rattle.rec_notice.specs.Telling.{told};
+ghost use Rattle.rec_notice.specs.Telling.{as_list, told};
+ghost use Rattle.rec_word.specs.Header.{IsTakenHeader};
 ghost use mathlib.Core.List.{IsPrefix};
 ghost use Rattle.rec_table.specs.Rule.{boxes_out, collecting_of, IsReturnOp, collecting_more, word_of, FindsHeader, Looks, NotLooking};
 ghost use Rattle.rec_table.specs.declared.views.Beat.{Beat as Beats};
@@ -160,14 +161,32 @@ fn gives_back(op: Op) -> bool
     }
 }
 
-// Whether the operation frees a slot.
-fn frees_slot(op: Op) -> bool
-    ensures { IsTrue result ↔ IsFreeOp op }
+// The label of the object that an operation frees, by the word that it found.
+#[inline(always)]
+fn label_freed(op: Op, found: u64) -> Option<u32>
+    requires { IsFreeOp op → IsTakenHeader found }
+    ensures { as_list result ≡ freed_by (Some op) found }
 {
     match op {
-        Op::FreeHeader(_) => true,
-        _ => false,
+        Op::FreeHeader(_) => Some(Header::unpack(found).label),
+        _ => None,
     }
+}
+
+// Offers the label that the teller keeps, if it keeps one, and answers it where it came back.
+#[inline(always)]
+fn offer_kept<T: Tube>(teller: &mut Teller<T>) -> Option<u32>
+    ensures told { told T.sent teller.new ≡ told T.sent teller.old }
+    ensures none { IfNone result (teller.new.kept ≡ None) }
+    ensures held { IfSome result (λ label. teller.old.kept ≡ Some label) }
+    ensures kept { IfSome result (λ label. teller.new.kept ≡ Some label) }
+    ensures unsent { IfSome result (λ _. T.sent teller.new.tube ≡ T.sent teller.old.tube) }
+    ensures refused { IsSome teller.new.kept → Rose (T.refusals teller.old.tube) (T.refusals teller.new.tube) }
+    ensures never_falls { T.refusals teller.old.tube ≤ T.refusals teller.new.tube }
+    ensures same { T.SameTube teller.old.tube teller.new.tube }
+{
+    let label = teller.kept()?;
+    if teller.again() { None } else { Some(label) }
 }
 
 impl Collector {
@@ -201,6 +220,34 @@ impl Collector {
         (machine, seat)
     }
 
+    // One turn, and the label of the object that it freed. Who asks for the turn alone pays nothing for the label.
+    #[inline(always)]
+    fn turn_freeing(&mut self, board: &Board) -> (Turn, Option<u32>)
+        requires own { IsOwn board.now.table.shared.table_id board.now.table.shared.key.value self.old }
+        requires world { IsWorld board.now.table.shared.key.value }
+
+        ensures turn { MakesTurn self.old self.new result.0 }
+        ensures freed { Frees self.old self.new result.1 }
+
+        // No turn but a look at a mailbox ends with one held.
+        ensures free { NotLooking (collector_now self.old).phase → boxes_out (collector_now self.new) ≡ [] }
+    {
+        let _turns = self.machine.turns();
+        let Some(op) = self.machine.next() else {
+            return (Turn::EpochsSpent, None);
+        };
+        match op {
+            Op::LookBox(t, epoch) => {
+                let turn = look::<Brand>(board, &mut self.seat, &mut self.machine, t, epoch);
+                (turn, None)
+            }
+            _ => {
+                let word = make_turn::<Brand>(board, &mut self.seat, op);
+                (self.machine.took(word), label_freed(op, word))
+            }
+        }
+    }
+
     // One turn.
     #[inline(always)]
     pub(crate) fn turn_on(&mut self, board: &Board) -> Turn
@@ -208,23 +255,10 @@ impl Collector {
         requires world { IsWorld board.now.table.shared.key.value }
 
         ensures turn { MakesTurn self.old self.new result }
-
-        // No turn but a look at a mailbox ends with one held.
         ensures free { NotLooking (collector_now self.old).phase → boxes_out (collector_now self.new) ≡ [] }
     {
-        let _turns = self.machine.turns();
-        let Some(op) = self.machine.next() else {
-            return Turn::EpochsSpent;
-        };
-        match op {
-            Op::LookBox(t, epoch) => {
-                look::<Brand>(board, &mut self.seat, &mut self.machine, t, epoch)
-            }
-            _ => {
-                let word = make_turn::<Brand>(board, &mut self.seat, op);
-                self.machine.took(word)
-            }
-        }
+        let (turn, _) = self.turn_freeing(board);
+        turn
     }
 
     /// Makes one turn of the collector: one step of its collection, on the word that this names. It answers `Waiting` for a mutator
@@ -262,27 +296,6 @@ impl Collector {
         Turn::Moved
     }
 
-    // One turn, and the label of the object that it freed.
-    #[inline(always)]
-    fn turn_freeing(&mut self, board: &Board) -> (Turn, Option<u32>)
-        requires own { IsOwn board.now.table.shared.table_id board.now.table.shared.key.value self.old }
-        requires world { IsWorld board.now.table.shared.key.value }
-
-        ensures turn { MakesTurn self.old self.new result.0 }
-        ensures freed { Frees self.old self.new result.1 }
-    {
-        let _turns = self.machine.turns();
-        let Some(op) = self.machine.next() else {
-            return (Turn::EpochsSpent, None);
-        };
-        if frees_slot(op) {
-            let header = make_turn::<Brand>(board, &mut self.seat, op);
-            let freed = Header::unpack(header).label;
-            return (self.machine.took(header), Some(freed));
-        }
-        (self.turn_on(board), None)
-    }
-
     /// Makes one turn, as `turn` does, and tells the label of the object that it freed, if it freed one. A label that the teller keeps is
     /// offered first. Where that comes back no turn is made, and the label is held on.
     pub fn turn_telling<T: Tube>(&mut self, heap: &Heap, teller: &mut Teller<T>) -> Telling
@@ -307,10 +320,8 @@ impl Collector {
         ensures own { IsCollectorOf heap.now self.new }
         ensures same { T.SameTube teller.old.tube teller.new.tube }
     {
-        if let Some(label) = teller.kept() {
-            if !teller.again() {
-                return Telling::Held { label };
-            }
+        if let Some(label) = offer_kept(teller) {
+            return Telling::Held { label };
         }
         let (turn, freed) = self.turn_freeing(heap.board());
         if let Some(label) = freed {

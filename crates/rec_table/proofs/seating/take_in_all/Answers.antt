@@ -1,10 +1,11 @@
 -- The contract of `take_in_all`: takes in the lists of all mutators, in order of number, and gives their machines back.
-use Rattle.std.proofs.Common.{◌≡◌, ◌≢◌, ℕ, suc, ◌+◌, ◌%◌, ◌^◌, All, List, [], ◌∷◌, ◌++◌, false, drop, length, map, take, get_or, sym, ap, ◌∙◌, subst, arith, length-append}
+use Rattle.std.proofs.Common.{◌≡◌, ◌≢◌, ℕ, suc, ◌+◌, ◌%◌, ◌^◌, All, List, [], ◌∷◌, ◌++◌, false, drop, length, map, take, get_or, sym, ap, ◌∙◌, subst, arith, length-append, length-drop}
 use mathlib.Core.Logic.{dite}
 use native.Mathlib.Decide.{ℕ_discrete}
 use Rattle.std.specs.List.{sum_by}
 use Rattle.std.proofs.Math.Seq.{get_or-append_seam}
-use Rattle.std.proofs.lemmas.List.{get_or_append_left, map-append}
+use Rattle.std.proofs.lemmas.Grind.{common_steps}
+use Rattle.std.proofs.lemmas.List.{get_or_append_left, map-append, take_all}
 use Rattle.rec_table.proofs.Common.{Private, is_busy, births_told, MutatorView, mutator_now}
 use Rattle.rec_table.proofs.Lists.{Next, sum_more, taken_off}
 use Rattle.rec_table.proofs.seating.take_in_all.Goals as goal
@@ -46,4 +47,18 @@ loop-mutators-preserved c =
           ∙ (λ j. record c.args.collector.now { collecting = record c.args.collector.now.collecting { known = (sym (map-append (λ (m : MutatorView). m.log) (take d ms) (x ∷ [])) ∙ ap (map (λ (m : MutatorView). m.log)) (sym taken)) j } });
       made = omega (arith, so_far, its, added);
       room = omega (arith, i.room, c.push_reserved.ensures.capacity);
+    }
+
+pub returns : goal.returns
+returns c =
+    let ms : List MutatorView = c.args.mutators.items in
+    let i = c.loop-mutators.invariant in
+    let d : ℕ = length c.loop-mutators.machines.items in
+    let none : length c.loop-mutators.mutators.items ≡ 0 = grind (arith, common_steps) in
+    let whole : take d ms ≡ ms = take_all d ms (omega (arith, none, ap length i.rest, length-drop d ms)) in
+    record {
+      machines = i.machines ∙ ap (map mutator_now) whole;
+      idle = i.idle;
+      collector = i.known ∙ (λ j. record c.args.collector.now { collecting = record c.args.collector.now.collecting { known = map (λ (m : MutatorView). m.log) (whole j) } });
+      made = i.made ∙ ap (λ (l : List MutatorView). (c.args.made + sum_by (λ (m : MutatorView). births_told m.opened m.log) l) % 2 ^ 64) whole;
     }

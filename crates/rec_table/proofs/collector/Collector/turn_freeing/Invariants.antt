@@ -1,6 +1,9 @@
--- The record with which a turn that frees is made.
+-- The records with which a turn is made.
 use Rattle.rec_table.proofs.Common.{gathered_all, collecting_of}
 use Rattle.rec_table.proofs.collector.Collector.turn_freeing.Given as goal
+
+abbrev pub ghosts-look : goal.ghosts-look
+ghosts-look a = record { actor = a.machine.now; number = a.t }
 
 abbrev pub ghosts-make_turn : goal.ghosts-make_turn
 ghosts-make_turn a = record { actor = gathered_all a.board.now.table.shared.key.value.collector (collecting_of a.seat.now.me.0).log; number = 0 }
