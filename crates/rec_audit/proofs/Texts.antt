@@ -1,5 +1,5 @@
 -- A text is that of one list of lines.
-use Rattle.std.proofs.Common.{◌≡◌, ℕ, ◌<◌, ◌^◌, false, List, [], ◌∷◌, ◌++◌, get_or, drop, refl, sym, ap, ◌∙◌, append_assoc}
+use Rattle.std.proofs.Common.{◌≡◌, ℕ, ◌<◌, ◌^◌, false, List, [], ◌∷◌, ◌++◌, get_or, drop, refl, sym, ap, ap₂, ◌∙◌, append_assoc}
 use Rattle.std.specs.Fmt.{decimal}
 use Rattle.std.specs.Char.{is_ascii_digit}
 use Rattle.std.specs.Prelude.{◌==◌, if◌then◌else◌}
@@ -14,6 +14,10 @@ use Rattle.rec_audit.proofs.Numerals.{same_numeral}
 -- the numbers of a line from one of its places on, and its end
 abbrev pub ended : List ℕ → List ℕ → List ℕ
 ended ns rest = numerals ns ++ 10 ∷ rest
+
+-- no text begins with a space and with an end
+space_end : (word rest : List ℕ) → 32 ∷ word ≡ 10 ∷ rest → ⊥
+space_end word rest e = let same : 32 ≡ 10 = ap (λ (t : List ℕ). get_or t 0 0) e in cc
 
 -- numerals that this text has with an end behind them are numerals and an end that the other one has
 pub record HasEnded (bytes rest : List ℕ) : Type 0 where
@@ -38,7 +42,7 @@ pub no_more : (bytes left word : List ℕ) → LeavesTexts bytes left → left �
 no_more bytes left word leaves space none ns rest fit is = at (leaves ns rest fit is).numbers (leaves ns rest fit is).fit (leaves ns rest fit is).text
   where
     at : (ms : List ℕ) → AreNumbers ms → left ≡ ended ms rest → ⊥
-    at [] fits text = let e : 32 ∷ word ≡ 10 ∷ rest = sym space ∙ text in cc
+    at [] fits text = space_end word rest (sym space ∙ text)
     at (m ∷ ms) fits text =
         let e : 32 ∷ word ≡ 32 ∷ (decimal m ++ ended ms rest) = sym space ∙ text ∙ ended-cons m ms rest in
         none m (ended ms rest) (All-head (λ n. n < 2 ^ 64) m ms fits) (ended_apart ms rest) (ap (drop 1) e)
@@ -48,7 +52,7 @@ pub one_read : (bytes left word next : List ℕ) (n : ℕ) → n < 2 ^ 64 → Le
 one_read bytes left word next n below leaves space numeral apart ns rest fit is = at (leaves ns rest fit is).numbers (leaves ns rest fit is).fit (leaves ns rest fit is).text
   where
     at : (ms : List ℕ) → AreNumbers ms → left ≡ ended ms rest → HasEnded next rest
-    at [] fits text = let e : 32 ∷ word ≡ 10 ∷ rest = sym space ∙ text in absurd (cc)
+    at [] fits text = absurd (space_end word rest (sym space ∙ text))
     at (m ∷ ms) fits text =
         let e : 32 ∷ word ≡ 32 ∷ (decimal m ++ ended ms rest) = sym space ∙ text ∙ ended-cons m ms rest in
         record {
@@ -102,15 +106,12 @@ same_kind k l r s e = sym (told k r) ∙ ap (λ (t : List ℕ). kind_by (get_or 
 -- one text has one line's numbers at its front
 same_numbers : (ms ns r s : List ℕ) → AreNumbers ms → AreNumbers ns → ended ms r ≡ ended ns s → (ms ≡ ns) × (r ≡ s)
 same_numbers [] [] r s left right e = (refl, ap (drop 1) e)
-same_numbers [] (n ∷ ns) r s left right e = let both : 10 ∷ r ≡ 32 ∷ (decimal n ++ ended ns s) = e ∙ ended-cons n ns s in absurd (cc)
-same_numbers (m ∷ ms) [] r s left right e = let both : 32 ∷ (decimal m ++ ended ms r) ≡ 10 ∷ s = sym (ended-cons m ms r) ∙ e in absurd (cc)
+same_numbers [] (n ∷ ns) r s left right e = absurd (space_end (decimal n ++ ended ns s) r (sym (e ∙ ended-cons n ns s)))
+same_numbers (m ∷ ms) [] r s left right e = absurd (space_end (decimal m ++ ended ms r) s (sym (ended-cons m ms r) ∙ e))
 same_numbers (m ∷ ms) (n ∷ ns) r s left right e =
     let here = same_numeral m n (ended ms r) (ended ns s) (All-head (λ n. n < 2 ^ 64) m ms left) (All-head (λ n. n < 2 ^ 64) n ns right) (ended_apart ms r) (ended_apart ns s) (ap (drop 1) (sym (ended-cons m ms r) ∙ e ∙ ended-cons n ns s)) in
     let more = same_numbers ms ns r s (All-tail (λ n. n < 2 ^ 64) m ms left) (All-tail (λ n. n < 2 ^ 64) n ns right) here.1 in
-    (both m n ms ns here.0 more.0, more.1)
-  where
-    both : (m n : ℕ) (ms ns : List ℕ) → m ≡ n → ms ≡ ns → m ∷ ms ≡ n ∷ ns
-    both m n ms ns e f = cc
+    (ap₂ (λ x xs. x ∷ xs) here.0 more.0, more.1)
 
 -- the text of a line, and what is behind it
 pub line_text : (line : Line) (rest : List ℕ) → text_of_line line ++ rest ≡ name_of line.kind ++ ended line.numbers rest

@@ -1,14 +1,17 @@
 -- Reading a line at the front: where it is found, and where none is.
-use Rattle.std.proofs.Common.{◌≡◌, ℕ, zero, suc, ◌+◌, ◌<◌, ◌≤◌, List, [], ◌∷◌, ◌++◌, Option, None, Some, All, length, get_or, drop, refl, sym, ap, ◌∙◌, arith, length-append, append_assoc, append-nil}
-use Rattle.std.specs.Prelude.{IfNone, MatchOption}
+use Rattle.std.proofs.Common.{Result, Ok, Err, ◌≡◌, ℕ, zero, suc, ◌+◌, ◌<◌, ◌≤◌, List, [], ◌∷◌, ◌++◌, Option, None, Some, All, length, get_or, drop, refl, sym, ap, subst, ◌∙◌, arith, length-append, append_assoc, append-nil}
+use Rattle.std.specs.Prelude.{codes, IfNone, IfOk, IfSome, MatchOption}
+use Rattle.std.specs.Fmt.{decimal}
 use Rattle.std.specs.List.{flat_map}
 use Rattle.std.proofs.lemmas.Grind.{flat_map-append}
 use Rattle.std.proofs.lemmas.List.{drop_more}
 use Rattle.std.proofs.lemmas.List.Elements.{All-push, All-get_or}
 use Rattle.rec_model.specs.Reach.{named}
+use Rattle.rec_model.specs.declared.limits.TheConstants.{MOST_FIELDS, MOST_MUTATORS, MOST_REGISTERS, MOST_SLOTS}
+use Rattle.rec_report.specs.Text.{line_feed}
 use Rattle.rec_image.specs.declared.meeting.Meeting.{Meeting}
-use Rattle.rec_image.specs.Drafts.{EndsNumeral, AreUnread, meets, meets_all}
-use Rattle.rec_image.specs.Image.{IsPlace, word}
+use Rattle.rec_image.specs.Drafts.{EndsNumeral, AreRead, AreRegistersRead, AreUnread, meets, meets_all}
+use Rattle.rec_image.specs.Image.{AreRegisters, IsPlace, IsSized, heap_line, registers_line, word}
 use Rattle.rec_image.proofs.Prefixes.{words_end, feed_ends}
 
 pub none_then : {X : Type 0} (r : Option X) {P S : Type 0} (Q : X → Type 0) → MatchOption r P Q → (P → S) → IfNone r S
@@ -75,3 +78,69 @@ no_feed count slots i bytes rest before after met now all so none = λ own t siz
     all_dropped [] (suc k) h = refl
     all_dropped (x ∷ xs) zero h = absurd (omega arith)
     all_dropped (x ∷ xs) (suc k) h = all_dropped xs k (omega arith)
+
+-- ---- the line of a mutator
+registers_cut : (own : List (Option ℕ)) (t : List ℕ) → registers_line own ++ t ≡ codes "registers" ++ (flat_map word own ++ 10 ∷ t)
+registers_cut own t = ap (λ (bs : List ℕ). codes "registers" ++ bs) (append_assoc (flat_map word own) line_feed t)
+
+pub registers_found : {X E : Type 0} (r : Result (Option X) E) (now : X → List ℕ) (slots registers : ℕ) (bytes rest : List ℕ) (before after : List (Option ℕ)) (met later : Meeting) → bytes ≡ codes "registers" ++ rest
+    → IfOk r (λ found. IfSome found (λ x. AreRead registers slots rest (now x) before after met later)) → IfOk r (λ found. IfSome found (λ x. AreRegistersRead slots registers bytes (now x) before after met later))
+registers_found (Err e) now slots registers bytes rest before after met later e' read = tt
+registers_found (Ok None) now slots registers bytes rest before after met later e read = tt
+registers_found (Ok (Some x)) now slots registers bytes rest before after met later e read = record {
+  own = read.words;
+  are = record { number = read.number; places = read.places };
+  line = e ∙ ap (λ (bs : List ℕ). codes "registers" ++ bs) read.line ∙ sym (registers_cut read.words (now x));
+  more = read.more;
+  meeting = read.meeting;
+}
+
+pub registers_none : {X E : Type 0} (r : Result (Option X) E) (slots registers : ℕ) (bytes rest : List ℕ) → bytes ≡ codes "registers" ++ rest
+    → IfOk r (λ found. IfNone found (AreUnread registers slots rest)) → IfOk r (λ found. IfNone found ((own : List (Option ℕ)) (t : List ℕ) → AreRegisters slots registers own → bytes ≡ registers_line own ++ t → ⊥))
+registers_none (Err e) slots registers bytes rest e' none = tt
+registers_none (Ok (Some x)) slots registers bytes rest e none = tt
+registers_none (Ok None) slots registers bytes rest e none = λ own t are is. none own t are.number are.places (ap (drop 9) (sym e ∙ is ∙ registers_cut own t))
+
+-- ---- the line of the heap
+heap_cut : (slots fields registers mutators : ℕ) (t : List ℕ)
+    → heap_line slots fields registers mutators ++ t ≡ codes "heap " ++ (decimal slots ++ 32 ∷ (decimal fields ++ 32 ∷ (decimal registers ++ 32 ∷ (decimal mutators ++ 10 ∷ t))))
+heap_cut slots fields registers mutators t =
+    let last : List ℕ = decimal mutators ++ line_feed in
+    ap (λ (bs : List ℕ). codes "heap " ++ bs) (append_assoc (decimal slots) (32 ∷ (decimal fields ++ 32 ∷ (decimal registers ++ 32 ∷ last))) t
+    ∙ ap (λ (bs : List ℕ). decimal slots ++ 32 ∷ bs) (append_assoc (decimal fields) (32 ∷ (decimal registers ++ 32 ∷ last)) t
+    ∙ ap (λ (bs : List ℕ). decimal fields ++ 32 ∷ bs) (append_assoc (decimal registers) (32 ∷ last) t
+    ∙ ap (λ (bs : List ℕ). decimal registers ++ 32 ∷ bs) (append_assoc (decimal mutators) line_feed t))))
+
+pub heap_found : (slots fields registers mutators : ℕ) (bytes one two three : List ℕ) → bytes ≡ codes "heap " ++ one → one ≡ decimal slots ++ 32 ∷ (decimal fields ++ 32 ∷ two)
+    → two ≡ decimal registers ++ 32 ∷ (decimal mutators ++ 10 ∷ three) → bytes ≡ heap_line slots fields registers mutators ++ three
+heap_found slots fields registers mutators bytes one two three a b c =
+    a ∙ ap (λ (bs : List ℕ). codes "heap " ++ bs) (b ∙ ap (λ (bs : List ℕ). decimal slots ++ 32 ∷ (decimal fields ++ 32 ∷ bs)) c) ∙ sym (heap_cut slots fields registers mutators three)
+
+pub heap_sized : (slots fields registers mutators most : ℕ) → most ≡ MOST_MUTATORS → (1 ≤ slots) × (slots ≤ MOST_SLOTS) × (1 ≤ fields) × (fields ≤ MOST_FIELDS)
+    → (1 ≤ registers) × (registers ≤ MOST_REGISTERS) × (1 ≤ mutators) × (mutators ≤ most) → IsSized slots fields registers mutators
+heap_sized slots fields registers mutators most is front back = record {
+  heap = record { some_slots = front.0; most_slots = front.1; some_fields = front.2; most_fields = front.3; some_registers = back.0; most_registers = back.1 };
+  some_mutators = back.2;
+  most_mutators = subst (λ (n : ℕ). mutators ≤ n) is back.3;
+}
+
+abbrev NoHeap : List ℕ → Type 0
+NoHeap bytes = (slots fields registers mutators : ℕ) (t : List ℕ) → IsSized slots fields registers mutators → bytes ≡ heap_line slots fields registers mutators ++ t → ⊥
+
+pub no_heap : {X : Type 0} (r : Option X) (bytes : List ℕ) → r ≡ None → ((t : List ℕ) → bytes ≡ codes "heap " ++ t → ⊥) → IfNone r (NoHeap bytes)
+no_heap {X} r bytes is none = subst (λ (x : Option X). IfNone x (NoHeap bytes)) (sym is) (λ slots fields registers mutators t sized e. none (drop 5 (heap_line slots fields registers mutators ++ t)) e)
+
+pub no_heap_sizes : {X : Type 0} (r : Option X) (bytes one : List ℕ) → r ≡ None → bytes ≡ codes "heap " ++ one
+    → ((m n : ℕ) (t : List ℕ) → 1 ≤ m → m ≤ MOST_SLOTS → 1 ≤ n → n ≤ MOST_FIELDS → one ≡ decimal m ++ 32 ∷ (decimal n ++ 32 ∷ t) → ⊥) → IfNone r (NoHeap bytes)
+no_heap_sizes {X} r bytes one is front none = subst (λ (x : Option X). IfNone x (NoHeap bytes)) (sym is) (λ slots fields registers mutators t sized e.
+    none slots fields (decimal registers ++ 32 ∷ (decimal mutators ++ 10 ∷ t)) sized.heap.some_slots sized.heap.most_slots sized.heap.some_fields sized.heap.most_fields
+    (ap (drop 5) (sym front ∙ e ∙ heap_cut slots fields registers mutators t)))
+
+pub no_heap_rest : {X : Type 0} (r : Option X) (first second most : ℕ) (bytes one two : List ℕ) → r ≡ None → bytes ≡ codes "heap " ++ one → most ≡ MOST_MUTATORS
+    → ((m n : ℕ) (t : List ℕ) → 1 ≤ m → m ≤ MOST_SLOTS → 1 ≤ n → n ≤ MOST_FIELDS → one ≡ decimal m ++ 32 ∷ (decimal n ++ 32 ∷ t) → (m ≡ first) × (n ≡ second) × (t ≡ two))
+    → ((m n : ℕ) (t : List ℕ) → 1 ≤ m → m ≤ MOST_REGISTERS → 1 ≤ n → n ≤ most → two ≡ decimal m ++ 32 ∷ (decimal n ++ 10 ∷ t) → ⊥) → IfNone r (NoHeap bytes)
+no_heap_rest {X} r first second most bytes one two is front greatest only none = subst (λ (x : Option X). IfNone x (NoHeap bytes)) (sym is) (λ slots fields registers mutators t sized e.
+    let rest : decimal registers ++ 32 ∷ (decimal mutators ++ 10 ∷ t) ≡ two
+    = (only slots fields (decimal registers ++ 32 ∷ (decimal mutators ++ 10 ∷ t)) sized.heap.some_slots sized.heap.most_slots sized.heap.some_fields sized.heap.most_fields
+    (ap (drop 5) (sym front ∙ e ∙ heap_cut slots fields registers mutators t))).2 in
+    none registers mutators t sized.heap.some_registers sized.heap.most_registers sized.some_mutators (subst (λ (n : ℕ). mutators ≤ n) (sym greatest) sized.most_mutators) (sym rest))

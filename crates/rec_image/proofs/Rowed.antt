@@ -1,5 +1,5 @@
 -- The rows of a world are those of its image.
-use Rattle.std.proofs.Common.{◌≡◌, ℕ, zero, suc, ◌+◌, ◌-◌, ◌*◌, ◌<◌, inl, inr, Bool, true, List, [], ◌∷◌, ◌++◌, Option, None, Some, All, length, map, get_or, take, drop, refl, sym, ap, subst, ◌∙◌, arith, append-nil, append_assoc}
+use Rattle.std.proofs.Common.{◌≡◌, ℕ, zero, suc, ◌+◌, ◌-◌, ◌*◌, ◌<◌, ◌≤◌, inl, inr, Bool, true, List, [], ◌∷◌, ◌++◌, Option, None, Some, All, length, map, get_or, take, drop, refl, sym, ap, subst, ◌∙◌, arith, append-nil, append_assoc}
 use Rattle.std.specs.Prelude.{option_map, slice_range, unwrap_or}
 use Rattle.std.specs.List.{flat_map}
 use Rattle.std.proofs.Math.Seq.{drop-append-add}
@@ -79,6 +79,9 @@ one_put {A} {B} f xs i d first so_far more x within so here is =
     ∙ ap (λ (ys : List B). first ++ ys) (sym (ap (map f) (take_more xs i d within) ∙ map-append f (take i xs) (get_or xs i d ∷ [])))
 
 -- ---- the rows of the objects so far
+pub all_rows : {A B : Type 0} (f : List A → List B) (xs now : List A) (i : ℕ) (rows : List B) → now ≡ xs → length now ≤ i → rows ≡ f (take i xs) → rows ≡ f xs
+all_rows {A} f xs now i rows same all so = so ∙ ap f (take_all i xs (subst (λ (ys : List A). length ys ≤ i) same all))
+
 pub node_more : (w : Core) (fields : ℕ) (n : Numbered) (i label : ℕ) (leaf : Bool) (found : Option ℕ) (now : List ℕ) (so_far more : List (ℕ × Bool)) → IsNumbered w fields n → now ≡ n.list → i < length now
     → found ≡ label_of (get_or w.headers (get_or now i 0) 0) → label ≡ unwrap_or found 0 → leaf ≡ is_leaf (get_or w.headers (get_or now i 0) 0)
     → so_far ≡ map mark_of (map (node_of (sight w) n.list) (take i n.list)) → more ≡ so_far ++ (label, leaf) ∷ [] → more ≡ map mark_of (map (node_of (sight w) n.list) (take (i + 1) n.list))
@@ -128,6 +131,13 @@ registers_more w fields n t mutators own so_far more world numbered within count
     then ∙ (λ j. so j ++ read j)
     ∙ sym (ap (flat_map (λ x. x)) (take_more held t [] (omega (arith, length-map (sight w).registers (map (option_map (place_in n.list)))))) ∙ flat_map-append (λ x. x) (take t held) (get_or held t [] ∷ [])
     ∙ ap (λ (xs : List (Option ℕ)). flat_map (λ x. x) (take t held) ++ xs) (append-nil (get_or held t [])))
+
+pub registers_all : {B : Type 0} (f : List (List (Option ℕ)) → List B) (w : Core) (list : List ℕ) (t mutators : ℕ) (rows : List B) → IsWorld w → mutators ≡ w.config.mutators → mutators ≤ t
+    → rows ≡ f (take t (held_of (sight w) list)) → rows ≡ f (held_of (sight w) list)
+registers_all f w list t mutators rows world count all so =
+    let size : length (sight w).registers ≡ w.config.mutators = length-map w.mutators (λ p. p.registers) ∙ world.shaped.mutators in
+    let long : length (held_of (sight w) list) ≡ mutators = length-map (sight w).registers (map (option_map (place_in list))) ∙ size ∙ sym count in
+    all_rows f (held_of (sight w) list) _ t rows refl (omega (arith, long, all)) so
 
 -- ---- so they make up its image
 pub contents_are : (w : Core) (list : List ℕ) → IsImage (image_of w list) → (slots fields registers mutators : ℕ) (nodes : List (ℕ × Bool)) (targets held : List (Option ℕ))

@@ -12,7 +12,7 @@ use Rattle.rec_image.specs.declared.objects.Objects.{Objects}
 use Rattle.rec_image.specs.declared.meeting.Meeting.{Meeting}
 use Rattle.rec_image.specs.Drafts.{unmet, meets_all, meeting, naming, least, rows_of, held_in, draft, objects_in, AreObjects, AreRegistersRead, AreHeld, IsRowRead, IsOfHeap, NoRowNext}
 use Rattle.rec_image.specs.Fields.{IsKept}
-use Rattle.rec_image.specs.Image.{Node, ImageContents, AreRegisters, IsImage}
+use Rattle.rec_image.specs.Image.{Node, ImageContents, AreRegisters, IsImage, registers_line}
 use Rattle.rec_image.proofs.Continuing.{HasTold, closed, has_told}
 use Rattle.rec_image.proofs.Lines.{meets-append}
 use Rattle.rec_image.proofs.Prefixes.{registers_front}
@@ -90,6 +90,9 @@ row_read heap objects before after bytes rest count left are within next read is
     }
 
 -- an image with these registers has named enough
+pub no_row : (heap : Heap) (objects : List Node) (held : List (List (Option ℕ))) (bytes : List ℕ) → ((own : List (Option ℕ)) (t : List ℕ) → AreRegisters heap.slots heap.registers own → bytes ≡ registers_line own ++ t → ⊥) → NoRowNext heap objects held bytes
+no_row heap objects held bytes none = λ w own more t image of same e. none own t (next_are heap w held more own image of e)
+
 pub not_enough : (heap : Heap) (objects : List Node) (before after : Held) (bytes rest : List ℕ) (count left : ℕ) → AreHeld heap objects before → after.rows ≡ before.rows + 1 → AreRegistersRead heap.slots heap.registers bytes rest before.registers.items after.registers.items before.naming after.naming
     → count ≡ length objects → left ≡ (heap.mutators - after.rows) * heap.registers → ((after.naming.due ≡ 0) × (after.naming.met ≤ count) × (least (meeting objects) count ≤ after.naming.met + left) → ⊥) → NoRowNext heap objects (held_in heap before) bytes
 not_enough heap objects before after bytes rest count left are next read is_count is_left none = λ w own more t image of same e is.

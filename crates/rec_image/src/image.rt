@@ -4,12 +4,12 @@ ghost use Rattle.std.specs.Prelude.{◌≡◌, ◌≤◌, IfErr, IfOk, length};
 ghost use Rattle.rec_core.specs.Objects.{described};
 ghost use Rattle.rec_core.specs.Settled.{IsSettled};
 ghost use Rattle.rec_core.specs.Worked.{AreIdle};
-ghost use Rattle.rec_model.specs.Sight.{Represents};
+ghost use Rattle.rec_model.specs.Sight.{NumbersSlots, Represents};
 ghost use Rattle.rec_world.specs.OpenError.{IsRefused};
 ghost use Rattle.rec_world.specs.World.{IsWorld, sight};
 ghost use Rattle.rec_image.specs.Restored.{config_of, objects_in as objects_of_image, restored};
 ghost use Rattle.rec_image.specs.Renewed.{IsSlots, in_slots};
-ghost use Rattle.rec_image.specs.Standing.{IsImageOf, StandsFor};
+ghost use Rattle.rec_image.specs.Standing.{IsImageOf, StandsFor, image_of};
 ghost use Rattle.rec_image.specs.Drafts.{AreHeld, AreObjects, draft, held_in, objects_in};
 ghost use Rattle.rec_image.specs.Image.{IsImage};
 
@@ -17,7 +17,7 @@ use crate::held::Held;
 use crate::line::Heap;
 use crate::live::{heap_of, numbered, object_rows, register_rows};
 use crate::objects::Objects;
-use rec_world::{Config, OpenError, World};
+use rec_world::{Config, Numbering, OpenError, World};
 use std::alloc::{AllocError as NoMemory, Global};
 use std::marker::Model;
 
@@ -64,9 +64,22 @@ impl Image {
         ensures kept { IsWorld world.now }
     {
         let numbering = numbered(alloc, world)?;
+        let image = Image::of_listed(alloc, world, &numbering);
+        drop(numbering);
+        image
+    }
+
+    // The image of the world's slots in this numbering.
+    fn of_listed(alloc: Global, world: &World, numbering: &Numbering) -> Result<Image, NoMemory>
+        requires kept { IsWorld world.now }
+        requires numbers { NumbersSlots (sight world.now) numbering.now.list }
+        ensures { IfOk result (λ image. image ≡ image_of world.now numbering.now.list) }
+    {
         let fields = world.fields();
-        let (nodes, targets) = object_rows(alloc, world, fields, &numbering)?;
-        let registers = register_rows(alloc, world, fields, &numbering)?;
+        let (nodes, targets) = object_rows(alloc, world, fields, numbering)?;
+        let Ok(registers) = register_rows(alloc, world, fields, numbering) else {
+            return Err(NoMemory);
+        };
         Ok(Image {
             heap: heap_of(world),
             nodes,

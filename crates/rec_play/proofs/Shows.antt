@@ -1,5 +1,5 @@
 -- What a watch was shown, as turns of the rule are made.
-use Rattle.std.proofs.Common.{◌≡◌, ℕ, Option, None, Some, IfSome, IsNone, List, [], ◌++◌, refl, sym, ap, subst, ◌∙◌}
+use Rattle.std.proofs.Common.{◌≡◌, ℕ, suc, ◌<◌, Option, None, Some, IfSome, IsNone, List, [], ◌++◌, length, refl, sym, ap, subst, ◌∙◌, arith}
 use Rattle.std.proofs.lemmas.List.{append-nil}
 use Rattle.rec_model.specs.declared.command.Cmd.{Cmd}
 use Rattle.rec_model.specs.declared.told.Told.{Told}
@@ -14,7 +14,7 @@ use Rattle.rec_world.proofs.Calls.{world_kept}
 use Rattle.rec_settle.proofs.Shows.{shows_step}
 use Rattle.rec_script.specs.Script.{ScriptContents}
 use Rattle.rec_play.specs.Moves.{AreThere, Carries, IsSpent, Makes, MakesCommand, Player, made_by}
-use Rattle.rec_play.specs.Playing.{Rest}
+use Rattle.rec_play.specs.Playing.{Rest, to_come}
 use Rattle.rec_play.specs.Shown.{IsShownTo, move_shown, told_shown}
 use Rattle.rec_play.specs.declared.moves.Move.{Move}
 use Rattle.rec_play.specs.declared.moves.Move.TheVariants.{Command, Step}
@@ -40,6 +40,11 @@ command_told p q before after told move t cmd answer is command makes = subst (M
 -- where no turn was left
 pub none_left : {P : Type 0} (told : Option Move) → told ≡ None → (IsNone told → P) → P
 none_left told none p = p (subst IsNone (sym none) refl)
+
+-- a turn leaves fewer to come
+pub fewer_come : (p q : Player) (before after : Core) (move : Move) → Makes p q before after move → length (to_come q.rest) < length (to_come p.rest)
+fewer_come p q before after (Command t cmd told) makes = let e : length (to_come p.rest) ≡ suc (length (to_come q.rest)) = ap length makes.turn in omega (arith, e)
+fewer_come p q before after (Step seen turn) makes = let e : length (to_come p.rest) ≡ suc (length (to_come q.rest)) = ap length makes.turn_so in omega (arith, e)
 
 -- what was shown of the turns so far
 pub shown_more : (from : Player) (first : Core) (shown : List Shown) (p q : Player) (before after : Core) (told : Option Move) → IsShownTo from first shown p before → IfSome told (Makes p q before after)

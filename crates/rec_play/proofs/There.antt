@@ -1,5 +1,5 @@
 -- Whoever has a command left hasn't left the heap.
-use Rattle.std.proofs.Common.{◌≡◌, ◌≢◌, inl, inr, ℕ, ◌+◌, ◌-◌, ◌<◌, ◌≤◌, false, Some, List, slice_set, length, refl, sym, ap, subst, ◌∙◌, arith}
+use Rattle.std.proofs.Common.{◌≡◌, ◌≢◌, inl, inr, ℕ, ◌+◌, ◌-◌, ◌<◌, ◌≤◌, false, Some, List, slice_index_or, slice_set, length, refl, sym, ap, subst, ◌∙◌, arith}
 use Rattle.std.specs.List.{slice_get}
 use Rattle.std.proofs.lemmas.Bool.{cases_eq}
 use Rattle.std.proofs.lemmas.List.{get_or-set_same, get_or-set_other}
@@ -8,7 +8,9 @@ use Rattle.rec_model.specs.declared.command.Cmd.{Cmd}
 use Rattle.rec_model.specs.declared.command.Cmd.TheVariants.{Leave}
 use Rattle.rec_mutator.specs.Private.{Private}
 use Rattle.rec_core.specs.Config.{IsMutator}
-use Rattle.rec_core.specs.Core.{Core, mutator}
+use Rattle.rec_collector.specs.declared.turn.Turn.{Turn}
+use Rattle.rec_core.specs.Core.{Core, mutator, nobody}
+use Rattle.rec_core.specs.Turn.{IsTurn}
 use Rattle.rec_core.specs.declared.config.Config.{Config}
 use Rattle.rec_world.specs.World.{is_leave_done}
 use Rattle.rec_script.specs.Script.{ScriptContents, LeavesLast}
@@ -33,6 +35,21 @@ pub spent_there : (script : ScriptContents) (made : List ℕ) (w : Core) → ((t
 spent_there script made w all t next =
     let is : HasCommand script t (made_by made t) = has_next script t (made_by made t) next in
     absurd (omega (arith, next, all t is.some is.most))
+
+-- a step of the collector changes no mutator
+pub left_behind : (before after : Core) (answer : Turn) (t : ℕ) → IsTurn before after answer → (mutator after t).left ≡ (mutator before t).left
+left_behind before after answer t turn = ap (λ (ps : List Private). (slice_index_or ps (t - 1) nobody).left) turn.mutators
+
+pub there_behind : (script : ScriptContents) (made : List ℕ) (before after : Core) (answer : Turn) → IsTurn before after answer → AreThere script made before → AreThere script made after
+there_behind script made before after answer turn there t next = left_behind before after answer t turn ∙ there t next
+
+-- nor does a poll let anyone leave
+pub polled_there : (script : ScriptContents) (made : List ℕ) (t : ℕ) (before after : Core) → ((s : ℕ) → s ≢ t → 1 ≤ s → mutator after s ≡ mutator before s) → (mutator after t).left ≡ (mutator before t).left
+    → AreThere script made before → AreThere script made after
+polled_there script made t before after others own all s next = elim (cases_eq s t) [
+  | inl same ↦ subst (λ x. (mutator after x).left ≡ (mutator before x).left) (sym same) own ∙ all s next
+  | inr other ↦ ap (λ (p : Private). p.left) (others s other (has_next script s (made_by made s) next).some) ∙ all s next
+]
 
 -- A mutator that makes a command is there until its last one, and the others go on as before.
 pub made_there : (script : ScriptContents) (made : List ℕ) (t : ℕ) (before after : Core) → 1 ≤ t → t - 1 < length made → ((s : ℕ) → s ≢ t → 1 ≤ s → mutator after s ≡ mutator before s)

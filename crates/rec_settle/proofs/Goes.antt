@@ -1,17 +1,19 @@
 -- What a turn of settling comes to, made or refused.
-use Rattle.std.proofs.Common.{◌≡◌, ℕ, ◌-◌, List, slice_index_or, Result, Ok, Err, IfErr, Option, None, Some, IsNone, ◌++◌, refl, sym, ap, subst, ◌∙◌}
+use Rattle.std.proofs.Common.{◌≡◌, ℕ, ◌-◌, List, slice_index_or, Result, Ok, Err, IfErr, Option, None, Some, IfSome, IsNone, false, ◌<◌, ◌++◌, refl, sym, ap, subst, ◌∙◌}
 use Rattle.std.proofs.lemmas.List.{append-nil}
 use Rattle.rec_word.specs.declared.op.Op.{Op}
 use Rattle.rec_mutator.specs.Private.{Private, is_busy}
 use Rattle.rec_collector.specs.Shown.{Shown}
 use Rattle.rec_collector.specs.declared.turn.Turn.{Turn}
+use Rattle.rec_collector.specs.declared.turn.Turn.TheVariants.{Waiting}
 use Rattle.rec_core.specs.Config.{IsMutator}
-use Rattle.rec_core.specs.Core.{Core, nobody}
+use Rattle.rec_core.specs.Core.{Core, mutator, nobody}
 use Rattle.rec_core.specs.Shown.{turn_shown}
 use Rattle.rec_core.specs.Turn.{IsTurn, step_seen}
 use Rattle.rec_core.specs.declared.config.Config.{Config}
 use Rattle.rec_world.specs.World.{IsWorld}
 use Rattle.rec_settle.specs.Collecting.{Anyone, AreIdle, HasStepped, IsSettling}
+use Rattle.rec_settle.specs.Left.{left_in}
 use Rattle.rec_settle.specs.Shown.{Goes, IsShownTo, told_shown}
 use Rattle.rec_settle.specs.Stages.{HasCome, Settles, begun, offered, stage_turned}
 use Rattle.rec_settle.specs.declared.turns.Settling.{Settling}
@@ -35,10 +37,28 @@ turn_goes stage next before after turn seen on was is config steps told next_is 
       stays = λ settled. absurd (on settled);
     }
 
+-- none is left of the settled heap
+pub ended_goes : (stage : Settling) (w : Core) → stage ≡ Settled → Goes stage w None stage w
+ended_goes stage w is = record {
+  stepped = tt;
+  seen = tt;
+  stage_so = tt;
+  on = tt;
+  comes = λ first come. come;
+  nearer = tt;
+  ended = λ none. is;
+  stays = λ settled. (refl, refl, refl);
+}
+
 -- a step of the collector changes no mutator
 pub idle_behind : (before after : Core) (answer : Turn) → IsTurn before after answer → AreIdle before → AreIdle after
 idle_behind before after answer turn idle t there =
     ap (λ (ps : List Private). is_busy (slice_index_or ps (t - 1) nobody)) turn.mutators ∙ idle t (subst (λ (c : Config). IsMutator c t) turn.config there)
+
+-- and whoever is waited for hasn't left
+pub awaited_there : (before after : Core) (answer : Turn) → IsTurn before after answer → (t : ℕ) → answer ≡ Waiting t → IsMutator after.config t × ((mutator after t).left ≡ false)
+awaited_there before after answer turn t waits =
+    (turn.awaited t waits, ap (λ (ps : List Private). (slice_index_or ps (t - 1) nobody).left) turn.mutators ∙ turn.present t waits)
 
 -- what holds whatever the error is
 pub if_err : {A E P : Type 0} (r : Result A E) → P → IfErr r (λ error. P)
@@ -52,6 +72,12 @@ offered_idle (Finishing requested) w idle = idle
 offered_idle Trying w idle = idle
 offered_idle Freeing w idle = idle
 offered_idle Settled w idle = idle
+
+-- a turn leaves fewer to come
+pub fewer_left : (first : Core) (stage next : Settling) (before after : Core) (told : Option (Turn × Option (Op × ℕ))) (some : Turn × Option (Op × ℕ)) → told ≡ Some some → HasCome first stage before → Goes stage before told next after
+    → left_in next after < left_in stage before
+fewer_left first stage next before after told some is come goes =
+    subst (λ t. IfSome t (λ _. (first : Core) → HasCome first stage before → left_in next after < left_in stage before)) is goes.nearer first come
 
 -- settling has ended where no turn was left
 pub ended_stage : (stage next : Settling) (before after : Core) (told : Option (Turn × Option (Op × ℕ))) → told ≡ None → Goes stage before told next after → next ≡ Settled

@@ -1,5 +1,5 @@
 -- Behind a step of the collector the mutator for which it waits polls just where it has made all its commands.
-use Rattle.std.proofs.Common.{◌≡◌, ℕ, ◌-◌, ◌≤◌, Some, List, [], length, slice_index_or, sym, ap, subst, ◌∙◌, arith}
+use Rattle.std.proofs.Common.{◌≡◌, ℕ, ◌-◌, ◌≤◌, Some, List, [], length, slice_index_or, refl, sym, ap, subst, ◌∙◌, arith}
 use Rattle.std.specs.List.{slice_get}
 use Rattle.std.proofs.lemmas.Option.{get_or_from_slice_get}
 use Rattle.rec_model.specs.declared.command.Cmd.{Cmd}
@@ -15,6 +15,7 @@ use Rattle.rec_script.specs.Script.{ScriptContents}
 use Rattle.rec_play.specs.Moves.{IsSpent}
 use Rattle.rec_play.specs.Run.{commands_of}
 use Rattle.rec_play.proofs.Due.{commands_are, is_of_script}
+use Rattle.rec_play.proofs.There.{polled_there}
 use Rattle.rec_play.proofs.player.follow.Goals as goal
 
 -- its commands
@@ -64,3 +65,49 @@ returns-else-made-from-clause-stepped c = λ before turn.
 -- mutators are numbered from 1
 pub overflow_sub-from : goal.overflow_sub-from
 overflow_sub-from c = omega (arith, (c.requires.awaited c.in-Waiting.mutator c.in-Waiting.is).0.0, c.from.ensures)
+
+pub commands-requires-clause-some : goal.commands-requires-clause-some
+commands-requires-clause-some c = (is_of_script c.args.script.now c.args.world.now c.in-Waiting.mutator c.requires.config (c.requires.awaited c.in-Waiting.mutator c.in-Waiting.is).0).0
+
+pub commands-requires-clause-most : goal.commands-requires-clause-most
+commands-requires-clause-most c = (is_of_script c.args.script.now c.args.world.now c.in-Waiting.mutator c.requires.config (c.requires.awaited c.in-Waiting.mutator c.in-Waiting.is).0).1
+
+pub poll-requires-clause-idle : goal.poll-requires-clause-idle
+poll-requires-clause-idle c = c.requires.idle c.in-Waiting.mutator (c.requires.awaited c.in-Waiting.mutator c.in-Waiting.is).0
+
+pub returns-then-made-from-clause-requested : goal.returns-then-made-from-clause-requested
+returns-then-made-from-clause-requested c = c.poll.ensures.quiet.requested
+
+pub returns-then-made-from-clause-present : goal.returns-then-made-from-clause-present
+returns-then-made-from-clause-present c = polled_there c.args.script.now c.args.made.now c.in-Waiting.mutator c.args.world.now c.poll.new.self c.poll.ensures.quiet.others c.poll.ensures.left c.requires.present
+
+pub returns-then-made-from-clause-config : goal.returns-then-made-from-clause-config
+returns-then-made-from-clause-config c = c.poll.ensures.quiet.config ∙ c.requires.config
+
+pub returns-then-made-from-clause-kept : goal.returns-then-made-from-clause-kept
+returns-then-made-from-clause-kept c = c.poll.ensures.kept
+
+pub returns-else-made-from-clause-requested : goal.returns-else-made-from-clause-requested
+returns-else-made-from-clause-requested c = refl
+
+pub returns-else-made-from-clause-idle : goal.returns-else-made-from-clause-idle
+returns-else-made-from-clause-idle c = c.requires.idle
+
+pub returns-else-made-from-clause-present : goal.returns-else-made-from-clause-present
+returns-else-made-from-clause-present c = c.requires.present
+
+pub returns-else-made-from-clause-config : goal.returns-else-made-from-clause-config
+returns-else-made-from-clause-config c = c.requires.config
+
+pub returns-else-made-from-clause-kept : goal.returns-else-made-from-clause-kept
+returns-else-made-from-clause-kept c = c.requires.kept
+
+pub returns-in_default : goal.returns-in_default
+returns-in_default c = record {
+  stepped = λ before turn. record { cause = subst (λ (x : Core). TurnHasCause before x c.args.turn) turn.turned turn.cause; follows = Follows.rests (λ t waits spent. c.in_default.not-Waiting t (turn.waiting t waits.looks waits.behind)) turn.turned };
+  requested = refl;
+  idle = c.requires.idle;
+  present = c.requires.present;
+  config = c.requires.config;
+  kept = c.requires.kept;
+}

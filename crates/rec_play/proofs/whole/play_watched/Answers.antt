@@ -1,6 +1,8 @@
 -- The run of all turns, as it was noted and shown.
 use Rattle.std.proofs.Common.{◌≡◌, ℕ, List, ◌-◌, ◌<◌, ◌++◌, ◌∷◌, [], slice_index_or, slice_set, refl, sym, ap, subst, ◌∙◌, arith}
 use Rattle.std.proofs.lemmas.List.{append-nil}
+use Rattle.std.proofs.lemmas.Result.{IfOk-from_err}
+use Rattle.rec_io.proofs.Faults.{rose_since}
 use Rattle.rec_model.specs.declared.command.Cmd.{Cmd}
 use Rattle.rec_model.specs.declared.told.Told.{Told}
 use Rattle.rec_core.specs.Core.{Core}
@@ -19,7 +21,7 @@ use Rattle.rec_play.specs.Start.{names_at}
 use Rattle.rec_play.specs.Shown.{IsShownTo, first_player, told_shown}
 use Rattle.rec_play.proofs.Rounds.{Between, HasRoom, all_played, command_made, has_room, journal_is, legally, notes_at, order_made, start, step_made}
 use Rattle.rec_core.proofs.Shows.{shows_none, shows_then}
-use Rattle.rec_play.proofs.Shows.{command_told, move_made, none_left, player_is, shown_more, shows_told}
+use Rattle.rec_play.proofs.Shows.{command_told, fewer_come, move_made, none_left, player_is, shown_more, shows_told}
 use Rattle.rec_settle.proofs.Goes.{if_err}
 use Rattle.rec_play.proofs.whole.play_watched.Goals as goal
 
@@ -144,3 +146,78 @@ returns-clause-shown g c =
       g.met.W.Watch.shown_then c.args.watch.now c.loop-made.watch c.next_watched.new.watch so.0 (told_shown c.loop-made.world c.in_ok-made.field-0) so.2 c.in_ok-made.ensures.shown,
       shows_then c.args.world.now c.loop-made.world c.next_watched.new.world so.0 (told_shown c.loop-made.world c.in_ok-made.field-0) so.3 (shows_told c.args.script.now c.args.world.now first_naming c.args.seed c.args.turns c.loop-made.world c.next_watched.new.world c.loop-made.journals c.loop-made.order c.loop-made.playing c.next_watched.new.self c.in_ok-made.field-0 c.loop-made.invariant.between c.in_ok-made.ensures.told c.in_ok-made.ensures.stays),
     )
+
+pub next_watched-requires-clause-config : goal.next_watched-requires-clause-config
+next_watched-requires-clause-config g c = c.loop-made.invariant.between.config ∙ ap config_of (sym c.loop-made.invariant.between.of)
+
+pub next_watched-requires-clause-idle : goal.next_watched-requires-clause-idle
+next_watched-requires-clause-idle g c = c.loop-made.invariant.between.idle
+
+pub next_watched-requires-clause-present : goal.next_watched-requires-clause-present
+next_watched-requires-clause-present g c = c.loop-made.invariant.between.present
+
+pub returns-in_err-made-clause-played : goal.returns-in_err-made-clause-played
+returns-in_err-made-clause-played g c = IfOk-from_err c.from_residual.result _ c.from_residual.ensures.0
+
+pub returns-in_err-made-clause-order : goal.returns-in_err-made-clause-order
+returns-in_err-made-clause-order g c = IfOk-from_err c.from_residual.result _ c.from_residual.ensures.0
+
+pub returns-in_err-made-clause-epochs : goal.returns-in_err-made-clause-epochs
+returns-in_err-made-clause-epochs g c = IfOk-from_err c.from_residual.result _ c.from_residual.ensures.0
+
+pub returns-in_err-made-clause-shown : goal.returns-in_err-made-clause-shown
+returns-in_err-made-clause-shown g c = IfOk-from_err c.from_residual.result _ c.from_residual.ensures.0
+
+pub returns-in_err-made-clause-rose : goal.returns-in_err-made-clause-rose
+returns-in_err-made-clause-rose g c = if_err c.from_residual.result (rose_since (g.W.Watch.refused c.args.watch.now) (g.W.Watch.refused c.loop-made.watch) (g.W.Watch.refused c.next_watched.new.watch) c.loop-made.invariant.never_falls c.in_err-made.ensures.rose)
+
+pub returns-in_err-made-clause-config : goal.returns-in_err-made-clause-config
+returns-in_err-made-clause-config g c = c.next_watched.ensures.config ∙ ap config_of (c.next_watched.ensures.script ∙ c.loop-made.invariant.between.of)
+
+pub returns-in_err-made-clause-idle : goal.returns-in_err-made-clause-idle
+returns-in_err-made-clause-idle g c = c.next_watched.ensures.idle
+
+pub returns-in_err-made-clause-kept : goal.returns-in_err-made-clause-kept
+returns-in_err-made-clause-kept g c = c.next_watched.ensures.kept
+
+pub returns-in_err-made-clause-never_falls : goal.returns-in_err-made-clause-never_falls
+returns-in_err-made-clause-never_falls g c = omega (arith, c.loop-made.invariant.never_falls, c.next_watched.ensures.never_falls)
+
+pub returns-clause-config : goal.returns-clause-config
+returns-clause-config g c = c.next_watched.ensures.config ∙ ap config_of (c.next_watched.ensures.script ∙ c.loop-made.invariant.between.of)
+
+pub returns-clause-idle : goal.returns-clause-idle
+returns-clause-idle g c = c.next_watched.ensures.idle
+
+pub returns-clause-kept : goal.returns-clause-kept
+returns-clause-kept g c = c.next_watched.ensures.kept
+
+pub returns-clause-never_falls : goal.returns-clause-never_falls
+returns-clause-never_falls g c = omega (arith, c.loop-made.invariant.never_falls, c.next_watched.ensures.never_falls)
+
+pub loop-made-smaller-in-Command : goal.loop-made-smaller-in-Command
+loop-made-smaller-in-Command g c = fewer_come c.loop-made.playing c.next_watched.new.self c.loop-made.world c.next_watched.new.world c.in-Some.made (move_made c.loop-made.playing c.next_watched.new.self c.loop-made.world c.next_watched.new.world c.in_ok-made.field-0 c.in-Some.made c.in-Some.is c.in_ok-made.ensures.told)
+
+pub loop-made-smaller : goal.loop-made-smaller
+loop-made-smaller g c = fewer_come c.loop-made.playing c.next_watched.new.self c.loop-made.world c.next_watched.new.world c.in-Some.made (move_made c.loop-made.playing c.next_watched.new.self c.loop-made.world c.next_watched.new.world c.in_ok-made.field-0 c.in-Some.made c.in-Some.is c.in_ok-made.ensures.told)
+
+pub returns-clause-epochs : goal.returns-clause-epochs
+returns-clause-epochs g c = omega (arith, c.loop-made.invariant.between.epochs, ap (λ (x : Core). x.epoch) (none_left c.in_ok-made.field-0 c.in_default.is c.in_ok-made.ensures.stays).1)
+
+pub overflow_sub-from : goal.overflow_sub-from
+overflow_sub-from g c =
+    let makes : MakesCommand c.loop-made.playing c.next_watched.new.self c.loop-made.world c.next_watched.new.world c.in-Command.mutator c.in-Command.cmd c.in-Command.told
+    = command_told c.loop-made.playing c.next_watched.new.self c.loop-made.world c.next_watched.new.world c.in_ok-made.field-0 c.in-Some.made c.in-Command.mutator c.in-Command.cmd c.in-Command.told c.in-Some.is c.in-Command.is c.in_ok-made.ensures.told in
+    let r : HasRoom c.args.script.now c.loop-made.journals c.loop-made.order c.in-Command.mutator
+    = has_room c.args.script.now c.args.world.now first_naming c.args.seed c.args.turns c.loop-made.world c.next_watched.new.world c.loop-made.journals c.loop-made.order c.loop-made.playing c.next_watched.new.self
+    c.in-Command.mutator c.in-Command.cmd c.in-Command.told c.loop-made.invariant.between makes in
+    omega (arith, r.some, c.from.ensures)
+
+pub bounds-journals-from : goal.bounds-journals-from
+bounds-journals-from g c =
+    let makes : MakesCommand c.loop-made.playing c.next_watched.new.self c.loop-made.world c.next_watched.new.world c.in-Command.mutator c.in-Command.cmd c.in-Command.told
+    = command_told c.loop-made.playing c.next_watched.new.self c.loop-made.world c.next_watched.new.world c.in_ok-made.field-0 c.in-Some.made c.in-Command.mutator c.in-Command.cmd c.in-Command.told c.in-Some.is c.in-Command.is c.in_ok-made.ensures.told in
+    let r : HasRoom c.args.script.now c.loop-made.journals c.loop-made.order c.in-Command.mutator
+    = has_room c.args.script.now c.args.world.now first_naming c.args.seed c.args.turns c.loop-made.world c.next_watched.new.world c.loop-made.journals c.loop-made.order c.loop-made.playing c.next_watched.new.self
+    c.in-Command.mutator c.in-Command.cmd c.in-Command.told c.loop-made.invariant.between makes in
+    omega (arith, r.some, r.there, c.from.ensures)

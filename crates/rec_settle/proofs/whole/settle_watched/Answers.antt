@@ -1,9 +1,11 @@
 -- What was settled is so by the collections that were made, and the watch was shown each turn of them.
 use Rattle.std.proofs.Common.{[], ◌++◌, ◌∙◌, refl, sym, subst, arith}
 use Rattle.std.proofs.lemmas.List.{append-nil}
+use Rattle.std.proofs.lemmas.Result.{IfOk-from_err}
+use Rattle.rec_io.proofs.Faults.{rose_since}
 use Rattle.rec_world.proofs.Calls.{world_kept}
 use Rattle.rec_settle.specs.Shown.{IsShownTo, told_shown}
-use Rattle.rec_settle.proofs.Goes.{came_settled, ended_stage, if_err, shown_on}
+use Rattle.rec_settle.proofs.Goes.{came_settled, ended_stage, fewer_left, if_err, shown_on}
 use Rattle.rec_settle.specs.declared.turns.Settling.TheVariants.{Settled}
 use Rattle.rec_settle.proofs.Shows.{shows_to}
 use Rattle.rec_settle.proofs.Settles.{EndsSettling, few_freed, settling_settles}
@@ -104,3 +106,84 @@ returns-clause-shown g c =
       g.met.W.Watch.shown_then c.args.watch.now c.loop.watch c.next_watched.new.watch so.0 told so.2 c.in_ok-next_watched.ensures.shown,
       (shows_to c.args.world.now (so.0 ++ told) Settled c.next_watched.new.world (world_kept c.args.world.now c.start.ensures.kept) c.requires.idle all).shows,
     )
+
+pub returns-in-Err-clause-spent : goal.returns-in-Err-clause-spent
+returns-in-Err-clause-spent g c = (c.in-Err.ensures.spent.0, c.in-Err.ensures.spent.1, refl)
+
+pub returns-in-Err-clause-registers : goal.returns-in-Err-clause-registers
+returns-in-Err-clause-registers g c = refl
+
+pub returns-in-Err-clause-stands : goal.returns-in-Err-clause-stands
+returns-in-Err-clause-stands g c = λ heap number stands. stands
+
+pub returns-in-Err-clause-idle : goal.returns-in-Err-clause-idle
+returns-in-Err-clause-idle g c = c.requires.idle
+
+pub returns-in-Err-clause-config : goal.returns-in-Err-clause-config
+returns-in-Err-clause-config g c = refl
+
+pub returns-in-Err-clause-made : goal.returns-in-Err-clause-made
+returns-in-Err-clause-made g c = refl
+
+pub returns-in-Err-clause-kept : goal.returns-in-Err-clause-kept
+returns-in-Err-clause-kept g c = c.start.ensures.kept
+
+pub returns-in-Err-clause-unshown : goal.returns-in-Err-clause-unshown
+returns-in-Err-clause-unshown g c = g.met.W.Watch.none_shown c.args.watch.now
+
+pub returns-in-Err-clause-never_falls : goal.returns-in-Err-clause-never_falls
+returns-in-Err-clause-never_falls g c = omega arith
+
+pub next_watched-requires : goal.next_watched-requires
+next_watched-requires g c = record { idle = c.loop.invariant.idle }
+
+pub returns-in_err-next_watched-clause-spent : goal.returns-in_err-next_watched-clause-spent
+returns-in_err-next_watched-clause-spent g c = IfOk-from_err c.from_residual.result _ c.from_residual.ensures.0
+
+pub returns-in_err-next_watched-clause-done : goal.returns-in_err-next_watched-clause-done
+returns-in_err-next_watched-clause-done g c = IfOk-from_err c.from_residual.result _ c.from_residual.ensures.0
+
+pub returns-in_err-next_watched-clause-registers : goal.returns-in_err-next_watched-clause-registers
+returns-in_err-next_watched-clause-registers g c = IfOk-from_err c.from_residual.result _ c.from_residual.ensures.0
+
+pub returns-in_err-next_watched-clause-stands : goal.returns-in_err-next_watched-clause-stands
+returns-in_err-next_watched-clause-stands g c = IfOk-from_err c.from_residual.result _ c.from_residual.ensures.0
+
+pub returns-in_err-next_watched-clause-made : goal.returns-in_err-next_watched-clause-made
+returns-in_err-next_watched-clause-made g c = IfOk-from_err c.from_residual.result _ c.from_residual.ensures.0
+
+pub returns-in_err-next_watched-clause-shown : goal.returns-in_err-next_watched-clause-shown
+returns-in_err-next_watched-clause-shown g c = IfOk-from_err c.from_residual.result _ c.from_residual.ensures.0
+
+pub returns-in_err-next_watched-clause-unshown : goal.returns-in_err-next_watched-clause-unshown
+returns-in_err-next_watched-clause-unshown g c = IfOk-from_err c.from_residual.result _ c.from_residual.ensures.0
+
+pub returns-in_err-next_watched-clause-idle : goal.returns-in_err-next_watched-clause-idle
+returns-in_err-next_watched-clause-idle g c = c.next_watched.ensures.idle
+
+pub returns-in_err-next_watched-clause-config : goal.returns-in_err-next_watched-clause-config
+returns-in_err-next_watched-clause-config g c = c.next_watched.ensures.config ∙ c.loop.invariant.config
+
+pub returns-in_err-next_watched-clause-kept : goal.returns-in_err-next_watched-clause-kept
+returns-in_err-next_watched-clause-kept g c = c.next_watched.ensures.kept
+
+pub returns-in_err-next_watched-clause-never_falls : goal.returns-in_err-next_watched-clause-never_falls
+returns-in_err-next_watched-clause-never_falls g c = omega (arith, c.loop.invariant.never_falls, c.next_watched.ensures.never_falls)
+
+pub returns-clause-idle : goal.returns-clause-idle
+returns-clause-idle g c = c.next_watched.ensures.idle
+
+pub returns-clause-config : goal.returns-clause-config
+returns-clause-config g c = c.next_watched.ensures.config ∙ c.loop.invariant.config
+
+pub returns-clause-kept : goal.returns-clause-kept
+returns-clause-kept g c = c.next_watched.ensures.kept
+
+pub returns-clause-never_falls : goal.returns-clause-never_falls
+returns-clause-never_falls g c = omega (arith, c.loop.invariant.never_falls, c.next_watched.ensures.never_falls)
+
+pub returns-in_err-next_watched-clause-rose : goal.returns-in_err-next_watched-clause-rose
+returns-in_err-next_watched-clause-rose g c = if_err c.from_residual.result (rose_since (g.W.Watch.refused c.args.watch.now) (g.W.Watch.refused c.loop.watch) (g.W.Watch.refused c.next_watched.new.watch) c.loop.invariant.never_falls c.in_err-next_watched.ensures.rose)
+
+pub loop-smaller : goal.loop-smaller
+loop-smaller g c = fewer_left c.args.world.now c.loop.settling c.next_watched.new.self c.loop.world c.next_watched.new.world c.in_ok-next_watched.field-0 c.in-Some.field-0 c.in-Some.is c.loop.invariant.comes c.in_ok-next_watched.ensures.goes

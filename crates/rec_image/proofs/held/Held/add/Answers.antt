@@ -1,9 +1,10 @@
 -- An image with one mutator more has named enough by then.
 use Rattle.std.proofs.Common.{◌+◌, refl, sym, ◌∙◌}
+use Rattle.std.proofs.lemmas.Result.{IfOk-from_err}
 use Rattle.std.proofs.lemmas.Bool.{both_ways}
 use Rattle.rec_image.proofs.Adding.{length-objects}
 use Rattle.rec_image.proofs.Endings.{few_objects}
-use Rattle.rec_image.proofs.Rows.{least_of, row_read, not_enough}
+use Rattle.rec_image.proofs.Rows.{least_of, no_row, row_read, not_enough}
 use Rattle.rec_image.proofs.held.Held.add.Goals as goal
 
 pub least-least-requires : goal.least-least-requires
@@ -26,3 +27,12 @@ returns-else-names_enough-clause-none c =
     not_enough c.args.heap _ c.args.self.now (record { registers = c.registers_line.new.others; rows = c.args.self.now.rows + 1; naming = c.registers_line.new.naming }) c.args.bytes.now c.in-Some.rest.now c.count.result _ c.requires.held refl (rw c.in-Some.is at c.in_ok-rest.ensures).found
     (c.count.ensures ∙ sym (length-objects c.args.heap.fields c.args.objects.now.nodes.items c.args.objects.now.targets.items)) refl
     (λ enough. both_ways c.names_enough.result c.if-names_enough.false (c.names_enough.ensures.1 (enough.0, enough.1, rw least_is enough.2)))
+
+pub returns-in_default-clause-none : goal.returns-in_default-clause-none
+returns-in_default-clause-none c = no_row c.args.heap _ _ c.args.bytes.now (rw c.in_default.is at c.in_ok-rest.ensures).none
+
+pub returns-in_err-rest-clause-found : goal.returns-in_err-rest-clause-found
+returns-in_err-rest-clause-found c = IfOk-from_err c.from_residual.result _ c.from_residual.ensures.0
+
+pub returns-in_err-rest-clause-none : goal.returns-in_err-rest-clause-none
+returns-in_err-rest-clause-none c = IfOk-from_err c.from_residual.result _ c.from_residual.ensures.0

@@ -1,10 +1,14 @@
 -- A turn of the rule was made, or none is left.
-use Rattle.std.proofs.Common.{ℕ, ◌+◌, ◌-◌, ◌<◌, List, [], ◌∷◌, slice_index_or, slice_set, length, sym, ap, subst, ◌∙◌, arith}
+use Rattle.std.proofs.Common.{◌≡◌, ℕ, ◌+◌, ◌-◌, ◌<◌, List, [], ◌∷◌, slice_index_or, slice_set, length, refl, sym, ap, subst, ◌∙◌, arith}
+use Rattle.std.proofs.lemmas.Result.{IfOk-from_err}
+use Rattle.rec_settle.specs.Collecting.{HasStepped}
+use Rattle.rec_settle.proofs.Goes.{if_err}
 use Rattle.rec_play.specs.InsidePlaying.{player}
-use Rattle.rec_play.specs.Moves.{AreDue, AreThere, Player, made_by}
+use Rattle.rec_play.specs.Moves.{AreDue, AreThere, Carries, IsSpent, Player, made_by}
+use Rattle.rec_play.specs.Numbers.{config_of}
 use Rattle.rec_play.specs.Playing.{to_come}
 use Rattle.rec_play.specs.Run.{commands_of}
-use Rattle.rec_play.proofs.Due.{HasCommand, commands_are, due_made, few_mutators, next_turn}
+use Rattle.rec_play.proofs.Due.{HasCommand, commands_are, due_made, due_stepped, few_mutators, next_turn}
 use Rattle.rec_play.proofs.There.{made_there}
 use Rattle.rec_play.proofs.player.Playing.turn.Goals as goal
 
@@ -38,3 +42,180 @@ invariant_of-self g c =
     let p : Player = player c.self.inside in
     subst (λ n. AreDue (record p { rest = c.next_turn.new.self; made = slice_set p.made (n - 1) (slice_index_or p.made (n - 1) 0 + 1) })) (sym c.from.ensures)
     (due_made p c.self.invariant c.next_turn.new.self c.in-Some-Mutator.mutator (c.in-Some-Mutator.ensures.turn ∙ ap (λ a. a ∷ to_come c.next_turn.new.self) c.in-Some-Mutator.field-0-is))
+
+pub overflow_sub-made : goal.overflow_sub-made
+overflow_sub-made g c =
+    let n : HasCommand c.self.inside.script.now c.in-Some-Mutator.mutator (made_by c.self.inside.made c.in-Some-Mutator.mutator)
+    = next_turn (player c.self.inside) c.self.invariant c.next_turn.new.self c.in-Some-Mutator.mutator (c.in-Some-Mutator.ensures.turn ∙ ap (λ a. a ∷ to_come c.next_turn.new.self) c.in-Some-Mutator.field-0-is) in
+    omega (arith, n.some, c.from.ensures)
+
+pub bounds-self-inside-from : goal.bounds-self-inside-from
+bounds-self-inside-from g c =
+    let n : HasCommand c.self.inside.script.now c.in-Some-Mutator.mutator (made_by c.self.inside.made c.in-Some-Mutator.mutator)
+    = next_turn (player c.self.inside) c.self.invariant c.next_turn.new.self c.in-Some-Mutator.mutator (c.in-Some-Mutator.ensures.turn ∙ ap (λ a. a ∷ to_come c.next_turn.new.self) c.in-Some-Mutator.field-0-is) in
+    omega (arith, n.some, n.most, few_mutators c.self.inside.script.now c.self.invariant.valid, c.from.ensures)
+
+pub give_turn-cmd-requires-clause-some : goal.give_turn-cmd-requires-clause-some
+give_turn-cmd-requires-clause-some g c =
+    let n : HasCommand c.self.inside.script.now c.in-Some-Mutator.mutator (made_by c.self.inside.made c.in-Some-Mutator.mutator)
+    = next_turn (player c.self.inside) c.self.invariant c.next_turn.new.self c.in-Some-Mutator.mutator (c.in-Some-Mutator.ensures.turn ∙ ap (λ a. a ∷ to_come c.next_turn.new.self) c.in-Some-Mutator.field-0-is) in
+    n.some
+
+pub give_turn-cmd-requires-clause-most : goal.give_turn-cmd-requires-clause-most
+give_turn-cmd-requires-clause-most g c =
+    let n : HasCommand c.self.inside.script.now c.in-Some-Mutator.mutator (made_by c.self.inside.made c.in-Some-Mutator.mutator)
+    = next_turn (player c.self.inside) c.self.invariant c.next_turn.new.self c.in-Some-Mutator.mutator (c.in-Some-Mutator.ensures.turn ∙ ap (λ a. a ∷ to_come c.next_turn.new.self) c.in-Some-Mutator.field-0-is) in
+    n.most
+
+pub give_turn-cmd-requires-clause-next : goal.give_turn-cmd-requires-clause-next
+give_turn-cmd-requires-clause-next g c =
+    let n : HasCommand c.self.inside.script.now c.in-Some-Mutator.mutator (made_by c.self.inside.made c.in-Some-Mutator.mutator)
+    = next_turn (player c.self.inside) c.self.invariant c.next_turn.new.self c.in-Some-Mutator.mutator (c.in-Some-Mutator.ensures.turn ∙ ap (λ a. a ∷ to_come c.next_turn.new.self) c.in-Some-Mutator.field-0-is) in
+    subst (λ x. slice_index_or c.self.inside.made (x - 1) 0 < length (commands_of c.self.inside.script.now c.in-Some-Mutator.mutator)) (sym c.from.ensures) n.next
+
+pub give_turn-cmd-requires-clause-config : goal.give_turn-cmd-requires-clause-config
+give_turn-cmd-requires-clause-config g c = subst (λ (q : Player). c.args.world.now.config ≡ config_of q.script) (sym c.self.view_is) c.requires.config
+
+pub give_turn-cmd-requires-clause-idle : goal.give_turn-cmd-requires-clause-idle
+give_turn-cmd-requires-clause-idle g c = c.requires.idle
+
+pub give_turn-cmd-requires-clause-present : goal.give_turn-cmd-requires-clause-present
+give_turn-cmd-requires-clause-present g c =
+    let n : HasCommand c.self.inside.script.now c.in-Some-Mutator.mutator (made_by c.self.inside.made c.in-Some-Mutator.mutator)
+    = next_turn (player c.self.inside) c.self.invariant c.next_turn.new.self c.in-Some-Mutator.mutator (c.in-Some-Mutator.ensures.turn ∙ ap (λ a. a ∷ to_come c.next_turn.new.self) c.in-Some-Mutator.field-0-is) in
+    (subst (λ (q : Player). AreThere q.script q.made c.args.world.now) (sym c.self.view_is) c.requires.present) c.in-Some-Mutator.mutator n.next
+
+pub turn_collector-requires-clause-few : goal.turn_collector-requires-clause-few
+turn_collector-requires-clause-few g c = few_mutators c.self.inside.script.now c.self.invariant.valid
+
+pub turn_collector-requires-clause-config : goal.turn_collector-requires-clause-config
+turn_collector-requires-clause-config g c = subst (λ (q : Player). c.args.world.now.config ≡ config_of q.script) (sym c.self.view_is) c.requires.config
+
+pub turn_collector-requires-clause-idle : goal.turn_collector-requires-clause-idle
+turn_collector-requires-clause-idle g c = c.requires.idle
+
+pub turn_collector-requires-clause-present : goal.turn_collector-requires-clause-present
+turn_collector-requires-clause-present g c = subst (λ (q : Player). AreThere q.script q.made c.args.world.now) (sym c.self.view_is) c.requires.present
+
+pub returns-in_err-turn-in-Some-Collector-clause-told : goal.returns-in_err-turn-in-Some-Collector-clause-told
+returns-in_err-turn-in-Some-Collector-clause-told g c = IfOk-from_err c.from_residual.result _ c.from_residual.ensures.0
+
+pub returns-in_err-turn-in-Some-Collector-clause-ended : goal.returns-in_err-turn-in-Some-Collector-clause-ended
+returns-in_err-turn-in-Some-Collector-clause-ended g c = IfOk-from_err c.from_residual.result _ c.from_residual.ensures.0
+
+pub returns-in_err-turn-in-Some-Collector-clause-stays : goal.returns-in_err-turn-in-Some-Collector-clause-stays
+returns-in_err-turn-in-Some-Collector-clause-stays g c = IfOk-from_err c.from_residual.result _ c.from_residual.ensures.0
+
+pub returns-in_err-turn-in-Some-Collector-clause-shown : goal.returns-in_err-turn-in-Some-Collector-clause-shown
+returns-in_err-turn-in-Some-Collector-clause-shown g c = IfOk-from_err c.from_residual.result _ c.from_residual.ensures.0
+
+pub returns-in_err-turn-in-Some-Collector-clause-unshown : goal.returns-in_err-turn-in-Some-Collector-clause-unshown
+returns-in_err-turn-in-Some-Collector-clause-unshown g c = if_err c.from_residual.result c.in_err-turn-in-Some-Collector.ensures.unshown
+
+pub returns-in_err-turn-in-Some-Collector-clause-rose : goal.returns-in_err-turn-in-Some-Collector-clause-rose
+returns-in_err-turn-in-Some-Collector-clause-rose g c = if_err c.from_residual.result c.in_err-turn-in-Some-Collector.ensures.rose
+
+pub returns-in_err-turn-in-Some-Collector-clause-never_falls : goal.returns-in_err-turn-in-Some-Collector-clause-never_falls
+returns-in_err-turn-in-Some-Collector-clause-never_falls g c = c.turn_collector.ensures.never_falls
+
+pub returns-in_err-turn-in-Some-Collector-clause-idle : goal.returns-in_err-turn-in-Some-Collector-clause-idle
+returns-in_err-turn-in-Some-Collector-clause-idle g c = c.turn_collector.ensures.idle
+
+pub returns-in_err-turn-in-Some-Collector-clause-present : goal.returns-in_err-turn-in-Some-Collector-clause-present
+returns-in_err-turn-in-Some-Collector-clause-present g c = c.turn_collector.ensures.present
+
+pub returns-in_err-turn-in-Some-Collector-clause-config : goal.returns-in_err-turn-in-Some-Collector-clause-config
+returns-in_err-turn-in-Some-Collector-clause-config g c = c.turn_collector.ensures.config
+
+pub returns-in_ok-turn-in-Some-Collector-clause-never_falls : goal.returns-in_ok-turn-in-Some-Collector-clause-never_falls
+returns-in_ok-turn-in-Some-Collector-clause-never_falls g c = c.turn_collector.ensures.never_falls
+
+pub returns-in_ok-turn-in-Some-Collector-clause-idle : goal.returns-in_ok-turn-in-Some-Collector-clause-idle
+returns-in_ok-turn-in-Some-Collector-clause-idle g c = c.turn_collector.ensures.idle
+
+pub returns-in_ok-turn-in-Some-Collector-clause-present : goal.returns-in_ok-turn-in-Some-Collector-clause-present
+returns-in_ok-turn-in-Some-Collector-clause-present g c = c.turn_collector.ensures.present
+
+pub returns-in_ok-turn-in-Some-Collector-clause-config : goal.returns-in_ok-turn-in-Some-Collector-clause-config
+returns-in_ok-turn-in-Some-Collector-clause-config g c = c.turn_collector.ensures.config
+
+pub returns-in_ok-turn-in-Some-Collector-clause-shown : goal.returns-in_ok-turn-in-Some-Collector-clause-shown
+returns-in_ok-turn-in-Some-Collector-clause-shown g c = c.in_ok-turn-in-Some-Collector.ensures.shown
+
+pub returns-in_err-turn-in-Some-Collector-clause-script : goal.returns-in_err-turn-in-Some-Collector-clause-script
+returns-in_err-turn-in-Some-Collector-clause-script g c = ap (λ (q : Player). q.script) c.self.view_is
+
+pub returns-in_err-turn-in-Some-Collector-clause-due : goal.returns-in_err-turn-in-Some-Collector-clause-due
+returns-in_err-turn-in-Some-Collector-clause-due g c = subst AreDue c.self.view_is c.self.invariant
+
+pub returns-in_ok-turn-in-Some-Collector-clause-script : goal.returns-in_ok-turn-in-Some-Collector-clause-script
+returns-in_ok-turn-in-Some-Collector-clause-script g c = ap (λ (q : Player). q.script) c.self.view_is
+
+pub returns-in_ok-turn-in-Some-Collector-clause-due : goal.returns-in_ok-turn-in-Some-Collector-clause-due
+returns-in_ok-turn-in-Some-Collector-clause-due g c = subst AreDue c.self.view_is c.self.invariant
+
+pub returns-in-Some-Mutator-clause-script : goal.returns-in-Some-Mutator-clause-script
+returns-in-Some-Mutator-clause-script g c = ap (λ (q : Player). q.script) c.self.view_is
+
+pub returns-in-Some-Mutator-clause-due : goal.returns-in-Some-Mutator-clause-due
+returns-in-Some-Mutator-clause-due g c = subst AreDue c.self.view_is c.self.invariant
+
+pub returns-in-None-clause-script : goal.returns-in-None-clause-script
+returns-in-None-clause-script g c = ap (λ (q : Player). q.script) c.self.view_is
+
+pub returns-in-None-clause-due : goal.returns-in-None-clause-due
+returns-in-None-clause-due g c = subst AreDue c.self.view_is c.self.invariant
+
+pub returns-in-Some-Mutator-clause-never_falls : goal.returns-in-Some-Mutator-clause-never_falls
+returns-in-Some-Mutator-clause-never_falls g c = omega arith
+
+pub returns-in-Some-Mutator-clause-idle : goal.returns-in-Some-Mutator-clause-idle
+returns-in-Some-Mutator-clause-idle g c = c.give_turn-cmd.ensures.idle
+
+pub returns-in-Some-Mutator-clause-config : goal.returns-in-Some-Mutator-clause-config
+returns-in-Some-Mutator-clause-config g c = c.give_turn-cmd.ensures.config
+
+pub returns-in-None-clause-shown : goal.returns-in-None-clause-shown
+returns-in-None-clause-shown g c = g.met.W.Watch.none_shown c.args.watch.now
+
+pub returns-in-None-clause-never_falls : goal.returns-in-None-clause-never_falls
+returns-in-None-clause-never_falls g c = omega arith
+
+pub returns-in-None-clause-idle : goal.returns-in-None-clause-idle
+returns-in-None-clause-idle g c = c.requires.idle
+
+pub returns-in-None-clause-present : goal.returns-in-None-clause-present
+returns-in-None-clause-present g c = subst (λ (q : Player). AreThere q.script q.made c.args.world.now) (sym c.self.view_is) c.requires.present
+
+pub returns-in-None-clause-config : goal.returns-in-None-clause-config
+returns-in-None-clause-config g c = subst (λ (q : Player). c.args.world.now.config ≡ config_of q.script) (sym c.self.view_is) c.requires.config
+
+pub invariant_of-self-in_err-turn-in-Some-Collector : goal.invariant_of-self-in_err-turn-in-Some-Collector
+invariant_of-self-in_err-turn-in-Some-Collector g c = due_stepped (player c.self.inside) c.self.invariant c.next_turn.new.self (c.in-Some-Collector.ensures.turn ∙ ap (λ a. a ∷ to_come c.next_turn.new.self) c.in-Some-Collector.field-0-is)
+
+pub invariant_of-self-in-Some-Collector : goal.invariant_of-self-in-Some-Collector
+invariant_of-self-in-Some-Collector g c = due_stepped (player c.self.inside) c.self.invariant c.next_turn.new.self (c.in-Some-Collector.ensures.turn ∙ ap (λ a. a ∷ to_come c.next_turn.new.self) c.in-Some-Collector.field-0-is)
+
+pub invariant_of-self-in-None : goal.invariant_of-self-in-None
+invariant_of-self-in-None g c = subst (λ r. AreDue (record (player c.self.inside) { rest = r })) (sym (c.in-None.ensures.stays refl)) c.self.invariant
+
+pub returns-in_err-turn-in-Some-Collector-clause-refused : goal.returns-in_err-turn-in-Some-Collector-clause-refused
+returns-in_err-turn-in-Some-Collector-clause-refused g c = if_err c.from_residual.result (ap (λ (q : Player). to_come q.rest) (sym c.self.view_is) ∙ c.in-Some-Collector.ensures.turn ∙ ap (λ a. a ∷ to_come c.next_turn.new.self) c.in-Some-Collector.field-0-is, c.in_err-turn-in-Some-Collector.ensures.refused)
+
+pub returns-in_ok-turn-in-Some-Collector-clause-told : goal.returns-in_ok-turn-in-Some-Collector-clause-told
+returns-in_ok-turn-in-Some-Collector-clause-told g c = record {
+  turn_so = ap (λ (q : Player). to_come q.rest) (sym c.self.view_is) ∙ c.in-Some-Collector.ensures.turn ∙ ap (λ a. a ∷ to_come c.next_turn.new.self) c.in-Some-Collector.field-0-is;
+  is = c.in_ok-turn-in-Some-Collector.ensures.seen;
+  steps = subst (λ (q : Player). HasStepped (IsSpent q.script q.made) c.args.world.now c.in_ok-turn-in-Some-Collector.turn c.turn_collector.new.world) c.self.view_is c.in_ok-turn-in-Some-Collector.ensures.stepped;
+  made = ap (λ (q : Player). q.made) c.self.view_is;
+  requested = c.turn_collector.ensures.requested;
+}
+
+pub returns-in-Some-Mutator-clause-told : goal.returns-in-Some-Mutator-clause-told
+returns-in-Some-Mutator-clause-told g c = record {
+  turn = ap (λ (q : Player). to_come q.rest) (sym c.self.view_is) ∙ c.in-Some-Mutator.ensures.turn ∙ ap (λ a. a ∷ to_come c.next_turn.new.self) c.in-Some-Mutator.field-0-is;
+  carries = subst (λ (q : Player). Carries q.script c.in-Some-Mutator.mutator (made_by q.made c.in-Some-Mutator.mutator) c.args.world.now c.give_turn-cmd.result.0 c.give_turn-cmd.result.1 c.give_turn-cmd.new.world) c.self.view_is
+      (subst (λ n. Carries c.self.inside.script.now c.in-Some-Mutator.mutator (slice_index_or c.self.inside.made (n - 1) 0) c.args.world.now c.give_turn-cmd.result.0 c.give_turn-cmd.result.1 c.give_turn-cmd.new.world) c.from.ensures c.give_turn-cmd.ensures.carried);
+  made = ap (λ n. slice_set c.self.inside.made (n - 1) (slice_index_or c.self.inside.made (n - 1) 0 + 1)) c.from.ensures ∙ ap (λ (q : Player). slice_set q.made (c.in-Some-Mutator.mutator - 1) (made_by q.made c.in-Some-Mutator.mutator + 1)) c.self.view_is;
+  requested = c.give_turn-cmd.ensures.requested;
+}

@@ -1,6 +1,10 @@
 -- A turn of the rule was made.
-use Rattle.std.proofs.Common.{◌≡◌, ap, subst, ◌∙◌}
+use Rattle.std.proofs.Common.{◌≡◌, ◌<◌, IfSome, refl, ap, subst, ◌∙◌}
+use Rattle.rec_core.specs.Core.{Core}
 use Rattle.rec_play.specs.InsideWalk.{watched}
+use Rattle.rec_play.specs.Moves.{Player}
+use Rattle.rec_play.specs.Left.{moves_left}
+use Rattle.rec_play.specs.Playing.{to_come}
 use Rattle.rec_play.specs.Watched.{Tells, Watched}
 use Rattle.rec_play.specs.declared.stage.Stage.TheVariants.{Playing}
 use Rattle.rec_play.proofs.Walks.{turn_made, turn_tells}
@@ -21,3 +25,48 @@ returns-in-Some-clause-told c =
     subst (λ x. Tells x (record w { script = c.next.new.self.script; rest = c.next.new.self.rest; made = c.next.new.self.made; world = c.next.new.world }) c.in-Some.told) c.self.view_is
     (turn_tells w c.next.new.self c.next.new.world (playing (goal.at.returns-in-Some-clause-told c).After-next) c.self.invariant c.next.ensures.script c.next.ensures.due.1 c.next.ensures.idle c.next.ensures.present c.next.ensures.config c.next.ensures.kept
     c.in-Some.told c.in-Some.ensures.told)
+
+pub next-requires-clause-config : goal.next-requires-clause-config
+next-requires-clause-config c = c.self.invariant.config
+
+pub next-requires-clause-idle : goal.next-requires-clause-idle
+next-requires-clause-idle c = c.self.invariant.idle
+
+pub next-requires-clause-present : goal.next-requires-clause-present
+next-requires-clause-present c = c.self.invariant.present
+
+pub begin_settling-requires-clause-none : goal.begin_settling-requires-clause-none
+begin_settling-requires-clause-none c = ap (λ (q : Player). to_come q.rest) (c.in-None.ensures.stays refl).0 ∙ c.in-None.ensures.ended refl
+
+pub returns-in-Some-clause-script : goal.returns-in-Some-clause-script
+returns-in-Some-clause-script c = c.next.ensures.script ∙ ap (λ (w : Watched). w.script) c.self.view_is
+
+pub returns-in-Some-clause-rule : goal.returns-in-Some-clause-rule
+returns-in-Some-clause-rule c = ap (λ (w : Watched). w.rule) c.self.view_is
+
+pub returns-in-None-clause-script : goal.returns-in-None-clause-script
+returns-in-None-clause-script c = c.begin_settling.ensures.script ∙ c.next.ensures.script ∙ ap (λ (w : Watched). w.script) c.self.view_is
+
+pub returns-in-None-clause-rule : goal.returns-in-None-clause-rule
+returns-in-None-clause-rule c = c.begin_settling.ensures.rule ∙ ap (λ (w : Watched). w.rule) c.self.view_is
+
+pub returns-in-None-clause-told : goal.returns-in-None-clause-told
+returns-in-None-clause-told c =
+    let w : Watched = watched c.self.inside in
+    let p : Player = c.next.new.self in
+    let Q : Watched → Type 0 = λ x. IfSome c.begin_settling.result (Tells x c.begin_settling.new.self) in
+    subst Q c.self.view_is
+    (subst (λ (q : Player). Q (record w { script = q.script; rest = q.rest; made = q.made })) (c.in-None.ensures.stays refl).0
+    (subst (λ (v : Core). Q (record w { script = p.script; rest = p.rest; made = p.made; world = v })) (c.in-None.ensures.stays refl).1 c.begin_settling.ensures.told))
+
+pub returns-in-None-clause-nearer : goal.returns-in-None-clause-nearer
+returns-in-None-clause-nearer c =
+    let w : Watched = watched c.self.inside in
+    let p : Player = c.next.new.self in
+    let Q : Watched → Type 0 = λ x. IfSome c.begin_settling.result (λ told. moves_left c.begin_settling.new.self < moves_left x) in
+    subst Q c.self.view_is
+    (subst (λ (q : Player). Q (record w { script = q.script; rest = q.rest; made = q.made })) (c.in-None.ensures.stays refl).0
+    (subst (λ (v : Core). Q (record w { script = p.script; rest = p.rest; made = p.made; world = v })) (c.in-None.ensures.stays refl).1 c.begin_settling.ensures.nearer))
+
+pub returns-in-None-clause-ended : goal.returns-in-None-clause-ended
+returns-in-None-clause-ended c = c.begin_settling.ensures.ended
