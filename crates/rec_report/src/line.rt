@@ -61,6 +61,15 @@ pub(super) fn answers(
 ) -> Result<String, NoMemory>
     ensures { IfOk result (λ line. string_bytes line ≡ answers_line version (λ at. slice_index_or counts.now at 0)) }
 {
+    let mut text = String::new(alloc);
+    push_answers(&mut text, version, counts)?;
+    Ok(text)
+}
+
+// Adds the line of the answers, piece by piece.
+fn push_answers(text: &mut String, version: u32, counts: &[u64; PLACES]) -> Result<(), NoMemory>
+    ensures { OnOk result (string_bytes text.new ≡ string_bytes text.old ++ answers_line version (λ at. slice_index_or counts.now at 0)) }
+{
     let [
         done,
         null,
@@ -74,11 +83,11 @@ pub(super) fn answers(
         leaf,
         early,
     ] = *counts;
-    let mut text = format!(in alloc; "done {done} null {null} object {object}")?;
+    write!(text, "done {done} null {null} object {object}")?;
     write!(text, " value {value} yes {yes} no {no}")?;
     write!(text, " none {none} full {full} busy {busy}")?;
-    end_answers(&mut text, version, leaf, early)?;
-    Ok(text)
+    end_answers(text, version, leaf, early)?;
+    Ok(())
 }
 
 /// Adds the end of that line: from version 2 on it tells how many puts found a leaf, and from version 3 on how many mutators

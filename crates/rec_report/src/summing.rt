@@ -1,6 +1,6 @@
 //! The summary of a run.
 
-ghost use Rattle.std.specs.Prelude.{◌≡◌, List, map, length, IfOk, IfSome};
+ghost use Rattle.std.specs.Prelude.{◌≡◌, ◌≤◌, ◌++◌, List, map, length, IfOk, IfSome, OnOk};
 ghost use Rattle.rec_model.specs.Listing.{Row, ListsSlots};
 ghost use Rattle.rec_model.specs.LegalOrder.{NoLogFull};
 ghost use Rattle.rec_core.specs.Settled.{IsSettled};
@@ -35,12 +35,37 @@ pub fn summary(
     // The live objects are those that `text` lists.
     ensures lines { IfOk result (λ text. (rows : List Row) × ListsSlots (sight world.now) rows × (text ≡ summary_lines script.now.version (map (λ journal. journal.lines) journals.now) (length rows) world.now.made world.now.collector.collections world.now.collector.sets)) }
 {
-    let numbering = number_live(alloc, script, world)?;
-    let live = numbering.list().len();
-    let sets = world.sets();
+    let live = count_live(alloc, script, world)?;
     let mut text = Text::new(alloc);
+    add_lines(&mut text, alloc, script.version(), journals, live, world)?;
+    Ok(text)
+}
+
+// How many objects are live.
+fn count_live(alloc: Global, script: &Script, world: &World) -> Result<usize, NoMemory>
+    requires { AreFor script.now world.now }
+    ensures { IfOk result (λ live. (rows : List Row) × ListsSlots (sight world.now) rows × (live ≡ length rows)) }
+{
+    let numbering = number_live(alloc, script, world)?;
+    Ok(numbering.list().len())
+}
+
+// Adds the four lines, to a script of this version and with so many objects live. The text is lent, so that it ends in none of the ways out.
+fn add_lines(
+    text: &mut Text,
+    alloc: Global,
+    version: u32,
+    journals: &[Journal],
+    live: usize,
+    world: &World,
+) -> Result<(), NoMemory>
+    requires few { length journals.now ≤ 63 }
+    requires room { NoLogFull (map (λ journal. journal.lines) journals.now) }
+    ensures { OnOk result (text.new ≡ text.old ++ summary_lines version (map (λ journal. journal.lines) journals.now) live world.now.made world.now.collector.collections world.now.collector.sets) }
+{
+    let sets = world.sets();
     text.add(line::sizes(alloc, journals.len(), commands_of(journals))?)?;
-    text.add(line::answers(alloc, script.version(), &tally(journals))?)?;
+    text.add(line::answers(alloc, version, &tally(journals))?)?;
     text.add(line::objects(alloc, live as u64, world.made(), refusals_of(journals))?)?;
     text.add(line::collections(
         alloc,
@@ -49,5 +74,5 @@ pub fn summary(
         sets.delta,
         sets.sigma,
     )?)?;
-    Ok(text)
+    Ok(())
 }
