@@ -1,7 +1,6 @@
 -- How a run ends, from what its parts tell.
 use Rattle.std.proofs.Common.{◌≡◌, ◌≢◌, ◌⊎◌, inl, inr, ℕ, ◌+◌, ◌<◌, ◌≤◌, List, [], ◌∷◌, ◌++◌, Option, None, Some, Result, Ok, Err, length, map, refl, sym, ap, subst, ◌∙◌, arith}
-use Rattle.std.specs.Option.{IfSome}
-use Rattle.std.specs.Result.{IfOk, result_ok, result_or}
+use Rattle.std.specs.Result.{IfOk, result_or}
 use Rattle.std.proofs.lemmas.Bool.{cases_lt}
 use Rattle.std.proofs.lemmas.List.{append-nil, length-append}
 use Rattle.rec_io.specs.Faults.{Rose}
@@ -328,24 +327,10 @@ refuses_resuming asked statuses.WriteFault source sink (failed, wrote) bytes tol
 refuses_resuming asked (statuses.BadScript line kind) source sink refused bytes told none no_read =
     inl (line, kind, subst (λ all. IsUnresumed all line kind) (sym (refused.read bytes told)) refused.refused, refl)
 
--- a fact of each value that was made
-pub if_ok : {T E : Type 0} (r : Result T E) (P Q : T → Type 0) → ((x : T) → P x → Q x) → IfOk r P → IfOk r Q
-if_ok (Ok x) P Q step held = step x held
-if_ok (Err e) P Q step held = held
-
--- the fact of what was made
-pub was_ok : {T E : Type 0} (P : T → Type 0) (r : Result T E) (x : T) → r ≡ Ok x → IfOk r P → P x
-was_ok P r x is held = subst (λ s. IfOk s P) is held
-
 -- what holds of whatever was made
 pub each_ok : {T E : Type 0} (r : Result T E) (P : T → Type 0) → ((x : T) → r ≡ Ok x → P x) → IfOk r P
 each_ok (Ok x) P each = each x refl
 each_ok (Err e) P each = record {}
-
--- and of what was taken out, where an error is left out
-pub was_some : {T E : Type 0} (r : Result T E) (P : T → Type 0) (x : T) → result_ok r ≡ Some x → IfOk r P → P x
-was_some (Ok y) P x is held = subst (λ o. IfSome o P) is held
-was_some (Err e) P x is held = cc
 
 -- it stays where an error is told as another
 pub if_ok_or : {T E D : Type 0} (r : Result T E) (e : D) (P : T → Type 0) → IfOk r P → IfOk (result_or r (Err e)) P

@@ -2,7 +2,7 @@
 use Rattle.std.proofs.Common.{◌≡◌, ◌∙◌, Bool, true, false, not, Result, Ok, Err, refl, ap}
 use Rattle.std.specs.Result.{IfOk, IsOk}
 use Rattle.std.specs.declared.alloc.AllocError.{AllocError}
-use Rattle.clap.specs.Words.{App, Shape, app_of, with_subcommand}
+use Rattle.clap.specs.Words.{App, Shape, app_of}
 use Rattle.clap.specs.Simple.{has_plain_fields}
 use Rattle.clap.specs.declared.builder.command.Command.{Command}
 use Rattle.clap.specs.declared.builder.command.Command.TheViews.{out-Command}
@@ -22,12 +22,12 @@ pub is_plain : (made : Result Command AllocError) (shape : Shape) → shape.is_p
 is_plain (Ok sub) shape plain is = ap (λ (a : App). a.top.is_plain) is ∙ plain
 is_plain (Err e) shape plain is = is
 
--- a command of this shape that was made is the subcommand that joins
-pub joins : (made : Result Command AllocError) (whole base front : App) (shape : Shape) → IsOk made → IfOk made (λ sub. app_of sub ≡ app_with shape) → IfOk made (λ sub. whole ≡ with_subcommand base (app_of sub).top) → base ≡ front → whole ≡ with_subcommand front shape
-joins (Ok sub) whole base front shape ok is joined from = joined ∙ (λ i. with_subcommand (from i) ((is i).top))
-joins (Err e) whole base front shape ok is joined from = cc
+-- a command of this shape that was made is the one that joins
+pub joins : (made : Result Command AllocError) (whole : App) (after : Shape → App) (shape : Shape) → IsOk made → IfOk made (λ sub. app_of sub ≡ app_with shape) → IfOk made (λ sub. whole ≡ after (app_of sub).top) → whole ≡ after shape
+joins (Ok sub) whole after shape ok is joined = joined ∙ ap (λ (a : App). after a.top) is
+joins (Err e) whole after shape ok is joined = cc
 
 -- the same of a command that may not have been made
-pub last_joins : (made_whole made : Result Command AllocError) (base front : App) (shape : Shape) → IfOk made_whole (λ whole. IsOk made) → IfOk made (λ sub. app_of sub ≡ app_with shape) → IfOk made_whole (λ whole. IfOk made (λ sub. app_of whole ≡ with_subcommand base (app_of sub).top)) → base ≡ front → IfOk made_whole (λ whole. app_of whole ≡ with_subcommand front shape)
-last_joins (Ok whole) made base front shape ok is joined from = joins made (app_of whole) base front shape ok is joined from
-last_joins (Err e) made base front shape ok is joined from = ok
+pub last_joins : (made_whole made : Result Command AllocError) (after : Shape → App) (shape : Shape) → IfOk made_whole (λ whole. IsOk made) → IfOk made (λ sub. app_of sub ≡ app_with shape) → IfOk made_whole (λ whole. IfOk made (λ sub. app_of whole ≡ after (app_of sub).top)) → IfOk made_whole (λ whole. app_of whole ≡ after shape)
+last_joins (Ok whole) made after shape ok is joined = joins made (app_of whole) after shape ok is joined
+last_joins (Err e) made after shape ok is joined = ok

@@ -25,6 +25,10 @@ option name = record (new_rule name) { long = Some name }
 abbrev pub flag : Text → Rule
 flag name = record (option name) { action = Some SetTrue }
 
+-- a subcommand that runs commands, with its options
+abbrev pub run : Text → Shape
+run name = record (new_shape name) { rules = option (codes "seed") ∷ option (codes "turns") ∷ [] }
+
 -- the subcommand `play` and its options
 abbrev pub play : Shape
 play = record (new_shape (codes "play")) { rules = option (codes "seed") ∷ option (codes "turns") ∷ flag (codes "summary") ∷ flag (codes "trace") ∷ flag (codes "audit") ∷ flag (codes "image") ∷ [] }
@@ -43,7 +47,7 @@ audit = new_shape (codes "audit")
 
 -- the subcommand `resume` and its options
 abbrev pub resume : Shape
-resume = record (new_shape (codes "resume")) { rules = option (codes "seed") ∷ option (codes "turns") ∷ [] }
+resume = run (codes "resume")
 
 -- a command without subcommands
 abbrev pub app_with : Shape → App

@@ -1,7 +1,8 @@
 //! The words that the program is called with.
 ghost use Rattle.std.specs.Prelude.{◌≡◌, ◌≢◌, false, ◌≤◌, ℕ, [], map, option_map, true, Err, IfOk, IsOk, IfSome, IfNone};
-ghost use Rattle.clap.specs.Words.{with_subcommand as joined, app_of, fault_of, found_of, rows_of, rule_of, subcommand_of, subcommand_rows_of};
-ghost use Rattle.rec_run.specs.CommandLine.{app_with, flag, option, make as make_shape, play as play_shape, recycler, resume as resume_shape, is_set, Says, AsksKeeping, AsksPlay, AsksMake, AsksResume, AsksBy, Asks, IsCommandLine};
+ghost use Rattle.clap.specs.Words.{with_subcommand as joined, app_of, fault_of, found_of, rows_of, rule_of, subcommand_of, subcommand_rows_of, with_rule};
+ghost use Rattle.clap.specs.Simple.{new_shape};
+ghost use Rattle.rec_run.specs.CommandLine.{app_with, flag, option, make as make_shape, play as play_shape, recycler, resume as resume_shape, run as run_shape, is_set, Says, AsksKeeping, AsksPlay, AsksMake, AsksResume, AsksBy, Asks, IsCommandLine};
 ghost use Rattle.rec_run.specs.declared.command_line.Keeping.{Keeping as Keeps};
 ghost use Rattle.rec_run.specs.declared.command_line.Make.{Make as Making};
 ghost use Rattle.rec_run.specs.declared.command_line.Play.{Play as Playing};
@@ -150,11 +151,23 @@ fn command<'a>(alloc: Global) -> Result<Command<'a>, NoMemory>
         .disable_help_subcommand(true)
         .disable_version_flag(true)
         .subcommand_required(true);
-    let command = with_subcommand(command, play_command(alloc))?;
-    let command = command.subcommand(Command::new(alloc, "threads"))?;
-    let command = with_subcommand(command, make_command(alloc))?;
-    let command = command.subcommand(Command::new(alloc, "audit"))?;
+    let command = with_subcommands(alloc, command, play_command(alloc), "threads")?;
+    let command = with_subcommands(alloc, command, make_command(alloc), "audit")?;
     with_subcommand(command, resume_command(alloc))
+}
+
+// The command with two subcommands more, one that was made and one with this name that has no options.
+fn with_subcommands<'a>(
+    alloc: Global,
+    command: Command<'a>,
+    made: Result<Command<'a>, NoMemory>,
+    plain: &'a str,
+) -> Result<Command<'a>, NoMemory>
+    requires plain { IfOk made (λ sub. (app_of sub).top.is_plain ≡ true) }
+    ensures made { IfOk result (λ whole. IsOk made.entry) }
+    ensures joined { IfOk result (λ whole. IfOk made.entry (λ sub. app_of whole ≡ joined (joined (app_of command.entry) (app_of sub).top) (new_shape plain.now))) }
+{
+    with_subcommand(command, made)?.subcommand(Command::new(alloc, plain))
 }
 
 // The command with one subcommand more, where that one was made.
@@ -173,13 +186,30 @@ fn with_subcommand<'a>(
 fn play_command<'a>(alloc: Global) -> Result<Command<'a>, NoMemory>
     ensures { IfOk result (λ command. app_of command ≡ app_with play_shape) }
 {
-    Command::new(alloc, "play")
+    let command = run_command(alloc, "play")?;
+    let command = with_flags(alloc, command, "summary", "trace")?;
+    with_flags(alloc, command, "audit", "image")
+}
+
+// A subcommand that runs commands, by a seed and with so many turns.
+fn run_command<'a>(alloc: Global, name: &'a str) -> Result<Command<'a>, NoMemory>
+    ensures { IfOk result (λ command. app_of command ≡ app_with (run_shape name.now)) }
+{
+    Command::new(alloc, name)
         .arg(option(alloc, "seed"))?
-        .arg(option(alloc, "turns"))?
-        .arg(flag(alloc, "summary"))?
-        .arg(flag(alloc, "trace"))?
-        .arg(flag(alloc, "audit"))?
-        .arg(flag(alloc, "image"))
+        .arg(option(alloc, "turns"))
+}
+
+// The command with two flags more.
+fn with_flags<'a>(
+    alloc: Global,
+    command: Command<'a>,
+    first: &'a str,
+    second: &'a str,
+) -> Result<Command<'a>, NoMemory>
+    ensures { IfOk result (λ whole. app_of whole ≡ with_rule (with_rule (app_of command.entry) (flag first.now)) (flag second.now)) }
+{
+    command.arg(flag(alloc, first))?.arg(flag(alloc, second))
 }
 
 // An option with a value.
@@ -212,9 +242,7 @@ fn make_command<'a>(alloc: Global) -> Result<Command<'a>, NoMemory>
 fn resume_command<'a>(alloc: Global) -> Result<Command<'a>, NoMemory>
     ensures { IfOk result (λ command. app_of command ≡ app_with resume_shape) }
 {
-    Command::new(alloc, "resume")
-        .arg(option(alloc, "seed"))?
-        .arg(option(alloc, "turns"))
+    run_command(alloc, "resume")
 }
 
 // What the subcommand that was found asks for.

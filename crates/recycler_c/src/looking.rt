@@ -1,6 +1,5 @@
 //! A heap at rest settles, and is looked at.
 ghost use Rattle.std.specs.Prelude.{◌≡◌, Option, Some, true};
-ghost use Rattle.rec_settle.specs.Collecting.{taken_slots};
 ghost use Rattle.recycler_c.specs.Calls.{Counts, Looks, Settles, Tallies, totals_in};
 ghost use Rattle.recycler_c.specs.Standing.{Tellers, can_collect};
 
@@ -8,7 +7,7 @@ use crate::code::Code;
 use crate::end::{End, Resting};
 use crate::handle::{Handle, fill};
 use crate::told::{Settled, Slot, Totals, show_slot};
-use rec_settle::settle;
+use rec_settle::{count_taken, settle};
 use rec_world::World;
 use std::alloc::Global;
 
@@ -98,26 +97,13 @@ pub fn count(alloc: Global, handle: &mut Handle, taken: &mut u32) -> Code
     let whole = handle.take(alloc);
     let code = match &*whole {
         End::Resting(resting, _) => {
-            *taken = taken_of(resting.world());
+            *taken = count_taken(resting.world());
             Code::Ok
         }
         _ => Code::Runs,
     };
     handle.put(whole);
     code
-}
-
-// How many slots hold an object.
-fn taken_of(world: &World) -> u32
-    ensures { result ≡ taken_slots world.now }
-{
-    let mut taken = 0;
-    for slot in 0..world.slots() {
-        if world.taken(slot) {
-            taken += 1;
-        }
-    }
-    taken
 }
 
 /// Tells the totals of a heap at rest.

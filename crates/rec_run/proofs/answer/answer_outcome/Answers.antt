@@ -10,7 +10,8 @@ use Rattle.rec_world.specs.Order.{Turns}
 use Rattle.rec_run.specs.Headline.{Answers, is_summary, is_traced, printed, printed_order}
 use Rattle.rec_run.specs.Tracing.{tail_of}
 use Rattle.rec_run.specs.declared.command_line.How.{How}
-use Rattle.rec_run.proofs.Endings.{if_ok, answers_script}
+use Rattle.std.proofs.lemmas.Result.{IfOk-weaker}
+use Rattle.rec_run.proofs.Endings.{answers_script}
 use Rattle.rec_run.proofs.Outcomes.{in_order, many}
 use Rattle.rec_run.proofs.Tails.{tail_is}
 use Rattle.rec_run.proofs.answer.answer_outcome.Goals as goal
@@ -40,7 +41,7 @@ returns g c = λ start is.
     let number : ℕ → ℕ = is.has_run.names.number in
     let (rows, listed, told) = c.in_ok-text.ensures in
     let tail : List ℕ = tail_of c.in_ok-traced.traced c.in-Ok.settled.live in
-    if_ok c.end_text.result _ (λ text. Answers script start how (flat_map (λ line. line) text))
+    IfOk-weaker c.end_text.result _ (λ text. Answers script start how (flat_map (λ line. line) text))
     (λ text whole. answers_script script start how journals is.events o.world world rows (flat_map (λ line. line) text) tail is.has_run
     c.in-Ok.ensures.done.settles c.in-Ok.ensures.done.settled (number, c.settle.ensures.stands (last_moment script start is.events).heap number is.has_run.stands)
     (c.settle.ensures.kept.shaped.headers ∙ ap (λ (k : Config). k.slots) (c.settle.ensures.config ∙ is.config))

@@ -1,10 +1,11 @@
 -- The contract of `command`: the program's command.
-use Rattle.std.proofs.Common.{rules, ap, ap₂, refl, codes, true, ◌≡◌, ◌∙◌}
+use Rattle.std.proofs.Common.{rules, ap, refl, codes, true, ◌≡◌, ◌∙◌}
+use Rattle.std.proofs.lemmas.Result.{IfOk-weaker}
 use Rattle.clap.specs.Words.{App, app_of, new_app, with_subcommand}
 use Rattle.clap.specs.Simple.{app_of_fields}
 use Rattle.clap.specs.declared.builder.command.Command.TheViews.{out-Command}
 use Rattle.rec_run.specs.CommandLine.{audit, make, play, resume, threads}
-use Rattle.rec_run.proofs.Subcommands.{is_plain, joins, last_joins, no_globals}
+use Rattle.rec_run.proofs.Subcommands.{is_plain, joins, last_joins}
 use Rattle.rec_run.proofs.command_line.command.Goals as goal
 
 -- the settings of the program's command
@@ -20,21 +21,23 @@ settings a =
           };
     }
 
+pub with_subcommands-requires : goal.with_subcommands-requires
+with_subcommands-requires c = record { plain = is_plain c.play_command.result play refl c.play_command.ensures }
+
+pub with_subcommands-requires-2 : goal.with_subcommands-requires-2
+with_subcommands-requires-2 c = record { plain = is_plain c.make_command.result make refl c.make_command.ensures }
+
 pub with_subcommand-requires : goal.with_subcommand-requires
-with_subcommand-requires c = record { plain = is_plain c.play_command.result play refl c.play_command.ensures }
-
-pub with_subcommand-requires-2 : goal.with_subcommand-requires-2
-with_subcommand-requires-2 c = record { plain = is_plain c.make_command.result make refl c.make_command.ensures }
-
-pub with_subcommand-requires-3 : goal.with_subcommand-requires-3
-with_subcommand-requires-3 c = record { plain = is_plain c.resume_command.result resume refl c.resume_command.ensures }
+with_subcommand-requires c = record { plain = is_plain c.resume_command.result resume refl c.resume_command.ensures }
 
 pub returns : goal.returns
 returns c =
+    let first : App = app_of c.subcommand_required-command.result in
+    let second : App = app_of c.in_ok-command.command in
+    let third : App = app_of c.in_ok-command-2.command in
     let fields_are : out-Command c.subcommand_required-command.result ≡ record (out-Command c.new.result) { disable_help_flag = true; disable_help_subcommand = true; disable_version_flag = true; subcommand_required = true } = search rules in
-    let set_is : app_of c.subcommand_required-command.result ≡ settings (new_app (codes "recycler")) = ap app_of_fields fields_are ∙ ap settings c.new.ensures.app in
-    let one_is = joins c.play_command.result _ _ _ play c.in_ok-command.ensures.made c.play_command.ensures c.in_ok-command.ensures.joined set_is in
-    let two_is = c.in_ok-command-2.ensures.shape (no_globals c.new-2.result (ap (λ (a : App). a.top.is_plain) c.new-2.ensures.app)) ∙ ap₂ with_subcommand one_is (ap (λ (a : App). a.top) c.new-2.ensures.app) in
-    let three_is = joins c.make_command.result _ _ _ make c.in_ok-command-3.ensures.made c.make_command.ensures c.in_ok-command-3.ensures.joined two_is in
-    let four_is = c.in_ok-command-4.ensures.shape (no_globals c.new-3.result (ap (λ (a : App). a.top.is_plain) c.new-3.ensures.app)) ∙ ap₂ with_subcommand three_is (ap (λ (a : App). a.top) c.new-3.ensures.app) in
-    last_joins c.with_subcommand-3.result c.resume_command.result _ _ resume c.with_subcommand-3.ensures.made c.resume_command.ensures c.with_subcommand-3.ensures.joined four_is
+    let first_is : first ≡ settings (new_app (codes "recycler")) = ap app_of_fields fields_are ∙ ap settings c.new.ensures.app in
+    let second_is = joins c.play_command.result second (λ sub. with_subcommand (with_subcommand first sub) threads) play c.in_ok-command.ensures.made c.play_command.ensures c.in_ok-command.ensures.joined ∙ ap (λ a. with_subcommand (with_subcommand a play) threads) first_is in
+    let third_is = joins c.make_command.result third (λ sub. with_subcommand (with_subcommand second sub) audit) make c.in_ok-command-2.ensures.made c.make_command.ensures c.in_ok-command-2.ensures.joined ∙ ap (λ a. with_subcommand (with_subcommand a make) audit) second_is in
+    IfOk-weaker c.with_subcommand.result _ _ (λ whole is. is ∙ ap (λ a. with_subcommand a resume) third_is)
+    (last_joins c.with_subcommand.result c.resume_command.result (with_subcommand third) resume c.with_subcommand.ensures.made c.resume_command.ensures c.with_subcommand.ensures.joined)

@@ -1,7 +1,7 @@
 -- The stop isn't refused, and no mutator works behind it.
 use Rattle.std.proofs.Common.{sym, ◌∙◌}
 use Rattle.rec_core.specs.Worked.{AreIdle}
-use Rattle.rec_run.proofs.Endings.{was_some}
+use Rattle.rec_table.proofs.Stopped.{was_some}
 use Rattle.rec_run.proofs.driving.stop.Goals as goal
 
 pub returns-clause-idle : goal.returns-clause-idle

@@ -8,7 +8,8 @@ use Rattle.rec_script.specs.Script.{ScriptContents}
 use Rattle.rec_run.specs.Headline.{HasRun, IsKept, heap_told}
 use Rattle.rec_run.specs.declared.command_line.How.TheVariants as hows
 use Rattle.rec_run.specs.declared.command_line.Play.{Play}
-use Rattle.rec_run.proofs.Endings.{some_same, was_ok}
+use Rattle.std.proofs.lemmas.Result.{IfOk-at_ok}
+use Rattle.rec_run.proofs.Endings.{some_same}
 use Rattle.rec_run.proofs.Noted.{noted_both, run_answered}
 use Rattle.rec_run.proofs.keeping.audit_script.Goals as goal
 
@@ -19,8 +20,8 @@ returns c =
     let is = c.in_ok-outcome.ensures.outcome in
     let (text, opens, noted) = c.in_ok-auditor.ensures in
     let (first, shown_first, noted_first, run_first) = c.in_ok-outcome.ensures.shown in
-    let (later, shown_later, noted_later, run_later) = was_ok _ c.in_ok-_settled.field-0 c.in-Ok._settled c.in-Ok.is c.in_ok-_settled.ensures.shown in
-    let done = was_ok _ c.in_ok-_settled.field-0 c.in-Ok._settled c.in-Ok.is c.in_ok-_settled.ensures.done in
+    let (later, shown_later, noted_later, run_later) = IfOk-at_ok _ c.in-Ok.is c.in_ok-_settled.ensures.shown in
+    let done = IfOk-at_ok _ c.in-Ok.is c.in_ok-_settled.ensures.done in
     let written = some_same _ _ (c.into_text.ensures ∙ noted_both (heap_told script) text _ _ _ first later noted opens noted_first noted_later) in
     record {
       journals = lines_of o.journals.items;

@@ -6,7 +6,7 @@ use Rattle.rec_play.specs.Start.{opening_of}
 use Rattle.rec_run.specs.Headline.{HasRun, IsKept, TellsRun}
 use Rattle.rec_run.specs.declared.command_line.How.TheVariants as hows
 use Rattle.rec_run.specs.declared.command_line.Play.{Play}
-use Rattle.rec_run.proofs.Endings.{if_ok}
+use Rattle.std.proofs.lemmas.Result.{IfOk-weaker}
 use Rattle.rec_run.proofs.keeping.image_script.Goals as goal
 
 pub returns : goal.returns
@@ -14,7 +14,7 @@ returns c =
     let o = c.in_ok-outcome.outcome in
     let is = c.in_ok-outcome.ensures.outcome in
     let world : Core = c.settle.new.world in
-    if_ok c.write-image.result _ (λ image. TellsRun c.args.script.now c.args.asked image.items)
+    IfOk-weaker c.write-image.result _ (λ image. TellsRun c.args.script.now c.args.asked image.items)
     (λ image written. record {
       journals = lines_of o.journals.items;
       events = is.events;

@@ -9,25 +9,25 @@ use Rattle.rec_play.specs.Start.{opening_of}
 use Rattle.rec_play.proofs.Opened.{opened_starts}
 use Rattle.rec_run.specs.Outcome.{IsOutcome}
 use Rattle.rec_run.specs.declared.command_line.How.TheVariants as hows
-use Rattle.rec_run.proofs.Endings.{if_ok}
+use Rattle.std.proofs.lemmas.Result.{IfOk-weaker}
 use Rattle.rec_run.proofs.playing.play_script.Goals as goal
 
 pub returns-clause-outcome : goal.returns-clause-outcome
 returns-clause-outcome c =
     let script = c.args.script.now in
-    if_ok c.play_on.result _ (IsOutcome script (opening_of script) (hows.Play c.args.how))
+    IfOk-weaker c.play_on.result _ (IsOutcome script (opening_of script) (hows.Play c.args.how))
     (λ outcome held. held (opening_of script) (sym c.in_ok-world.ensures.opened) (opened_starts script (subst (λ (w : Core). 0 < w.config.slots) c.in_ok-world.ensures.opened c.in_ok-world.ensures.config.some_slots)))
     c.play_on.ensures.outcome
 
 pub returns-clause-valid : goal.returns-clause-valid
 returns-clause-valid c =
-    if_ok c.play_on.result _ (λ outcome. IsConfig (config_of c.args.script.now))
+    IfOk-weaker c.play_on.result _ (λ outcome. IsConfig (config_of c.args.script.now))
     (λ outcome held. subst (λ (w : Core). IsConfig w.config) c.in_ok-world.ensures.opened c.in_ok-world.ensures.config)
     c.play_on.ensures.epochs
 
 pub returns-clause-shown : goal.returns-clause-shown
 returns-clause-shown c =
-    if_ok c.play_on.result _ _
+    IfOk-weaker c.play_on.result _ _
     (λ outcome held.
     let (shown, whole, noted, run) = held in (
       shown,

@@ -1,19 +1,19 @@
 -- The heap of an image is one in which a run of the script begins.
-use Rattle.std.proofs.Common.{◌≡◌, ◌∙◌, ℕ, List, length, refl, sym, ap, subst}
+use Rattle.std.proofs.Common.{◌≡◌, ◌∙◌, length, refl, sym, ap, subst}
 use Rattle.std.proofs.lemmas.List.{length-map}
 use Rattle.std.proofs.lemmas.List.FromFn.{length-map-range_with_len}
 use Rattle.rec_model.specs.Heap.{Heap}
 use Rattle.rec_model.specs.Sight.{Represents}
 use Rattle.rec_core.specs.Config.{IsConfig}
 use Rattle.rec_core.specs.Core.{Core, sight}
-use Rattle.rec_core.specs.Objects.{Objects, described, object_at}
+use Rattle.rec_core.specs.Objects.{described, object_at}
 use Rattle.rec_core.specs.OpenedFrom.{opened_from}
 use Rattle.rec_core.specs.declared.config.Config.{Config}
 use Rattle.rec_order.proofs.Unfreed.{there_are_unfreed}
 use Rattle.rec_world.specs.OpenError.{IsRefused}
 use Rattle.rec_image.specs.Image.{ImageContents}
 use Rattle.rec_image.specs.Restored.{config_of as config_in, mark_of, objects_in, restored}
-use Rattle.rec_play.specs.Numbers.{config_of, log_room}
+use Rattle.rec_play.specs.Numbers.{config_of}
 use Rattle.rec_play.specs.Start.{MayBegin, Start}
 use Rattle.rec_play.proofs.Opened.{opened_from_begins}
 use Rattle.rec_script.specs.Script.{ScriptContents}

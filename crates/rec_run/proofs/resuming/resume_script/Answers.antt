@@ -3,12 +3,12 @@ use Rattle.rec_play.specs.Start.{Start}
 use Rattle.rec_run.specs.Outcome.{IsOutcome}
 use Rattle.rec_run.specs.Resuming.{IsRestoredFor}
 use Rattle.rec_run.specs.declared.command_line.How.TheVariants as hows
-use Rattle.rec_run.proofs.Endings.{if_ok}
+use Rattle.std.proofs.lemmas.Result.{IfOk-weaker}
 use Rattle.rec_run.proofs.resuming.resume_script.Goals as goal
 
 pub returns-clause-outcome : goal.returns-clause-outcome
 returns-clause-outcome c =
     let (start, first, restored) = c.in_ok-world.ensures.start in
-    if_ok c.play_on.result _ (λ outcome. (start : Start) × IsRestoredFor c.args.image.now c.args.script.now start × IsOutcome c.args.script.now start (hows.Play c.args.how) outcome)
+    IfOk-weaker c.play_on.result _ (λ outcome. (start : Start) × IsRestoredFor c.args.image.now c.args.script.now start × IsOutcome c.args.script.now start (hows.Play c.args.how) outcome)
     (λ outcome held. (start, restored, held start first restored.starts))
     c.play_on.ensures.outcome

@@ -2,9 +2,22 @@
 use Rattle.std.proofs.Common.{◌≡◌, ◌%◌, ◌∙◌, All, Some, refl, sym, ap, subst}
 use Rattle.rec_core.specs.Core.{Core}
 use Rattle.rec_core.specs.Worked.{AreIdle}
+use Rattle.rec_world.specs.World.{IsWorld}
 use Rattle.recycler_c.specs.declared.end.End.TheVariants as ends
 use Rattle.recycler_c.proofs.Renews.{not_renewed}
 use Rattle.recycler_c.proofs.renewing.renew_world.Goals as goal
+
+pub renew-requires : goal.renew-requires
+renew-requires c = c.into_world-world.ensures.idle
+
+pub of-requires-clause-idle : goal.of-requires-clause-idle
+of-requires-clause-idle c = c.in-Ok.ensures.idle
+
+pub of-requires-clause-kept : goal.of-requires-clause-kept
+of-requires-clause-kept c = c.in-Ok.ensures.kept
+
+pub of-requires-in-Err-clause-kept : goal.of-requires-in-Err-clause-kept
+of-requires-in-Err-clause-kept c = subst (λ (w : Core). IsWorld w) (sym c.in-Err.ensures.unchanged) c.into_world-world.ensures.kept
 
 pub of-requires-in-Err-clause-idle : goal.of-requires-in-Err-clause-idle
 of-requires-in-Err-clause-idle c = subst (λ (w : Core). AreIdle w) (sym c.in-Err.ensures.unchanged) c.into_world-world.ensures.idle

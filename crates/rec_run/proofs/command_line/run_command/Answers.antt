@@ -1,8 +1,8 @@
--- The contract of `resume_command`: the subcommand that goes on with the heap of an image.
-use Rattle.std.proofs.Common.{ap₂, codes, ◌∙◌}
+-- The contract of `run_command`: a subcommand that runs commands.
+use Rattle.std.proofs.Common.{ap₂, ◌∙◌}
 use Rattle.std.proofs.lemmas.Result.{IfOk-weaker}
 use Rattle.clap.specs.Words.{with_rule}
-use Rattle.rec_run.proofs.command_line.resume_command.Goals as goal
+use Rattle.rec_run.proofs.command_line.run_command.Goals as goal
 
 pub returns : goal.returns
 returns c =
