@@ -1,4 +1,4 @@
-/* What rings.c and trees.c have in common. Four threads make things of objects and drop them, over the allocator of the file that
+/* What rings.c and trees.c have in common. THREADS threads make things of objects and drop them, over the allocator of the file that
  * ALLOCATOR names.
  *
  * Words: how many things each thread makes; `none`, `wall` or `processor`, so that each birth is timed by no clock, by the wall or by its
@@ -22,7 +22,7 @@
 #include <time.h>
 
 /* One register more names the list, in the first thread. */
-enum { THREADS = 4, LIST = REGISTERS, ALL_REGISTERS };
+enum { LIST = REGISTERS, ALL_REGISTERS };
 
 /* A thread, and what it told: when it began and ended, how many births were refused, and the longest call and wait. */
 typedef struct maker {
