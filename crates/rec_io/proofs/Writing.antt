@@ -1,5 +1,5 @@
 -- On several writes to one sink: together they append their bytes, in order.
-use Rattle.std.proofs.Common.{ℕ, ◌+◌, List, [], ◌++◌, take, drop, Option, Some, ◌∙◌, ap, append_assoc, arith}
+use Rattle.std.proofs.Common.{◌≡◌, ℕ, ◌+◌, List, [], ◌++◌, take, drop, Option, Some, refl, ◌∙◌, ap, append_assoc, arith}
 use Rattle.std.proofs.lemmas.Grind.{common_steps}
 use Rattle.std.proofs.Math.Seq.{take-add}
 use Rattle.rec_io.specs.Sink.{Appends}
@@ -20,3 +20,7 @@ pub appends_next : (first then last : Option (List ℕ)) (n m : ℕ) (text : Lis
     Appends then last (take m (drop n text)) → Appends first last (take (n + m) text)
 appends_next first then last n m text one two =
     rw (take-add n m text) (appends_more first then last (take n text) (take m (drop n text)) one two)
+
+-- what was written, and a piece that was cut
+pub regrouped : (before near far behind : List ℕ) → before ++ ((near ++ far) ++ behind) ≡ (before ++ near) ++ (far ++ behind)
+regrouped before near far behind = simp append_assoc refl

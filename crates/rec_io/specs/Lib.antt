@@ -6,3 +6,4 @@ pub mod Sink
 pub mod Calls
 pub mod BytesSource
 pub mod RoomSink
+pub mod Whole

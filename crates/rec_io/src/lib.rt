@@ -5,8 +5,9 @@
 //! changes neither and is counted.
 //!
 //! The layers above take any `Source` and any `Sink`, and may use of them what the traits promise: the bytes,
-//! where the type tells them, and the count of faults, which never falls and rises at each call that fails. `proofs`
-//! has the lemmas on several calls in a row. `BytesSource`, `RoomSink` and `SteadySource` stand in memory and tell
+//! where the type tells them, and the count of faults, which never falls and rises at each call that fails. `read_all` reads a
+//! source to its end or past a limit, and `write_all` and `write_text` write until all is taken. `proofs` has the lemmas on
+//! several calls in a row. `BytesSource`, `RoomSink` and `SteadySource` stand in memory and tell
 //! all their bytes. `StdSource` and `StdSink` stand over std's reader and writer and tell none: they are the
 //! trusted edge.
 //!
@@ -18,19 +19,23 @@ mod calls;
 mod copy;
 mod flush;
 mod flush_fault;
+mod reader;
 mod room_sink;
 mod sink;
 mod source;
 mod std_sink;
 mod std_source;
 mod steady_source;
+mod writer;
 
 pub use bytes_source::BytesSource;
 pub use flush::Flush;
 pub use flush_fault::FlushFault;
+pub use reader::{ReadStop, read_all};
 pub use room_sink::RoomSink;
 pub use sink::{Sink, Taken};
 pub use source::{Given, Source};
 pub use std_sink::StdSink;
 pub use std_source::StdSource;
 pub use steady_source::SteadySource;
+pub use writer::{WriteFault, write_all, write_text};

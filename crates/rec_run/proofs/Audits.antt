@@ -8,8 +8,8 @@ use Rattle.rec_audit.specs.declared.verdict.Verdict.{Verdict}
 use Rattle.rec_audit.specs.Verdicts.{IsVerdict}
 use Rattle.rec_audit.specs.Verdicts.IsVerdict.{yes, long, no as first_fault}
 use Rattle.rec_run.specs.Headline.{HasRead, IsReadPast, SaysVerdict, WroteAnswer, WroteFront}
-use Rattle.rec_run.specs.Whole.{IsAtEnd}
-use Rattle.rec_run.specs.declared.command_line.Request.TheVariants as requests
+use Rattle.rec_io.specs.Whole.{IsAtEnd}
+use Rattle.rec_request.specs.declared.request.Request.TheVariants as requests
 use Rattle.rec_run.proofs.Endings.{all_read, some_same}
 
 -- of bytes past the limit the same is said as of all that follow

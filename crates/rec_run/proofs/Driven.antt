@@ -27,7 +27,7 @@ use Rattle.rec_play.specs.Start.{IsStartOf, Start, names_at, opening_of}
 use Rattle.rec_play.proofs.Opened.{IsPlayedLegally, opened_starts, ordered_legally}
 use Rattle.rec_play.proofs.Room.{no_log_full}
 use Rattle.rec_run.specs.Headline.{HasRun, KeepsRule}
-use Rattle.rec_run.specs.declared.command_line.How.TheVariants as hows
+use Rattle.rec_request.specs.declared.request.How.TheVariants as hows
 use Rattle.rec_run.proofs.Outcomes.{full_only}
 
 -- where each mutator's list tells its journal's lines, the lists tell the journals

@@ -22,22 +22,22 @@ use Rattle.rec_run.specs.declared.status.Status.TheVariants as statuses
 use Rattle.rec_script.specs.declared.error.Kind.{Kind}
 use Rattle.rec_script.specs.declared.error.ScriptError.{ScriptError}
 use Rattle.rec_script.specs.declared.error.ScriptError.TheVariants.{Bad}
-use Rattle.rec_run.specs.CommandLine.{Asks, ReadsScript}
+use Rattle.rec_request.specs.CommandLine.{Asks, ReadsScript}
 use Rattle.rec_run.specs.Ends.{Passage, Failed, Ends, HasCause, passage}
 use Rattle.rec_run.specs.Headline.{Are, HasRead, IsAnswer, Answers, AnswersTo, TellsOf, HasRun, WroteAnswer, WroteFront, IsReadPast, IsRefusedFor, ReadRefused, ResumesTo, IsTail, is_summary, is_traced, printed, printed_order}
 use Rattle.rec_play.specs.Played.{last_moment}
 use Rattle.rec_play.specs.Start.{Start}
 use Rattle.rec_script.proofs.Refusing.{refused_no_text}
 use Rattle.rec_script.proofs.Uniqueness.{refused_once}
-use Rattle.rec_run.specs.declared.command_line.How.{How}
-use Rattle.rec_run.specs.declared.command_line.Keeping.{Keeping}
-use Rattle.rec_run.specs.declared.command_line.Make.{Make}
-use Rattle.rec_run.specs.declared.command_line.Request.{Request}
-use Rattle.rec_run.specs.declared.command_line.Resume.{Resume}
-use Rattle.rec_run.specs.declared.command_line.Request.TheVariants as requests
+use Rattle.rec_request.specs.declared.request.How.{How}
+use Rattle.rec_request.specs.declared.request.Keeping.{Keeping}
+use Rattle.rec_request.specs.declared.request.Make.{Make}
+use Rattle.rec_request.specs.declared.request.Request.{Request}
+use Rattle.rec_request.specs.declared.request.Resume.{Resume}
+use Rattle.rec_request.specs.declared.request.Request.TheVariants as requests
 use Rattle.rec_script.specs.Script.{ScriptContents, IsText, IsRefused}
 use Rattle.rec_run.specs.Resuming.{IsResumable, IsUnresumed}
-use Rattle.rec_run.specs.Whole.{IsAtEnd}
+use Rattle.rec_io.specs.Whole.{IsAtEnd}
 use Rattle.rec_run.proofs.Resumed.{unresumed_none}
 
 -- one value in two options

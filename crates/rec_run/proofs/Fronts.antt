@@ -25,7 +25,3 @@ joined_cut lines i line front back d there is cut =
     ∙ flat_map-append (λ l. l) (take (i + 1) lines) (drop (i + 1) lines)
     ∙ ap (λ l. l ++ behind) (joined_more lines i line d there is ∙ ap (λ l. before ++ l) cut ∙ sym (append_assoc before front back))
     ∙ append_assoc (before ++ front) back behind
-
--- what was written, and a piece that was cut
-pub regrouped : (before near far behind : List ℕ) → before ++ ((near ++ far) ++ behind) ≡ (before ++ near) ++ (far ++ behind)
-regrouped before near far behind = simp append_assoc refl

@@ -5,11 +5,9 @@ pub mod Endings
 pub mod Fronts
 pub mod Noted
 pub mod Opening
-pub mod Options
 pub mod Outcomes
-pub mod Requests
+pub mod Makings
 pub mod Resumed
-pub mod Subcommands
 pub mod Tails
 pub mod Turns
 pub mod Audits

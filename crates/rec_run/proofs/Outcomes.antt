@@ -17,9 +17,9 @@ use Rattle.rec_script.specs.Script.{ScriptContents}
 use Rattle.rec_world.specs.Journal.{Notes}
 use Rattle.rec_world.specs.Order.{Turns}
 use Rattle.rec_run.specs.Headline.{HasRun, before, printed_order}
-use Rattle.rec_run.specs.declared.command_line.How.{How}
-use Rattle.rec_run.specs.declared.command_line.How.TheVariants as hows
-use Rattle.rec_run.specs.declared.command_line.Play.{Play}
+use Rattle.rec_request.specs.declared.request.How.{How}
+use Rattle.rec_request.specs.declared.request.How.TheVariants as hows
+use Rattle.rec_request.specs.declared.request.Play.{Play}
 use Rattle.rec_run.proofs.Turns.{legal_turns}
 
 -- where an allocation is answered full, as many objects as there are slots are not freed

@@ -1,10 +1,10 @@
 -- What each status says of the bytes that a request read and wrote.
 use Rattle.std.specs.Prelude.{⊤, ℕ, List, Option}
 use Rattle.rec_io.specs.Faults.{Rose}
-use Rattle.rec_run.specs.declared.command_line.Request.{Request}
+use Rattle.rec_request.specs.declared.request.Request.{Request}
 use Rattle.rec_run.specs.declared.status.Status.{Status}
 use Rattle.rec_run.specs.declared.status.Status.TheVariants.{Done, Usage, BadScript, ReadFault, WriteFault, NoMemory}
-use Rattle.rec_run.specs.CommandLine.{Asks, AsksForSource, IsCommandLine, ReadsSource}
+use Rattle.rec_request.specs.CommandLine.{Asks, AsksForSource, IsCommandLine, ReadsSource}
 use Rattle.rec_run.specs.Headline.{WroteAnswer, WroteFront, ReadRefused}
 
 -- What became of a source or a sink: the bytes that it tells of, and how many of its calls failed, before and after.

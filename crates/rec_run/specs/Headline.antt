@@ -34,15 +34,15 @@ use Rattle.rec_io.specs.Source.{BeginsWith}
 use Rattle.rec_script.specs.Behind.{with_all}
 use Rattle.rec_script.specs.Lines.{lines}
 use Rattle.rec_script.specs.Script.{ScriptContents, Spells, IsRefused}
-use Rattle.rec_run.specs.declared.command_line.How.{How}
-use Rattle.rec_run.specs.declared.command_line.How.TheVariants as hows
-use Rattle.rec_run.specs.declared.command_line.Keeping.{Keeping}
-use Rattle.rec_run.specs.declared.command_line.Kept.{Kept}
-use Rattle.rec_run.specs.declared.command_line.Kept.TheVariants as kepts
-use Rattle.rec_run.specs.declared.command_line.Play.{Play}
-use Rattle.rec_run.specs.declared.command_line.Request.{Request}
-use Rattle.rec_run.specs.declared.command_line.Resume.{Resume}
-use Rattle.rec_run.specs.declared.command_line.Request.TheVariants as requests
+use Rattle.rec_request.specs.declared.request.How.{How}
+use Rattle.rec_request.specs.declared.request.How.TheVariants as hows
+use Rattle.rec_request.specs.declared.request.Keeping.{Keeping}
+use Rattle.rec_request.specs.declared.request.Kept.{Kept}
+use Rattle.rec_request.specs.declared.request.Kept.TheVariants as kepts
+use Rattle.rec_request.specs.declared.request.Play.{Play}
+use Rattle.rec_request.specs.declared.request.Request.{Request}
+use Rattle.rec_request.specs.declared.request.Resume.{Resume}
+use Rattle.rec_request.specs.declared.request.Request.TheVariants as requests
 use Rattle.rec_script.specs.declared.error.Kind.{Kind}
 use Rattle.rec_script.specs.Made.{made_text}
 use Rattle.rec_report.specs.Summary.{summary_text}
@@ -61,7 +61,7 @@ use Rattle.rec_audit.specs.declared.verdict.Verdict.TheVariants.{Yes}
 use Rattle.rec_audit.specs.Said.{verdict_text}
 use Rattle.rec_audit.specs.Verdicts.{IsVerdict}
 use Rattle.rec_run.specs.Resuming.{IsRestoredFor, IsUnresumed, Tells, numbers_of}
-use Rattle.rec_run.specs.Whole.{IsAtEnd}
+use Rattle.rec_io.specs.Whole.{IsAtEnd}
 
 -- The world is settled and these are its rows: just the slots that registers reach hold objects, a row for each, with its true count.
 pub record IsSettledAs (end : Core) (heap : Heap) (slots : ℕ) (rows : List Row) : Type 0 where

@@ -1,6 +1,5 @@
 -- The modules of the definitions.
 pub mod Audited
-pub mod CommandLine
 pub mod Ends
 pub mod Headline
 pub mod Outcome
@@ -8,4 +7,3 @@ pub mod Resuming
 pub mod Running
 pub mod Status
 pub mod Tracing
-pub mod Whole

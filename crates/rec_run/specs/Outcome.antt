@@ -6,7 +6,7 @@ use Rattle.rec_play.specs.Played.{config_of, last_moment, lines_of}
 use Rattle.rec_play.specs.Start.{Start}
 use Rattle.rec_script.specs.Script.{ScriptContents}
 use Rattle.rec_run.specs.Headline.{HasRun, printed_order}
-use Rattle.rec_run.specs.declared.command_line.How.{How}
+use Rattle.rec_request.specs.declared.request.How.{How}
 use Rattle.rec_run.specs.declared.outcome.Outcome.{Outcome}
 
 -- The heap and the journals are those of a run of the script from this start. Nobody works in the heap.

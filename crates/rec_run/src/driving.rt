@@ -8,7 +8,7 @@ ghost use Rattle.rec_table.specs.Views.{AreMutatorsOf, IsCollectorOf, collector_
 ghost use Rattle.rec_play.specs.Start.{opening_of};
 ghost use Rattle.rec_run.specs.Outcome.{IsOutcome};
 ghost use Rattle.rec_run.specs.Running.{IsSetRunning, IsStarted};
-ghost use Rattle.rec_run.specs.declared.command_line.How.TheVariants as hows;
+ghost use Rattle.rec_request.specs.declared.request.How.TheVariants as hows;
 
 use crate::answer::open_world;
 use crate::outcome::Outcome;

@@ -2,12 +2,12 @@
 ghost use Rattle.std.specs.Prelude.{◌≡◌, ◌≤◌, IfOk};
 ghost use Rattle.rec_model.specs.declared.limits.TheConstants.{MOST_TURNS};
 ghost use Rattle.rec_run.specs.Headline.{TellsRun, played};
-ghost use Rattle.rec_run.specs.declared.command_line.Kept.TheVariants.{Journal, Image};
+ghost use Rattle.rec_request.specs.declared.request.Kept.TheVariants.{Journal, Image};
 
 use crate::auditing::Auditor;
-use crate::command_line::{Keeping, Kept, Play};
 use crate::playing::play_script;
 use rec_image::write;
+use rec_request::{Keeping, Kept, Play};
 use rec_script::Script;
 use rec_settle::{settle, settle_watched};
 use std::alloc::{AllocError as NoMemory, Global};

@@ -15,13 +15,11 @@
 
 mod answer;
 mod auditing;
-mod command_line;
 mod driving;
 mod finish;
 mod keeping;
 mod outcome;
 mod playing;
-mod reading;
 mod resuming;
 mod running;
 mod status;

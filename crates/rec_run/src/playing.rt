@@ -11,13 +11,13 @@ ghost use Rattle.rec_play.specs.Start.{IsStartOf, MayBegin, Start, opening_of};
 ghost use Rattle.rec_world.specs.World.{opened};
 ghost use Rattle.rec_run.specs.Audited.{GoesOn};
 ghost use Rattle.rec_run.specs.Outcome.{IsOutcome};
-ghost use Rattle.rec_run.specs.declared.command_line.How.TheVariants as hows;
+ghost use Rattle.rec_request.specs.declared.request.How.TheVariants as hows;
 
 use crate::answer::open_world;
 use crate::auditing::Auditor;
-use crate::command_line::Play;
 use crate::outcome::Outcome;
 use rec_play::{journals_for, order_for, play_watched};
+use rec_request::Play;
 use rec_script::Script;
 use rec_world::{Journal, Order, World};
 use std::alloc::{AllocError as NoMemory, Global};

@@ -13,15 +13,15 @@ ghost use Rattle.rec_script.specs.declared.error.Kind.TheVariants.{BadImage};
 ghost use Rattle.rec_script.specs.declared.error.ScriptError.TheVariants.{Bad};
 ghost use Rattle.rec_run.specs.Outcome.{IsOutcome};
 ghost use Rattle.rec_run.specs.Resuming.{AreImage, CutsAt, IsRestoredFor, IsResumedAs, IsUnresumed, numbers_of};
-ghost use Rattle.rec_run.specs.declared.command_line.How.TheVariants as hows;
+ghost use Rattle.rec_request.specs.declared.request.How.TheVariants as hows;
 
 use crate::auditing::Auditor;
-use crate::command_line::Play;
 use crate::outcome::Outcome;
 use crate::playing::play_on;
 use rec_image::{Image, ImageError, read, restore};
 use rec_model::limits::MOST_BYTES;
 use rec_play::{config_for, journals_for, order_for};
+use rec_request::Play;
 use rec_script::{Kind, Script, ScriptError, read_after};
 use rec_world::{OpenError, World};
 use std::alloc::{AllocError as NoMemory, Global};

@@ -10,26 +10,26 @@ ghost use Rattle.rec_play.specs.Played.{config_of, log_room};
 ghost use Rattle.rec_play.specs.Start.{Start};
 ghost use Rattle.rec_script.specs.Script.{IsText, IsRefused};
 ghost use Rattle.rec_script.specs.declared.error.Kind.{Kind};
-ghost use Rattle.rec_run.specs.CommandLine.{Asks, AsksToAudit, AsksToMake, AsksToRead, AsksToResume, HasFewTurns, IsCommandLine, IsInRange, ReadsSource};
+ghost use Rattle.rec_request.specs.CommandLine.{Asks, AsksToAudit, AsksToMake, AsksToRead, AsksToResume, HasFewTurns, IsCommandLine, IsInRange, ReadsSource};
 ghost use Rattle.rec_run.specs.Ends.{Ends, HasCause, passage, untouched};
 ghost use Rattle.rec_run.specs.Headline.{Answers, AnswersTo, ResumesTo, SaysVerdict, TellsOf, WroteAnswer, WroteFront};
 ghost use Rattle.rec_run.specs.Resuming.{IsRestoredFor, IsResumable, IsUnresumed};
 ghost use Rattle.rec_run.specs.Status.{may_write};
-ghost use Rattle.rec_run.specs.declared.command_line.How.TheVariants as hows;
-ghost use Rattle.rec_run.specs.declared.command_line.Request.{Request as Asked};
+ghost use Rattle.rec_request.specs.declared.request.How.TheVariants as hows;
+ghost use Rattle.rec_request.specs.declared.request.Request.{Request as Asked};
 
 use crate::answer::{answer_outcome, answer_script};
-use crate::command_line::{How, Keeping, Make, Play, Refusal, Request, Resume, read_words};
 use crate::finish::finish;
 use crate::keeping::keep_script;
-use crate::reading::{ReadStop, read_all};
 use crate::resuming::{read_resumed, resume_script};
 use crate::status::Status;
-use crate::writing::{write_lines, write_text};
+use crate::writing::write_lines;
 use rec_audit::check;
 use rec_image::Image;
-use rec_io::{Flush, Sink, Source};
+use rec_io::{Flush, ReadStop, Sink, Source, read_all, write_text};
+use rec_model::limits::MOST_BYTES;
 use rec_report::Text;
+use rec_request::{How, Keeping, Make, Play, Refusal, Request, Resume, read_words};
 use rec_script::{Script, ScriptError, read};
 use rec_threads::Gate;
 use std::alloc::{AllocError as NoMemory, Global};
@@ -151,7 +151,7 @@ fn answer_source<R: Threads + Wait + Sync, S: Source, K: Sink, G: Gate>(
     ensures left { (bytes : List ℕ) × Passes (S.rest source.old) (S.rest source.new) bytes }
     ensures never_falls { K.faults sink.old ≤ K.faults sink.new }
 {
-    let bytes = match read_all(alloc, source) {
+    let bytes = match read_all(alloc, source, MOST_BYTES) {
         Ok(bytes) => bytes,
         Err(ReadStop::Fault) => return Status::ReadFault,
         Err(ReadStop::NoMemory) => return Status::NoMemory,
@@ -200,7 +200,7 @@ fn keep_source<S: Source, K: Sink>(
     ensures left { (bytes : List ℕ) × Passes (S.rest source.old) (S.rest source.new) bytes }
     ensures never_falls { K.faults sink.old ≤ K.faults sink.new }
 {
-    let bytes = match read_all(alloc, source) {
+    let bytes = match read_all(alloc, source, MOST_BYTES) {
         Ok(bytes) => bytes,
         Err(ReadStop::Fault) => return Status::ReadFault,
         Err(ReadStop::NoMemory) => return Status::NoMemory,
@@ -244,7 +244,7 @@ fn resume_source<R: Threads + Sync, S: Source, K: Sink>(
     ensures left { (bytes : List ℕ) × Passes (S.rest source.old) (S.rest source.new) bytes }
     ensures never_falls { K.faults sink.old ≤ K.faults sink.new }
 {
-    let bytes = match read_all(alloc, source) {
+    let bytes = match read_all(alloc, source, MOST_BYTES) {
         Ok(bytes) => bytes,
         Err(ReadStop::Fault) => return Status::ReadFault,
         Err(ReadStop::NoMemory) => return Status::NoMemory,
@@ -318,7 +318,7 @@ fn audit_source<S: Source, K: Sink>(alloc: Global, source: &mut S, sink: &mut K)
     ensures left { (bytes : List ℕ) × Passes (S.rest source.old) (S.rest source.new) bytes }
     ensures never_falls { K.faults sink.old ≤ K.faults sink.new }
 {
-    let bytes = match read_all(alloc, source) {
+    let bytes = match read_all(alloc, source, MOST_BYTES) {
         Ok(bytes) => bytes,
         Err(ReadStop::Fault) => return Status::ReadFault,
         Err(ReadStop::NoMemory) => return Status::NoMemory,

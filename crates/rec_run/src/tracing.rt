@@ -3,7 +3,7 @@ ghost use Rattle.std.specs.Prelude.{◌≡◌, IfOk};
 ghost use Rattle.rec_run.specs.Headline.{is_traced};
 ghost use Rattle.rec_run.specs.Tracing.{IsTold};
 
-use crate::command_line::How;
+use rec_request::How;
 use rec_settle::count_taken;
 use rec_trace::trace;
 use rec_world::World;

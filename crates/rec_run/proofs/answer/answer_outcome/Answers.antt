@@ -9,7 +9,7 @@ use Rattle.rec_script.specs.Script.{ScriptContents}
 use Rattle.rec_world.specs.Order.{Turns}
 use Rattle.rec_run.specs.Headline.{Answers, is_summary, is_traced, printed, printed_order}
 use Rattle.rec_run.specs.Tracing.{tail_of}
-use Rattle.rec_run.specs.declared.command_line.How.{How}
+use Rattle.rec_request.specs.declared.request.How.{How}
 use Rattle.std.proofs.lemmas.Result.{IfOk-weaker}
 use Rattle.rec_run.proofs.Endings.{answers_script}
 use Rattle.rec_run.proofs.Outcomes.{in_order, many}

@@ -1,6 +1,9 @@
 -- The heap is started as the script's opening, with mutators and a collector that are new.
-use Rattle.std.proofs.Common.{◌≡◌, ◌∙◌, sym, ap, subst}
-use Rattle.std.proofs.lemmas.Result.{IfOk-at_ok}
+use Rattle.std.proofs.Common.{◌≡◌, ℕ, ◌%◌, ◌∙◌, All, sym, ap, subst, arith}
+use Rattle.std.proofs.lemmas.List.Elements.{All-replicate}
+use Rattle.std.proofs.lemmas.Result.{IfOk-at_ok, IfOk-from_err}
+use Rattle.rec_word.specs.Mailbox.{crossing_word}
+use Rattle.rec_word.specs.declared.mailbox.Mailbox.TheVariants.{Spare}
 use Rattle.rec_mutator.specs.Private.{is_busy}
 use Rattle.rec_core.specs.Core.{Core, opened}
 use Rattle.rec_core.specs.Config.{IsConfig}
@@ -15,8 +18,19 @@ use Rattle.rec_run.proofs.driving.start.Goals as goal
 idle_opened : (config : Config) (w : Core) → w ≡ opened config → AreIdle w
 idle_opened config w is = subst AreIdle (sym is) (λ t there. ap is_busy (mutator_opened config t there))
 
+-- and no mailbox is with anybody
+home_opened : (config : Config) (w : Core) → w ≡ opened config → All (λ word. word % 2 ≡ 0) w.crossing
+home_opened config w is =
+    subst (λ (w : Core). All (λ word. word % 2 ≡ 0) w.crossing) (sym is) (All-replicate (λ (word : ℕ). word % 2 ≡ 0) config.mutators (crossing_word config.first_epoch Spare) (omega arith))
+
 pub start-requires-clause-idle : goal.start-requires-clause-idle
 start-requires-clause-idle c = idle_opened (config_of c.args.script.now) c.in_ok-world.world c.in_ok-world.ensures.opened
+
+pub start-requires-clause-home : goal.start-requires-clause-home
+start-requires-clause-home c = home_opened (config_of c.args.script.now) c.in_ok-world.world c.in_ok-world.ensures.opened
+
+pub returns-in_err-world : goal.returns-in_err-world
+returns-in_err-world c = record { started = IfOk-from_err c.from_residual.result _ c.from_residual.ensures.0 }
 
 pub returns : goal.returns
 returns c =

@@ -6,8 +6,8 @@ use Rattle.rec_play.specs.Shown.{IsShownWhole}
 use Rattle.rec_play.specs.Start.{opening_of}
 use Rattle.rec_script.specs.Script.{ScriptContents}
 use Rattle.rec_run.specs.Headline.{HasRun, IsKept, heap_told}
-use Rattle.rec_run.specs.declared.command_line.How.TheVariants as hows
-use Rattle.rec_run.specs.declared.command_line.Play.{Play}
+use Rattle.rec_request.specs.declared.request.How.TheVariants as hows
+use Rattle.rec_request.specs.declared.request.Play.{Play}
 use Rattle.std.proofs.lemmas.Result.{IfOk-at_ok}
 use Rattle.rec_run.proofs.Endings.{some_same}
 use Rattle.rec_run.proofs.Noted.{noted_both, run_answered}

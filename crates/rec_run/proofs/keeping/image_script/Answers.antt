@@ -4,8 +4,8 @@ use Rattle.rec_core.specs.Core.{Core}
 use Rattle.rec_play.specs.Played.{lines_of}
 use Rattle.rec_play.specs.Start.{opening_of}
 use Rattle.rec_run.specs.Headline.{HasRun, IsKept, TellsRun}
-use Rattle.rec_run.specs.declared.command_line.How.TheVariants as hows
-use Rattle.rec_run.specs.declared.command_line.Play.{Play}
+use Rattle.rec_request.specs.declared.request.How.TheVariants as hows
+use Rattle.rec_request.specs.declared.request.Play.{Play}
 use Rattle.std.proofs.lemmas.Result.{IfOk-weaker}
 use Rattle.rec_run.proofs.keeping.image_script.Goals as goal
 

@@ -3,7 +3,7 @@ use Rattle.std.proofs.Common.{◌≡◌, List, Some, length, refl, ap, sym, subs
 use Rattle.rec_play.specs.Played.{lines_of}
 use Rattle.rec_script.specs.Script.{ScriptContents}
 use Rattle.rec_world.specs.Journal.{Notes}
-use Rattle.rec_run.specs.declared.command_line.How.TheVariants as hows
+use Rattle.rec_request.specs.declared.request.How.TheVariants as hows
 use Rattle.rec_run.specs.Headline.{HasRun}
 use Rattle.rec_run.proofs.Outcomes.{many, played_run, written}
 use Rattle.rec_run.proofs.playing.play_on.Goals as goal

@@ -8,7 +8,7 @@ use Rattle.rec_play.specs.Shown.{IsShownWhole}
 use Rattle.rec_play.specs.Start.{opening_of}
 use Rattle.rec_play.proofs.Opened.{opened_starts}
 use Rattle.rec_run.specs.Outcome.{IsOutcome}
-use Rattle.rec_run.specs.declared.command_line.How.TheVariants as hows
+use Rattle.rec_request.specs.declared.request.How.TheVariants as hows
 use Rattle.std.proofs.lemmas.Result.{IfOk-weaker}
 use Rattle.rec_run.proofs.playing.play_script.Goals as goal
 

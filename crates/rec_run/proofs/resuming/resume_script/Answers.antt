@@ -2,7 +2,7 @@
 use Rattle.rec_play.specs.Start.{Start}
 use Rattle.rec_run.specs.Outcome.{IsOutcome}
 use Rattle.rec_run.specs.Resuming.{IsRestoredFor}
-use Rattle.rec_run.specs.declared.command_line.How.TheVariants as hows
+use Rattle.rec_request.specs.declared.request.How.TheVariants as hows
 use Rattle.std.proofs.lemmas.Result.{IfOk-weaker}
 use Rattle.rec_run.proofs.resuming.resume_script.Goals as goal
 

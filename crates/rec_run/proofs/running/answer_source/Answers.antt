@@ -1,6 +1,6 @@
 -- The contract of `answer_source`: reads a script to its end, runs it, and writes its answer.
 use Rattle.std.proofs.Common.{refl}
-use Rattle.rec_run.specs.declared.command_line.Request.TheVariants as requests
+use Rattle.rec_request.specs.declared.request.Request.TheVariants as requests
 use Rattle.rec_run.proofs.Endings.{bad_same, read_refused, wrote_answer, wrote_front}
 use Rattle.rec_run.proofs.Fronts.{joined}
 use Rattle.rec_run.proofs.running.answer_source.Goals as goal

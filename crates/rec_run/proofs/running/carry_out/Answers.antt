@@ -1,6 +1,6 @@
 -- What was done is what the request asks, and nothing else.
 use Rattle.std.proofs.Common.{sym, subst}
-use Rattle.rec_run.specs.CommandLine.{ReadsSource}
+use Rattle.rec_request.specs.CommandLine.{ReadsSource}
 use Rattle.rec_run.specs.Ends.{Ends, passage}
 use Rattle.rec_run.proofs.running.carry_out.Goals as goal
 

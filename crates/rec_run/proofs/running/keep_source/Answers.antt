@@ -1,7 +1,7 @@
 -- The contract of `keep_source`: reads a script to its end, plays it, and writes what is to be kept of it.
 use Rattle.std.proofs.Common.{◌≡◌, ◌++◌, ℕ, List, refl, subst}
 use Rattle.rec_io.specs.Sink.{Appends}
-use Rattle.rec_run.specs.declared.command_line.Request.TheVariants as requests
+use Rattle.rec_request.specs.declared.request.Request.TheVariants as requests
 use Rattle.rec_run.proofs.Endings.{bad_same, read_refused, wrote_kept, wrote_kept_front}
 use Rattle.rec_run.proofs.running.keep_source.Goals as goal
 

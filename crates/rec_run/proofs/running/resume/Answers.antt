@@ -7,8 +7,8 @@ use Rattle.rec_script.specs.declared.error.ScriptError.TheVariants.{Bad}
 use Rattle.rec_image.specs.Image.{ImageContents}
 use Rattle.rec_run.specs.Headline.{Answers}
 use Rattle.rec_run.specs.Resuming.{IsResumedAs, IsRestoredFor, IsUnresumed, Tells}
-use Rattle.rec_run.specs.declared.command_line.How.{How}
-use Rattle.rec_run.specs.declared.command_line.How.TheVariants as hows
+use Rattle.rec_request.specs.declared.request.How.{How}
+use Rattle.rec_request.specs.declared.request.How.TheVariants as hows
 use Rattle.rec_run.proofs.Resumed.{numbers_same}
 use Rattle.rec_run.proofs.running.resume.Goals as goal
 

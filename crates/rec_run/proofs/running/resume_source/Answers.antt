@@ -1,6 +1,6 @@
 -- The contract of `resume_source`: reads an image and mutators to the end, goes on from there, and writes the answer.
 use Rattle.std.proofs.Common.{refl}
-use Rattle.rec_run.specs.declared.command_line.Request.TheVariants as requests
+use Rattle.rec_request.specs.declared.request.Request.TheVariants as requests
 use Rattle.rec_run.proofs.Endings.{bad_same, read_refused, wrote_resumed, wrote_resumed_front}
 use Rattle.rec_run.proofs.Fronts.{joined}
 use Rattle.rec_run.proofs.running.resume_source.Goals as goal

@@ -2,7 +2,7 @@
 use Rattle.std.proofs.Common.{subst}
 use Rattle.rec_run.specs.Ends.{Ends, passage}
 use Rattle.rec_run.proofs.Endings.{audits, caused, completes, finished, makes, none_failed, refuses, refuses_resuming, resumes}
-use Rattle.rec_run.proofs.Requests.{asked_in_range, asked_to_audit, asked_to_make, asked_to_read, asked_to_resume}
+use Rattle.rec_request.proofs.Requests.{asked_in_range, asked_to_audit, asked_to_make, asked_to_read, asked_to_resume}
 use Rattle.rec_run.proofs.running.run.Goals as goal
 
 pub returns-in-Ok-clause-front : goal.returns-in-Ok-clause-front

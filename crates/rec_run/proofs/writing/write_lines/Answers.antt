@@ -8,9 +8,9 @@ use Rattle.rec_io.proofs.Writing.{appends_more}
 use Rattle.rec_run.proofs.Fronts.{joined, joined_more, joined_cut}
 use Rattle.rec_run.proofs.writing.write_lines.Goals as goal
 
-pub returns-in_err-write_piece-clause-front : goal.returns-in_err-write_piece-clause-front
-returns-in_err-write_piece-clause-front g c =
-    let (front, back, cut, appends) = c.in_err-write_piece.ensures.front in
+pub returns-in_err-write_all-clause-front : goal.returns-in_err-write_all-clause-front
+returns-in_err-write_all-clause-front g c =
+    let (front, back, cut, appends) = c.in_err-write_all.ensures.front in
     let lines : List (List ℕ) = c.args.text.now in
     let i : ℕ = length c.loop-line.yielded in
     let t = YieldsList-turn (YieldsList-from_first (λ x. x.now) (λ s. s) lines (cc)) c.loop-line.yielded _ c.loop-line.yielded_by _ _ c.in-Some.line c.in-Some.is c.next.ensures.steps in
@@ -34,9 +34,9 @@ loop-line-preserved g c =
     let lines : List (List ℕ) = c.args.text.now in
     let i : ℕ = length c.loop-line.yielded in
     let t = YieldsList-turn (YieldsList-from_first (λ x. x.now) (λ s. s) lines (cc)) c.loop-line.yielded _ c.loop-line.yielded_by _ _ c.in-Some.line c.in-Some.is c.next.ensures.steps in
-    let P : List ℕ → Type 0 = Appends (g.K.Sink.written c.args.sink.now) (g.K.Sink.written c.write_piece.new.sink) in
+    let P : List ℕ → Type 0 = Appends (g.K.Sink.written c.args.sink.now) (g.K.Sink.written c.write_all.new.sink) in
     record {
       front = rw (length_push c.loop-line.yielded c.in-Some.line) (subst P (sym (joined_more lines i c.in-Some.line.now _ t.0 t.1))
-          (appends_more _ (g.K.Sink.written c.loop-line.sink) _ (joined (take i lines)) c.in-Some.line.now c.loop-line.invariant.front c.in_ok-write_piece.ensures.written));
-      faults = c.in_ok-write_piece.ensures.faultless ∙ c.loop-line.invariant.faults;
+          (appends_more _ (g.K.Sink.written c.loop-line.sink) _ (joined (take i lines)) c.in-Some.line.now c.loop-line.invariant.front c.in_ok-write_all.ensures.written));
+      faults = c.in_ok-write_all.ensures.faultless ∙ c.loop-line.invariant.faults;
     }

@@ -3,10 +3,11 @@ use Rattle.std.proofs.Common.{◌≡◌, ℕ, ◌+◌, ◌-◌, ◌<◌, ◌≤�
 use Rattle.std.proofs.lemmas.Bool.{false≢true}
 use Rattle.std.proofs.lemmas.List.{drop-drop, nil_from_length, take_rest}
 use Rattle.rec_io.specs.BytesSource.{after_read, BytesState}
-use Rattle.rec_io.specs.declared.source.Given.TheVariants.{Bytes}
-use Rattle.rec_io.specs.Faults.{counted_up}
+use Rattle.rec_io.specs.declared.source.Given.TheVariants.{Bytes, End, Failed}
+use Rattle.rec_io.specs.Faults.{counted_up, last_count}
 use Rattle.rec_io.specs.Calls.{NextFails}
 use Rattle.rec_io.specs.Source.{GivesFront}
+use Rattle.rec_io.proofs.Faults.{counted_above, counted_within, rose_counted, same_above}
 use Rattle.rec_io.proofs.Told.{told}
 use Rattle.rec_io.proofs.bytes_source.BytesSourceSource.read.Goals as goal
 
@@ -71,3 +72,64 @@ returns-clause-after c =
 
 pub returns-then-next_fails-clause-fails : goal.returns-then-next_fails-clause-fails
 returns-then-next_fails-clause-fails c = (λ e. subst (λ (t : BytesState). NextFails t.fails t.calls) c.self.view_is (c.next_fails.ensures.listed.0 c.if-next_fails.true), λ n. refl)
+
+failed : (fails : List ℕ) (calls faults : ℕ) (before now : BytesState) → before ≡ now → fails ≡ before.fails → calls ≡ counted_up before.calls → faults ≡ counted_up before.faults →
+    record { rest = before.rest; fails = fails; calls = calls; faults = faults } ≡ after_read Failed now
+failed fails calls faults before now same f m h = rw (f, m, h) (ap (after_read Failed) same)
+
+ended : (fails : List ℕ) (calls faults : ℕ) (before now : BytesState) → before ≡ now → fails ≡ before.fails → calls ≡ counted_up before.calls → faults ≡ before.faults →
+    record { rest = before.rest; fails = fails; calls = calls; faults = faults } ≡ after_read End now
+ended fails calls faults before now same f m h = rw (f, m, h) (ap (after_read End) same)
+
+counted : (before now : BytesState) (called faults : ℕ) → before ≡ now → called ≡ before.faults → faults ≡ counted_up called → faults ≡ counted_up now.faults
+counted before now called faults same calls is = is ∙ ap counted_up (calls ∙ ap (λ (s : BytesState). s.faults) same)
+
+pub invariant_of-self : goal.invariant_of-self
+invariant_of-self c = (c.self.invariant.0, counted_within _ _ (counted _ _ _ _ c.self.view_is c.next_fails.ensures.faults c.count_fault.ensures.faults))
+
+pub returns-then-next_fails-clause-kept : goal.returns-then-next_fails-clause-kept
+returns-then-next_fails-clause-kept c = λ x is. ap (λ (s : BytesState). Some s.rest) c.self.view_is ∙ is
+
+pub returns-then-next_fails-clause-rose : goal.returns-then-next_fails-clause-rose
+returns-then-next_fails-clause-rose c = rose_counted _ _ (counted _ _ _ _ c.self.view_is c.next_fails.ensures.faults c.count_fault.ensures.faults)
+
+pub returns-then-next_fails-clause-never_falls : goal.returns-then-next_fails-clause-never_falls
+returns-then-next_fails-clause-never_falls c = counted_above _ _ (subst (λ (s : BytesState). s.faults ≤ last_count) c.self.view_is c.self.invariant.1) (counted _ _ _ _ c.self.view_is c.next_fails.ensures.faults c.count_fault.ensures.faults)
+
+pub returns-then-next_fails-clause-within_count : goal.returns-then-next_fails-clause-within_count
+returns-then-next_fails-clause-within_count c = counted_within _ _ (counted _ _ _ _ c.self.view_is c.next_fails.ensures.faults c.count_fault.ensures.faults)
+
+pub returns-then-next_fails-clause-stays_told : goal.returns-then-next_fails-clause-stays_told
+returns-then-next_fails-clause-stays_told c = λ was. refl
+
+pub returns-then-next_fails-clause-after : goal.returns-then-next_fails-clause-after
+returns-then-next_fails-clause-after c =
+    failed _ _ _ _ c.args.self.now c.self.view_is (c.count_fault.ensures.fails ∙ c.next_fails.ensures.fails)
+    (c.count_fault.ensures.made ∙ c.next_fails.ensures.made) (c.count_fault.ensures.faults ∙ ap counted_up c.next_fails.ensures.faults)
+
+pub invariant_of-self-then-count-eq0 : goal.invariant_of-self-then-count-eq0
+invariant_of-self-then-count-eq0 c = (c.self.invariant.0, subst (λ (n : ℕ). n ≤ last_count) (sym c.next_fails.ensures.faults) c.self.invariant.1)
+
+pub returns-then-count-eq0-clause-fails : goal.returns-then-count-eq0-clause-fails
+returns-then-count-eq0-clause-fails c = (λ e. cc, unlisted _ _ _ c.self.view_is c.if-next_fails.ensures.listed.1)
+
+pub returns-then-count-eq0-clause-after : goal.returns-then-count-eq0-clause-after
+returns-then-count-eq0-clause-after c = ended _ _ _ _ c.args.self.now c.self.view_is c.next_fails.ensures.fails c.next_fails.ensures.made c.next_fails.ensures.faults
+
+pub returns-then-count-eq0-clause-never_falls : goal.returns-then-count-eq0-clause-never_falls
+returns-then-count-eq0-clause-never_falls c = same_above _ _ (c.next_fails.ensures.faults ∙ ap (λ (s : BytesState). s.faults) c.self.view_is)
+
+pub returns-then-count-eq0-clause-within_count : goal.returns-then-count-eq0-clause-within_count
+returns-then-count-eq0-clause-within_count c = subst (λ (n : ℕ). n ≤ last_count) (sym c.next_fails.ensures.faults) c.self.invariant.1
+
+pub returns-then-count-eq0-clause-stays_told : goal.returns-then-count-eq0-clause-stays_told
+returns-then-count-eq0-clause-stays_told c = λ was. refl
+
+pub returns-clause-never_falls : goal.returns-clause-never_falls
+returns-clause-never_falls c = same_above _ _ (c.next_fails.ensures.faults ∙ ap (λ (s : BytesState). s.faults) c.self.view_is)
+
+pub returns-clause-within_count : goal.returns-clause-within_count
+returns-clause-within_count c = subst (λ (n : ℕ). n ≤ last_count) (sym c.next_fails.ensures.faults) c.self.invariant.1
+
+pub returns-clause-stays_told : goal.returns-clause-stays_told
+returns-clause-stays_told c = λ was. refl

@@ -1,5 +1,5 @@
 -- A sink over std tells nothing of what it holds, so it promises what each sink does of bytes that are told.
-use Rattle.std.proofs.Common.{◌≡◌, ◌≢◌, List, ℕ, None, refl, take}
+use Rattle.std.proofs.Common.{◌≢◌, List, ℕ, None, refl, take}
 use Rattle.rec_io.specs.declared.sink.Taken.{Taken}
 use Rattle.rec_io.specs.declared.sink.Taken.TheVariants.{Bytes, Failed}
 use Rattle.rec_io.specs.Sink.{IfTaken, OnWriteFailed, Appends}

@@ -1,5 +1,5 @@
 -- A source over std tells no rest, so it promises what each source does of the rest that is told.
-use Rattle.std.proofs.Common.{◌≡◌, ◌≢◌, List, ℕ, None, refl}
+use Rattle.std.proofs.Common.{◌≢◌, List, ℕ, None, refl}
 use Rattle.rec_io.specs.declared.source.Given.{Given}
 use Rattle.rec_io.specs.declared.source.Given.TheVariants.{Bytes, End, Failed}
 use Rattle.rec_io.specs.Source.{IfGiven, OnEnd, OnReadFailed, GivesFront, IsSpent}
