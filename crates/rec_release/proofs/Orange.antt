@@ -4,7 +4,7 @@ use Rattle.std.specs.List.{concat}
 use Rattle.std.proofs.lemmas.Bool.{cases_lt, false≢true}
 use Rattle.std.proofs.lemmas.List.{length-set}
 use Rattle.rec_counts.specs.declared.colour.Colour.{Colour}
-use Rattle.rec_counts.specs.declared.colour.Colour.TheVariants.{Black, Orange}
+use Rattle.rec_counts.specs.declared.colour.Colour.TheVariants.{Orange}
 use Rattle.rec_counts.specs.declared.slot.Slot.{Slot}
 use Rattle.rec_counts.specs.Counts.{State, IsKept, slot_at, with_slot, decremented}
 use Rattle.rec_counts.specs.Groups.{last_set, earlier_sets}

@@ -1,5 +1,5 @@
 -- What is told of a line is what is wrong with it behind the lines so far.
-use Rattle.std.proofs.Common.{◌≡◌, ◌≢◌, ℕ, List, ◌∷◌, length, get_or, Result, Err, refl, sym, ap, subst, ◌∙◌}
+use Rattle.std.proofs.Common.{◌≡◌, ◌≢◌, ℕ, List, ◌∷◌, length, get_or, Result, Ok, Err, refl, sym, ap, subst, ◌∙◌}
 use Rattle.std.specs.Prelude.{not}
 use Rattle.std.specs.Str.{IsUtf8}
 use Rattle.std.proofs.lemmas.Bool.{ne_eqb}
@@ -7,13 +7,28 @@ use Rattle.rec_model.specs.declared.command.Cmd.{Cmd}
 use Rattle.rec_script.specs.declared.error.Kind.{Kind}
 use Rattle.rec_script.specs.declared.error.Kind.TheVariants.{NoHeader, BadHeap, NoMutator}
 use Rattle.rec_script.specs.declared.error.ScriptError.{ScriptError}
-use Rattle.rec_script.specs.declared.error.ScriptError.TheVariants.{Bad}
+use Rattle.rec_script.specs.declared.error.ScriptError.TheVariants.{Bad, NoMemory}
 use Rattle.rec_script.specs.declared.heap.Heap.{Heap}
 use Rattle.rec_script.specs.declared.draft.Draft.{Draft}
 use Rattle.rec_script.specs.declared.draft.Draft.TheVariants.{Nothing, Header, Sized, Whole}
 use Rattle.rec_script.specs.Lines.{words, is_counted}
 use Rattle.rec_script.specs.Script.{ScriptContents, IsHeap, IsVersion, IsScript, header, heap_line, mutator_line, spelled, HasLeft, last_commands, IsBadCommand, Fits, IsFault, IsNeed}
 use Rattle.rec_script.specs.Drafts.{so_far, IsDraft}
+
+-- an answer that is a value is no error, and that memory ran out is told of no line
+pub no_error : {T : Type 0} (x : T) (e : ScriptError) → ◌≡◌ {A = Result T ScriptError} (Ok x) (Err e) → ⊥
+no_error x e is = cc
+
+pub no_line : {T : Type 0} (line : ℕ) (kind : Kind) → ◌≡◌ {A = Result T ScriptError} (Err NoMemory) (Err (Bad line kind)) → ⊥
+no_line line kind is = cc
+
+-- an answer that is an error is that error
+pub told_error : {T : Type 0} (found named : ScriptError) → ◌≡◌ {A = Result T ScriptError} (Err found) (Err named) → found ≡ named
+told_error found named e = cc
+
+-- and of a line and a kind each is the one that was made
+pub told_both : {T : Type 0} (number line : ℕ) (made kind : Kind) → ◌≡◌ {A = Result T ScriptError} (Err (Bad number made)) (Err (Bad line kind)) → (line ≡ number) × (made ≡ kind)
+told_both number line made kind e = (cc, cc)
 
 -- an error that is told is the one that was made
 pub told : {T : Type 0} (P : Kind → Type 0) (r : ScriptError) (number line : ℕ) (named kind : Kind) → r ≡ Bad number named → ◌≡◌ {A = Result T ScriptError} (Err r) (Err (Bad line kind)) → P named → (line ≡ number) × P kind

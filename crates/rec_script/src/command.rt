@@ -214,24 +214,36 @@ fn with_operands(
         (limits_of registers fields named) (words rest.now) kind) }
 {
     match named {
-        Cmd::New { .. } => birth(registers, count, rest).map(|(reg, label)| Cmd::New {
-            reg,
-            label,
-        }),
-        Cmd::Leaf { .. } => birth(registers, count, rest).map(|(reg, label)| Cmd::Leaf {
-            reg,
-            label,
-        }),
-        Cmd::Null { .. } => register(registers, count, rest).map(|reg| Cmd::Null { reg }),
-        Cmd::Copy { .. } => two_registers(registers, count, rest).map(|(dst, src)| Cmd::Copy {
-            dst,
-            src,
-        }),
+        Cmd::New { .. } => {
+            let (reg, label) = birth(registers, count, rest)?;
+            Ok(Cmd::New { reg, label })
+        }
+        Cmd::Leaf { .. } => {
+            let (reg, label) = birth(registers, count, rest)?;
+            Ok(Cmd::Leaf { reg, label })
+        }
+        Cmd::Null { .. } => {
+            let reg = register(registers, count, rest)?;
+            Ok(Cmd::Null { reg })
+        }
+        Cmd::Copy { .. } => {
+            let (dst, src) = two_registers(registers, count, rest)?;
+            Ok(Cmd::Copy { dst, src })
+        }
         Cmd::Get { .. } => get(registers, fields, count, rest),
         Cmd::Put { .. } => put(registers, fields, count, rest),
-        Cmd::Value { .. } => register(registers, count, rest).map(|reg| Cmd::Value { reg }),
-        Cmd::Same { .. } => two_registers(registers, count, rest).map(|(a, b)| Cmd::Same { a, b }),
-        Cmd::Leave => no_operands(count, rest).map(|()| Cmd::Leave),
+        Cmd::Value { .. } => {
+            let reg = register(registers, count, rest)?;
+            Ok(Cmd::Value { reg })
+        }
+        Cmd::Same { .. } => {
+            let (a, b) = two_registers(registers, count, rest)?;
+            Ok(Cmd::Same { a, b })
+        }
+        Cmd::Leave => {
+            no_operands(count, rest)?;
+            Ok(Cmd::Leave)
+        }
     }
 }
 

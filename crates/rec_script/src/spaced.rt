@@ -78,7 +78,9 @@ fn operand(below: u32, bytes: &[u8], end: u8) -> Option<(u8, &[u8])>
     ensures found { IfSome result (λ x. bytes.now ≡ decimal x.0 ++ end ∷ x.1.now) }
     ensures below { IfSome result (λ x. x.0 < below) }
 {
-    let (number, rest) = numeral(bytes, end)?;
+    let Some((number, rest)) = numeral(bytes, end) else {
+        return None;
+    };
     if number < below {
         Some((number as u8, rest))
     } else {
@@ -93,8 +95,12 @@ fn two_operands(below: u32, bytes: &[u8]) -> Option<(u8, u8, &[u8])>
     ensures found { IfSome result (λ x. bytes.now ≡ spaced (decimal x.0 ∷ decimal x.1 ∷ []) x.2.now) }
     ensures below { IfSome result (λ x. (x.0 < below) × (x.1 < below)) }
 {
-    let (first, rest) = operand(below, bytes, b' ')?;
-    let (second, rest) = operand(below, rest, b'\n')?;
+    let Some((first, rest)) = operand(below, bytes, b' ') else {
+        return None;
+    };
+    let Some((second, rest)) = operand(below, rest, b'\n') else {
+        return None;
+    };
     Some((first, second, rest))
 }
 
@@ -106,9 +112,15 @@ fn three_operands(limits: (u32, u32, u32), bytes: &[u8]) -> Option<(u8, u8, u8, 
         bytes.now ≡ spaced (decimal x.0 ∷ decimal x.1 ∷ decimal x.2 ∷ []) x.3.now) }
     ensures below { IfSome result (λ x. (x.0 < limits.0) × (x.1 < limits.1) × (x.2 < limits.2)) }
 {
-    let (first, rest) = operand(limits.0, bytes, b' ')?;
-    let (second, rest) = operand(limits.1, rest, b' ')?;
-    let (third, rest) = operand(limits.2, rest, b'\n')?;
+    let Some((first, rest)) = operand(limits.0, bytes, b' ') else {
+        return None;
+    };
+    let Some((second, rest)) = operand(limits.1, rest, b' ') else {
+        return None;
+    };
+    let Some((third, rest)) = operand(limits.2, rest, b'\n') else {
+        return None;
+    };
     Some((first, second, third, rest))
 }
 
@@ -119,8 +131,12 @@ fn birth(registers: u32, bytes: &[u8]) -> Option<(u8, u32, &[u8])>
     ensures found { IfSome result (λ x. bytes.now ≡ spaced (decimal x.0 ∷ decimal x.1 ∷ []) x.2.now) }
     ensures below { IfSome result (λ x. (x.0 < registers) × (x.1 < 2 ^ 32)) }
 {
-    let (reg, rest) = operand(registers, bytes, b' ')?;
-    let (label, rest) = numeral(rest, b'\n')?;
+    let Some((reg, rest)) = operand(registers, bytes, b' ') else {
+        return None;
+    };
+    let Some((label, rest)) = numeral(rest, b'\n') else {
+        return None;
+    };
     Some((reg, label, rest))
 }
 

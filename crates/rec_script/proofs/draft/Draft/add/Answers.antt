@@ -1,10 +1,10 @@
 -- The contract of `Draft::add`: takes a line that counts, of this first word and what is behind it.
-use Rattle.std.proofs.Common.{◌∷◌}
+use Rattle.std.proofs.Common.{◌∷◌, subst}
 use Rattle.rec_script.specs.Lines.{words}
 use Rattle.rec_script.specs.Script.{Fits}
-use Rattle.rec_script.specs.Drafts.{so_far}
+use Rattle.rec_script.specs.Drafts.{IsDraft, so_far}
 use Rattle.rec_script.proofs.Commands.{is_not}
-use Rattle.rec_script.proofs.Faults.{told, fits_nothing, fits_header, fits_sized, fits_whole}
+use Rattle.rec_script.proofs.Faults.{no_error, told, fits_nothing, fits_header, fits_sized, fits_whole}
 use Rattle.rec_script.proofs.draft.Draft.add.Goals as goal
 
 pub returns-in_default-clause-refused : goal.returns-in_default-clause-refused
@@ -26,3 +26,24 @@ pub returns-in-Whole-clause-refused : goal.returns-in-Whole-clause-refused
 returns-in-Whole-clause-refused c = λ line kind e.
     let h = c.add_to_script.ensures.refused line kind e in
     (h.0, fits_whole c.args.self.now _ (c.args.word.now ∷ words c.args.rest.now) kind c.in-Whole.is h.1)
+
+pub open-script-requires-clause-version : goal.open-script-requires-clause-version
+open-script-requires-clause-version c = (subst IsDraft c.in-Sized.is c.requires).0
+
+pub open-script-requires-clause-heap : goal.open-script-requires-clause-heap
+open-script-requires-clause-heap c = (subst IsDraft c.in-Sized.is c.requires).1
+
+pub returns-in-Some-clause-valid : goal.returns-in-Some-clause-valid
+returns-in-Some-clause-valid c = c.in-Some.ensures.known
+
+pub returns-in-Some-read_heap-clause-valid : goal.returns-in-Some-read_heap-clause-valid
+returns-in-Some-read_heap-clause-valid c = (subst IsDraft c.in-Header.is c.requires, c.in-Some-read_heap.ensures.limits)
+
+pub returns-in-Some-clause-refused : goal.returns-in-Some-clause-refused
+returns-in-Some-clause-refused c = λ line kind e. absurd (no_error _ _ e)
+
+pub returns-in-Some-read_heap-clause-refused : goal.returns-in-Some-read_heap-clause-refused
+returns-in-Some-read_heap-clause-refused c = λ line kind e. absurd (no_error _ _ e)
+
+pub returns-else-not-is_mutator-clause-refused : goal.returns-else-not-is_mutator-clause-refused
+returns-else-not-is_mutator-clause-refused c = λ line kind e. absurd (no_error _ _ e)
