@@ -9,6 +9,7 @@ use Rattle.rec_audit.specs.declared.kind.Kind.TheVariants.{Title, Heap, Epoch, P
 use Rattle.rec_audit.specs.declared.form.Stage.TheVariants as stages
 use Rattle.rec_audit.specs.declared.form.Form.{Form}
 use Rattle.rec_audit.specs.declared.checker.Checker.{Checker}
+use Rattle.rec_audit.specs.declared.graph.Graph.{Graph}
 use Rattle.std.proofs.lemmas.Bool.Decides.{nat_tests}
 use Rattle.rec_audit.specs.Lines.{Line, AreNumbers, name_of, numerals, text_of_line}
 use Rattle.rec_audit.proofs.Texts.{ended, line_text, same_line}
@@ -123,6 +124,10 @@ knows_more lines line c d knows stands clean graph form sets =
       graph = graph;
       sets = sets ∙ ap (λ (n : ℕ). n + cond (is_free line.kind) 1 0) knows.sets ∙ sym (free_more lines line);
     }
+
+-- looking for a fault changes nothing that is known
+pub knows_still : (lines : List Line) (c : Checker) (graph : Graph) → Knows lines c → IsGraphOf lines graph → Knows lines (record c { graph = graph })
+knows_still lines c graph knows is = record { clean = knows.clean; form = knows.form; graph = is; sets = knows.sets }
 
 pub few_sets : (kind : Kind) → cond (is_free kind) 1 0 ≤ 1
 few_sets kind = at (is_free kind)

@@ -128,3 +128,14 @@ same_line l m r s left right e =
   where
     both : (k j : Kind) (ms ns : List ℕ) → k ≡ j → ms ≡ ns → let l : Line = record { kind = k; numbers = ms } in l ≡ record { kind = j; numbers = ns }
     both k j ms ns e f = ap (λ (x : Kind). let l : Line = record { kind = x; numbers = ms } in l) e ∙ ap (λ (xs : List ℕ). let l : Line = record { kind = j; numbers = xs } in l) f
+
+-- no name stands there
+pub no_kind : (bytes : List ℕ) → ((kind : Kind) (rest : List ℕ) → bytes ≡ name_of kind ++ rest → ⊥) → (line : Line) (rest : List ℕ) → AreNumbers line.numbers → bytes ≡ text_of_line line ++ rest → ⊥
+no_kind bytes none line rest fit is = none line.kind (ended line.numbers rest) (is ∙ line_text line rest)
+
+-- nor numbers behind the name
+pub no_numbers : (bytes left : List ℕ) (kind : Kind) → bytes ≡ name_of kind ++ left → ((ns rest : List ℕ) → AreNumbers ns → left ≡ ended ns rest → ⊥) → (line : Line) (rest : List ℕ) → AreNumbers line.numbers → bytes ≡ text_of_line line ++ rest → ⊥
+no_numbers bytes left kind name none line rest fit is =
+    let text : name_of kind ++ left ≡ name_of line.kind ++ ended line.numbers rest = sym name ∙ is ∙ line_text line rest in
+    let same : kind ≡ line.kind = same_kind kind line.kind left (ended line.numbers rest) text in
+    none line.numbers rest fit (append_cancel_left (name_of kind) left (ended line.numbers rest) (text ∙ ap (λ (k : Kind). name_of k ++ ended line.numbers rest) (sym same)))

@@ -2,10 +2,10 @@
 
 ghost use Rattle.std.specs.Prelude.{◌≡◌, ◌+◌, ◌<◌, ◌≤◌, ◌++◌, ◌∷◌, [], List, if◌then◌else◌, length, IfOk, IfErr, IfSome, IfNone, OnOk};
 ghost use Rattle.rec_model.specs.declared.limits.TheConstants.{MOST_BYTES};
-ghost use Rattle.rec_audit.specs.Lines.{Line, text_of_line};
-ghost use Rattle.rec_audit.specs.Form.{HasNumbers, MayStand, Stand, behind, form_of, stage_behind};
+ghost use Rattle.rec_audit.specs.Lines.{Line};
+ghost use Rattle.rec_audit.specs.Form.{MayStand, Stand, behind, form_of};
 ghost use Rattle.rec_audit.specs.Graph.{is_free};
-ghost use Rattle.rec_audit.specs.Graphs.{IsGraphOf, IsSized, slots_of};
+ghost use Rattle.rec_audit.specs.Graphs.{IsGraphOf, IsSized, TellNothing, slots_of};
 ghost use Rattle.rec_audit.specs.Verdicts.{HasFault, IsClean, IsFaultBy};
 ghost use Rattle.rec_audit.specs.Checkers.{IsReady, Knows, Takes};
 ghost use Rattle.rec_audit.specs.declared.form.Stage.TheVariants as stages;
@@ -46,6 +46,16 @@ fn sets_in(kind: Kind) -> u32
     }
 }
 
+/// Makes a graph that of a heap with so many slots, of which nothing was told.
+fn renew(alloc: Global, graph: &mut Graph, slots: u16) -> Result<(), AllocError>
+    ensures sized { OnOk result (IsSized graph.new) }
+    ensures size { OnOk result (slots_of graph.new ≡ slots) }
+    ensures graph { OnOk result ((lines : List Line) → TellNothing lines slots → IsGraphOf lines graph.new) }
+{
+    *graph = Graph::open(alloc, slots)?;
+    Ok(())
+}
+
 /// Tells a graph of a line that may stand.
 fn tell(
     alloc: Global,
@@ -63,31 +73,15 @@ fn tell(
         → IsGraphOf (lines ++ record { kind = kind; numbers = numbers.now } ∷ []) graph.new) }
 {
     match kind {
-        Kind::Heap => {
-            *graph = Graph::open(alloc, numbers[0] as u16)?;
-            Ok(())
-        }
-        Kind::Epoch => {
-            graph.begin_block()?;
-            Ok(())
-        }
+        Kind::Heap => renew(alloc, graph, numbers[0] as u16),
+        Kind::Epoch => graph.begin_block(),
         Kind::Put => {
             let source = numbers[1] / u64::from(form.heap.fields);
-            graph.put(source, numbers[2], numbers[3])?;
-            Ok(())
+            graph.put(source, numbers[2], numbers[3])
         }
-        Kind::Born => {
-            graph.bear(numbers[1])?;
-            Ok(())
-        }
-        Kind::Snap => {
-            graph.hold(&numbers[1..])?;
-            Ok(())
-        }
-        Kind::Out => {
-            graph.take_out(numbers[1])?;
-            Ok(())
-        }
+        Kind::Born => graph.bear(numbers[1]),
+        Kind::Snap => graph.hold(&numbers[1..]),
+        Kind::Out => graph.take_out(numbers[1]),
         Kind::Sweep => {
             graph.sweep(numbers[0]);
             Ok(())

@@ -1,6 +1,8 @@
 //! Checking a journal, a line at a time.
 
-ghost use Rattle.std.specs.Prelude.{◌≡◌, Ok, IfOk};
+ghost use Rattle.std.specs.Prelude.{◌≡◌, ◌≤◌, [], length, Ok, IfOk};
+ghost use Rattle.rec_model.specs.declared.limits.TheConstants.{MOST_BYTES};
+ghost use Rattle.rec_audit.specs.Checkers.{IsReady, Knows};
 ghost use Rattle.rec_audit.specs.Verdicts.{IsVerdict};
 
 use crate::checker::Checker;
@@ -22,11 +24,28 @@ pub fn check(alloc: Global, audit: &[u8]) -> Result<Verdict, NoMemory>
     }
     let mut checker = Checker::open(alloc)?;
     let mut numbers = Vec::new(alloc);
+    let verdict = take_lines(&mut checker, &mut numbers, audit);
+    drop((checker, numbers));
+    verdict
+}
+
+/// Takes line after line, up to one that is at fault or to the end.
+fn take_lines(
+    checker: &mut Checker,
+    numbers: &mut Vec<u64>,
+    audit: &[u8],
+) -> Result<Verdict, NoMemory>
+    requires few { length audit.now ≤ MOST_BYTES }
+    requires ready { IsReady checker.old }
+    requires knows { Knows [] checker.old }
+    requires none { checker.old.sets ≡ 0 }
+    ensures { IfOk result (IsVerdict audit.now) }
+{
     let mut rest = audit;
     let mut line: u32 = 0;
     while !rest.is_empty() {
         line += 1;
-        match checker.take(&mut numbers, rest)? {
+        match checker.take(numbers, rest)? {
             Ok(behind) => rest = behind,
             Err(rule) => return Ok(Verdict::No { line, rule }),
         }

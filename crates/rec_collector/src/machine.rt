@@ -12,7 +12,7 @@ ghost use Rattle.rec_collector.specs.Present.{HaveLeft};
 ghost use Rattle.rec_collector.specs.Private.{Private, opened, opened_from};
 ghost use Rattle.rec_collector.specs.Took.{behind, behind_turn, came_turn, ended_if, left_of, swapped_of, took_at, took_of, turn_at, turn_of};
 
-use crate::buffers::{clear_all, open_row, open_rows};
+use crate::buffers::{clear_all, open_row, open_rows, open_spares};
 use crate::parts::Parts;
 use crate::phase::Phase;
 use crate::present::next_present;
@@ -81,11 +81,11 @@ impl Machine {
         ensures kept { IfOk result IsMachine }
     {
         let mut frame = Frame::open(alloc, regs)?;
-        let newer = open_row(alloc, mutators, cap, regs, &frame)?;
         frame.set(0, 0);
-        let older = open_row(alloc, mutators, cap, regs, &frame)?;
+        let older = open_row(alloc, mutators, cap, regs, &frame);
         drop(frame);
-        let left = vec![in alloc; false; usize::from(mutators)]?;
+        let older = older?;
+        let spares = open_spares(alloc, mutators, cap, regs)?;
         let counts = Counts::open(alloc, slots, u64::from(mutators))?;
         counts.rules();
         Ok(Machine {
@@ -97,9 +97,9 @@ impl Machine {
             registers: regs,
             capacity: cap,
             parts: Parts::of(counts, fields),
-            newer,
+            newer: spares.0,
             older,
-            left,
+            left: spares.1,
         })
     }
 
@@ -127,11 +127,8 @@ impl Machine {
         ensures opened { IfOk result (λ machine. machine ≡ opened_from slots fields regs mutators cap first_epoch counts.now registers.now) }
         ensures kept { IfOk result IsMachine }
     {
-        let frame = Frame::open(alloc, regs)?;
-        let newer = open_row(alloc, mutators, cap, regs, &frame)?;
-        drop(frame);
         let older = open_rows(alloc, mutators, cap, regs, registers)?;
-        let left = vec![in alloc; false; usize::from(mutators)]?;
+        let spares = open_spares(alloc, mutators, cap, regs)?;
         let counts = Counts::open_from(alloc, slots, counts)?;
         counts.rules();
         Ok(Machine {
@@ -143,9 +140,9 @@ impl Machine {
             registers: regs,
             capacity: cap,
             parts: Parts::of(counts, fields),
-            newer,
+            newer: spares.0,
             older,
-            left,
+            left: spares.1,
         })
     }
 

@@ -1,5 +1,5 @@
 -- Slots at opening that have given counts.
-use Rattle.std.proofs.Common.{◌≡◌, ℕ, suc, zero, ◌+◌, ◌-◌, ◌<◌, ◌≤◌, ◌^◌, Bool, false, Option, None, List, [], ◌∷◌, ◌++◌, All, length, map, get_or, replicate, refl, arith, sym, subst, ◌∙◌, ap, inl, inr, append_assoc, length-append}
+use Rattle.std.proofs.Common.{◌≡◌, ℕ, suc, zero, ◌+◌, ◌-◌, ◌<◌, ◌≤◌, ◌^◌, false, Option, None, List, [], ◌∷◌, ◌++◌, All, length, map, get_or, replicate, refl, arith, sym, subst, ◌∙◌, ap, inl, inr, append_assoc, length-append}
 use Rattle.std.proofs.lemmas.Bool.{cases_lt}
 use Rattle.std.proofs.lemmas.List.{get_or_past, get_or-replicate, length-map, length-replicate, replicate-append-replicate}
 use Rattle.std.proofs.lemmas.List.Elements.{All-cons, All-head, All-nil, All-tail}

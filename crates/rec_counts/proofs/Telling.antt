@@ -8,7 +8,6 @@ use Rattle.std.proofs.lemmas.List.FromFn.{get_or-map-range_with_len, length-map-
 use Rattle.std.proofs.lemmas.Bool.{eq-eqb, eqb-true, false≢true, le-ltb, lt-ltb, ltb-true, ltb-false, ne_eqb}
 use Rattle.std.proofs.lemmas.Bool.Decides.{eqb_tells}
 use Rattle.rec_counts.specs.declared.slot.Slot.{Slot}
-use Rattle.rec_counts.specs.declared.touched.Mark.{Mark}
 use Rattle.rec_counts.specs.declared.touched.Mark.TheVariants.{Untouched, Taken}
 use Rattle.rec_counts.specs.Batched.{batched_at, batched_slots, counted_at}
 use Rattle.rec_counts.specs.Lists.{one, times}

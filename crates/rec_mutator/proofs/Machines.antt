@@ -1,8 +1,8 @@
 -- A step of a machine leaves a machine.
-use Rattle.std.proofs.Common.{◌≡◌, ◌≢◌, inl, inr, Bool, true, false, ℕ, ◌+◌, ◌^◌, ◌<◌, ◌≤◌, List, [], ◌∷◌, ◌++◌, Option, None, Some, length, refl, sym, subst, ◌∙◌, arith, length-append}
+use Rattle.std.proofs.Common.{◌≡◌, ◌≢◌, inl, inr, Bool, true, false, ℕ, ◌+◌, ◌^◌, ◌<◌, ◌≤◌, List, [], ◌∷◌, ◌++◌, ◌-◌, zero, suc, Option, None, Some, length, replicate, set, refl, sym, ap, subst, ◌∙◌, arith, lit<, length-append}
 use Rattle.std.specs.List.{All}
 use Rattle.std.specs.Option.{IfSome}
-use Rattle.std.proofs.lemmas.List.Elements.{All-set, All-get_or, All-replicate}
+use Rattle.std.proofs.lemmas.List.Elements.{All-cons, All-set, All-get_or, All-replicate}
 use Rattle.std.proofs.lemmas.Bool.{cases_lt, false≢true}
 use Rattle.std.proofs.lemmas.List.{get_or_past, length-replicate, length-set}
 use Rattle.rec_word.specs.Word.{target_of, IsTarget}
@@ -14,7 +14,7 @@ use Rattle.rec_model.specs.declared.told.Told.{Told}
 use Rattle.rec_model.specs.Asking.{allocation}
 use Rattle.rec_log.specs.declared.contents.Contents.{Contents}
 use Rattle.rec_log.specs.declared.entry.Entry.{Entry}
-use Rattle.rec_mutator.specs.Private.{Private, register, HasOperands, work_of, work_at, limit_of, probe_of, HasNext, IsAt, IsMachine}
+use Rattle.rec_mutator.specs.Private.{Private, opened_with, register, HasOperands, work_of, work_at, limit_of, probe_of, HasNext, IsAt, IsMachine}
 use Rattle.rec_mutator.specs.Step.{Step, Decides, GoesOn, LetsGo, HasLeft, Crosses, HasRoom}
 use Rattle.rec_mutator.specs.Took.{moved, nulls_of, IsFound}
 use Rattle.rec_mutator.specs.declared.made.Made.TheVariants as makes
@@ -277,3 +277,33 @@ step_machine {p = p} m sized found (Step.give_box c) =
     let crosses = at_phase p _ m c.phase in
     let two : p.steps ≡ 2 = crosses.0 in
     crossing_machine m (own_box p m) (omega (arith, crosses.1), λ _. crosses.1) (omega arith) c
+
+-- a machine with an empty log is as it is opened
+pub opened_as : (number epoch slots fields : ℕ) {registers held : List (Option ℕ)} {log : Contents} (regs cap : ℕ) → registers ≡ held → log ≡ record { entries = []; snapshot = replicate regs None; capacity = cap; last = false }
+    → let p : Private = record { number = number; epoch = epoch; slots = slots; fields = fields; registers = registers; log = log; from = 0; phase = Idle; steps = 0; left = false } in p ≡ opened_with number epoch slots fields held regs cap
+opened_as number epoch slots fields regs cap same empty i = record { number = number; epoch = epoch; slots = slots; fields = fields; registers = same i; log = empty i; from = 0; phase = Idle; steps = 0; left = false }
+
+-- and is one
+pub opened_machine : (number epoch slots fields : ℕ) (held : List (Option ℕ)) (regs cap : ℕ) → number < 2 ^ 6 → epoch < 2 ^ 24 → 0 < slots → slots < 2 ^ 16 → cap ≤ 2 ^ 18 → All IsTarget held → regs ≡ length held
+    → IsMachine (opened_with number epoch slots fields held regs cap)
+opened_machine number epoch slots fields held regs cap few early some most room targets size = record {
+  number = few;
+  epoch = omega arith;
+  stamped = λ there. early;
+  first_slot = some;
+  last_slot = most;
+  capacity = room;
+  entries = omega arith;
+  registers = targets;
+  snapshot = length-replicate regs None ∙ size;
+  from = some;
+  now = refl;
+}
+
+-- the registers of a machine as it is opened
+pub first_registers : (regs : ℕ) → 0 < regs → set (replicate {A = Option ℕ} regs None) 0 (Some 0) ≡ Some 0 ∷ replicate (regs - 1) None
+first_registers zero some = absurd (omega (arith, some))
+first_registers (suc regs) some = let less : regs ≡ suc regs - 1 = omega arith in ap (λ n. Some 0 ∷ replicate n None) less
+
+pub first_targets : (regs : ℕ) → All IsTarget (Some 0 ∷ replicate regs None)
+first_targets regs = All-cons IsTarget (Some 0) (replicate regs None) (lit< tt) (All-replicate IsTarget regs None tt)

@@ -1,7 +1,7 @@
 -- The next row is opened, and is left no more.
-use Rattle.std.proofs.Common.{◌≡◌, ℕ, suc, ◌+◌, ◌-◌, ◌*◌, ◌++◌, ◌∷◌, List, [], None, length, map, take, drop, ap, sym, ◌∙◌, arith, length-drop}
+use Rattle.std.proofs.Common.{◌≡◌, ℕ, suc, ◌+◌, ◌-◌, ◌*◌, ◌++◌, ◌∷◌, List, [], length, map, take, drop, ap, sym, ◌∙◌, arith, length-drop}
 use Rattle.std.proofs.Math.Nat.{suc-mul}
-use Rattle.std.proofs.lemmas.List.{append-nil, length-replicate}
+use Rattle.std.proofs.lemmas.List.{append-nil}
 use Rattle.rec_collector.proofs.Common.{Contents, retired}
 use Rattle.rec_collector.specs.Rows.{rows_of}
 use Rattle.rec_collector.proofs.Rows.{rows_more}
@@ -23,12 +23,8 @@ split_at-requires c =
     let size : length c.loop.rest.now ≡ left * c.args.registers + c.args.registers = c.loop.invariant.left ∙ ap (λ n. n * c.args.registers) more ∙ suc-mul left c.args.registers in
     omega (arith, size, c.from-in-loop.ensures)
 
-pub retire-requires : goal.retire-requires
-retire-requires c =
-    ap length c.in_ok-frame.ensures
-    ∙ c.split_at.ensures.front_len
-    ∙ c.from-in-loop.ensures
-    ∙ sym (ap (λ (b : Contents). length b.snapshot) c.in_ok-buffer.ensures ∙ length-replicate c.args.registers None)
+pub open_own-requires : goal.open_own-requires
+open_own-requires c = c.split_at.ensures.front_len ∙ c.from-in-loop.ensures
 
 pub returns : goal.returns
 returns c =
@@ -43,9 +39,7 @@ loop-preserved c =
     let more : c.args.mutators - c.loop.counter ≡ suc left = omega arith in
     let front : c.split_at.result.0.now ≡ take c.args.registers c.loop.rest.now = c.split_at.ensures.front ∙ ap (λ n. take n c.loop.rest.now) c.from-in-loop.ensures in
     let behind : c.split_at.result.1.now ≡ drop c.args.registers c.loop.rest.now = c.split_at.ensures.back ∙ ap (λ n. drop n c.loop.rest.now) c.from-in-loop.ensures in
-    let filed : c.retire.new.self ≡ retired c.split_at.result.0.now c.args.capacity
-    = c.retire.ensures ∙ (λ i. let b : Contents = c.in_ok-buffer.ensures i in record b { snapshot = c.in_ok-frame.ensures i }) in
-    let pushed : c.push.new.self.items ≡ c.loop.row.items ++ retired c.split_at.result.0.now c.args.capacity ∷ [] = c.in_ok-push.ensures.items ∙ ap (λ b. c.loop.row.items ++ b ∷ []) filed in
+    let pushed : c.push.new.self.items ≡ c.loop.row.items ++ retired c.split_at.result.0.now c.args.capacity ∷ [] = c.in_ok-push.ensures.items ∙ ap (λ b. c.loop.row.items ++ b ∷ []) c.in_ok-buffer.ensures in
     let rest : List Contents = map (λ own. retired own c.args.capacity) (rows_of c.args.registers left c.split_at.result.1.now) in
     let size : length c.loop.rest.now ≡ left * c.args.registers + c.args.registers = c.loop.invariant.left ∙ ap (λ n. n * c.args.registers) more ∙ suc-mul left c.args.registers in
     record {

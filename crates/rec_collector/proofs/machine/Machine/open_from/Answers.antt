@@ -6,8 +6,7 @@ use Rattle.rec_collector.proofs.Opening.{opened_from_keeps}
 use Rattle.rec_collector.proofs.machine.Machine.open_from.Goals as goal
 
 pub returns-clause-opened : goal.returns-clause-opened
-returns-clause-opened c =
-    rw (c.of.ensures, c.in_ok-counts.ensures, c.in_ok-newer.ensures, c.in_ok-older.ensures, c.in_ok-left.ensures.items_if_clones_equal (λ y e. e), c.from.ensures, c.in_ok-frame.ensures) refl
+returns-clause-opened c = rw (c.of.ensures, c.in_ok-counts.ensures, c.in_ok-spares.ensures.buffers, c.in_ok-older.ensures, c.in_ok-spares.ensures.left) refl
 
 pub invariant_of-result : goal.invariant_of-result
 invariant_of-result c =

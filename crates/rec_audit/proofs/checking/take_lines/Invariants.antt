@@ -1,8 +1,8 @@
--- The loop of `check`: what was read so far.
+-- What was read so far.
 use Rattle.std.proofs.Common.{◌+◌, ◌≤◌, length}
 use Rattle.rec_model.specs.declared.limits.TheConstants.{MOST_BYTES}
 use Rattle.rec_audit.specs.Checkers.{HasRead, IsReady}
-use Rattle.rec_audit.proofs.checking.check.Given as goal
+use Rattle.rec_audit.proofs.checking.take_lines.Given as goal
 
 abbrev pub invariant-loop-rest : goal.invariant-loop-rest
 invariant-loop-rest l = record {
