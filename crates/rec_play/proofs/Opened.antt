@@ -12,7 +12,6 @@ use Rattle.rec_core.specs.Config.{IsMutator}
 use Rattle.rec_core.specs.Core.{Core, mutator, sight, opened, opened_mutators, opened_mutator}
 use Rattle.rec_core.specs.Objects.{Objects, rows_of}
 use Rattle.rec_core.specs.OpenedFrom.{holding_mutator, holding_mutators, opened_from}
-use Rattle.rec_core.specs.Kept.{IsKept}
 use Rattle.rec_core.specs.Moves.{Move, after_moves}
 use Rattle.rec_core.specs.declared.config.Config.{Config}
 use Rattle.rec_collector.proofs.Rows.{length-rows}

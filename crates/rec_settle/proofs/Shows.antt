@@ -1,15 +1,13 @@
 -- What a watch is shown of settling is what it is shown of the moves that make up its turns.
-use Rattle.std.proofs.Common.{◌≡◌, ℕ, ◌++◌, Option, None, Some, List, [], refl, sym, ap, subst, ◌∙◌}
+use Rattle.std.proofs.Common.{ℕ, Option, None, Some, List, [], sym, subst}
 use Rattle.std.proofs.lemmas.List.{append-nil}
 use Rattle.rec_word.specs.declared.op.Op.{Op}
-use Rattle.rec_mutator.specs.Private.{Private, is_busy}
 use Rattle.rec_mutator.specs.declared.work.Work.TheVariants as works
 use Rattle.rec_collector.specs.Next.{next_of}
 use Rattle.rec_collector.specs.Shown.{Shown}
-use Rattle.rec_collector.specs.declared.turn.Turn.{Turn}
 use Rattle.rec_core.specs.Core.{Core}
 use Rattle.rec_core.specs.Kept.{IsKept}
-use Rattle.rec_core.specs.Moves.{Move, offering, turned, turned_at}
+use Rattle.rec_core.specs.Moves.{Move, turned, turned_at}
 use Rattle.rec_core.specs.Shown.{Shows, turn_shown}
 use Rattle.rec_core.proofs.Gathering.{awaited_stays}
 use Rattle.rec_core.proofs.Shows.{shows_kept, shows_none, shows_one, shows_then, shows_worked}

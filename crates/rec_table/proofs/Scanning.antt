@@ -1,5 +1,5 @@
 -- A scan on the table: the loads of taken headers are its failing probes.
-use Rattle.std.proofs.Common.{◌≡◌, ◌≢◌, ℕ, ◌+◌, ◌-◌, ◌<◌, ◌≤◌, ◌==◌, if◌then◌else◌, arith, Bool, true, false, ne_eqb, List, [], ◌∷◌, ◌++◌, length, fold, All, Option, Some, None, refl, sym, ap, ◌∙◌, subst, append_assoc, length-append}
+use Rattle.std.proofs.Common.{◌≡◌, ◌≢◌, ℕ, ◌+◌, ◌-◌, ◌<◌, ◌≤◌, ◌==◌, if◌then◌else◌, arith, append-nil, Bool, true, false, ne_eqb, List, [], ◌∷◌, ◌++◌, length, fold, All, Option, Some, None, refl, sym, ap, ◌∙◌, subst, append_assoc, length-append}
 use Rattle.std.proofs.lemmas.List.{map-append}
 use Rattle.std.proofs.lemmas.List.Elements.{All-nil, All-cons, All-head, All-tail, All-append}
 use Rattle.atomic_table.specs.Table.{Me, Step}
@@ -147,6 +147,14 @@ module _ (p : Private) (reg label : ℕ) (leaf : Bool) (before from : ℕ) (scan
 
   pub skipped_rests : (slot : ℕ) (t : Seated) → IsBetween (skipped_to p slot).phase × (hands t (skipped_to p slot) ≡ [])
   skipped_rests slot t = goes_on (slot == p.slots) slot (skipped_to p slot).number t.hand (skipped_to p slot).phase (ap (λ (q : Private). q.phase) (came_to slot))
+
+pub passed_none : (from : ℕ) (me : Me (Option Contents) View) → me ≡ (Mutates (seated_of me.0), []) → Passed (seated_of me.0) from (from + 0) me
+passed_none from me own = record {
+  words = [];
+  taken = λ k d lt. absurd (omega (arith, lt));
+  every = omega arith;
+  grows = own ∙ (λ i. (Mutates (record (seated_of me.0) { log = sym (append-nil (seated_of me.0).log) i }), []));
+}
 
 pub passed_one : (t : Seated) (from slot word : ℕ) (me me' : Me (Option Contents) View) → Passed t from slot me → word ≢ 0 → me' ≡ (adds me.0 (beats None word), me.1) → Passed t from (slot + 1) me'
 passed_one t from slot word me me' passed taken now =

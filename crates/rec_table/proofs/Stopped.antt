@@ -1,5 +1,5 @@
 -- What stopping promises, from the run of all lists.
-use Rattle.std.proofs.Common.{◌≡◌, List, length, map, Option, Some, Result, Ok, Err, sym, ap, ◌∙◌, subst}
+use Rattle.std.proofs.Common.{◌≡◌, List, length, map, Some, Result, Ok, Err, sym, ap, ◌∙◌, subst}
 use Rattle.std.specs.Option.{IfSome}
 use Rattle.std.specs.Result.{IfOk, result_ok}
 use Rattle.std.proofs.lemmas.List.{length-map}

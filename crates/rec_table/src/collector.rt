@@ -298,6 +298,7 @@ impl Collector {
 
     /// Makes one turn, as `turn` does, and tells the label of the object that it freed, if it freed one. A label that the teller keeps is
     /// offered first. Where that comes back no turn is made, and the label is held on.
+    #[inline(always)]
     pub fn turn_telling<T: Tube>(&mut self, heap: &Heap, teller: &mut Teller<T>) -> Telling
         requires own { IsCollectorOf heap.now self.old }
 

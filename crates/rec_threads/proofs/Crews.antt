@@ -3,6 +3,7 @@ use Rattle.std.proofs.Common.{◌≡◌, ℕ, ◌+◌, ◌-◌, Bool, MatchBool,
 use Rattle.std.proofs.lemmas.Option.{get_or_from_slice_get}
 use Rattle.std.specs.declared.thread.PromisedHandle.{PromisedHandle}
 use Rattle.rec_model.specs.declared.command.Cmd.{Cmd}
+use Rattle.rec_model.specs.declared.limits.TheConstants.{MOST_TURNS}
 use Rattle.rec_script.specs.Script.{ScriptContents}
 use Rattle.rec_table.specs.Views.{CollectorView, MutatorView, Started, IsCollectorOf}
 use Rattle.rec_world.specs.Journal.{Notes}
@@ -27,6 +28,16 @@ one_more false h cmds crew rest back all w v ms js col each ended last ms' js' c
   journals = js' ∙ (λ i. ended.journals i ++ (last i).journal ∷ []) ∙ sym js;
   collector = col' ∙ ended.collector ∙ col;
 }
+
+-- Where there is no mutator the collector alone works, and what lies there is as it was.
+pub none_more : (b : Bool) (h : Started) (cmds : List (List Cmd)) (crew all : Crew) → length crew.mutators.items ≡ 0 → all.mutators.items ≡ crew.mutators.items → all.journals.items ≡ crew.journals.items
+    → MatchBool b (IsCollectorOf h all.collector × HasCollected MOST_TURNS crew.collector all.collector) (all.collector ≡ crew.collector) → HasEnded b h cmds crew all
+none_more true h cmds crew all none ms js begun = record {
+  done = record { mutators_all = ap length ms; journals_all = ap length js; each = λ k d lt. absurd (omega (arith, lt, none)) };
+  collector = begun.0;
+  collected = begun.1;
+}
+none_more false h cmds crew all none ms js begun = record { mutators = ms; journals = js; collector = begun }
 
 -- those before the last one, and the last one
 pub rest_ready : (h : Started) (script : ScriptContents) (crew rest : Crew) (w : Worker) → crew.mutators.items ≡ rest.mutators.items ++ w.mutator ∷ [] → crew.journals.items ≡ rest.journals.items ++ w.journal ∷ [] → AreReady h script crew.mutators.items crew.journals.items

@@ -1,5 +1,5 @@
 -- The mutator polled and made its next command.
-use Rattle.std.proofs.Common.{◌≡◌, ◌+◌, ◌-◌, ◌<◌, List, [], length, ap, subst, ◌∙◌}
+use Rattle.std.proofs.Common.{◌≡◌, ◌+◌, ◌-◌, ◌<◌, List, [], length, ap, subst, ◌∙◌, ◌≤◌, sym}
 use Rattle.std.specs.List.{slice_get}
 use Rattle.std.proofs.lemmas.Option.{slice_get-get_or, get_or_from_slice_get}
 use Rattle.rec_model.specs.declared.command.Cmd.{Cmd}
@@ -44,3 +44,39 @@ pub returns-clause-idle : goal.returns-clause-idle
 returns-clause-idle c =
     others_idle c.poll.new.self c.command-told.new.self c.args.t c.command-told.ensures.stays.config c.command-told.ensures.stays.others c.command-told.ensures.stays.idle
     (others_idle c.args.world.now c.poll.new.self c.args.t c.poll.ensures.quiet.config c.poll.ensures.quiet.others c.poll.ensures.idle c.requires.idle)
+
+pub commands-requires-clause-some : goal.commands-requires-clause-some
+commands-requires-clause-some c = c.requires.some
+
+pub commands-requires-clause-most : goal.commands-requires-clause-most
+commands-requires-clause-most c = c.requires.most
+
+pub bounds-commands-made : goal.bounds-commands-made
+bounds-commands-made c =
+    let cmds : List Cmd = c.commands.result.now in
+    let own : commands_of c.args.script.now c.args.t ≡ cmds = commands_are c.args.script.now c.args.t c.requires.some ∙ get_or_from_slice_get c.args.script.now.commands (c.args.t - 1) cmds [] c.commands.ensures.value in
+    subst (λ (xs : List Cmd). c.args.made < length xs) own c.requires.next
+
+pub poll-requires-clause-mutator : goal.poll-requires-clause-mutator
+poll-requires-clause-mutator c = (c.requires.some, subst (λ config. c.args.t ≤ config.mutators) (sym c.requires.config) c.requires.most)
+
+pub poll-requires-clause-present : goal.poll-requires-clause-present
+poll-requires-clause-present c = c.requires.present
+
+pub poll-requires-clause-idle : goal.poll-requires-clause-idle
+poll-requires-clause-idle c = c.requires.idle c.args.t (c.requires.some, subst (λ config. c.args.t ≤ config.mutators) (sym c.requires.config) c.requires.most)
+
+pub command-told-requires-clause-present : goal.command-told-requires-clause-present
+command-told-requires-clause-present c = c.poll.ensures.left ∙ c.requires.present
+
+pub command-told-requires-clause-idle : goal.command-told-requires-clause-idle
+command-told-requires-clause-idle c = c.poll.ensures.idle
+
+pub returns-clause-config : goal.returns-clause-config
+returns-clause-config c = c.command-told.ensures.stays.config ∙ c.poll.ensures.quiet.config ∙ c.requires.config
+
+pub returns-clause-kept : goal.returns-clause-kept
+returns-clause-kept c = c.command-told.ensures.kept
+
+pub returns-clause-requested : goal.returns-clause-requested
+returns-clause-requested c = c.command-told.ensures.stays.requested ∙ c.poll.ensures.quiet.requested

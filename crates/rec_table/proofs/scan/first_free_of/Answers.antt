@@ -3,7 +3,7 @@ use Rattle.std.proofs.Common.{◌≡◌, ◌+◌, ◌-◌, ◌<◌, ℕ, arith, 
 use mathlib.Core.Option.{none}
 use Rattle.atomic_table.specs.Table.{step}
 use Rattle.rec_table.proofs.Common.{seated_of, Passed, probe_of, mutator, told}
-use Rattle.rec_table.proofs.Scanning.{allows_pass, comes_to, passed_one}
+use Rattle.rec_table.proofs.Scanning.{allows_pass, comes_to, passed_one, passed_none}
 use Rattle.rec_table.proofs.scan.first_free_of.Goals as goal
 
 pub load-requires : goal.load-requires
@@ -34,3 +34,33 @@ loop-index-preserved c =
           (passed_one (seated_of c.args.seat.now.me.0) c.args.probed (c.args.probed + c.loop-index.index) c.load.result c.loop-index.seat.me c.load.new.seat.me i.passed c.if-load-eq0.false (c.load.ensures.2.0 c.if-load-eq0.false));
       few = omega (arith, c.loop-index-test.true);
     }
+
+pub overflow_add-first_header : goal.overflow_add-first_header
+overflow_add-first_header c = let wide = c.args.board.now.wide in omega (arith, wide.0, wide.1, wide.2, wide.3, c.requires.slots)
+
+pub loop-index-init : goal.loop-index-init
+loop-index-init c = record { table = λ i. c.args.seat.now.table_id; id = λ i. c.args.seat.now.id; passed = passed_none c.args.probed c.args.seat.now.me c.requires.seat; few = omega arith }
+
+pub overflow_add-first_header-in-loop-index : goal.overflow_add-first_header-in-loop-index
+overflow_add-first_header-in-loop-index c = let wide = c.args.board.now.wide in omega (arith, wide.0, wide.1, wide.2, wide.3, c.requires.slots, c.loop-index-test.true)
+
+pub returns-then-load-eq0-clause-seat : goal.returns-then-load-eq0-clause-seat
+returns-then-load-eq0-clause-seat c = (c.load.ensures.0 ∙ c.loop-index.invariant.table, c.load.ensures.1 ∙ c.loop-index.invariant.id)
+
+pub returns-then-load-eq0-clause-passed : goal.returns-then-load-eq0-clause-passed
+returns-then-load-eq0-clause-passed c = subst (Passed (seated_of c.args.seat.now.me.0) c.args.probed (c.args.probed + c.loop-index.index)) (sym (c.load.ensures.2.1 c.if-load-eq0.true)) c.loop-index.invariant.passed
+
+pub returns-then-load-eq0-clause-few : goal.returns-then-load-eq0-clause-few
+returns-then-load-eq0-clause-few c = c.loop-index.invariant.few
+
+pub returns-clause-seat : goal.returns-clause-seat
+returns-clause-seat c = (c.loop-index.invariant.table, c.loop-index.invariant.id)
+
+pub returns-clause-passed : goal.returns-clause-passed
+returns-clause-passed c =
+    let few = c.loop-index.invariant.few in
+    let all : c.loop-index.index ≡ c.args.many = omega (arith, few, c.loop-index-test.false) in
+    subst (λ (n : ℕ). Passed (seated_of c.args.seat.now.me.0) c.args.probed (c.args.probed + n) c.loop-index.seat.me) all c.loop-index.invariant.passed
+
+pub returns-clause-few : goal.returns-clause-few
+returns-clause-few c = omega arith

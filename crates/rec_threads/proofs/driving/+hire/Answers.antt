@@ -1,10 +1,10 @@
 -- The contract of `+hire`: starts a worker for each mutator.
-use Rattle.std.proofs.Common.{◌≡◌, ◌≤◌, ℕ, Bool, MatchBool, List, length, refl, sym, subst, ◌∙◌, arith}
+use Rattle.std.proofs.Common.{◌≡◌, ◌≤◌, ℕ, Bool, MatchBool, List, length, refl, sym, subst, ap, ◌∙◌, arith, append-nil, vec_capacity, ◌+◌}
 use Rattle.rec_model.specs.declared.command.Cmd.{Cmd}
 use Rattle.rec_threads.specs.Done.{HasDone, IsReady, commands_at}
 use Rattle.rec_threads.specs.declared.crew.Crew.{Crew}
 use Rattle.rec_threads.specs.declared.worker.Worker.{Worker}
-use Rattle.rec_threads.proofs.Crews.{all_back, one_more, ordered, own_commands, reports, rest_ready}
+use Rattle.rec_threads.proofs.Crews.{all_back, none_more, one_more, ordered, own_commands, reports, rest_ready}
 use Rattle.rec_threads.proofs.Lists.{together}
 use Rattle.rec_threads.proofs.Works.{all_operands}
 use Rattle.rec_threads.proofs.driving.+hire.Goals as goal
@@ -85,3 +85,47 @@ agrees-requires g t c =
     let hired = c.hire_one-hired.ensures in
     let report = c.report_of-worker.ensures in
     ordered c.hire_one-hired.result c.report_of-worker.result c.args.signals.now.orders.id hired.signals report.orders hired.orders report.ended ∙ sym c.hire-crew.ensures.orders
+
+pub begin-requires-clause-collector : goal.begin-requires-clause-collector
+begin-requires-clause-collector g t c κs within = c.requires.collector
+
+pub returns-in_default-clause-orders : goal.returns-in_default-clause-orders
+returns-in_default-clause-orders g t c = c.begin.ensures.orders
+
+pub returns-in_default-clause-ended : goal.returns-in_default-clause-ended
+returns-in_default-clause-ended g t c =
+    let none = c.in_default.ensures in
+    let begun = c.begin.ensures in
+    none_more c.begin.result.1.value c.args.heap.now c.args.script.now.commands c.args.crew c.begin.result.0 (omega (arith, none.cases.0, c.args.crew.mutators.ok.0))
+    (ap (λ v. v.items) begun.mutators ∙ sym (none.items ∙ append-nil c.pop.new.self.items)) (ap (λ v. v.items) begun.journals) begun.begun
+
+pub returns-in_default-clause-room : goal.returns-in_default-clause-room
+returns-in_default-clause-room g t c = (ap (λ v. vec_capacity v) c.begin.ensures.mutators ∙ c.in_default.ensures.capacity, ap (λ v. vec_capacity v) c.begin.ensures.journals)
+
+pub unreachable-requires : goal.unreachable-requires
+unreachable-requires g t c =
+    let popped = c.in-Some.ensures.len in
+    let each = c.requires.ready.one_each in
+    omega (arith, popped, each, c.in_default-pop.ensures.cases.0, c.args.crew.mutators.ok.0, c.args.crew.journals.ok.0)
+
+pub commands-commands-requires-clause-some : goal.commands-commands-requires-clause-some
+commands-commands-requires-clause-some g t c =
+    let rest : Crew = record c.args.crew { mutators = c.pop.new.self; journals = c.pop-2.new.self } in
+    let ready = (rest_ready c.args.heap.now c.args.script.now c.args.crew rest (together c.in-Some.mutator c.in-Some-pop.journal) c.in-Some.ensures.items c.in-Some-pop.ensures.items c.requires.ready).1 in
+    let named : c.number.result ≡ length c.pop.new.self.items + 1 = c.number.ensures.number ∙ ready.named in
+    omega (arith, named)
+
+pub commands-commands-requires-clause-most : goal.commands-commands-requires-clause-most
+commands-commands-requires-clause-most g t c =
+    let rest : Crew = record c.args.crew { mutators = c.pop.new.self; journals = c.pop-2.new.self } in
+    let ready = (rest_ready c.args.heap.now c.args.script.now c.args.crew rest (together c.in-Some.mutator c.in-Some-pop.journal) c.in-Some.ensures.items c.in-Some-pop.ensures.items c.requires.ready).1 in
+    let named : c.number.result ≡ length c.pop.new.self.items + 1 = c.number.ensures.number ∙ ready.named in
+    let popped = c.in-Some.ensures.len in
+    let few = c.requires.ready.few in
+    omega (arith, named, popped, few, c.args.crew.mutators.ok.0, c.pop.new.self.ok.0)
+
+pub returns-clause-orders : goal.returns-clause-orders
+returns-clause-orders g t c = c.hire-crew.ensures.orders
+
+pub returns-clause-room : goal.returns-clause-room
+returns-clause-room g t c = (c.taken_back.ensures.room.0 ∙ c.hire-crew.ensures.room.0 ∙ c.in-Some.ensures.capacity, c.taken_back.ensures.room.1 ∙ c.hire-crew.ensures.room.1 ∙ c.in-Some-pop.ensures.capacity)

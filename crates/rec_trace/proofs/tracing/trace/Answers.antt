@@ -5,6 +5,7 @@ use Rattle.rec_model.specs.Sight.{NumbersSlots, targets_of}
 use Rattle.rec_model.proofs.Numbered.{lists_reached, numbering_distinct, one_numbering}
 use Rattle.rec_world.specs.World.{sight}
 use Rattle.rec_trace.proofs.Filled.{world_below, world_fields, world_frontier, world_listed, world_roots}
+use Rattle.std.proofs.lemmas.Result.{IfOk-from_err}
 use Rattle.rec_trace.proofs.tracing.trace.Goals as goal
 
 pub loop-first-init : goal.loop-first-init
@@ -49,3 +50,36 @@ returns-clause-only g c = λ others also.
     let numbers : NumbersSlots (sight c.args.world.now) c.into_list.result.items
     = world_listed c.args.world.now c.words.ensures.kept c.loop-first.first c.loop-first.found.list c.list.result.now c.into_list.result.items c.loop-first.invariant.filled c.list.ensures.list c.loop-first-test.false c.into_list.ensures in
     one_numbering (roots (sight c.args.world.now).registers) (targets_of (sight c.args.world.now)) c.into_list.result.items others numbers also
+
+pub returns-in_err-found-clause-numbers : goal.returns-in_err-found-clause-numbers
+returns-in_err-found-clause-numbers g c = IfOk-from_err c.from_residual.result _ c.from_residual.ensures.0
+
+pub returns-in_err-found-clause-reached : goal.returns-in_err-found-clause-reached
+returns-in_err-found-clause-reached g c = IfOk-from_err c.from_residual.result _ c.from_residual.ensures.0
+
+pub returns-in_err-found-clause-once : goal.returns-in_err-found-clause-once
+returns-in_err-found-clause-once g c = IfOk-from_err c.from_residual.result _ c.from_residual.ensures.0
+
+pub returns-in_err-found-clause-only : goal.returns-in_err-found-clause-only
+returns-in_err-found-clause-only g c = IfOk-from_err c.from_residual.result _ c.from_residual.ensures.0
+
+pub meet_roots-requires-clause-slots : goal.meet_roots-requires-clause-slots
+meet_roots-requires-clause-slots g c = c.in_ok-found.ensures.slots ∙ c.slots.ensures.slots
+
+pub meet_roots-requires-clause-empty : goal.meet_roots-requires-clause-empty
+meet_roots-requires-clause-empty g c = c.in_ok-found.ensures.empty
+
+pub follow-requires-clause-pieces : goal.follow-requires-clause-pieces
+follow-requires-clause-pieces g c κs within = c.requires
+
+pub returns-in_err-found-2-clause-numbers : goal.returns-in_err-found-2-clause-numbers
+returns-in_err-found-2-clause-numbers g c = IfOk-from_err c.from_residual-in_err-found-2.result _ c.from_residual-in_err-found-2.ensures.0
+
+pub returns-in_err-found-2-clause-reached : goal.returns-in_err-found-2-clause-reached
+returns-in_err-found-2-clause-reached g c = IfOk-from_err c.from_residual-in_err-found-2.result _ c.from_residual-in_err-found-2.ensures.0
+
+pub returns-in_err-found-2-clause-once : goal.returns-in_err-found-2-clause-once
+returns-in_err-found-2-clause-once g c = IfOk-from_err c.from_residual-in_err-found-2.result _ c.from_residual-in_err-found-2.ensures.0
+
+pub returns-in_err-found-2-clause-only : goal.returns-in_err-found-2-clause-only
+returns-in_err-found-2-clause-only g c = IfOk-from_err c.from_residual-in_err-found-2.result _ c.from_residual-in_err-found-2.ensures.0

@@ -1,5 +1,5 @@
 -- The contract of `Board::close`: takes the words and the mailboxes off the table.
-use Rattle.std.proofs.Common.{◌≡◌, ◌≢◌, ◌≤◌, ◌<◌, ◌+◌, ◌++◌, ◌∷◌, [], ℕ, List, Bool, false, length, take, get_or, set, sym, ap, ◌∙◌, subst, arith, get_or-set_same, get_or-set_other}
+use Rattle.std.proofs.Common.{◌≡◌, ◌≢◌, ◌≤◌, ◌<◌, ◌+◌, ◌++◌, ◌∷◌, [], ℕ, List, Bool, false, length, take, get_or, set, sym, ap, ◌∙◌, subst, arith, get_or-set_same, get_or-set_other, refl, min, length-take}
 use mathlib.Core.Logic.{dite}
 use native.Mathlib.Decide.{ℕ_discrete}
 use Rattle.std.specs.Mem.Slots.{slots_items, slots_filled, slots_len}
@@ -56,3 +56,47 @@ returns-clause-run c =
     let le' : length (slots_items c.loop-k.closed.slots) ≤ c.loop-k.k = omega (arith, c.loop-k.closed.slots.ok.0, i.long) in
     let boxes : c.loop-k.boxes.items ≡ xs = i.items ∙ (take_whole (slots_items c.loop-k.closed.slots) c.loop-k.k le' ∙ i.same) in
     subst (λ (y : List ℕ × List (Option Buffer)). IsRunOf key c.args.collector.collecting y.0 y.1) (λ j. (sym words j, sym boxes j)) run
+
+pub close_with-closed-requires : goal.close_with-closed-requires
+close_with-closed-requires c = c.stood-machine.ensures.seat.0 ∙ c.requires.own.0
+
+pub loop-i-init : goal.loop-i-init
+loop-i-init c = record { items = c.requires.room.0; room = omega (arith, c.word_count-count.ensures, c.requires.room.1) }
+
+pub word-requires : goal.word-requires
+word-requires c = (omega (arith, c.loop-i-test.true, c.word_count-count.ensures, c.close_with-closed.ensures.counts.0), c.close_with-closed.ensures.values.0)
+
+pub push_reserved-requires : goal.push_reserved-requires
+push_reserved-requires c =
+    let ws : List ℕ = slots_items c.close_with-closed.result.words in
+    let long : length c.loop-i.words.items ≡ min c.loop-i.i (length ws) = ap length c.loop-i.invariant.items ∙ length-take c.loop-i.i ws in
+    omega (arith, long, c.loop-i.words.ok.0, c.loop-i.invariant.room, c.loop-i-test.true)
+
+pub loop-k-init : goal.loop-k-init
+loop-k-init c = record {
+  items = c.requires.room_boxes.0;
+  same = refl;
+  words = refl;
+  long = c.close_with-closed.ensures.counts.1 ∙ sym c.slot_count-slots.ensures;
+  room = omega (arith, c.slot_count-slots.ensures, c.requires.room_boxes.1);
+  full = c.close_with-closed.ensures.values.1;
+  none = λ j lt. absurd (omega (arith, lt));
+}
+
+pub take-requires : goal.take-requires
+take-requires c =
+    let i = c.loop-k.invariant in
+    let low : c.loop-k.k < slots_len c.loop-k.closed.slots = omega (arith, c.loop-k-test.true, i.long) in
+    (low, i.full c.loop-k.k (omega arith) low)
+
+pub push_reserved-requires-in-loop-k : goal.push_reserved-requires-in-loop-k
+push_reserved-requires-in-loop-k c =
+    let xs : List (Option Buffer) = slots_items c.loop-k.closed.slots in
+    let long : length c.loop-k.boxes.items ≡ min c.loop-k.k (length xs) = ap length c.loop-k.invariant.items ∙ length-take c.loop-k.k xs in
+    omega (arith, long, c.loop-k.boxes.ok.0, c.loop-k.invariant.room, c.loop-k-test.true)
+
+pub free-requires : goal.free-requires
+free-requires c = λ k lt. c.loop-k.invariant.none k (omega (arith, lt, c.loop-k-test.false, c.loop-k.invariant.long))
+
+pub returns-clause-machine : goal.returns-clause-machine
+returns-clause-machine c = c.stood-machine.ensures.machine

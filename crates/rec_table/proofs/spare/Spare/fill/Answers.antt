@@ -1,5 +1,5 @@
 -- The contract of `Spare::fill`: takes all off the table, and puts a world together from it.
-use Rattle.std.proofs.Common.{◌≡◌, ℕ, ◌+◌, ◌%◌, ◌^◌, [], slice_index_or, All, List, refl, sym, ap, ◌∙◌, subst}
+use Rattle.std.proofs.Common.{◌≡◌, ℕ, ◌+◌, ◌%◌, ◌^◌, [], slice_index_or, All, List, refl, sym, ap, ◌∙◌, subst, length, map, ◌≤◌, vec_capacity}
 use Rattle.std.specs.List.{sum_by}
 use Rattle.rec_table.proofs.Common.{Private, Core, after_moves, births_told, gathered_all, CollectorView, MutatorView, Started, collector_now, started, boxes_out, Beat}
 use Rattle.rec_collector.specs.Private as collectors
@@ -8,6 +8,7 @@ use Rattle.rec_world.specs.Parts.{AreParts}
 use Rattle.rec_world.specs.declared.parts.Parts.{Parts}
 use Rattle.rec_table.specs.Ends.{IsRunOf}
 use Rattle.rec_table.proofs.Stopping.{InHand, all_idle, boxes_even, made_right, parts_right}
+use Rattle.std.proofs.lemmas.List.{length-map}
 use Rattle.rec_table.proofs.spare.Spare.fill.Goals as goal
 use Rattle.rec_table.proofs.spare.Spare.fill.Goals.{After-close-collector}
 
@@ -97,3 +98,39 @@ returns-clause-home c =
     let a : After-close-collector = (goal.at.returns-clause-home c).After-close-collector in
     let is : c.of_parts.result ≡ end a = c.of_parts.ensures.made (end a) (run a).world (right a) in
     subst (λ (w : Core). All (λ word. word % 2 ≡ 0) w.crossing) (sym is) (boxes_even (heap a) (after a).collecting c.args.mutators.items c.take_in_all-made.new.machines.items c.close-collector.result c.close-collector.new.words.items c.close-collector.new.boxes.items (run a) (in_hand a))
+
+pub take_in_all-made-requires-clause-own : goal.take_in_all-made-requires-clause-own
+take_in_all-made-requires-clause-own c = c.requires.collector.0
+
+pub take_in_all-made-requires-clause-mutators : goal.take_in_all-made-requires-clause-mutators
+take_in_all-made-requires-clause-mutators c = c.requires.mutators
+
+pub take_in_all-made-requires-clause-none : goal.take_in_all-made-requires-clause-none
+take_in_all-made-requires-clause-none c = c.requires.collector.2
+
+pub take_in_all-made-requires-clause-room : goal.take_in_all-made-requires-clause-room
+take_in_all-made-requires-clause-room c = (c.requires.room.machines, subst (λ (n : ℕ). n ≤ vec_capacity c.args.self.machines) (sym c.requires.mutators.all) c.requires.room.mutators)
+
+pub close-collector-requires-clause-own : goal.close-collector-requires-clause-own
+close-collector-requires-clause-own c =
+    let e = c.take_in_all-made.ensures.collector in
+    (ap (λ (g : CollectorView). g.table) e ∙ c.requires.collector.0.0, ap (λ (g : CollectorView). g.opened) e ∙ c.requires.collector.0.1)
+
+pub close-collector-requires-clause-seats : goal.close-collector-requires-clause-seats
+close-collector-requires-clause-seats c =
+    let e = c.take_in_all-made.ensures.collector in
+    let logs : List (List Beat) = map (λ (m : MutatorView). m.log) c.args.mutators.items in
+    let known : c.take_in_all-made.new.collector.collecting.known ≡ logs = ap (λ (g : CollectorView). g.collecting.known) e in
+    (ap (λ (g : CollectorView). g.collecting.made) e ∙ c.requires.collector.1, ap length known ∙ length-map c.args.mutators.items (λ (m : MutatorView). m.log) ∙ c.requires.mutators.all)
+
+pub close-collector-requires-clause-none : goal.close-collector-requires-clause-none
+close-collector-requires-clause-none c = ap (λ (g : CollectorView). boxes_out (collector_now g)) c.take_in_all-made.ensures.collector ∙ c.requires.none
+
+pub close-collector-requires-clause-room : goal.close-collector-requires-clause-room
+close-collector-requires-clause-room c = (c.requires.room.row, c.requires.room.words)
+
+pub close-collector-requires-clause-room_boxes : goal.close-collector-requires-clause-room_boxes
+close-collector-requires-clause-room_boxes c = (c.requires.room.boxes, c.requires.room.slots)
+
+pub returns-clause-kept : goal.returns-clause-kept
+returns-clause-kept c = c.of_parts.ensures.kept
