@@ -1,1 +1,2 @@
 -- The modules of the proofs.
+pub mod Mutators

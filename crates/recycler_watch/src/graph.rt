@@ -136,9 +136,15 @@ fn add_arrows(
     Ok(())
 }
 
-// A cluster for a set that waits for its tests.
+// A set that waits for its tests.
 fn drawn_set(alloc: Global, number: usize, members: &[u16]) -> Result<String, NoMemory> {
     let mut text = String::new(alloc);
+    add_cluster(&mut text, number, members)?;
+    Ok(text)
+}
+
+// A cluster with the members of a set.
+fn add_cluster(text: &mut String, number: usize, members: &[u16]) -> Result<(), NoMemory> {
     write!(
         text,
         " subgraph cluster_{number} {{ label=\"set {number}\";"
@@ -146,6 +152,5 @@ fn drawn_set(alloc: Global, number: usize, members: &[u16]) -> Result<String, No
     for member in members {
         write!(text, " s{member};")?;
     }
-    text.push_str(" }\n")?;
-    Ok(text)
+    text.push_str(" }\n")
 }

@@ -6,7 +6,7 @@ ghost use Rattle.recycler_watch.specs.Seen.{collector_seen, seen};
 ghost use Rattle.recycler_watch.specs.Told.{actor_words, headings, move_text, phase_line, placed};
 
 use crate::state::{Collector, State};
-use crate::words::says;
+use crate::words::add_sentence;
 use rec_play::Move;
 use std::alloc::{AllocError as NoMemory, Global};
 use std::fmt::Write;
@@ -22,13 +22,27 @@ pub fn move_text(
     ensures { IfOk result (λ text. string_bytes text ≡ move_text number made (seen was.now) (seen is.now)) }
 {
     let mut text = String::new(alloc);
-    add_headings(&mut text, &was.collector, &is.collector)?;
-    add_number(&mut text, number)?;
-    add_actor(&mut text, made)?;
-    text.push_str(&says(alloc, made, was, is)?)?;
-    text.push_str("\n")?;
-    add_phase(&mut text, was.collector.phase, is.collector.phase)?;
+    add_move(&mut text, alloc, number, made, was, is)?;
     Ok(text)
+}
+
+// The move with its headings, behind a text.
+fn add_move(
+    text: &mut String,
+    alloc: Global,
+    number: u64,
+    made: Move,
+    was: &State,
+    is: &State,
+) -> Result<(), NoMemory>
+    ensures { OnOk result (string_bytes text.new ≡ string_bytes text.old ++ move_text number made (seen was.now) (seen is.now)) }
+{
+    add_headings(text, &was.collector, &is.collector)?;
+    add_number(text, number)?;
+    add_actor(text, made)?;
+    add_sentence(text, alloc, made, was, is)?;
+    text.push_str("\n")?;
+    add_phase(text, was.collector.phase, is.collector.phase)
 }
 
 // Headings for what begins with a move.

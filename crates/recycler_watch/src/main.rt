@@ -197,7 +197,9 @@ fn print<R: Print>(rt: &R, teller: &mut Teller<'_>) -> anyhow::Result<bool>
     requires { teller.old.moves ≡ 0 }
 {
     let mut out = BufWriter::new(teller.alloc, io::writer(rt))?;
-    match teller.tell(&mut out) {
+    let told = teller.tell(&mut out);
+    drop(out);
+    match told {
         // Whoever stops to read has seen enough.
         Err(error) if error.kind() == ErrorKind::BrokenPipe => Ok(true),
         done => done.context("standard output"),

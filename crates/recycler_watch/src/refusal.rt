@@ -79,15 +79,13 @@ fn add_mark(
     column: usize,
     end: usize,
 ) -> Result<(), NoMemory> {
-    let mut is_empty = true;
-    for (at, byte) in line.iter().enumerate().skip(before).take(100) {
-        if at < end {
-            text.push(if at < column { blank(*byte) } else { '^' })?;
-            is_empty = false;
-        }
+    let marked = line.get(before..end.min(line.len())).unwrap_or(&[]);
+    if marked.is_empty() {
+        return text.push('^');
     }
-    if is_empty {
-        text.push('^')?;
+    for (index, byte) in marked.iter().enumerate().take(100) {
+        let is_before = before.saturating_add(index) < column;
+        text.push(if is_before { blank(*byte) } else { '^' })?;
     }
     Ok(())
 }

@@ -81,26 +81,22 @@ const WORDS: [Word; 3] = [
 
 /// The program's command, with the help that it prints.
 pub fn command<'a>(alloc: Global) -> Result<Command<'a>, NoMemory> {
-    let mut command = Command::new(alloc, "recycler_watch")
+    let words = subcommands(alloc)?;
+    Command::new(alloc, "recycler_watch")
         .version("1")
         .about("Plays a script as `recycler play` does, and shows what happens, move by move.")
         .subcommand_required(true)
-        .arg_required_else_help(true);
-    for word in &WORDS {
-        command = with_word(alloc, command, *word)?;
-    }
-    Ok(command)
+        .arg_required_else_help(true)
+        .subcommands(words)
 }
 
-// The command with one of its words.
-fn with_word<'a>(alloc: Global, command: Command<'a>, word: Word) -> Result<Command<'a>, NoMemory> {
-    match subcommand(alloc, word) {
-        Ok(subcommand) => command.subcommand(subcommand),
-        Err(error) => {
-            drop(command);
-            Err(error)
-        }
+// What the program's words do.
+fn subcommands<'a>(alloc: Global) -> Result<Vec<Command<'a>>, NoMemory> {
+    let mut commands = Vec::new(alloc);
+    for word in &WORDS {
+        commands.push(subcommand(alloc, *word)?)?;
     }
+    Ok(commands)
 }
 
 /// What the matches ask for.
@@ -139,13 +135,20 @@ fn request_of<'a>(word: &str, options: &ArgMatches<'a>) -> Option<Request<'a>> {
 }
 
 fn subcommand<'a>(alloc: Global, word: Word) -> Result<Command<'a>, NoMemory> {
-    let mut command = Command::new(alloc, word.name)
+    let args = args_of(alloc, word.parts)?;
+    Command::new(alloc, word.name)
         .about(word.about)
-        .after_help(word.more);
-    for part in word.parts {
-        command = command.arg(arg(alloc, *part))?;
+        .after_help(word.more)
+        .args(args)
+}
+
+// What stands behind a word, in order.
+fn args_of<'a>(alloc: Global, parts: &[Part]) -> Result<Vec<Arg<'a>>, NoMemory> {
+    let mut args = Vec::new(alloc);
+    for part in parts {
+        args.push(arg(alloc, *part))?;
     }
-    Ok(command)
+    Ok(args)
 }
 
 fn arg<'a>(alloc: Global, part: Part) -> Arg<'a> {

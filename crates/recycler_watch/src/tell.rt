@@ -216,7 +216,7 @@ impl Teller<'_> {
             return Ok(());
         }
         self.write_head(out)?;
-        self.write_line(out, &whole_line(self.alloc, self.moves, is)?)
+        self.write_line(out, whole_line(self.alloc, self.moves, is)?)
     }
 
     fn write_move<W: Write>(
@@ -233,7 +233,7 @@ impl Teller<'_> {
                 let text = move_text(self.alloc, self.moves, made, was, is)?;
                 out.write_all(text.as_bytes())
             }
-            _ => self.write_line(out, &line_of(self.alloc, self.moves, made, was, is)?),
+            _ => self.write_line(out, line_of(self.alloc, self.moves, made, was, is)?),
         }
     }
 
@@ -253,9 +253,10 @@ impl Teller<'_> {
         writeln!(out, "{}", text.replace(self.alloc, '<', "\\u003c")?)
     }
 
-    fn write_line<W: Write>(&self, out: &mut W, line: &Line<'_>) -> io::Result<()> {
-        let text = text_of(self.alloc, line)?;
-        writeln!(out, "{text}")
+    fn write_line<W: Write>(&self, out: &mut W, line: Line<'_>) -> io::Result<()> {
+        let text = text_of(self.alloc, &line);
+        drop(line);
+        writeln!(out, "{}", text?)
     }
 }
 
@@ -269,16 +270,19 @@ fn line_of<'l>(
 ) -> Result<Line<'l>, NoMemory>
     ensures { IfOk result (λ line. line_seen line ≡ data_line number made (seen was.now) (seen is.now)) }
 {
+    let slots = others_of(alloc, &was.slots, &is.slots)?;
+    let mutators = others_of(alloc, &was.mutators, &is.mutators)?;
+    let says = says(alloc, made, was, is)?;
     let asking = asking_of(alloc, made)?;
     Ok(Line {
         number,
         mutator: asking.mutator,
         command: asking.command,
         answer: asking.answer,
-        says: says(alloc, made, was, is)?,
+        says,
         collector: is.collector,
-        slots: others_of(alloc, &was.slots, &is.slots)?,
-        mutators: others_of(alloc, &was.mutators, &is.mutators)?,
+        slots,
+        mutators,
         lists: (was.lists != is.lists).then_some(&is.lists),
     })
 }

@@ -94,22 +94,35 @@ pub fn says(alloc: Global, made: Move, was: &State, is: &State) -> Result<String
     ensures { IfOk result (λ text. string_bytes text ≡ sentence made (seen was.now) (seen is.now)) }
 {
     let mut text = String::new(alloc);
+    add_sentence(&mut text, alloc, made, was, is)?;
+    Ok(text)
+}
+
+/// A move, and what it changed, in a sentence behind a text.
+pub fn add_sentence(
+    text: &mut String,
+    alloc: Global,
+    made: Move,
+    was: &State,
+    is: &State,
+) -> Result<(), NoMemory>
+    ensures { OnOk result (string_bytes text.new ≡ string_bytes text.old ++ sentence made (seen was.now) (seen is.now)) }
+{
     match made {
         Move::Command { mutator, cmd, told } => {
             let epoch = crossed_before(was.epoch(mutator), is.epoch(mutator), cmd, told.answer);
-            add_crossing(&mut text, epoch)?;
-            add_answer(&mut text, alloc, cmd, told)?;
-            add_outcome(&mut text, mutator, cmd, told, is)?;
+            add_crossing(text, epoch)?;
+            add_answer(text, alloc, cmd, told)?;
+            add_outcome(text, mutator, cmd, told, is)
         }
         Move::Step { seen, turn } => {
-            add_step(&mut text, seen, is)?;
-            add_turn(&mut text, turn)?;
-            add_poll(&mut text, crossed(&was.mutators, &is.mutators))?;
-            add_sets(&mut text, &was.collector, &is.collector)?;
-            add_changes(&mut text, alloc, was, is)?;
+            add_step(text, seen, is)?;
+            add_turn(text, turn)?;
+            add_poll(text, crossed(&was.mutators, &is.mutators))?;
+            add_sets(text, &was.collector, &is.collector)?;
+            add_changes(text, alloc, was, is)
         }
     }
-    Ok(text)
 }
 
 // The epoch into which a mutator crossed before its command.
