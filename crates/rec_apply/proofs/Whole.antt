@@ -12,8 +12,9 @@ use Rattle.rec_counts.specs.Touched.{greened_if, mark_of, settled_at}
 use Rattle.rec_counts.proofs.Batching.{at_each, batched_all_zeros, batched_kept, batched_rest, batched_zeros, count_at, counted_released, settled_green, unnamed_at}
 use Rattle.rec_counts.proofs.Telling.{mark_taken_of}
 use Rattle.rec_log.specs.declared.contents.Contents.{Contents}
-use Rattle.rec_apply.specs.Batch.{batch, IsBatch, IsCovered}
-use Rattle.rec_apply.specs.Targets.{added, leaves, slots_in, taken_targets}
+use Rattle.rec_apply.specs.Batch.{applied, AreAlike, batch, IsApplied, IsBatch, IsCovered}
+use Rattle.rec_apply.specs.Targets.{added, leaves, slots_in, taken, taken_targets, told_buffers}
+use Rattle.rec_apply.proofs.Told.{told_covered, told_even}
 use Rattle.rec_apply.proofs.Touching.{batch_touched, taken_times}
 
 -- nothing is told of the slots past the last one
@@ -63,3 +64,11 @@ is_batch s newer older z c = record {
 
     green : (x : ℕ) → is_green (slot_at (batch s newer older) x).colour ≡ is_green (counted_at s.slots born more less x).colour
     green x = ap (λ (v : Slot). is_green v.colour) (each x) ∙ settled_green (mark_of (ltb 0 (more x)) (ltb 0 (times x less))) (counted_at s.slots born more less x)
+
+-- the same of the batch of a heap, steady or not
+pub is_applied : (steady : Bool) (s : State) (newer older : List Contents) → s.zeros ≡ [] → AreAlike newer older → IsCovered s newer older → IsApplied steady s newer older (applied steady s newer older)
+is_applied steady s newer older z a c = is_batch s (told_buffers steady newer older) (told_buffers steady older newer) z (told_covered steady s newer older a c)
+
+-- each count is the old one, plus what is added, less what is taken off, as the buffers have it
+pub applied_count : (steady : Bool) (s : State) (newer older : List Contents) {t : State} → AreAlike newer older → IsApplied steady s newer older t → (x : ℕ) → (slot_at t x).count + taken x older ≡ (slot_at s x).count + added x newer
+applied_count steady s newer older a b x = omega (arith, b.count x, told_even steady x newer older a)

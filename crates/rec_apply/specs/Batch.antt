@@ -7,7 +7,7 @@ use Rattle.rec_counts.specs.Colour.{is_green}
 use Rattle.rec_counts.specs.Counts.{IsKept, State, slot_at}
 use Rattle.rec_counts.specs.Rest.{AllZeros, AreZeros, KeepsRest}
 use Rattle.rec_log.specs.declared.contents.Contents.{Contents}
-use Rattle.rec_apply.specs.Targets.{added, leaves, slots_in, taken, taken_targets}
+use Rattle.rec_apply.specs.Targets.{added, leaves, slots_in, taken, taken_targets, told_buffers}
 
 -- Each true count is the old one, plus what is added, less what is taken off. A leaf that was born is Green. What is only added to is in
 -- use. What something is taken off gets the colour that its count calls for, and goes where it is due, in the order in which the older
@@ -57,3 +57,15 @@ pub record IsBatch (s : State) (newer older : List Contents) (t : State) : Type 
   pub all_zeros : AllZeros s → AllZeros t
   pub lists : IsKept s → IsKept t
   pub rest : KeepsRest s t
+
+-- The batch of a heap, steady or not: of what is told of its buffers.
+abbrev pub applied : (steady : Bool) → State → (newer older : List Contents) → State
+applied steady s newer older = batch s (told_buffers steady newer older) (told_buffers steady older newer)
+
+-- How often the batch of a heap touches a slot: as often as it is named by what is told of the buffers.
+abbrev pub touches : (steady : Bool) → ℕ → (newer older : List Contents) → ℕ
+touches steady x newer older = names x (told_buffers steady newer older) (told_buffers steady older newer)
+
+-- What is known of the counts after it. In a heap that isn't steady what is told is all that the buffers name.
+abbrev pub IsApplied : (steady : Bool) → State → (newer older : List Contents) → State → Type 0
+IsApplied steady s newer older t = IsBatch s (told_buffers steady newer older) (told_buffers steady older newer) t

@@ -1,5 +1,5 @@
 -- What a buffer names, and how often it names a slot.
-use Rattle.std.specs.Prelude.{ℕ, ◌+◌, true, Option, None, Some, List, ◌++◌, map, count_by, sum_by}
+use Rattle.std.specs.Prelude.{ℕ, ◌+◌, ◌==◌, Bool, true, false, if◌then◌else◌, Option, None, Some, List, [], ◌∷◌, ◌++◌, map, count_by, sum_by}
 use Rattle.rec_word.specs.Word.{target_of, is_slot}
 use Rattle.std.specs.List.{filter_map}
 use Rattle.rec_log.specs.declared.contents.Contents.{Contents}
@@ -51,3 +51,33 @@ written x newer = sum_by (λ (b : Contents). named x (map new_target b.entries))
 
 abbrev pub held : ℕ → List Contents → ℕ
 held x newer = sum_by (λ (b : Contents). named x b.snapshot) newer
+
+-- What is told of a register: what it names in one snapshot, where it names this in the other one. In a steady heap that is nothing where
+-- both are the same.
+abbrev pub told_of : (steady : Bool) → (own other : Option ℕ) → Option ℕ
+told_of true (Some x) (Some y) = if x == y then None else Some x
+told_of steady own other = own
+
+-- what is told of the registers of a mutator, in a heap that isn't steady, and in one that is
+abbrev pub told_steadily : (own other : List (Option ℕ)) → List (Option ℕ)
+told_steadily [] others = []
+told_steadily (x ∷ xs) [] = x ∷ xs
+told_steadily (x ∷ xs) (y ∷ ys) = told_of true x y ∷ told_steadily xs ys
+
+abbrev pub told_registers : (steady : Bool) → (own other : List (Option ℕ)) → List (Option ℕ)
+told_registers false own other = own
+told_registers true own other = told_steadily own other
+
+-- what is told of a buffer beside the mutator's other one: its entries, and what is told of its registers
+abbrev pub told_buffer : (steady : Bool) → (own other : Contents) → Contents
+told_buffer steady own other = record own { snapshot = told_registers steady own.snapshot other.snapshot }
+
+-- what is told of the buffers of one epoch beside those of the other one
+abbrev pub told_each : (own other : List Contents) → List Contents
+told_each [] others = []
+told_each (b ∷ bs) [] = b ∷ bs
+told_each (b ∷ bs) (c ∷ cs) = told_buffer true b c ∷ told_each bs cs
+
+abbrev pub told_buffers : (steady : Bool) → (own other : List Contents) → List Contents
+told_buffers false own other = own
+told_buffers true own other = told_each own other

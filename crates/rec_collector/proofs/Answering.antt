@@ -1,5 +1,5 @@
 -- What follows a word, as the calls that make it tell.
-use Rattle.std.proofs.Common.{◌≡◌, ◌≢◌, ℕ, zero, suc, ◌-◌, ◌<◌, true, false, cond, is_some, Option, None, Some, length, refl, arith, sym, ◌∙◌, ap, subst, List, ◌+◌}
+use Rattle.std.proofs.Common.{Bool, ◌≡◌, ◌≢◌, ℕ, zero, suc, ◌-◌, ◌<◌, true, false, cond, is_some, Option, None, Some, length, refl, arith, sym, ◌∙◌, ap, subst, List, ◌+◌}
 use Rattle.std.proofs.lemmas.Bool.{false≢true}
 use Rattle.rec_collector.proofs.Common.{Op, IsKept, State, IsClear, IsFewTold, IsCleared, followed, going_on, gone_on, next_in, prep_started, prepared, prepared_at, sweep_phase, tried, tried_at, trial_started, relieved, relieved_at, with_freed, with_released, Parts, new_freeing, Begun, last_tested, releasing_at, tested, with_release, counted_by, tested_as, verdict_of, with_freeing, zeros_released, Held, Passed, Touched, Phase, Preparing, Releasing, Trying, Freeing, Contents, NoneReleased}
 use Rattle.rec_release.specs.declared.at.At.{At}
@@ -13,9 +13,9 @@ use Rattle.rec_collector.proofs.Steps.{prep_next, release_next, freeing_next}
 use Rattle.rec_collector.proofs.Testing.{last_clear}
 use Rattle.rec_counts.specs.Rest.{KeepsRest}
 use Rattle.rec_walk.specs.declared.member.Member.{Member}
-use Rattle.rec_apply.specs.Batch.{batch, IsCovered}
+use Rattle.rec_apply.specs.Batch.{applied, AreAlike, IsCovered}
 use Rattle.rec_collector.proofs.Following.{batch_clears}
-use Rattle.rec_apply.proofs.Whole.{is_batch}
+use Rattle.rec_apply.proofs.Whole.{is_applied}
 use Rattle.rec_collector.proofs.Freeing.{freed_clears}
 use Rattle.rec_release.specs.CycleFree as frees
 use Rattle.rec_release.specs.Release as releases
@@ -101,11 +101,11 @@ freed_clear m w word counted k wide c =
     let told : KeepsTold w (with_freed m w word).parts = freed_told m w word c.clearing.busy in
     record { clearing = on.clearing; exchanged = c.exchanged + 1; exchanges = on.exchanges; few = omega (arith, c.few, told.told) }
 
-pub batch_clear : (w : Parts) (newer older : List Contents) → 0 < w.fields → IsKept w.counts → IsCovered w.counts newer older → IsCleared w → NoneReleased w.counts → AreCounted w.counts → IsFewTold w → IsClear (zeros_released false (record w { counts = batch w.counts newer older }))
-batch_clear w newer older wide k covered c none counted few =
-    let v : Parts = record w { counts = batch w.counts newer older } in
-    let on : Clears (zeros_released false v) 0 = batch_clears w newer older wide k covered c none counted in
-    let rests : KeepsRest w.counts v.counts = (is_batch w.counts newer older c.zeros covered).rest in
+pub batch_clear : (steady : Bool) (w : Parts) (newer older : List Contents) → 0 < w.fields → IsKept w.counts → AreAlike newer older → IsCovered w.counts newer older → IsCleared w → NoneReleased w.counts → AreCounted w.counts → IsFewTold w → IsClear (zeros_released false (record w { counts = applied steady w.counts newer older }))
+batch_clear steady w newer older wide k alike covered c none counted few =
+    let v : Parts = record w { counts = applied steady w.counts newer older } in
+    let on : Clears (zeros_released false v) 0 = batch_clears steady w newer older wide k alike covered c none counted in
+    let rests : KeepsRest w.counts v.counts = (is_applied steady w.counts newer older c.zeros alike covered).rest in
     let told : KeepsTold w (zeros_released false v).parts = told_on (same_told w v.counts rests.slots rests.sets) (zeros_told false v) in
     record { clearing = on.clearing; exchanged = 0; exchanges = on.exchanges; few = omega (arith, few, told.told) }
 

@@ -1,13 +1,13 @@
 -- Slots are released and sets tested, from a batch, which leaves the counts tidy, to the next trial: what holds after each word, and what
 -- follows it.
-use Rattle.std.proofs.Common.{◌≡◌, ℕ, ◌<◌, true, false, Option, None, Some, List, [], refl, arith, sym, ◌∙◌, ap, subst, inl, inr, ◌+◌, ◌*◌, ◌^◌, ◌≤◌, length}
+use Rattle.std.proofs.Common.{◌≡◌, ℕ, ◌<◌, Bool, true, false, Option, None, Some, List, [], refl, arith, sym, ◌∙◌, ap, subst, inl, inr, ◌+◌, ◌*◌, ◌^◌, ◌≤◌, length}
 use Rattle.std.specs.List.{concat}
 use Rattle.std.proofs.lemmas.List.{get_or_past}
 use Rattle.std.proofs.lemmas.Bool.{cases_Bool, cases_lt, false≢true}
 use Rattle.rec_collector.proofs.Common.{Contents, Slot, IsKept, State, slot_at, times, absent, times-nil, IsReady, IsTidy, HasExchanged, IsCleared, IsClearingIn, AreResting, IsAtRest, NoneReleased, IsMachine, IsTesting, MayGatherBehind, Parts, followed, next_in, trial_started, with_freed, with_offers, with_released, going_on, Private, parts_of, tested, told, zeros_released, Begun, batched, Phase, Releasing, Freeing}
 use Rattle.rec_counts.specs.Rest.{KeepsRest}
-use Rattle.rec_apply.specs.Batch.{batch, IsBatch, IsCovered}
-use Rattle.rec_apply.proofs.Whole.{is_batch}
+use Rattle.rec_apply.specs.Batch.{applied, AreAlike, IsApplied, IsBatch, IsCovered}
+use Rattle.rec_apply.proofs.Whole.{is_applied}
 use Rattle.rec_release.specs.TakenOff.{IsMember}
 use Rattle.rec_collector.specs.Offered.{KeepsOffered}
 use Rattle.rec_collector.proofs.Clearing.{Clears, released_clears, zeros_clear}
@@ -179,22 +179,29 @@ freed_has p m word k e c =
       few_told = omega (arith, told_at p (Freeing m) k e, keeps.told);
     }
 
+-- the buffers of both epochs are alike
+pub rows_alike : (p : Private) → IsMachine p → AreAlike p.newer p.older
+rows_alike p k = record {
+  both = k.both;
+  registers = λ place l. (k.older place l).0 ∙ sym (k.newer place (omega (arith, l, k.both))).0;
+}
+
 -- the zeros of a batch are to be released
-pub batch_clears : (w : Parts) (newer older : List Contents) → 0 < w.fields → IsKept w.counts → IsCovered w.counts newer older → IsCleared w → NoneReleased w.counts → AreCounted w.counts → Clears (zeros_released false (record w { counts = batch w.counts newer older })) 0
-batch_clears w newer older wide k covered c none counted =
-    let v : Parts = record w { counts = batch w.counts newer older } in
-    let b : IsBatch w.counts newer older v.counts = is_batch w.counts newer older c.zeros covered in
+pub batch_clears : (steady : Bool) (w : Parts) (newer older : List Contents) → 0 < w.fields → IsKept w.counts → AreAlike newer older → IsCovered w.counts newer older → IsCleared w → NoneReleased w.counts → AreCounted w.counts → Clears (zeros_released false (record w { counts = applied steady w.counts newer older })) 0
+batch_clears steady w newer older wide k alike covered c none counted =
+    let v : Parts = record w { counts = applied steady w.counts newer older } in
+    let b : IsApplied steady w.counts newer older v.counts = is_applied steady w.counts newer older c.zeros alike covered in
     let tidy = batched_clear b none c.tidy counted c.ready c.work in
     zeros_clear false v 0 wide (b.lists k) tidy.0 tidy.1 (b.rest.work ∙ c.work) (none_exchanged v (λ x l. b.rest.released x ∙ none x (omega (arith, l, b.rest.slots))))
 
 pub begun_has : (p : Private) (t : ℕ) → IsMachine p → MayGatherBehind p t → IsCovered p.counts p.newer p.older → HasCleared p (zeros_released false (batched p))
 begun_has p t k a c =
     let w : Parts = batched p in
-    let rests : KeepsRest p.counts w.counts = (is_batch p.counts p.newer p.older a.rest.zeros c).rest in
+    let rests : KeepsRest p.counts w.counts = (is_applied p.steady p.counts p.newer p.older a.rest.zeros (rows_alike p k) c).rest in
     let keeps : KeepsTold (parts_of p) (zeros_released false w).parts = told_on (same_told (parts_of p) w.counts rests.slots rests.sets) (zeros_told false w) in
     record {
       exchanged = 0;
-      clears = batch_clears (parts_of p) p.newer p.older k.some_fields k.counts c (resting_cleared (parts_of p) a.rest) (none_released a.rest) a.rest.counted;
+      clears = batch_clears p.steady (parts_of p) p.newer p.older k.some_fields k.counts (rows_alike p k) c (resting_cleared (parts_of p) a.rest) (none_released a.rest) a.rest.counted;
       turns = omega (arith, a.turns, a.there);
       fits = fits_on (fits_self p) keeps;
       few_told = omega (arith, a.told, keeps.told);

@@ -2,7 +2,7 @@
 use Rattle.std.proofs.Common.{◌≡◌, ◌≢◌, ℕ, ◌+◌, ◌-◌, ◌^◌, Bool, false, None, Some, set, arith, ap, subst, sym, ◌∙◌}
 use Rattle.std.proofs.lemmas.List.{length-set}
 use Rattle.rec_collector.proofs.Common.{HaveLeft, batch_next, batched, buffer_at, Idle, IsAt, IsMachine, IsNextPresent, IsTold, Looking, MayGatherBehind, moved, next_present, noted, Private, requested, Returning, zeros_released}
-use Rattle.rec_apply.specs.Batch.{AreAlike, IsCovered}
+use Rattle.rec_apply.specs.Batch.{IsCovered}
 use Rattle.rec_collector.proofs.Following.{begun_has, followed_lands}
 use Rattle.rec_collector.proofs.Landing.{batch_none, batch_on, freed_at, landed, landed_keeps, Lands, machine_on, now_at, told_at, under_way_at}
 use Rattle.rec_collector.proofs.Presence.{gone_behind, next_none, next_some}
@@ -78,10 +78,3 @@ batch_lands p t k g none = followed_lands p (zeros_released false (batched p)) (
 
 pub batch_keeps : (p : Private) (t : ℕ) → IsMachine p → MayGatherBehind p t → next_present p.left t ≡ None → IsMachine (landed p (batch_next p))
 batch_keeps p t k g none = landed_keeps p (batch_next p) k g.requested g.freed (batch_on p) (batch_none p) (batch_lands p t k g none)
-
--- the buffers of both epochs are alike
-pub rows_alike : (p : Private) → IsMachine p → AreAlike p.newer p.older
-rows_alike p k = record {
-  both = k.both;
-  registers = λ place l. (k.older place l).0 ∙ sym (k.newer place (omega (arith, l, k.both))).0;
-}

@@ -6,7 +6,7 @@ use Rattle.std.proofs.lemmas.Bool.{eqb-false, cases_eq}
 use Rattle.rec_collector.proofs.Common.{HaveLeft, batch_next, behind, gathering_on, MayGatherBehind, next_present, noted, requested, Contents, IsWork, IsSized, IsGiven, IsGivenAt, AreSized, IsAt, IsMachine, IsTold, swept_at, under_way, KeepsSizes, IsGathering, IsSweeping, Private, blank, buffer_at, parts_of, moved, swapped_at, took_at, came, came_turn, ended_if, took_of, turn_at, turn_of, step_of, swapped_of, Phase, Idle, Looking, Swapping, Returning, Releasing, Freeing, Trying, Preparing, Sweeping, Closing, Opening, worked, Next, followed, with_freed, with_released, zeros_released, told}
 use Rattle.rec_word.specs.Mailbox.{crossing_word}
 use Rattle.rec_word.specs.declared.mailbox.Mailbox.TheVariants.{Retired}
-use Rattle.rec_apply.specs.Batch.{batch, IsCovered}
+use Rattle.rec_apply.specs.Batch.{applied, IsCovered}
 use Rattle.rec_release.proofs.Kept.{sweep_kept}
 use Rattle.rec_collector.specs.Works.{MayWork}
 use Rattle.rec_collector.specs.Next.{is_spent}
@@ -109,10 +109,10 @@ work_took p word (Preparing m) w = (refl, refl)
 work_took p word _ w = absurd w
 
 -- the batch as its call tells it
-pub batch_follows : (p : Private) (n : Next) (newer older : List Contents) → n ≡ followed (zeros_released false (record (parts_of p) { counts = batch p.counts newer older })) → newer ≡ p.newer → older ≡ p.older → n ≡ batch_next p
+pub batch_follows : (p : Private) (n : Next) (newer older : List Contents) → n ≡ followed (zeros_released false (record (parts_of p) { counts = applied p.steady p.counts newer older })) → newer ≡ p.newer → older ≡ p.older → n ≡ batch_next p
 batch_follows p n newer older e f g =
-    e ∙ ap (λ (b : List Contents). followed (zeros_released false (record (parts_of p) { counts = batch p.counts b older }))) f
-    ∙ ap (λ (b : List Contents). followed (zeros_released false (record (parts_of p) { counts = batch p.counts p.newer b }))) g
+    e ∙ ap (λ (b : List Contents). followed (zeros_released false (record (parts_of p) { counts = applied p.steady p.counts b older }))) f
+    ∙ ap (λ (b : List Contents). followed (zeros_released false (record (parts_of p) { counts = applied p.steady p.counts p.newer b }))) g
 
 -- what a word may be, by the phase
 pub asked : (p now : Private) (word : ℕ) (phase : Phase) → p ≡ now → p.phase ≡ phase → IsGiven now word → IsGivenAt now word phase

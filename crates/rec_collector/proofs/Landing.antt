@@ -143,7 +143,7 @@ landed_keeps p n k requested freed on still l = record {
 
 -- the numbers stay
 pub landed_sizes : (p q : Private) (n : Next) → Lands p n → KeepsSizes (landed p n) q → KeepsSizes p q
-landed_sizes p q n l s = record { slots = s.slots ∙ l.fits.slots; fields = s.fields ∙ l.fits.fields; registers = s.registers; capacity = s.capacity; mutators = s.mutators }
+landed_sizes p q n l s = record { slots = s.slots ∙ l.fits.slots; fields = s.fields ∙ l.fits.fields; registers = s.registers; capacity = s.capacity; steady = s.steady; mutators = s.mutators }
 
 -- a turn that leaves the buffers and the sets that were tested
 pub machine_on : (p : Private) (epoch : ℕ) (s : State) (freed : ℕ) (next : Phase) → IsMachine p → epoch < 2 ^ 24 → p.collections + under_way next ≤ epoch → freed ≤ 2 ^ 16 * p.collections + swept_at next → IsKeptCounts s →

@@ -12,6 +12,7 @@ pub mod Goings
 pub mod Greens
 pub mod Judging
 pub mod Keeping
+pub mod PhaseKinds
 pub mod Landing
 pub mod Offering
 pub mod Opening

@@ -1,5 +1,5 @@
 -- A machine as it is opened.
-use Rattle.std.proofs.Common.{◌≡◌, ◌⊎◌, ℕ, ◌≤◌, ◌-◌, ◌*◌, ◌^◌, ◌<◌, false, Option, None, List, [], All, length, replicate, refl, arith, sym, subst, ap, ◌∙◌, inl, inr}
+use Rattle.std.proofs.Common.{Bool, ◌≡◌, ◌⊎◌, ℕ, ◌≤◌, ◌-◌, ◌*◌, ◌^◌, ◌<◌, false, Option, None, List, [], All, length, replicate, refl, arith, sym, subst, ap, ◌∙◌, inl, inr}
 use Rattle.std.proofs.lemmas.Bool.{cases_lt, false≢true}
 use Rattle.std.proofs.lemmas.List.{get_or-replicate, get_or_past, length-map, length-replicate, length-set}
 use Rattle.rec_collector.proofs.Common.{Black, Contents, Slot, State, slot_at, absent, fresh, times-nil, written, AreSized, AreTried, IsMachine, Private, blank, first_registers, opened, retired}
@@ -42,11 +42,11 @@ record AreNew (s : State) : Type 0 where
   pub alone : (x : ℕ) → (slot_at s x).set ≡ None
 
 -- a machine that is opened with such counts, and with older buffers of its sizes, is one
-opened_machine : (fields registers mutators capacity epoch : ℕ) (slots : List Slot) (older : List Contents) → 0 < fields → fields < 2 ^ 8 → 0 < mutators → mutators < 2 ^ 8 → epoch < 2 ^ 24
-    → length older ≡ mutators → AreSized registers capacity older → IsKeptCounts (bare slots) → AreNew (bare slots) → IsMachine (opened_with fields registers mutators capacity epoch (bare slots) older)
+opened_machine : (fields registers mutators capacity epoch : ℕ) (steady : Bool) (slots : List Slot) (older : List Contents) → 0 < fields → fields < 2 ^ 8 → 0 < mutators → mutators < 2 ^ 8 → epoch < 2 ^ 24
+    → length older ≡ mutators → AreSized registers capacity older → IsKeptCounts (bare slots) → AreNew (bare slots) → IsMachine (opened_with fields registers mutators capacity epoch steady (bare slots) older)
 unfolding next_of
-opened_machine fields registers mutators capacity epoch slots older f few m small e many sized k new =
-    let p : Private = opened_with fields registers mutators capacity epoch (bare slots) older in
+opened_machine fields registers mutators capacity epoch steady slots older f few m small e many sized k new =
+    let p : Private = opened_with fields registers mutators capacity epoch steady (bare slots) older in
     let newer : length (replicate mutators (blank registers capacity)) ≡ mutators = length-replicate mutators (blank registers capacity) in
     let tried : AreTried p.counts = record {
       untried = record { marked = refl; no_gray = λ x. ap is_gray (new.black x); no_white = λ x. ap is_white (new.black x) };
@@ -93,10 +93,10 @@ opened_none slots first x l = elim (opened_at slots first x) [
 ]
 
 -- a machine as it is opened is one
-pub opened_keeps : (slots fields registers mutators capacity epoch : ℕ) → 0 < fields → fields < 2 ^ 8 → 0 < registers → 0 < mutators → mutators < 2 ^ 8 → epoch < 2 ^ 24
-    → IsKeptCounts (opened_counts slots mutators) → IsMachine (opened slots fields registers mutators capacity epoch)
-opened_keeps slots fields registers mutators capacity epoch f few r m small e k =
-    opened_machine fields registers mutators capacity epoch (opened_counts slots mutators).slots (replicate mutators (retired (first_registers registers) capacity)) f few m small e
+pub opened_keeps : (slots fields registers mutators capacity epoch : ℕ) (steady : Bool) → 0 < fields → fields < 2 ^ 8 → 0 < registers → 0 < mutators → mutators < 2 ^ 8 → epoch < 2 ^ 24
+    → IsKeptCounts (opened_counts slots mutators) → IsMachine (opened slots fields registers mutators capacity epoch steady)
+opened_keeps slots fields registers mutators capacity epoch steady f few r m small e k =
+    opened_machine fields registers mutators capacity epoch steady (opened_counts slots mutators).slots (replicate mutators (retired (first_registers registers) capacity)) f few m small e
     (length-replicate mutators (retired (first_registers registers) capacity))
     (row_sized registers capacity mutators (retired (first_registers registers) capacity) (omega (arith, r, length-replicate {A = Option ℕ} (registers - 1) None), refl))
     k
@@ -108,11 +108,11 @@ opened_keeps slots fields registers mutators capacity epoch f few r m small e k 
     })
 
 -- so is one where the first slots have these counts, and registers named these slots
-pub opened_from_keeps : (slots fields registers mutators capacity epoch : ℕ) (counts : List ℕ) (held : List (Option ℕ)) → 0 < fields → fields < 2 ^ 8 → 0 < mutators → mutators < 2 ^ 8 → epoch < 2 ^ 24
+pub opened_from_keeps : (slots fields registers mutators capacity epoch : ℕ) (steady : Bool) (counts : List ℕ) (held : List (Option ℕ)) → 0 < fields → fields < 2 ^ 8 → 0 < mutators → mutators < 2 ^ 8 → epoch < 2 ^ 24
     → All (λ count. 0 < count) counts → length held ≡ mutators * registers
-    → IsKeptCounts (counted_from slots counts) → IsMachine (opened_from slots fields registers mutators capacity epoch counts held)
-opened_from_keeps slots fields registers mutators capacity epoch counts held f few m small e some size k =
-    opened_machine fields registers mutators capacity epoch (counted_slots slots counts) (retired_rows registers mutators capacity held) f few m small e
+    → IsKeptCounts (counted_from slots counts) → IsMachine (opened_from slots fields registers mutators capacity epoch steady counts held)
+opened_from_keeps slots fields registers mutators capacity epoch steady counts held f few m small e some size k =
+    opened_machine fields registers mutators capacity epoch steady (counted_slots slots counts) (retired_rows registers mutators capacity held) f few m small e
     (length-map (rows_of registers mutators held) (λ own. retired own capacity) ∙ length-rows registers mutators held)
     (rows_sized registers mutators capacity held size)
     k

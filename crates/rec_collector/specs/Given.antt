@@ -50,6 +50,26 @@ IsWork (Trying trial) = Unit {0}
 IsWork (Preparing prep) = Unit {0}
 IsWork _ = ⊥
 
+-- zeros are released
+abbrev pub IsReleasingIn : Phase → Type 0
+IsReleasingIn (Releasing release) = Unit {0}
+IsReleasingIn _ = ⊥
+
+-- a set is freed
+abbrev pub IsFreeingIn : Phase → Type 0
+IsFreeingIn (Freeing freeing) = Unit {0}
+IsFreeingIn _ = ⊥
+
+-- a trial is at work
+abbrev pub IsTryingIn : Phase → Type 0
+IsTryingIn (Trying trial) = Unit {0}
+IsTryingIn _ = ⊥
+
+-- sets are prepared
+abbrev pub IsPreparingIn : Phase → Type 0
+IsPreparingIn (Preparing prep) = Unit {0}
+IsPreparingIn _ = ⊥
+
 -- a sweep is at work
 abbrev pub IsSweepingIn : Phase → Type 0
 IsSweepingIn (Sweeping due swept) = Unit {0}

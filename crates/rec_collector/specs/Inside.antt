@@ -21,6 +21,7 @@ private inside =
       left = inside.left.items;
       sets = inside.parts.sets;
       offers = inside.parts.offers;
+      steady = inside.steady;
     }
 
 -- what the fields of every machine keep

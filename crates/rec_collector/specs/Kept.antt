@@ -205,4 +205,5 @@ pub record KeepsSizes (p q : Private) : Type 0 where
   pub fields : q.fields ≡ p.fields
   pub registers : q.registers ≡ p.registers
   pub capacity : q.capacity ≡ p.capacity
+  pub steady : q.steady ≡ p.steady
   pub mutators : length q.newer ≡ length p.newer

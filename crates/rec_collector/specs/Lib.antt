@@ -6,6 +6,7 @@ pub mod Gathering
 pub mod Given
 pub mod Inside
 pub mod Kept
+pub mod Kind
 pub mod Next
 pub mod Offered
 pub mod Outside

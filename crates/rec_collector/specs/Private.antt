@@ -11,7 +11,8 @@ use Rattle.rec_collector.specs.declared.phase.Phase.TheVariants.{Idle}
 -- the requested epoch, the collections completed and the slots swept since opening, and the turns since the last collection;
 -- how far the collection has come, with the machine that is at work; the registers and the room of each buffer; how many fields a slot
 -- has; the counts; for each mutator the newer buffer, which is a spare until its mailbox was gathered, the older one, and whether it has
--- left: its last buffer was gathered; what became of the sets that were tested; and whether every slot is to be offered to the next trial
+-- left: its last buffer was gathered; what became of the sets that were tested; whether every slot is to be offered to the next trial; and
+-- whether the heap is steady, so that a batch leaves out registers that didn't change
 pub record Private : Type 0 where
   pub epoch : ℕ
   pub collections : ℕ
@@ -27,6 +28,7 @@ pub record Private : Type 0 where
   pub left : List Bool
   pub sets : Sets
   pub offers : Bool
+  pub steady : Bool
 
 -- a buffer without entries that has these registers as its snapshot
 abbrev pub retired : (registers : List (Option ℕ)) (capacity : ℕ) → Contents
@@ -45,8 +47,8 @@ abbrev pub first_registers : (registers : ℕ) → List (Option ℕ)
 first_registers registers = Some 0 ∷ replicate (registers - 1) None
 
 -- a machine as it is opened, with these counts and older buffers: the collection of the epoch before counts as done
-abbrev pub opened_with : (fields registers mutators capacity first_epoch : ℕ) → State → (older : List Contents) → Private
-opened_with fields registers mutators capacity first_epoch counts older =
+abbrev pub opened_with : (fields registers mutators capacity first_epoch : ℕ) → (steady : Bool) → State → (older : List Contents) → Private
+opened_with fields registers mutators capacity first_epoch steady counts older =
     record {
       epoch = first_epoch;
       collections = 0;
@@ -62,21 +64,22 @@ opened_with fields registers mutators capacity first_epoch counts older =
       left = replicate mutators false;
       sets = no_sets;
       offers = false;
+      steady = steady;
     }
 
 -- a machine as it is opened with one object, which every mutator names
-abbrev pub opened : (slots fields registers mutators capacity first_epoch : ℕ) → Private
-opened slots fields registers mutators capacity first_epoch =
-    opened_with fields registers mutators capacity first_epoch (opened_counts slots mutators) (replicate mutators (retired (first_registers registers) capacity))
+abbrev pub opened : (slots fields registers mutators capacity first_epoch : ℕ) → (steady : Bool) → Private
+opened slots fields registers mutators capacity first_epoch steady =
+    opened_with fields registers mutators capacity first_epoch steady (opened_counts slots mutators) (replicate mutators (retired (first_registers registers) capacity))
 
 -- the older buffers where registers named these slots, mutator after mutator
 abbrev pub retired_rows : (registers mutators capacity : ℕ) → List (Option ℕ) → List Contents
 retired_rows registers mutators capacity held = map (λ own. retired own capacity) (rows_of registers mutators held)
 
 -- a machine as it is opened where the first slots have these counts, and registers named these slots
-abbrev pub opened_from : (slots fields registers mutators capacity first_epoch : ℕ) → (counts : List ℕ) → (held : List (Option ℕ)) → Private
-opened_from slots fields registers mutators capacity first_epoch counts held =
-    opened_with fields registers mutators capacity first_epoch (counted_from slots counts) (retired_rows registers mutators capacity held)
+abbrev pub opened_from : (slots fields registers mutators capacity first_epoch : ℕ) → (steady : Bool) → (counts : List ℕ) → (held : List (Option ℕ)) → Private
+opened_from slots fields registers mutators capacity first_epoch steady counts held =
+    opened_with fields registers mutators capacity first_epoch steady (counted_from slots counts) (retired_rows registers mutators capacity held)
 
 -- the buffer of the mutator of this number, which is one more than its place
 abbrev pub buffer_at : List Contents → (place : ℕ) → Contents

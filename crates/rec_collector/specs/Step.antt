@@ -5,7 +5,7 @@ use Rattle.rec_word.specs.declared.mailbox.Mailbox.TheVariants.{Retired}
 use Rattle.rec_word.specs.declared.op.Op.{Op}
 use Rattle.rec_word.specs.declared.op.Op.TheVariants.{StoreEpoch, LookBox, ReturnBox, LoadChild, ClearField, FreeHeader, AddFreed}
 use Rattle.rec_log.specs.declared.contents.Contents.{Contents}
-use Rattle.rec_apply.specs.Batch.{batch}
+use Rattle.rec_apply.specs.Batch.{applied}
 use Rattle.rec_counts.specs.Counts.{State}
 use Rattle.rec_release.specs.CycleFree as frees
 use Rattle.rec_release.specs.CycleFree.{next_of as freeing_next}
@@ -73,7 +73,7 @@ pub data ClearsOn (p q : Private) (turn : Turn) : Begun → Type 0 where
 
 -- The batch is applied, and its zeros are released.
 abbrev pub Applies : (p q : Private) → Turn → Type 0
-Applies p q turn = ClearsOn p q turn (zeros_released false (record (parts_of p) { counts = batch p.counts p.newer p.older }))
+Applies p q turn = ClearsOn p q turn (zeros_released false (record (parts_of p) { counts = applied p.steady p.counts p.newer p.older }))
 
 -- after one slot more was swept, the next one follows, or the end of the sweep
 pub data IsNext (swept : ℕ) (w : sweeps.Work) (next_phase : Phase) : Type 0 where

@@ -55,7 +55,7 @@ pub fn orange_members_have_outside_counts()
 
 /// A member of a prepared set that is Orange still was touched by nothing since its preparation. Up to the next trial, whatever step
 /// leaves it Orange found it Orange in the same set, and named it nowhere: no increment, no decrement and no snapshot of the batch, and
-/// no decrement since. A reference that was lowered came off its true count and off its cyclic count, not below zero.
+/// no decrement since. In a steady heap a register that didn't change counts as none. A reference that was lowered came off its true count and off its cyclic count, not below zero.
 pub fn orange_members_are_untouched()
     ensures { (p : Private) (word : ℕ) (box : Contents) (number x : ℕ) → IsMachine p → IsBetween p.phase → IsGiven p word → HasSets p.phase → tried_at (step_of p word box).epoch (step_of p word box).phase ≡ tried_at p.epoch p.phase → IsOrangeIn (step_of p word box).counts number x → WasUntouched p.counts (step_of p word box).counts number x (named_by p word x) }
 {}

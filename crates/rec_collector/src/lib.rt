@@ -20,6 +20,7 @@
 #![tactic(auto)]
 
 mod buffers;
+mod kind;
 mod laws;
 mod machine;
 mod offer;
@@ -31,6 +32,7 @@ mod shown;
 mod turn;
 mod verdict;
 
+pub use kind::Kind;
 pub use laws::{
     batches_colour_what_they_name, machine_makes_steps, machine_names_words,
     machines_stay_machines, offers_are_whole, orange_members_are_untouched,

@@ -4,8 +4,9 @@ ghost use Rattle.rec_word.specs.declared.mailbox.Mailbox.TheVariants.{Retired};
 ghost use Rattle.rec_counts.specs.Counts.{slot_at};
 ghost use Rattle.rec_collector.specs.Causes.{HasCause};
 ghost use Rattle.rec_apply.specs.Batch.{IsCovered};
-ghost use Rattle.rec_collector.specs.Given.{IsGiven, IsGivenAt, IsSized, IsSwapping, IsSweepingIn, IsWork, swapping_for};
+ghost use Rattle.rec_collector.specs.Given.{IsFreeingIn, IsGiven, IsGivenAt, IsPreparingIn, IsReleasingIn, IsSized, IsSwapping, IsSweepingIn, IsTryingIn, IsWork, swapping_for};
 ghost use Rattle.rec_collector.specs.Gathering.{MayGatherBehind};
+ghost use Rattle.rec_collector.specs.Kind.{kind_of};
 ghost use Rattle.rec_collector.specs.Kept.{IsMachine, KeepsSizes, limit_of};
 ghost use Rattle.rec_collector.specs.Next.{next_of};
 ghost use Rattle.rec_collector.specs.Present.{HaveLeft};
@@ -13,6 +14,7 @@ ghost use Rattle.rec_collector.specs.Private.{Private, opened, opened_from};
 ghost use Rattle.rec_collector.specs.Took.{behind, behind_turn, came_turn, ended_if, left_of, swapped_of, took_at, took_of, turn_at, turn_of};
 
 use crate::buffers::{clear_all, open_row, open_rows, open_spares};
+use crate::kind::Kind;
 use crate::parts::Parts;
 use crate::phase::Phase;
 use crate::present::next_present;
@@ -44,6 +46,8 @@ pub struct Machine {
     newer: Vec<Buffer>,
     older: Vec<Buffer>,
     left: Vec<bool>,
+    // Whether a batch leaves out registers that didn't change.
+    steady: bool,
 }
 
 impl Model for Machine {
@@ -61,7 +65,8 @@ impl Model for Machine {
 impl Machine {
     /// The collector of a heap with so many slots, and fields per object, and so many mutators, each with `regs` registers and
     /// buffers for `cap` entries. The requested epoch is `first_epoch`, and the collection of the epoch before counts as
-    /// done: register 0 of each mutator named slot 0 then, and no other did.
+    /// done: register 0 of each mutator named slot 0 then, and no other did. Where the heap is `steady`, a batch leaves out registers
+    /// that didn't change: they touch nothing.
     pub fn open(
         alloc: Global,
         slots: u16,
@@ -70,6 +75,7 @@ impl Machine {
         mutators: u8,
         cap: u32,
         first_epoch: u32,
+        steady: bool,
     ) -> Result<Machine, NoMemory>
         requires slots { 0 < slots }
         requires fields { 0 < fields }
@@ -77,7 +83,7 @@ impl Machine {
         requires mutators { 0 < mutators }
         requires epoch { first_epoch < 2 ^ 24 }
 
-        ensures opened { IfOk result (λ machine. machine ≡ opened slots fields regs mutators cap first_epoch) }
+        ensures opened { IfOk result (λ machine. machine ≡ opened slots fields regs mutators cap first_epoch steady) }
         ensures kept { IfOk result IsMachine }
     {
         let mut frame = Frame::open(alloc, regs)?;
@@ -100,12 +106,14 @@ impl Machine {
             newer: spares.0,
             older,
             left: spares.1,
+            steady,
         })
     }
 
     /// The collector of a heap with so many slots, and fields per object, and so many mutators, each with `regs` registers and
     /// buffers for `cap` entries. The first slots have these true counts. The requested epoch is `first_epoch`, and the
-    /// collection of the epoch before counts as done: the registers named these slots then, mutator after mutator.
+    /// collection of the epoch before counts as done: the registers named these slots then, mutator after mutator. Where the heap is
+    /// `steady`, a batch leaves out registers that didn't change.
     pub fn open_from(
         alloc: Global,
         slots: u16,
@@ -114,6 +122,7 @@ impl Machine {
         mutators: u8,
         cap: u32,
         first_epoch: u32,
+        steady: bool,
         counts: &[u64],
         registers: &[Option<u16>],
     ) -> Result<Machine, NoMemory>
@@ -124,7 +133,7 @@ impl Machine {
         requires some { All (λ count. 0 < count) counts.now }
         requires registers { length registers.now ≡ mutators * regs }
 
-        ensures opened { IfOk result (λ machine. machine ≡ opened_from slots fields regs mutators cap first_epoch counts.now registers.now) }
+        ensures opened { IfOk result (λ machine. machine ≡ opened_from slots fields regs mutators cap first_epoch steady counts.now registers.now) }
         ensures kept { IfOk result IsMachine }
     {
         let older = open_rows(alloc, mutators, cap, regs, registers)?;
@@ -143,6 +152,7 @@ impl Machine {
             newer: spares.0,
             older,
             left: spares.1,
+            steady,
         })
     }
 
@@ -195,6 +205,47 @@ impl Machine {
     {
         self.rules();
         self.learn(word)
+    }
+
+    /// Which of the phases it is that a collection spends its turns in. Who asks before the operation of `next` is made, and hands the
+    /// answer to `took_as` behind it, spares that a second look at the phase: behind an atomic operation the compiler knows nothing more
+    /// of what stood in memory before.
+    #[inline(always)]
+    pub fn kind(&self) -> Kind
+        ensures { result ≡ kind_of self.now.phase }
+    {
+        match &self.phase {
+            Phase::Releasing(_) => Kind::Releasing,
+            Phase::Freeing(_) => Kind::Freeing,
+            Phase::Trying(_) => Kind::Trying,
+            Phase::Preparing(_) => Kind::Preparing,
+            Phase::Sweeping { .. } => Kind::Sweeping,
+            _ => Kind::Other,
+        }
+    }
+
+    /// Learns the word that the operation of `next` found, as `took` does, of a machine of which `kind` answered this.
+    #[inline(always)]
+    pub fn took_as(&mut self, kind: Kind, word: u64) -> Turn
+        requires given { IsGiven self.old word }
+        requires kind { kind ≡ kind_of self.old.phase }
+
+        ensures took { self.new ≡ took_of self.old word }
+        ensures turn { result ≡ turn_of self.old word }
+        ensures same { KeepsSizes self.old self.new }
+
+        // Why each answer comes. Waiting for a mutator comes exactly where its crossing word was looked at and says that it
+        // hasn't crossed, and the epochs are spent exactly where no step comes next.
+        ensures cause { HasCause self.old word self.new result }
+        ensures waiting { (t : ℕ) → self.old.phase ≡ Phase.Looking t → word ≢ crossing_word self.old.epoch Retired → result ≡ Turn.Waiting t }
+        ensures spent { IsNone (next_of self.old) → result ≡ Turn.EpochsSpent }
+
+        // No collection takes more turns than this, beside those in which it waits.
+        ensures limit { self.new.turns ≤ limit_of self.new }
+        ensures kept { IsMachine self.new }
+    {
+        self.rules();
+        self.learn_as(kind, word)
     }
 
     /// Takes the buffer of a mailbox that is held, and gives the cleared one that takes its place there.
@@ -340,6 +391,27 @@ impl Machine {
         }
     }
 
+    // Learns a word, by what kind of phase it is.
+    #[inline(always)]
+    fn learn_as(&mut self, kind: Kind, word: u64) -> Turn
+        requires given { IsGiven self.old word }
+        requires kind { kind ≡ kind_of self.old.phase }
+
+        ensures took { self.new ≡ took_of self.old word }
+        ensures turn { result ≡ turn_of self.old word }
+        ensures same { KeepsSizes self.old self.new }
+        ensures kept { IsMachine self.new }
+    {
+        match kind {
+            Kind::Releasing => self.took_release(word),
+            Kind::Freeing => self.took_freeing(word),
+            Kind::Trying => self.took_trial(word),
+            Kind::Preparing => self.took_prep(word),
+            Kind::Sweeping => self.took_sweep(word),
+            Kind::Other => self.learn(word),
+        }
+    }
+
     // The next epoch is requested, if there is one.
     fn took_request(&mut self) -> Turn
         requires phase { self.old.phase ≡ Phase.Idle }
@@ -407,13 +479,15 @@ impl Machine {
             self.turns += 1;
             return Turn::Moved;
         }
-        self.phase = self.parts.apply_batch(&self.newer, &self.older);
+        self.phase = self
+            .parts
+            .apply_batch(&self.newer, &self.older, self.steady);
         self.turns += 1;
         self.end_if_nothing_is_free()
     }
 
     // A word came out of a field, or was loaded from one, for the machine at work. Where its work is over, the next phase follows.
-    #[inline(always)]
+    #[inline(never)]
     fn took_work(&mut self, word: u64) -> Turn
         requires works { IsWork self.old.phase }
         requires given { IsGivenAt self.old word self.old.phase }
@@ -424,6 +498,70 @@ impl Machine {
         ensures kept { IsMachine self.new }
     {
         self.parts.took(&mut self.phase, word);
+        self.turns += 1;
+        self.end_if_nothing_is_free()
+    }
+
+    // A word came out of a field of a released slot.
+    #[inline(always)]
+    fn took_release(&mut self, word: u64) -> Turn
+        requires releasing { IsReleasingIn self.old.phase }
+        requires given { IsGivenAt self.old word self.old.phase }
+
+        ensures took { self.new ≡ took_at self.old word self.old.phase }
+        ensures turn { result ≡ turn_at self.old word self.old.phase }
+        ensures same { KeepsSizes self.old self.new }
+        ensures kept { IsMachine self.new }
+    {
+        self.parts.took_release(&mut self.phase, word);
+        self.turns += 1;
+        self.end_if_nothing_is_free()
+    }
+
+    // A word came out of a field of a member of the set that is freed.
+    #[inline(always)]
+    fn took_freeing(&mut self, word: u64) -> Turn
+        requires freeing { IsFreeingIn self.old.phase }
+        requires given { IsGivenAt self.old word self.old.phase }
+
+        ensures took { self.new ≡ took_at self.old word self.old.phase }
+        ensures turn { result ≡ turn_at self.old word self.old.phase }
+        ensures same { KeepsSizes self.old self.new }
+        ensures kept { IsMachine self.new }
+    {
+        self.parts.took_freeing(&mut self.phase, word);
+        self.turns += 1;
+        self.end_if_nothing_is_free()
+    }
+
+    // A field was loaded for the trial.
+    #[inline(always)]
+    fn took_trial(&mut self, word: u64) -> Turn
+        requires trying { IsTryingIn self.old.phase }
+        requires given { IsGivenAt self.old word self.old.phase }
+
+        ensures took { self.new ≡ took_at self.old word self.old.phase }
+        ensures turn { result ≡ turn_at self.old word self.old.phase }
+        ensures same { KeepsSizes self.old self.new }
+        ensures kept { IsMachine self.new }
+    {
+        self.parts.took_trial(&mut self.phase, word);
+        self.turns += 1;
+        self.end_if_nothing_is_free()
+    }
+
+    // A field was loaded for the preparation.
+    #[inline(always)]
+    fn took_prep(&mut self, word: u64) -> Turn
+        requires preparing { IsPreparingIn self.old.phase }
+        requires given { IsGivenAt self.old word self.old.phase }
+
+        ensures took { self.new ≡ took_at self.old word self.old.phase }
+        ensures turn { result ≡ turn_at self.old word self.old.phase }
+        ensures same { KeepsSizes self.old self.new }
+        ensures kept { IsMachine self.new }
+    {
+        self.parts.took_prep(&mut self.phase, word);
         self.turns += 1;
         self.end_if_nothing_is_free()
     }
@@ -457,7 +595,7 @@ impl Machine {
         ensures kept { IsMachine self.new }
     {
         let Phase::Sweeping { sweep, swept } = &mut self.phase else {
-            return Turn::Moved;
+            unreachable!()
         };
         sweep.took(&mut self.parts.counts, word);
         self.parts.counts.rules();

@@ -1,10 +1,11 @@
 ghost use Rattle.std.specs.Prelude.{◌≡◌, ◌+◌, ◌<◌, None, Some, length, false, true};
-ghost use Rattle.rec_apply.specs.Batch.{AreAlike, batch, IsCovered};
+ghost use Rattle.rec_apply.specs.Batch.{applied, AreAlike, IsCovered};
 ghost use Rattle.rec_release.specs.CycleFree.{IsFreeable, started_of};
 ghost use Rattle.rec_release.specs.Release.{IsReady};
 ghost use Rattle.rec_trial.specs.Rules.{IsReady as IsReadyForTrial};
 ghost use Rattle.rec_collector.specs.Clearing.{IsClear, IsCleared, IsFewTold};
 ghost use Rattle.rec_collector.specs.Followed.{followed, prep_started, prepared, sweep_phase, trial_started, with_offers, worked};
+ghost use Rattle.rec_collector.specs.Given.{IsFreeingIn, IsPreparingIn, IsReleasingIn, IsTryingIn};
 ghost use Rattle.rec_collector.specs.Kept.{NoneReleased};
 ghost use Rattle.rec_collector.specs.Zeros.{AreCounted};
 ghost use Rattle.rec_collector.specs.Parts.{new_freeing, new_parts};
@@ -64,17 +65,17 @@ impl Parts {
     }
 
     /// The batch of these buffers is applied, and its zeros are to be released. The answer is the phase that follows.
-    pub(crate) fn apply_batch(&mut self, newer: &[Buffer], older: &[Buffer]) -> Phase
+    pub(crate) fn apply_batch(&mut self, newer: &[Buffer], older: &[Buffer], steady: bool) -> Phase
         requires covered { IsCovered self.old.counts newer.now older.now }
         requires alike { AreAlike newer.now older.now }
         requires cleared { IsCleared self.old }
         requires unreleased { NoneReleased self.old.counts }
         requires counted { AreCounted self.old.counts }
         requires told { IsFewTold self.old }
-        ensures { record { parts = self.new; phase = result } ≡ followed (zeros_released false (record self.old { counts = batch self.old.counts newer.now older.now })) }
+        ensures { record { parts = self.new; phase = result } ≡ followed (zeros_released false (record self.old { counts = applied steady self.old.counts newer.now older.now })) }
     {
         self.counts.rules();
-        apply(&mut self.counts, newer, older);
+        apply(&mut self.counts, newer, older, steady);
         let begun = self.release_zeros(false);
         self.follow(begun)
     }
@@ -87,33 +88,77 @@ impl Parts {
         ensures { record { parts = self.new; phase = phase.new } ≡ worked self.old word phase.old }
     {
         match phase {
-            Phase::Releasing(release) => {
-                self.counts.rules();
-                release.took(&mut self.counts, word);
-                if release.next().is_none() {
-                    self.end_release(phase);
-                }
-            }
-            Phase::Freeing(freeing) => {
-                self.counts.rules();
-                freeing.took(&mut self.counts, word);
-                if freeing.next().is_none() {
-                    self.end_freeing(phase);
-                }
-            }
-            Phase::Trying(trial) => {
-                trial.took(&mut self.counts, word);
-                if trial.next().is_none() {
-                    self.end_trial(phase);
-                }
-            }
-            Phase::Preparing(prep) => {
-                prep.took(&mut self.counts, word);
-                if prep.next().is_none() {
-                    self.end_preparing(phase);
-                }
-            }
+            Phase::Releasing(_) => self.took_release(phase, word),
+            Phase::Freeing(_) => self.took_freeing(phase, word),
+            Phase::Trying(_) => self.took_trial(phase, word),
+            Phase::Preparing(_) => self.took_prep(phase, word),
             _ => {}
+        }
+    }
+
+    /// A word came out of a field of a released slot.
+    #[inline(always)]
+    pub(crate) fn took_release(&mut self, phase: &mut Phase, word: u64)
+        requires releasing { IsReleasingIn phase.old }
+        requires may { MayWork self.old word phase.old }
+        ensures { record { parts = self.new; phase = phase.new } ≡ worked self.old word phase.old }
+    {
+        let Phase::Releasing(release) = phase else {
+            unreachable!()
+        };
+        self.counts.rules();
+        release.took(&mut self.counts, word);
+        if release.next().is_none() {
+            self.end_release(phase);
+        }
+    }
+
+    /// A word came out of a field of a member of the set that is freed.
+    #[inline(always)]
+    pub(crate) fn took_freeing(&mut self, phase: &mut Phase, word: u64)
+        requires freeing { IsFreeingIn phase.old }
+        requires may { MayWork self.old word phase.old }
+        ensures { record { parts = self.new; phase = phase.new } ≡ worked self.old word phase.old }
+    {
+        let Phase::Freeing(freeing) = phase else {
+            unreachable!()
+        };
+        self.counts.rules();
+        freeing.took(&mut self.counts, word);
+        if freeing.next().is_none() {
+            self.end_freeing(phase);
+        }
+    }
+
+    /// A field was loaded for the trial.
+    #[inline(always)]
+    pub(crate) fn took_trial(&mut self, phase: &mut Phase, word: u64)
+        requires trying { IsTryingIn phase.old }
+        requires may { MayWork self.old word phase.old }
+        ensures { record { parts = self.new; phase = phase.new } ≡ worked self.old word phase.old }
+    {
+        let Phase::Trying(trial) = phase else {
+            unreachable!()
+        };
+        trial.took(&mut self.counts, word);
+        if trial.next().is_none() {
+            self.end_trial(phase);
+        }
+    }
+
+    /// A field was loaded for the preparation.
+    #[inline(always)]
+    pub(crate) fn took_prep(&mut self, phase: &mut Phase, word: u64)
+        requires preparing { IsPreparingIn phase.old }
+        requires may { MayWork self.old word phase.old }
+        ensures { record { parts = self.new; phase = phase.new } ≡ worked self.old word phase.old }
+    {
+        let Phase::Preparing(prep) = phase else {
+            unreachable!()
+        };
+        prep.took(&mut self.counts, word);
+        if prep.next().is_none() {
+            self.end_preparing(phase);
         }
     }
 

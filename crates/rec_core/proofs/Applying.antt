@@ -11,14 +11,15 @@ use Rattle.rec_model.specs.Moves.{added, taken}
 use Rattle.rec_model.proofs.CollectorMoves.{unnamed_uncounted}
 use Rattle.rec_model.proofs.Ledgers.{batch_covered}
 use Rattle.rec_log.specs.declared.entry.Entry.TheVariants as entries
-use Rattle.rec_apply.specs.Batch.{batch, IsBatch, IsCovered}
+use Rattle.rec_apply.specs.Batch.{applied, AreAlike, IsApplied, IsCovered}
 use Rattle.rec_apply.specs.Targets as targets
-use Rattle.rec_apply.proofs.Whole.{is_batch}
+use Rattle.rec_apply.proofs.Whole.{applied_count, is_applied}
+use Rattle.rec_collector.proofs.Following.{rows_alike}
 use Rattle.rec_collector.specs.Private as collectors
 use Rattle.rec_collector.specs.Kept as collector_kept
 use Rattle.rec_word.proofs.Headers.{leaf_taken}
 use Rattle.rec_core.proofs.Actors.{crossed_here, epoch_here, epoch_next, idle_here, left_let_go}
-use Rattle.rec_core.proofs.Batches.{buffer_there, gain, loss, gain_named, gain_none, loss_named, loss_none, same_at, none_of, sum_parts, leaves_named}
+use Rattle.rec_core.proofs.Batches.{buffer_there, gain, loss, gain_named, gain_none, puts_named, loss_named, loss_none, same_at, none_of, sum_parts, leaves_named}
 use Rattle.rec_core.proofs.Counts.{slot_in, accounts_with}
 use Rattle.rec_core.proofs.Moves.{spare_names}
 use Rattle.rec_core.proofs.Sums.{share, log_share, box_share, zip_sum-none, buffers_sum, dated_most}
@@ -222,6 +223,25 @@ module _ (w : Core) (t : ℕ) (kept : IsKeptBy (stand_at w.collector.left Openin
             ap (λ n. gain e (x + 1) n (slice_index_or c.older i (collectors.blank 0 0))) older_is ∙ gain_none w.config e (w.epoch - 2) (x + 1) (slice_index_or c.older i (collectors.blank 0 0)) (λ same. omega (arith, same, some_epochs)) (older_of i below)),
       )
 
+  -- and what is put by its writes is what those of the newer buffers put
+  pub puts_is : (x : ℕ) → sum_by (puts_in (applied_at w.epoch c.phase + 1) (x + 1)) (writes_of w) ≡ targets.written x c.newer
+  puts_is x =
+      let e : ℕ = w.epoch - 1 in
+      let next : applied_at w.epoch c.phase + 1 ≡ e = omega (arith, applied_is, some_epochs) in
+      let of_writes : Filed → List Write = λ b. writes_in b.buffer.entries in
+      omega (
+        arith,
+        ap (λ n. sum_by (puts_in n (x + 1)) (writes_of w)) next,
+        buffers_sum (puts_in e (x + 1)) of_writes w,
+        none_of (log_share (puts_in e (x + 1)) of_writes) w.mutators nobody (λ i below. omega (arith, far_gain w.config e w.epoch (epoch_at (slice_index_or w.mutators i nobody)) (x + 1) (slice_index_or w.mutators i nobody).log (omega (arith, some_epochs)) (far_at i below).log)),
+        zip_sum-none (box_share (puts_in e (x + 1)) of_writes) w.mutators w.boxes nobody (collectors.blank 0 0)
+            (λ i below _. omega (arith, far_gain w.config e w.epoch (epoch_at (slice_index_or w.mutators i nobody) - 1) (x + 1) (slice_index_or w.boxes i (collectors.blank 0 0)) (omega (arith, some_epochs)) (far_at i below).mailbox)),
+        same_at (share (puts_in e (x + 1)) of_writes e) (λ (b : Contents). targets.named x (map targets.new_target b.entries)) c.newer (collectors.blank 0 0)
+            (λ i below. puts_named e x (slice_index_or c.newer i (collectors.blank 0 0)).entries (newer_of i below).made),
+        none_of (share (puts_in e (x + 1)) of_writes (older_at w.epoch c.phase)) c.older (collectors.blank 0 0)
+            (λ i below. omega (arith, gain_none w.config e (w.epoch - 2) (x + 1) (slice_index_or c.older i (collectors.blank 0 0)) (λ same. omega (arith, same, some_epochs)) (older_of i below))),
+      )
+
   -- what is taken off by the accounts is what the older buffers take
   taken_is : (x : ℕ) → taken (pending w) (x + 1) ≡ targets.taken x c.older
   taken_is x =
@@ -364,13 +384,16 @@ module _ (w : Core) (t : ℕ) (kept : IsKeptBy (stand_at w.collector.left Openin
 
   -- what the batch makes of the counts
   abbrev pub counted : State
-  counted = batch c.counts c.newer c.older
+  counted = applied c.steady c.counts c.newer c.older
 
   zeros_before : c.counts.zeros ≡ []
   zeros_before = (now_in w (Returning t) kept phase).rest.zeros
 
-  pub is_counted : IsBatch c.counts c.newer c.older counted
-  is_counted = is_batch c.counts c.newer c.older zeros_before covered
+  alike : AreAlike c.newer c.older
+  alike = rows_alike c kept.collector.machine
+
+  pub is_counted : IsApplied c.steady c.counts c.newer c.older counted
+  is_counted = is_applied c.steady c.counts c.newer c.older zeros_before alike covered
 
   -- no register is of an epoch that is applied
   all_crossed : sum_by (is_up_to (applied_at w.epoch c.phase + 1)) (registers_of w) ≡ 0
@@ -419,7 +442,7 @@ module _ (w : Core) (t : ℕ) (kept : IsKeptBy (stand_at w.collector.left Openin
           elim (cases_lt x w.config.slots) [
             | inl below ↦ omega (
               arith,
-              is_counted.count x,
+              applied_count c.steady c.counts c.newer c.older alike is_counted x,
               ap (taken (pending w)) is,
               ap (added (pending w)) is,
               taken_is x,

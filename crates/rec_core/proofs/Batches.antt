@@ -29,7 +29,7 @@ pub same_word : (x word : ℕ) → one_if_same (x + 1) (node_of word) ≡ one (i
 same_word x word = ap (one_if_same (x + 1)) (sym (code_target word)) ∙ same_name x (target_of word)
 
 -- the new targets of a log of this epoch
-puts_named : (epoch x : ℕ) (es : List Entry) → All (IsMadeIn epoch) es → sum_by (puts_in epoch (x + 1)) (writes_in es) ≡ named x (map new_target es)
+pub puts_named : (epoch x : ℕ) (es : List Entry) → All (IsMadeIn epoch) es → sum_by (puts_in epoch (x + 1)) (writes_in es) ≡ named x (map new_target es)
 puts_named epoch x [] made = sym (named-nil x)
 puts_named epoch x (entries.Put place new old ∷ es) made =
     let at : epoch_of new ≡ epoch = All-head (IsMadeIn epoch) (entries.Put place new old) es made in

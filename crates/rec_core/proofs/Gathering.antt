@@ -166,6 +166,7 @@ module _ (w : Core) (kept : IsKept w) (idle : w.collector.phase ≡ Idle) (more 
           fields = k.fields;
           registers = k.registers;
           capacity = k.capacity;
+          steady = k.steady;
           mutators = k.mutators;
           epoch = ap (λ n. n + 1) k.epoch;
           begun = omega (arith, begun, way);
@@ -291,6 +292,7 @@ module _ (w : Core) (t : ℕ) (kept : IsKept w) (phase : w.collector.phase ≡ L
             fields = k.fields;
             registers = k.registers;
             capacity = k.capacity;
+            steady = k.steady;
             mutators = length-set w.collector.newer (t - 1) (box w t) ∙ many;
             epoch = k.epoch;
             begun = omega (arith, k.begun, way);
@@ -384,6 +386,7 @@ module _ (w : Core) (t : ℕ) (kept : IsKept w) (phase : w.collector.phase ≡ R
           fields = k.fields;
           registers = k.registers;
           capacity = k.capacity;
+          steady = k.steady;
           mutators = k.mutators;
           epoch = k.epoch;
           begun = omega (arith, k.begun, way);
@@ -441,6 +444,7 @@ module _ (u : Core) (t : ℕ) (kept : IsKeptBy (stand_at u.collector.left (Looki
             fields = k.fields;
             registers = k.registers;
             capacity = k.capacity;
+            steady = k.steady;
             mutators = k.mutators;
             epoch = k.epoch;
             begun = omega (arith, k.begun, way);

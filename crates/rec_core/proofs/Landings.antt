@@ -356,6 +356,7 @@ module _ (w : Core) (crossing words : List ℕ) (q : collectors.Private) (machin
             fields = l.fields;
             registers = k.registers;
             capacity = k.capacity;
+            steady = k.steady;
             mutators = k.mutators;
             epoch = k.epoch;
             begun = omega (arith, k.begun, l.way, on.way);
@@ -402,6 +403,7 @@ module _ (w : Core) (crossing words : List ℕ) (q : collectors.Private) (machin
             fields = l.fields;
             registers = k.registers;
             capacity = k.capacity;
+            steady = k.steady;
             mutators = length-map w.collector.older cleared ∙ both;
             epoch = k.epoch;
             begun = omega (arith, k.begun, l.way);

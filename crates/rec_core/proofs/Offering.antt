@@ -28,6 +28,7 @@ offering_kept w k = record {
       fields = k.collector.fields;
       registers = k.collector.registers;
       capacity = k.collector.capacity;
+      steady = k.collector.steady;
       mutators = k.collector.mutators;
       epoch = k.collector.epoch;
       begun = k.collector.begun;

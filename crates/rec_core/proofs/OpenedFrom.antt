@@ -170,7 +170,7 @@ module _ (config : Config) (o : Objects) (is : IsConfig config) (are : AreObject
 
   -- the collector
   machine_from : collector_kept.IsMachine w.collector
-  machine_from = opened_from_keeps config.slots config.fields config.registers config.mutators config.log_entries config.first_epoch (counts_of o) o.registers
+  machine_from = opened_from_keeps config.slots config.fields config.registers config.mutators config.log_entries config.first_epoch config.steady (counts_of o) o.registers
       (omega (arith, is.some_fields)) (omega (arith, is.few_fields)) (omega (arith, is.some_mutators)) (omega (arith, is.few_mutators)) (omega (arith, is.few_epochs))
       counts_some are.registers (keep_from config.slots (counts_of o) (omega (arith, counts_many, are.few)) (omega (arith, is.few_slots)))
 
@@ -188,6 +188,7 @@ module _ (config : Config) (o : Objects) (is : IsConfig config) (are : AreObject
     fields = refl;
     registers = refl;
     capacity = refl;
+    steady = refl;
     mutators = length-replicate config.mutators (spare_of config);
     epoch = refl;
     begun = omega arith;

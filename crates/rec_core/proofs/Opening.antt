@@ -83,7 +83,7 @@ machine_opened config is =
     let mutators : 1 ≤ config.mutators = is.some_mutators in
     let few : config.mutators ≤ 63 = is.few_mutators in
     let epoch : config.first_epoch ≤ 16777215 = is.few_epochs in
-    opened_keeps config.slots config.fields config.registers config.mutators config.log_entries config.first_epoch (omega arith) (omega arith) (omega arith) (omega arith) (omega arith) (omega arith) (keep_open config.slots config.mutators (omega arith))
+    opened_keeps config.slots config.fields config.registers config.mutators config.log_entries config.first_epoch config.steady (omega arith) (omega arith) (omega arith) (omega arith) (omega arith) (omega arith) (keep_open config.slots config.mutators (omega arith))
 
 -- the snapshot of the collection of the epoch before
 abbrev first_snapshot : Config → Contents
@@ -106,6 +106,7 @@ collector_opened config is =
       fields = refl;
       registers = refl;
       capacity = refl;
+      steady = refl;
       mutators = length-replicate config.mutators (spare_of config);
       epoch = refl;
       begun = omega arith;

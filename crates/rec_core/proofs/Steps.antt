@@ -120,6 +120,7 @@ emptied_stays w slot f new kept in_range unreleased =
       fields = c.fields;
       registers = c.registers;
       capacity = c.capacity;
+      steady = c.steady;
       mutators = c.mutators;
       epoch = c.epoch;
       begun = c.begun;

@@ -71,6 +71,7 @@ module _ (w : Core) (due : Option ℕ) (kept : IsKept w) (phase : w.collector.ph
             fields = k.fields;
             registers = k.registers;
             capacity = k.capacity;
+            steady = k.steady;
             mutators = k.mutators;
             epoch = k.epoch;
             begun = omega (arith, k.begun, way);
@@ -126,6 +127,7 @@ module _ (w : Core) (swept_ : ℕ) (kept : IsKept w) (phase : w.collector.phase 
             fields = k.fields;
             registers = k.registers;
             capacity = k.capacity;
+            steady = k.steady;
             mutators = length-map w.collector.older cleared ∙ both;
             epoch = k.epoch;
             begun = omega (arith, k.begun, way);
@@ -426,6 +428,7 @@ module _ (w : Core) (done : ℕ) (x : ℕ) (kept : IsKept w) (phase : w.collecto
             fields = k.fields;
             registers = k.registers;
             capacity = k.capacity;
+            steady = k.steady;
             mutators = k.mutators;
             epoch = k.epoch;
             begun = omega (arith, k.begun, way, on.way);

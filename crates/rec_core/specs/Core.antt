@@ -85,6 +85,6 @@ opened config =
       crossing = replicate config.mutators (crossing_word config.first_epoch Spare);
       boxes = replicate config.mutators (spare_of config);
       mutators = opened_mutators config config.mutators;
-      collector = collectors.opened config.slots config.fields config.registers config.mutators config.log_entries config.first_epoch;
+      collector = collectors.opened config.slots config.fields config.registers config.mutators config.log_entries config.first_epoch config.steady;
       made = 1;
     }

@@ -195,6 +195,7 @@ pub record HasCollector (config : Config) (requested : ℕ) (words : List ℕ) (
   pub fields : c.fields ≡ config.fields
   pub registers : c.registers ≡ config.registers
   pub capacity : c.capacity ≡ config.log_entries
+  pub steady : c.steady ≡ config.steady
   pub mutators : length c.newer ≡ config.mutators
   pub epoch : c.epoch ≡ requested
   pub begun : config.first_epoch + c.collections + collector_kept.under_way c.phase ≡ requested

@@ -32,6 +32,6 @@ opened_from config o =
       crossing = replicate config.mutators (crossing_word config.first_epoch Spare);
       boxes = replicate config.mutators (spare_of config);
       mutators = holding_mutators config 1 (rows_of config.registers config.mutators o.registers);
-      collector = collectors.opened_from config.slots config.fields config.registers config.mutators config.log_entries config.first_epoch (counts_of o) o.registers;
+      collector = collectors.opened_from config.slots config.fields config.registers config.mutators config.log_entries config.first_epoch config.steady (counts_of o) o.registers;
       made = length o.nodes;
     }

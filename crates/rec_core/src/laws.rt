@@ -109,7 +109,7 @@ pub fn loaded_words_stay_references()
 
 /// A member of a prepared set that is Orange still was touched by nothing since. Take any moves of mutators and collector over which no
 /// trial begins. The member was Orange in the same set before them. No increment, decrement or snapshot of a batch named it, and no
-/// decrement since. Each reference that was lowered came off its true count and off its cyclic count, not below zero.
+/// decrement since; but in a steady heap a register may have named it that named it in both snapshots of a batch. Each reference that was lowered came off its true count and off its cyclic count, not below zero.
 pub fn orange_members_stay_untouched()
     ensures { (w : Core) (moves : List Move) (number x : ℕ) → IsConfig w.config → EndsRun w → HasSets w.collector.phase → AllFit w moves → IsSameTrial w (after_moves w moves) → IsOrangeIn (after_moves w moves).collector.counts number x → WasUntouched w.collector.counts (after_moves w moves).collector.counts number x (named_over w moves x) }
 {}

@@ -145,8 +145,11 @@ module _ (w : Core) (list : List ℕ) (slots : ℕ) (world : IsWorld w) (numbers
   abbrev log : ℕ
   log = w.config.log_entries
 
+  abbrev steady : Bool
+  steady = w.config.steady
+
   abbrev new : Core
-  new = restored v log
+  new = restored v log steady
 
   few : length list ≤ w.config.slots
   few = few_listed w list world numbers
@@ -157,7 +160,7 @@ module _ (w : Core) (list : List ℕ) (slots : ℕ) (world : IsWorld w) (numbers
   pub fits : IsImage v
   fits = in_slots_image (image_of w list) slots (is_image w list world numbers few) some (omega (arith, many, room))
 
-  pub config_is : IsConfig (config_of v log)
+  pub config_is : IsConfig (config_of v log steady)
   config_is = record {
     some_slots = some.0;
     few_slots = some.1;
@@ -174,13 +177,13 @@ module _ (w : Core) (list : List ℕ) (slots : ℕ) (world : IsWorld w) (numbers
   }
 
   by : images.StandsBy v (sight new) (λ s. s)
-  by = restored_by v fits log config_is
+  by = restored_by v fits log steady config_is
 
   below : (s : ℕ) → IsTaken (sight new) s → s < length list
   below s taken = omega (arith, by.there s taken, many)
 
   taken_new : (s : ℕ) → Reaches (sight new) s → IsTaken (sight new) s
-  taken_new = reached_is_taken (sight new) (seen.seen_sound (config_of v log) (objects_in v) config_is (are_objects v fits log) (have_labels v fits))
+  taken_new = reached_is_taken (sight new) (seen.seen_sound (config_of v log steady) (objects_in v) config_is (are_objects v fits log steady) (have_labels v fits))
 
   listed : (n : ℕ) → Reaches (sight w) n → is_in n list ≡ true
   listed n reached = (lists_reached (roots (sight w).registers) (targets_of (sight w)) list numbers n).0 reached
@@ -296,7 +299,7 @@ module _ (w : Core) (list : List ℕ) (slots : ℕ) (world : IsWorld w) (numbers
     ]
       where
         new_reached : (s : ℕ) → s < length list → Reaches (sight new) s
-        new_reached s within = seen.slot_reached (config_of v log) (objects_in v) config_is (are_objects v fits log) (have_labels v fits) s (omega (arith, within, many, nodes_many v fits))
+        new_reached s within = seen.slot_reached (config_of v log steady) (objects_in v) config_is (are_objects v fits log steady) (have_labels v fits) s (omega (arith, within, many, nodes_many v fits))
 
     agree : AgreeButWords h again
     agree = record {
@@ -339,11 +342,11 @@ module _ (w : Core) (list : List ℕ) (slots : ℕ) (world : IsWorld w) (numbers
   moved h (number, st) = (again h number st, agree h number st, (λ s. number (get_or list s 0), stands_again h number st))
 
 -- ---- what the heap that is restored from the image is beside the world
-pub is_renewed : (w new : Core) (slots log : ℕ) (u v : ImageContents) → IsWorld w → IsImageOf w u → IsSlots slots → length u.objects ≤ slots → v ≡ in_slots u slots → log ≡ w.config.log_entries → new ≡ restored v log → IsRenewed w slots new
-is_renewed w new slots log u v world (list, numbers, is) some fit moved_slots logs opened =
+pub is_renewed : (w new : Core) (slots log : ℕ) (steady : Bool) (u v : ImageContents) → IsWorld w → IsImageOf w u → IsSlots slots → length u.objects ≤ slots → v ≡ in_slots u slots → log ≡ w.config.log_entries → steady ≡ w.config.steady → new ≡ restored v log steady → IsRenewed w slots new
+is_renewed w new slots log steady u v world (list, numbers, is) some fit moved_slots logs kind opened =
     let room : length list ≤ slots = omega (arith, fit, ap (λ (x : ImageContents). length x.objects) is, length-map list (node_of (sight w) list)) in
     let all : v ≡ in_slots (image_of w list) slots = moved_slots ∙ ap (λ (x : ImageContents). in_slots x slots) is in
-    let same : new ≡ restored (in_slots (image_of w list) slots) w.config.log_entries = opened ∙ (λ i. restored (all i) (logs i)) in
+    let same : new ≡ restored (in_slots (image_of w list) slots) w.config.log_entries w.config.steady = opened ∙ (λ i. restored (all i) (logs i) (kind i)) in
     record {
       list = list;
       numbers = numbers;
@@ -353,7 +356,7 @@ is_renewed w new slots log u v world (list, numbers, is) some fit moved_slots lo
       config = ap (λ (x : Core). x.config) same;
       made = ap (λ (x : Core). x.made) same ∙ length-map (map (node_of (sight w) list) list) mark_of ∙ length-map list (node_of (sight w) list);
       image = subst (λ (x : Core). (again : List ℕ) → NumbersSlots (sight x) again → image_of x again ≡ in_slots (image_of w list) slots) (sym same)
-          (image_again (in_slots (image_of w list) slots) w.config.log_entries (fits w list slots world numbers some room) (config_is w list slots world numbers some room));
+          (image_again (in_slots (image_of w list) slots) w.config.log_entries w.config.steady (fits w list slots world numbers some room) (config_is w list slots world numbers some room));
       stands = subst (λ (x : Core). (heap : Heap) → Represents heap (sight w) → (after : Heap) × AgreeButWords heap after × Represents after (sight x)) (sym same) (moved w list slots world numbers some room);
       stands_for = subst (λ (x : Core). (y : ImageContents) → StandsFor y (sight w) → StandsFor y (sight x)) (sym same) (moved_for w list slots world numbers some room);
     }

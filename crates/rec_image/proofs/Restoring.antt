@@ -147,8 +147,8 @@ module _ (v : ImageContents) (image : IsImage v) where
   object_reached n (child m k from there) =
       child m n (object_reached m from) (subst (λ (xs : List (Option ℕ)). is_in n (named xs) ≡ true) (sym (fields_own m (reached_below m from))) there)
 
-  pub are_objects : (log_entries : ℕ) → AreObjects (config_of v log_entries) o
-  are_objects log_entries = record {
+  pub are_objects : (log_entries : ℕ) (steady : Bool) → AreObjects (config_of v log_entries steady) o
+  are_objects log_entries steady = record {
     few = omega (arith, image.few, nodes_many);
     fields = fields_long v.slots v.fields v.objects image.objects ∙ ap (λ n. n * v.fields) (sym nodes_many);
     registers = registers_long v.slots v.registers v.held image.registers ∙ ap (λ n. n * v.registers) image.mutators;
@@ -176,24 +176,24 @@ module _ (v : ImageContents) (image : IsImage v) where
       let rest : map (option_map (λ n. n)) xs ≡ xs = row_same xs in
       (λ i. first i ∷ rest i)
 
-  pub restored_by : (log_entries : ℕ) → IsConfig (config_of v log_entries) → StandsBy v (sight (restored v log_entries)) (λ s. s)
-  restored_by log_entries is =
-      let config : Config = config_of v log_entries in
-      let are : AreObjects config o = are_objects log_entries in
+  pub restored_by : (log_entries : ℕ) (steady : Bool) → IsConfig (config_of v log_entries steady) → StandsBy v (sight (restored v log_entries steady)) (λ s. s)
+  restored_by log_entries steady is =
+      let config : Config = config_of v log_entries steady in
+      let are : AreObjects config o = are_objects log_entries steady in
       let by = seen.seen_stands config o is are have_labels in
-      let below : (s : ℕ) → IsTaken (sight (restored v log_entries)) s → s < length v.objects = λ s taken. omega (arith, seen.taken_below config o is are have_labels s taken, nodes_many) in
+      let below : (s : ℕ) → IsTaken (sight (restored v log_entries steady)) s → s < length v.objects = λ s taken. omega (arith, seen.taken_below config o is are have_labels s taken, nodes_many) in
       record {
         one_to_one = λ s t p q same. same;
         there = below;
-        header = λ s taken. subst (λ (x : ℕ × Bool). IsHeaderOf x.1 x.0 (get_or (restored v log_entries).headers s 0)) (node_own s (below s taken)) (seen.header_taken_is config o is are have_labels s (omega (arith, below s taken, nodes_many)));
+        header = λ s taken. subst (λ (x : ℕ × Bool). IsHeaderOf x.1 x.0 (get_or (restored v log_entries steady).headers s 0)) (node_own s (below s taken)) (seen.header_taken_is config o is are have_labels s (omega (arith, below s taken, nodes_many)));
         registers = sym (ap (λ n. rows_of v.registers n o.registers) (sym image.mutators) ∙ rows_again v.slots v.registers v.held image.registers) ∙ by.registers;
         fields = λ s from.
-            let there : s < length v.objects = below s (reached_is_taken (sight (restored v log_entries)) (seen.seen_sound config o is are have_labels) s from) in
-            sym (two_maps (words_of (sight (restored v log_entries)) s) ∙ row_same (map target_of (words_of (sight (restored v log_entries)) s)) ∙ seen.targets_at config o is are have_labels s (omega (arith, there, nodes_many)) ∙ fields_own s there);
+            let there : s < length v.objects = below s (reached_is_taken (sight (restored v log_entries steady)) (seen.seen_sound config o is are have_labels) s from) in
+            sym (two_maps (words_of (sight (restored v log_entries steady)) s) ∙ row_same (map target_of (words_of (sight (restored v log_entries steady)) s)) ∙ seen.targets_at config o is are have_labels s (omega (arith, there, nodes_many)) ∙ fields_own s there);
       }
 
-  pub restored_stands : (log_entries : ℕ) → IsConfig (config_of v log_entries) → StandsFor v (sight (restored v log_entries))
-  restored_stands log_entries is = (λ s. s, restored_by log_entries is)
+  pub restored_stands : (log_entries : ℕ) (steady : Bool) → IsConfig (config_of v log_entries steady) → StandsFor v (sight (restored v log_entries steady))
+  restored_stands log_entries steady is = (λ s. s, restored_by log_entries steady is)
 
 -- ---- the objects of what an `Image` holds
 nodes_in : (fields : ℕ) (nodes : List (ℕ × Bool)) (targets : List (Option ℕ)) → map mark_of (drafts.objects_of fields nodes targets) ≡ nodes
@@ -221,5 +221,5 @@ inside_objects fields registers mutators slots nodes targets held many rows =
     (λ i. record { nodes = of_nodes i; fields = of_fields i; registers = of_held i })
 
 -- what is opened from them is what the image makes
-pub opened_as : (v now : ImageContents) (log_entries : ℕ) (o : Objects) (w : Core) → o ≡ objects_in v → v ≡ now → w ≡ opened_from (config_of v log_entries) o → w ≡ restored now log_entries
-opened_as v now log_entries o w same view is = is ∙ ap (opened_from (config_of v log_entries)) same ∙ ap (λ x. restored x log_entries) view
+pub opened_as : (v now : ImageContents) (log_entries : ℕ) (steady : Bool) (o : Objects) (w : Core) → o ≡ objects_in v → v ≡ now → w ≡ opened_from (config_of v log_entries steady) o → w ≡ restored now log_entries steady
+opened_as v now log_entries steady o w same view is = is ∙ ap (opened_from (config_of v log_entries steady)) same ∙ ap (λ x. restored x log_entries steady) view

@@ -62,21 +62,21 @@ mapped_targets : (f : ℕ → ℕ) (words : List ℕ) → map (λ w. option_map 
 mapped_targets f [] = refl
 mapped_targets f (w ∷ words) = ap (λ (xs : List (Option ℕ)). option_map f (target_of w) ∷ xs) (mapped_targets f words)
 
-module _ (v : ImageContents) (log_entries : ℕ) (image : IsImage v) (is : IsConfig (config_of v log_entries)) where
+module _ (v : ImageContents) (log_entries : ℕ) (steady : Bool) (image : IsImage v) (is : IsConfig (config_of v log_entries steady)) where
   abbrev config : Config
-  config = config_of v log_entries
+  config = config_of v log_entries steady
 
   abbrev o : Objects
   o = objects_in v
 
   abbrev w : Core
-  w = restored v log_entries
+  w = restored v log_entries steady
 
   abbrev range : List ℕ
   range = range_with_len 0 (length v.objects)
 
   are : AreObjects config o
-  are = are_objects v image log_entries
+  are = are_objects v image log_entries steady
 
   registers_are : (sight w).registers ≡ v.held
   registers_are = seen.registers_are config o is are (have_labels v image) ∙ ap (λ n. rows_of v.registers n o.registers) (sym image.mutators) ∙ rows_again v.slots v.registers v.held image.registers

@@ -30,8 +30,8 @@ pub fn renew(alloc: Global, world: World, slots: u32) -> Result<World, (World, R
     ensures idle { IfOk result AreIdle }
     ensures kept { IfOk result IsWorld }
 {
-    let (world, log_entries) = with_log_entries(world);
-    match open_anew(alloc, &world, slots, log_entries) {
+    let (world, log_entries, steady) = with_kind(world);
+    match open_anew(alloc, &world, slots, log_entries, steady) {
         Ok(new) => {
             drop(world);
             Ok(new)
@@ -40,14 +40,16 @@ pub fn renew(alloc: Global, world: World, slots: u32) -> Result<World, (World, R
     }
 }
 
-// The same world, and how many entries its logs have, which its parts tell.
-fn with_log_entries(world: World) -> (World, u32)
+// The same world, how many entries its logs have, and whether it is steady, which its parts tell.
+fn with_kind(world: World) -> (World, u32, bool)
     ensures same { result.0 ≡ world }
     ensures entries { result.1 ≡ world.config.log_entries }
+    ensures steady { result.2 ≡ world.config.steady }
 {
     let parts = world.into_parts();
     let log_entries = parts.config.log_entries;
-    (World::of_parts(parts), log_entries)
+    let steady = parts.config.steady;
+    (World::of_parts(parts), log_entries, steady)
 }
 
 // Another heap that holds what this one holds.
@@ -56,8 +58,10 @@ fn open_anew(
     world: &World,
     slots: u32,
     log_entries: u32,
+    steady: bool,
 ) -> Result<World, RenewError>
-    requires { log_entries ≡ world.now.config.log_entries }
+    requires entries { log_entries ≡ world.now.config.log_entries }
+    requires steady { steady ≡ world.now.config.steady }
     ensures renewed { IfOk result (λ new. IsRenewed world.now slots new) }
     ensures refused { IfErr result (λ error. IsUnrenewed world.now slots error) }
     ensures settled { IfOk result IsSettled }
@@ -68,7 +72,7 @@ fn open_anew(
         return Err(RenewError::Slots);
     }
     let image = Image::of_world(alloc, world)?;
-    restore_in(alloc, image, slots, log_entries)
+    restore_in(alloc, image, slots, log_entries, steady)
 }
 
 // The heap that the image is of, with so many slots.
@@ -77,10 +81,11 @@ fn restore_in(
     image: Image,
     slots: u32,
     log_entries: u32,
+    steady: bool,
 ) -> Result<World, RenewError>
     requires { IsSlots slots }
     ensures opened { IfOk result (λ new. (length image.objects ≤ slots)
-        × (new ≡ restored (in_slots image slots) log_entries)) }
+        × (new ≡ restored (in_slots image slots) log_entries steady)) }
     ensures refused { IfErr result (λ error. (error ≢ Slots)
         × (error ≡ FewSlots → slots < length image.objects)) }
     ensures settled { IfOk result IsSettled }
@@ -90,7 +95,7 @@ fn restore_in(
     if image.count() > slots {
         return Err(RenewError::FewSlots);
     }
-    match restore(alloc, &image.with_slots(slots), log_entries) {
+    match restore(alloc, &image.with_slots(slots), log_entries, steady) {
         Ok(new) => Ok(new),
         // Each number is in its range.
         Err(_) => Err(RenewError::NoMemory),

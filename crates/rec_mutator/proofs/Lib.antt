@@ -11,5 +11,6 @@ pub mod Scans
 pub mod Sizes
 pub mod Skips
 pub mod Steps
+pub mod Straight
 pub mod Words
 pub mod Sends

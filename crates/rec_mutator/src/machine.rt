@@ -12,6 +12,7 @@ ghost use Rattle.rec_mutator.specs.Took.{begun_of, took_of, skipped_to, spare, s
 ghost use Rattle.rec_mutator.specs.declared.phase.Phase.TheVariants.{Begun};
 
 mod learning;
+mod straight;
 
 use crate::phase::Phase;
 use crate::{Made, Work};
@@ -344,6 +345,15 @@ impl Machine {
         self.epoch
     }
 
+    /// The slot with which the last scan began.
+    #[inline(always)]
+    pub fn from(&self) -> u16
+        ensures from { result ≡ self.now.from }
+        ensures kept { IsMachine self.now }
+    {
+        self.from
+    }
+
     /// The entries of its log, in order.
     pub fn entries(&self) -> &[Entry]
         ensures { result.now ≡ self.now.log.entries }
@@ -443,7 +453,9 @@ impl Machine {
         }
     }
 
-    fn is_full(&self) -> bool
+    /// Whether its log has no room for another entry.
+    #[inline(always)]
+    pub fn is_full(&self) -> bool
         ensures { result ≡ is_full self.now }
     {
         self.log.is_full()
@@ -456,15 +468,18 @@ impl Machine {
         Op::LoadCross(self.number)
     }
 
-    fn place_of(&self, slot: u16, field: u8) -> u32
+    /// The place of a field of the object in a slot.
+    #[inline(always)]
+    pub fn place_of(&self, slot: u16, field: u8) -> u32
         requires { field < self.now.fields }
         ensures { result ≡ place_of slot field self.now.fields }
     {
         place(slot, field, self.fields)
     }
 
-    // The word that leads where a register does, with the stamp of the next log entry.
-    fn word_for(&self, r: u8) -> u64
+    /// The word that leads where a register does, with the stamp of the next log entry.
+    #[inline(always)]
+    pub fn word_for(&self, r: u8) -> u64
         requires register { r < length self.now.registers }
         requires room { length self.now.log.entries < self.now.log.capacity }
         requires stamp { HasStamp self.now }

@@ -1,5 +1,5 @@
 -- Journals and orders as they are opened, and the numbers of a heap.
-use Rattle.std.proofs.Common.{◌≡◌, inl, inr, ℕ, ◌+◌, ◌-◌, ◌<◌, ◌≤◌, zero, suc, List, [], ◌∷◌, ◌++◌, Some, slice_index_or, length, map, take, sym, ap, subst, ◌∙◌, arith}
+use Rattle.std.proofs.Common.{false, ◌≡◌, inl, inr, ℕ, ◌+◌, ◌-◌, ◌<◌, ◌≤◌, zero, suc, List, [], ◌∷◌, ◌++◌, Some, slice_index_or, length, map, take, sym, ap, subst, ◌∙◌, arith}
 use Rattle.std.specs.List.{slice_get, sum, All, Any}
 use Rattle.std.proofs.lemmas.Bool.{cases_lt}
 use Rattle.std.proofs.lemmas.List.{take_more, take_all, length-map, get_or-map, get_or_past}
@@ -76,7 +76,7 @@ longest_is all most bound (k, found, there, is, most_is) =
 
 -- the heap's numbers
 pub config_is : (script : ScriptContents) (slots fields registers mutators room : ℕ) → slots ≡ script.slots → fields ≡ script.fields → registers ≡ script.registers → mutators ≡ length script.commands → room ≡ log_room script
-    → ◌≡◌ {A = Config} (record { slots = slots; fields = fields; registers = registers; mutators = mutators; log_entries = room; first_epoch = 1 }) (config_of script)
+    → ◌≡◌ {A = Config} (record { slots = slots; fields = fields; registers = registers; mutators = mutators; log_entries = room; first_epoch = 1; steady = false }) (config_of script)
 config_is script slots fields registers mutators room s f r m l = cc
 
 -- a script's numbers are those of a heap

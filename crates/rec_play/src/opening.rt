@@ -25,6 +25,7 @@ pub fn config_for(script: &Script) -> Config
         mutators: u32::from(script.mutators()),
         log_entries: script.longest().max(1),
         first_epoch: 1,
+        steady: false,
     }
 }
 

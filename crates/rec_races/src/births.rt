@@ -50,6 +50,7 @@ fn race_births<R: Abort + Threads + Sync>(
         mutators: 2,
         log_entries: 16,
         first_epoch: 1,
+        steady: false,
     };
     let (world, seen) = race(rt, alloc, config, tasks, NO_TURNS)?;
     let labels = labels(&world);

@@ -110,6 +110,7 @@ fn race_leaving<R: Abort + Threads + Sync>(
         mutators,
         log_entries: 16,
         first_epoch: 1,
+        steady: false,
     };
     let tasks = leaving_tasks(alloc, mutators, staying)?;
     let (mut world, seen) = race(rt, alloc, config, &tasks, LIMITS)?;

@@ -98,6 +98,7 @@ fn race_drawn<R: Abort + Threads + Sync>(
         mutators,
         log_entries: 64,
         first_epoch: 1,
+        steady: false,
     };
     let tasks = draw_tasks(alloc, seed, mutators)?;
     let left = race_and_settle(rt, alloc, config, &tasks, LIMITS)?;

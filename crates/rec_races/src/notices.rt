@@ -24,6 +24,7 @@ const CONFIG: Config = Config {
     mutators: 1,
     log_entries: 16,
     first_epoch: 1,
+    steady: false,
 };
 
 // Two objects, that nothing holds any more.

@@ -62,6 +62,7 @@ fn race_rings<R: Abort + Threads + Sync>(
         mutators: 2,
         log_entries: 16,
         first_epoch: 1,
+        steady: false,
     };
     let left = race_and_settle(rt, alloc, config, tasks, LIMITS)?;
     assert!(rt; left.is_settled);

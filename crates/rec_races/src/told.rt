@@ -28,6 +28,7 @@ const CONFIG: Config = Config {
     mutators: 4,
     log_entries: 16,
     first_epoch: 1,
+    steady: false,
 };
 
 const ROUNDS: u32 = 300;

@@ -89,6 +89,7 @@ impl CycleFree {
 
     /// Learns the word that came out of the field: its target has one reference less. An orange target is lowered, any
     /// other is decremented.
+    #[inline(always)]
     pub fn took(&mut self, counts: &mut Counts, word: u64)
         requires busy { IsSome (next_of self.old) }
         requires kept { IsAtWork self.old counts.old }
@@ -148,9 +149,12 @@ fn go_on(counts: &mut Counts, next: &mut Option<Member>, fields: u8)
         return;
     }
     counts.rules();
-    *next = at.next_member(counts.work());
-    if next.is_none() {
-        list_members(counts);
+    match at.next_member(counts.work()) {
+        Some(member) => *at = member,
+        None => {
+            *next = None;
+            list_members(counts);
+        }
     }
 }
 

@@ -84,6 +84,7 @@ impl Release {
 
     /// Learns the word that came out of the field: its target has one reference less. Where this release lowers, an orange
     /// target is lowered, and any other is decremented.
+    #[inline(always)]
     pub fn took(&mut self, counts: &mut Counts, word: u64)
         requires busy { IsSome (next_of self.old) }
         requires kept { IsAtWork self.old counts.old }

@@ -7,6 +7,7 @@ use rec_counts::{Colour, Counts};
 
 /// The reference that came out is counted no more: an orange target is lowered, where `lowers` says so, and any other is
 /// decremented.
+#[inline(always)]
 pub(crate) fn take_off(counts: &mut Counts, target: Option<u16>, lowers: bool)
     requires counted { IfSome target (λ slot. 0 < (slot_at counts.old slot).count) }
     requires zeros { AreZeros counts.old }

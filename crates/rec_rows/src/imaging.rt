@@ -77,7 +77,7 @@ fn heap_of(alloc: Global, asked: &str) -> Result<World, Result<String, NoMemory>
 fn heap_in(alloc: Global, bytes: &[u8]) -> Result<World, Result<String, NoMemory>> {
     match read(alloc, bytes) {
         Ok(image) => {
-            let heap = restore(alloc, &image, LOG_ENTRIES);
+            let heap = restore(alloc, &image, LOG_ENTRIES, false);
             drop(image);
             heap.map_err(|error| refusal(alloc, &error))
         }

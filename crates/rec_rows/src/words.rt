@@ -50,6 +50,7 @@ pub fn config(words: &[&str]) -> Result<Config, Wrong> {
         mutators,
         log_entries,
         first_epoch,
+        steady: false,
     })
 }
 

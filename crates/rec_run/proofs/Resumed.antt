@@ -1,5 +1,5 @@
 -- Where an image is cut off is one place, and bytes that are refused are no image with mutators behind it.
-use Rattle.std.proofs.Common.{◌≡◌, inl, inr, ℕ, ◌-◌, ◌<◌, ◌≤◌, List, [], drop, length, replicate, take, sym, ap, subst, ◌∙◌, arith, length-append, get_or}
+use Rattle.std.proofs.Common.{◌≡◌, false, inl, inr, ℕ, ◌-◌, ◌<◌, ◌≤◌, List, [], drop, length, replicate, take, sym, ap, subst, ◌∙◌, arith, length-append, get_or}
 use Rattle.std.proofs.lemmas.Bool.{cases_lt}
 use Rattle.std.proofs.lemmas.List.{length-replicate}
 use Rattle.rec_model.specs.declared.command.Cmd.{Cmd}
@@ -42,8 +42,8 @@ unresumed_none bytes line kind (inr (few, at)) (contents, given, told) = go at
         refused_none (numbers_of other) (drop place bytes) _ line kind refused behind
 
 -- A script that goes on with an image has the image's numbers.
-pub numbers_same : (bytes : List ℕ) (contents : ImageContents) (script : ScriptContents) → IsResumedAs bytes contents script → config_in contents (log_room script) ≡ config_of script
-numbers_same bytes contents script is = subst (λ (s : ScriptContents). config_in contents (log_room s) ≡ config_of s) (sym is.all) same
+pub numbers_same : (bytes : List ℕ) (contents : ImageContents) (script : ScriptContents) → IsResumedAs bytes contents script → config_in contents (log_room script) false ≡ config_of script
+numbers_same bytes contents script is = subst (λ (s : ScriptContents). config_in contents (log_room s) false ≡ config_of s) (sym is.all) same
   where
     given : ScriptContents
     given = is.given
@@ -60,9 +60,9 @@ numbers_same bytes contents script is = subst (λ (s : ScriptContents). config_i
         let few = is.told.spelled.few in
         omega (arith, few, length-append given.commands (replicate {A = List Cmd} (contents.mutators - length given.commands) []), length-replicate {A = List Cmd} (contents.mutators - length given.commands) [])
 
-    same : config_in contents (log_room all) ≡ config_of all
+    same : config_in contents (log_room all) false ≡ config_of all
     same =
-        ap (λ (n : ℕ). record (config_in contents (log_room all)) { slots = n }) heap.slots
+        ap (λ (n : ℕ). record (config_in contents (log_room all) false) { slots = n }) heap.slots
         ∙ ap (λ (n : ℕ). record (config_of all) { fields = n; registers = contents.registers; mutators = contents.mutators }) heap.fields
         ∙ ap (λ (n : ℕ). record (config_of all) { registers = n; mutators = contents.mutators }) heap.registers
         ∙ ap (λ (n : ℕ). record (config_of all) { mutators = n }) many

@@ -126,7 +126,7 @@ pub fn resume_script(
     how: Play,
 ) -> Result<Outcome, NoMemory>
     requires turns { how.turns ≤ MOST_TURNS }
-    requires numbers { config_in image.now (log_room script.now) ≡ config_of script.now }
+    requires numbers { config_in image.now (log_room script.now) false ≡ config_of script.now }
     ensures outcome { IfOk result (λ outcome. (start : Start) × IsRestoredFor image.now script.now start × IsOutcome script.now start (hows.Play how) outcome) }
 
     // Each turn requests one epoch more at most.
@@ -141,12 +141,12 @@ pub fn resume_script(
 
 // The heap of an image, with logs that have room for a script's commands.
 fn restore_world(alloc: Global, script: &Script, image: &Image) -> Result<World, NoMemory>
-    requires numbers { config_in image.now (log_room script.now) ≡ config_of script.now }
+    requires numbers { config_in image.now (log_room script.now) false ≡ config_of script.now }
     ensures begins { IfOk result (MayBegin script.now) }
     ensures start { IfOk result (λ world. (start : Start) × (start.world ≡ world) × IsRestoredFor image.now script.now start) }
     ensures first { IfOk result (λ world. world.epoch ≡ 1) }
 {
-    match restore(alloc, image, config_for(script).log_entries) {
+    match restore(alloc, image, config_for(script).log_entries, false) {
         Ok(world) => Ok(world),
         Err(OpenError::NoMemory) => Err(NoMemory),
         // An image's numbers and a script's are those of a heap.

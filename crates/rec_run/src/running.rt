@@ -300,7 +300,7 @@ fn answer_resumed<R: Threads + Sync>(
     how: Play,
 ) -> Result<Text, NoMemory>
     requires turns { how.turns ≤ MOST_TURNS }
-    requires numbers { config_in image.now (log_room script.now) ≡ config_of script.now }
+    requires numbers { config_in image.now (log_room script.now) false ≡ config_of script.now }
     ensures { IfOk result (λ text. (start : Start) × IsRestoredFor image.now script.now start × Answers script.now start (hows.Play how) (flat_map (λ line. line) text)) }
 {
     let mut outcome = resume_script(alloc, script, image, how)?;

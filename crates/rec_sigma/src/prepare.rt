@@ -69,6 +69,7 @@ impl Prep {
 
     /// Learns the word that was found in the field: where it leads to a member of the same set, it takes one off that
     /// member's cyclic count, not below zero.
+    #[inline(always)]
     pub fn took(&mut self, counts: &mut Counts, word: u64)
         requires busy { IsSome (next_of self.old) }
         requires kept { IsAtWork self.old counts.old }
@@ -120,10 +121,10 @@ fn go_on(counts: &mut Counts, next: &mut Option<At>, fields: u8)
     }
     counts.rules();
     let set = at.set;
-    *next = match at.member.next_member(counts.set(set)) {
-        Some(member) => Some(At { set, member }),
-        None => begin_next(counts, set + 1),
-    };
+    match at.member.next_member(counts.set(set)) {
+        Some(member) => at.member = member,
+        None => *next = begin_next(counts, set + 1),
+    }
 }
 
 // Begins the next set that has a member, from this number on; None where there is none.

@@ -20,27 +20,11 @@ use Rattle.rec_mutator.specs.declared.work.Work.{Work}
 use Rattle.rec_mutator.specs.declared.work.Work.TheVariants as works
 use Rattle.rec_mutator.proofs.Refusals.{answer_cause, same_command}
 use Rattle.rec_mutator.proofs.Steps.{TakesNone, here_same}
+pub use Rattle.rec_table.specs.Straight.{Path}
 use Rattle.rec_table.specs.Answered.{FailsProbes, IsAnswered, IsPolled, worked}
 use Rattle.rec_table.specs.declared.start.Start.{Start}
 use Rattle.rec_table.proofs.Beats.{told_both}
-
--- a work that was begun and went on step by step: the words that were found, and the record before the last step
-pub record Path (start : Start) (p : Private) (log log' : List Beat) (q : Private) : Type 0 where
-  pub words : List ℕ
-  pub last : ℕ
-  pub grows : log' ≡ log ++ worked start (words ++ last ∷ [])
-  pub before : Private
-  pub along : before ≡ told (begun_of p start.work start.from) (saw_all words)
-  -- a command that isn't to leave takes no mailbox
-  pub came : (cmd : Cmd) → start.work ≡ works.Command cmd → IsNoLeave (works.Command cmd) → before ≡ fold took_of (begun_of p start.work start.from) words
-  pub machine : IsMachine before
-  pub between : IsBetween before.phase
-  pub busy : is_busy before ≡ true
-  pub works_on : work_of before ≡ Some start.work
-  pub slots : before.slots ≡ p.slots
-  pub made : q ≡ learnt before (Saw last)
-  pub counted : before.steps ≡ length words
-  pub stepped : q.steps ≡ before.steps + 1
+use Rattle.rec_table.proofs.Making.{learnt_keeps}
 
 is_poll : Option Work → Bool
 is_poll (Some works.Poll) = true
@@ -367,3 +351,7 @@ polled p q from log log' result path begun answer = by path.before.phase refl pa
     by at.Retiring e now = absurd (no_command at.Retiring e refl)
     by at.Parting e now = absurd (no_command at.Parting e refl)
     by (at.Finished w made) e now = absurd (true≢false (sym path.busy ∙ ap is_busy_at e))
+
+-- the heap has as many slots for it still
+pub path_slots : (start : Start) (p q : Private) (log log' : List Beat) → Path start p log log' q → q.slots ≡ p.slots
+path_slots start p q log log' path = ap (λ (x : Private). x.slots) path.made ∙ (learnt_keeps path.before path.last path.busy path.between).0.slots ∙ path.slots

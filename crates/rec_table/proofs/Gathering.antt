@@ -315,6 +315,7 @@ hit_turn p q r t word b m m' is hit took is_m swapped left =
         fields = ap (λ (x : Private). x.fields) r_is;
         registers = ap (λ (x : Private). x.registers) r_is;
         capacity = ap (λ (x : Private). x.capacity) r_is;
+        steady = ap (λ (x : Private). x.steady) r_is;
         mutators = ap (λ (x : Private). length x.newer) r_is ∙ length-set p.newer (t - 1) (held m);
       },
       subst (λ (x : Private). IsBetween x.phase) (sym r_is) tt,

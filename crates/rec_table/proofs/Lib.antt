@@ -24,6 +24,7 @@ pub mod Seats
 pub mod Sends
 pub mod Steps
 pub mod Stopped
+pub mod Straight
 pub mod Stopping
 pub mod Turn
 pub mod Turns

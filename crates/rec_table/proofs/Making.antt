@@ -90,12 +90,12 @@ plain_hands hand number at.Giving is = absurd is
 plain_hands hand number at.Parting is = absurd is
 plain_hands hand number _ is = refl
 
-plain_taken : (p : Private) (word : ℕ) (phase : phases.Phase) → IsPlain phase → taken_by p word phase ≡ []
+pub plain_taken : (p : Private) (word : ℕ) (phase : phases.Phase) → IsPlain phase → taken_by p word phase ≡ []
 plain_taken p word at.Crossing is = absurd is
 plain_taken p word at.Leaving is = absurd is
 plain_taken p word _ is = refl
 
-plain_hand : (hand x : Contents) (phase : phases.Phase) → IsPlain phase → hand_after hand x phase ≡ hand
+pub plain_hand : (hand x : Contents) (phase : phases.Phase) → IsPlain phase → hand_after hand x phase ≡ hand
 plain_hand hand x at.Crossing is = absurd is
 plain_hand hand x at.Leaving is = absurd is
 plain_hand hand x _ is = refl
@@ -449,12 +449,12 @@ step_told (MutatorStep.give_box c) = crossing_told tt c
 pub learnt_told : (p : Private) (word : ℕ) → is_busy p ≡ true → IsBetween p.phase → IsTold (learnt p (Saw word)).phase
 learnt_told p word busy between = step_told (learnt_step p word busy between)
 
-ready_busy : (p : Private) (wk : Option Start) → MayGo p wk → is_busy (ready p wk) ≡ true
+pub ready_busy : (p : Private) (wk : Option Start) → MayGo p wk → is_busy (ready p wk) ≡ true
 unfolding begun_of
 ready_busy p None may = may
 ready_busy p (Some start) may = refl
 
-ready_keeps : (p : Private) (wk : Option Start) → KeepsSizes p (ready p wk)
+pub ready_keeps : (p : Private) (wk : Option Start) → KeepsSizes p (ready p wk)
 unfolding begun_of
 ready_keeps p None = record { number = refl; slots = refl; fields = refl; registers = refl; capacity = refl }
 ready_keeps p (Some start) = record { number = refl; slots = refl; fields = refl; registers = refl; capacity = refl }
@@ -522,3 +522,8 @@ works_on h l m h' work word grows is scanned e =
       subst (Works work h.log) (sym logs) (Works.then m.log word (subst (Works work h.log) (sym passed) (probed work h.log l.log scanned.words grows))),
       e ∙ (λ k. record (same k) { log = sym logs k }),
     )
+
+pub works_after : (work : Work) (log : List Beat) (l m h' : MutatorView) (word : ℕ) → HasScanned l m → h'.log ≡ m.log ++ beats None word → Works work log l.log → Works work log h'.log
+works_after work log l m h' word scanned grows works =
+    let passed : m.log ≡ l.log ++ saw_all scanned.words = ap (λ (x : MutatorView). x.log) scanned.grows in
+    subst (Works work log) (sym grows) (Works.then m.log word (subst (Works work log) (sym passed) (probed work log l.log scanned.words works)))

@@ -28,6 +28,7 @@ use Rattle.rec_mutator.specs.Took.{is_uncollected, leaving_by}
 use Rattle.rec_table.proofs.Common.{written, Op, Contents, Private, is_busy, is_full, register, probe_of, begun_of, took_of, took_at, read_by, allowed_by, written_by, answered, moved, born_in, spare, left_of, step_of, IsFound, IsMutator, Core, cells_of, mutator, nobody, box, IsKept, Move, AllFit, after_moves, found_by, stepped, begun_from, Cells, IsWithin, cell, with_cell, IsWorld, world_kept, moved_world, actor_of, in_list, fields_many, may_step, names_slots, beats_of, told, learnt, gives_back, OffersNone, Offerless, Kind, Performed, Adds, Grows, Operates, moves_of, operation, performed, step_in, steps_in, row, index_of, Holds, ready, MayGo, beats, longer, MadeBy, Begins, Saw, Seated, View, Collects, Mutates, Spent, after_both, config_after, every_both, fit_both, moves_kept, over_both}
 use Rattle.rec_table.specs.Homes.{homes_of}
 use Rattle.rec_table.specs.Rule.{Fits}
+pub use Rattle.rec_table.specs.Straight.{IsPlainOp}
 use Rattle.rec_table.specs.declared.start.Start.{Start}
 use Rattle.rec_core.proofs.Row.{row_read, row_write}
 use Rattle.rec_table.proofs.Beats.{beats_both, world_after, mutator_after, step_same}
@@ -104,14 +105,6 @@ IsPlain at.Leaving = ⊥
 IsPlain at.Retiring = ⊥
 IsPlain at.Parting = ⊥
 IsPlain _ = Unit {0}
-
--- an operation that moves no mailbox
-abbrev pub IsPlainOp : Op → Type 0
-IsPlainOp (ops.TakeBox t e) = ⊥
-IsPlainOp (ops.GiveBox t e) = ⊥
-IsPlainOp (ops.LookBox t e) = ⊥
-IsPlainOp (ops.ReturnBox t e) = ⊥
-IsPlainOp _ = Unit {0}
 
 pub plain_next : (p : Private) → IsPlain p.phase → IsPlainOp (next_of p)
 unfolding next_of next_at

@@ -13,3 +13,4 @@ pub mod Operations
 pub mod Turn
 pub mod Telling
 pub mod Named
+pub mod Straight

@@ -1,5 +1,5 @@
 -- A turn of the collector on the table, by its own list, and many of them.
-use Rattle.std.specs.Prelude.{◌≡◌, ◌≢◌, ℕ, ◌+◌, ◌<◌, None, Some}
+use Rattle.std.specs.Prelude.{◌≡◌, ◌≢◌, ℕ, ◌+◌, ◌<◌, ◌≤◌, None, Some}
 use Rattle.rec_word.specs.declared.op.Op.{Op}
 use Rattle.rec_collector.specs.Causes.{HasCause}
 use Rattle.rec_collector.specs.Next.{next_of}
@@ -39,6 +39,11 @@ pub data MovesTo (before : CollectorView) : ℕ → CollectorView → Type 0 whe
 pub data MakesTurns (before after : CollectorView) (most : ℕ) (answer : Turn) : Type 0 where
   moved : answer ≡ turns.Moved → MovesTo before most after → MakesTurns before after most answer
   ended : (moves : ℕ) (last : CollectorView) → moves < most → MovesTo before moves last → MakesTurn last after answer → answer ≢ turns.Moved → MakesTurns before after most answer
+
+-- Of so many turns at most so many moved; or behind those one more was made and came to something else, which is this.
+pub data MakesSome (first after : CollectorView) (moves most : ℕ) (answer : Turn) : Type 0 where
+  moved : answer ≡ turns.Moved → moves ≤ most → MovesTo first moves after → MakesSome first after moves most answer
+  ended : (last : CollectorView) → moves < most → MovesTo first moves last → MakesTurn last after answer → answer ≢ turns.Moved → MakesSome first after moves most answer
 
 -- the collector made turns, fewer than so many, and each moved
 pub record MovesToFewer (before after : CollectorView) (most : ℕ) : Type 0 where

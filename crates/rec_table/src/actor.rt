@@ -15,6 +15,8 @@ ghost use Rattle.rec_core.specs.Core.{mutator};
 ghost use Rattle.rec_core.specs.Cells.{births_of};
 ghost use Rattle.rec_world.specs.World.{IsWorld};
 
+mod straight;
+
 use crate::board::Board;
 use crate::operating::{compare_exchange, load, swap};
 use crate::rule::{Doing, Gives, Makes, Takes};
@@ -178,7 +180,11 @@ fn cursor_after(op: Op, cursor: u16) -> u16 {
 }
 
 impl Actor {
-    ghost use Rattle.std.specs.Prelude.{◌+◌, ◌%◌, ◌^◌, ◌≤◌, ℕ, Some, IfSome};
+    ghost use Rattle.std.specs.Prelude.{◌+◌, ◌%◌, ◌^◌, ◌≤◌, ℕ, List, Some, IfSome};
+    ghost use Rattle.rec_mutator.specs.Private.{Private};
+    ghost use Rattle.rec_table.specs.Straight.{Path};
+    ghost use Rattle.rec_table.specs.declared.start.Start.{Start as Starts};
+    ghost use Rattle.rec_table.specs.declared.views.Beat.{Beat};
     ghost use Rattle.rec_table.specs.Beats.{births_told};
     ghost use Rattle.rec_mutator.specs.Private.{work_of, answer_of, limit_of};
     ghost use Rattle.rec_model.specs.declared.command.Cmd.{Cmd as Command};
@@ -343,6 +349,32 @@ impl Actor {
         self.machine.number()
     }
 
+    // Makes the steps of a work that is under way, to its end.
+    #[inline(never)]
+    fn go_on(&mut self, board: &Board, work: Work) -> Made
+        requires own { IsOf board.now.table.shared.table_id board.now.table.shared.key.value self.old }
+        requires world { IsWorld board.now.table.shared.key.value }
+        requires work { work_of (mutator_now self.old) ≡ Some work }
+        requires told { IsTold (mutator_now self.old).phase }
+
+        ensures is { self.new ≡ record self.old { log = self.new.log } }
+        ensures answer { answer_of (mutator_now self.new) ≡ Some result }
+        ensures work { work_of (mutator_now self.new) ≡ Some work }
+        ensures told { IsTold (mutator_now self.new).phase }
+        // As the work went on so far, from whichever record and list, it goes on.
+        ensures path { (start : Starts) (p : Private) (log : List Beat) → start.work ≡ work → Path start p log self.old.log (mutator_now self.old) → Path start p log self.new.log (mutator_now self.new) }
+        ensures grows { (log : List Beat) → Works work log self.old.log → Works work log self.new.log }
+        ensures same { KeepsSizes (mutator_now self.old) (mutator_now self.new) }
+    {
+        loop {
+            if let Some(made) = self.answer() {
+                return made;
+            }
+            self.scan(board);
+            self.step(board, None);
+        }
+    }
+
     /// Begins a work and makes its steps to the end.
     #[inline(always)]
     pub fn work(&mut self, board: &Board, work: Work) -> Made
@@ -366,12 +398,6 @@ impl Actor {
     {
         let start = self.start(board, work);
         self.step(board, Some(start));
-        loop {
-            if let Some(made) = self.answer() {
-                return made;
-            }
-            self.scan(board);
-            self.step(board, None);
-        }
+        self.go_on(board, work)
     }
 }

@@ -2,14 +2,15 @@
 ghost use Rattle.std.specs.Prelude.{◌≡◌, ◌+◌, ◌%◌, ◌^◌, ◌<◌, ◌≤◌, ◌↔◌, IsTrue, [], ◌∷◌, ◌++◌, false, length, None, Some, Option, IfNone, IfSome, IsSome};
 ghost use Rattle.rec_collector.specs.Given.{IsGiven};
 ghost use Rattle.rec_collector.specs.Kept.{KeepsSizes};
+ghost use Rattle.rec_collector.specs.Kind.{kind_of};
 ghost use Rattle.rec_collector.specs.Next.{next_of as turn_next};
 ghost use Rattle.rec_collector.specs.Step.{IsBetween as IsBetweenTurns};
 ghost use Rattle.rec_collector.specs.Took.{turn_of};
 ghost use Rattle.rec_collector.specs.declared.phase.Phase.TheVariants as phases;
 ghost use Rattle.rec_table.specs.Beats.{gathered, gathered_all, births_told};
-ghost use Rattle.rec_table.specs.Views.{collector_view, collector_now, mutator_now, IsCollectorOf, IsOwn, PutsBack};
+ghost use Rattle.rec_table.specs.Views.{CollectorView, collector_view, collector_now, mutator_now, IsCollectorOf, IsOwn, PutsBack};
 ghost use Rattle.rec_core.specs.Row.{index_of};
-ghost use Rattle.rec_table.specs.Turn.{MakesTurn, MakesTurns, MovesToFewer};
+ghost use Rattle.rec_table.specs.Turn.{MakesSome, MakesTurn, MakesTurns, MovesTo, MovesToFewer};
 ghost use Rattle.rec_table.specs.Telling.{Frees, IfHeld, IfTurned, IsFreeOp, TellsTurn, TellsTurns, freed_by};
 ghost use Rattle.rec_io.specs.Faults.{Rose};
 ghost use Rattle.rec_notice.specs.Telling.{as_list, told};
@@ -32,7 +33,7 @@ use crate::rule::{Glanced, Looked, Returned, Turned, Turning};
 use crate::telling::Telling;
 use crate::views::View;
 use atomic_table::Seat;
-use rec_collector::{Machine, Sets, Turn};
+use rec_collector::{Kind, Machine, Sets, Turn};
 use rec_log::Buffer;
 use rec_mutator::Machine as Mutators;
 use rec_notice::{Teller, Tube};
@@ -220,7 +221,16 @@ impl Collector {
         (machine, seat)
     }
 
-    // One turn, and the label of the object that it freed. Who asks for the turn alone pays nothing for the label.
+    // What kind of phase it is in.
+    #[inline(always)]
+    fn kind(&self) -> Kind
+        ensures { result ≡ kind_of (collector_now self.now).phase }
+    {
+        self.machine.kind()
+    }
+
+    // One turn, and the label of the object that it freed. Who asks for the turn alone pays nothing for the label. The phase is looked
+    // at once, and each kind has a turn of its own: behind an atomic operation the compiler doesn't know it any more.
     #[inline(always)]
     fn turn_freeing(&mut self, board: &Board) -> (Turn, Option<u32>)
         requires own { IsOwn board.now.table.shared.table_id board.now.table.shared.key.value self.old }
@@ -230,6 +240,27 @@ impl Collector {
         ensures freed { Frees self.old self.new result.1 }
 
         // No turn but a look at a mailbox ends with one held.
+        ensures free { NotLooking (collector_now self.old).phase → boxes_out (collector_now self.new) ≡ [] }
+    {
+        match self.kind() {
+            Kind::Releasing => self.turn_as(board, Kind::Releasing),
+            Kind::Freeing => self.turn_as(board, Kind::Freeing),
+            Kind::Trying => self.turn_as(board, Kind::Trying),
+            Kind::Preparing => self.turn_as(board, Kind::Preparing),
+            Kind::Sweeping => self.turn_as(board, Kind::Sweeping),
+            Kind::Other => self.turn_as(board, Kind::Other),
+        }
+    }
+
+    // One turn of a collector in a phase of this kind.
+    #[inline(always)]
+    fn turn_as(&mut self, board: &Board, kind: Kind) -> (Turn, Option<u32>)
+        requires own { IsOwn board.now.table.shared.table_id board.now.table.shared.key.value self.old }
+        requires world { IsWorld board.now.table.shared.key.value }
+        requires kind { kind ≡ kind_of (collector_now self.old).phase }
+
+        ensures turn { MakesTurn self.old self.new result.0 }
+        ensures freed { Frees self.old self.new result.1 }
         ensures free { NotLooking (collector_now self.old).phase → boxes_out (collector_now self.new) ≡ [] }
     {
         let _turns = self.machine.turns();
@@ -243,7 +274,7 @@ impl Collector {
             }
             _ => {
                 let word = make_turn::<Brand>(board, &mut self.seat, op);
-                (self.machine.took(word), label_freed(op, word))
+                (self.machine.took_as(kind, word), label_freed(op, word))
             }
         }
     }
@@ -286,14 +317,80 @@ impl Collector {
         // It stays the collector of this heap.
         ensures own { IsCollectorOf heap.now self.new }
     {
-        for moves in 0..most {
-            let turn = self.turn(heap);
+        let mut moves = 0;
+        while moves < most {
+            let (made, turn) = self.run(heap, moves, most);
             match turn {
-                Turn::Moved => {}
+                Turn::Moved => moves = made,
                 _ => return turn,
             }
         }
         Turn::Moved
+    }
+
+    // Makes turns as long as they are of one kind, where so many of so many were made, and tells how many were made then.
+    #[inline(always)]
+    fn run(&mut self, heap: &Heap, from: u32, most: u32) -> (u32, Turn)
+        requires own { IsCollectorOf heap.now self.old }
+        requires fewer { from < most }
+
+        ensures made { (first : CollectorView) → MovesTo first from self.old → MakesSome first self.new result.0 most result.1 }
+        ensures further { result.1 ≡ Turn.Moved → from < result.0 }
+        ensures own { IsCollectorOf heap.now self.new }
+    {
+        match self.kind() {
+            Kind::Releasing => self.run_as(heap, Kind::Releasing, from, most),
+            Kind::Freeing => self.run_as(heap, Kind::Freeing, from, most),
+            Kind::Trying => self.run_as(heap, Kind::Trying, from, most),
+            Kind::Preparing => self.run_as(heap, Kind::Preparing, from, most),
+            Kind::Sweeping => self.run_as(heap, Kind::Sweeping, from, most),
+            Kind::Other => self.run_as(heap, Kind::Other, from, most),
+        }
+    }
+
+    // The same for turns of this kind. A loop whose kind is known is straight code.
+    #[inline(always)]
+    fn run_as(&mut self, heap: &Heap, kind: Kind, from: u32, most: u32) -> (u32, Turn)
+        requires own { IsCollectorOf heap.now self.old }
+        requires fewer { from < most }
+        requires kind { kind ≡ kind_of (collector_now self.old).phase }
+
+        ensures made { (first : CollectorView) → MovesTo first from self.old → MakesSome first self.new result.0 most result.1 }
+        ensures further { result.1 ≡ Turn.Moved → from < result.0 }
+        ensures own { IsCollectorOf heap.now self.new }
+    {
+        for moves in from..most {
+            let turn = self.turn_of_kind(heap, kind);
+            match turn {
+                Turn::Moved => {}
+                _ => return (moves, turn),
+            }
+            if !self.is_of_kind(kind) {
+                return (moves + 1, Turn::Moved);
+            }
+        }
+        (most, Turn::Moved)
+    }
+
+    // One turn of this kind.
+    #[inline(always)]
+    fn turn_of_kind(&mut self, heap: &Heap, kind: Kind) -> Turn
+        requires own { IsCollectorOf heap.now self.old }
+        requires kind { kind ≡ kind_of (collector_now self.old).phase }
+
+        ensures turn { MakesTurn self.old self.new result }
+        ensures own { IsCollectorOf heap.now self.new }
+    {
+        let (turn, _) = self.turn_as(heap.board(), kind);
+        turn
+    }
+
+    // Whether it is in a phase of this kind.
+    #[inline(always)]
+    fn is_of_kind(&self, kind: Kind) -> bool
+        ensures { IsTrue result ↔ (kind ≡ kind_of (collector_now self.now).phase) }
+    {
+        kind == self.kind()
     }
 
     /// Makes one turn, as `turn` does, and tells the label of the object that it freed, if it freed one. A label that the teller keeps is

@@ -7,6 +7,7 @@ ghost use Rattle.rec_table.specs.Answered.{IsAnswered, IsPolled, Leaves};
 ghost use Rattle.rec_table.specs.Rule.{MayAsk};
 ghost use Rattle.rec_table.specs.Views.{mutator_now, IsMutatorOf, Works};
 ghost use Rattle.rec_table.specs.Journals.{Tells};
+ghost use Rattle.rec_table.specs.Straight.{CarriedOr};
 ghost use Rattle.rec_core.specs.Config.{HasLabel};
 
 use crate::actor::Actor;
@@ -56,6 +57,7 @@ impl Mutator {
     ///
     /// By the command Leave it leaves the heap for good: its registers become null, and its last log is handed over. It is told
     /// `NotYet`, and nothing changes, while the log that it handed over last is still to be collected.
+    #[inline(always)]
     pub fn command(&mut self, heap: &Heap, cmd: Cmd) -> Told
         requires own { IsMutatorOf heap.now self.old }
         requires valid { MayAsk (mutator_now self.old) cmd }
@@ -71,6 +73,38 @@ impl Mutator {
         // steps more than there are slots, leaving at most three, a write at most two, and each other command one.
         ensures causes { IsAnswered (mutator_now self.old) cmd self.old.log self.new.log (mutator_now self.new) result }
         // It has left just where that was asked, and done.
+        ensures leaves { Leaves (mutator_now self.old) cmd result (mutator_now self.new) }
+        ensures line { Tells (mutator_now self.old) self.old.log self.new.log ((cmd, result) ∷ []) }
+        ensures idle { is_busy (mutator_now self.new) ≡ false }
+        ensures same { KeepsSizes (mutator_now self.old) (mutator_now self.new) }
+    {
+        match self.straight(heap, cmd) {
+            Some(told) => told,
+            None => self.by_steps(heap, cmd),
+        }
+    }
+
+    /// Carries out a command in straight code, where it goes its usual way. Else nothing happens, and the answer is `None`.
+    #[inline(always)]
+    pub fn straight(&mut self, heap: &Heap, cmd: Cmd) -> Option<Told>
+        requires own { IsMutatorOf heap.now self.old }
+        requires valid { MayAsk (mutator_now self.old) cmd }
+
+        ensures { CarriedOr self.old self.new cmd result }
+    {
+        see_label(Work::Command(cmd));
+        self.actor.straight(heap.board(), cmd)
+    }
+
+    // The same, step by step.
+    #[inline(never)]
+    fn by_steps(&mut self, heap: &Heap, cmd: Cmd) -> Told
+        requires own { IsMutatorOf heap.now self.old }
+        requires valid { MayAsk (mutator_now self.old) cmd }
+        ensures grows { Works (works.Command cmd) self.old.log self.new.log }
+        ensures is { self.new ≡ record self.old { log = self.new.log } }
+        ensures answer { answer_of (mutator_now self.new) ≡ Some (makes.Answered result) }
+        ensures causes { IsAnswered (mutator_now self.old) cmd self.old.log self.new.log (mutator_now self.new) result }
         ensures leaves { Leaves (mutator_now self.old) cmd result (mutator_now self.new) }
         ensures line { Tells (mutator_now self.old) self.old.log self.new.log ((cmd, result) ∷ []) }
         ensures idle { is_busy (mutator_now self.new) ≡ false }

@@ -13,19 +13,33 @@ use std::test::Fail;
 #[test]
 fn a_cancelled_pair_touches_its_slot(rt: HostRuntime) -> Result<(), Fail> {
     let mut counts = set_of_one(rt.alloc())?;
-    let applied = apply_pair(&rt, rt.alloc(), &mut counts);
+    let applied = apply_pair(&rt, rt.alloc(), &mut counts, false);
+    drop(counts);
+    applied?;
+    Ok(())
+}
+
+#[test]
+fn it_touches_its_slot_in_a_steady_heap_too(rt: HostRuntime) -> Result<(), Fail> {
+    let mut counts = set_of_one(rt.alloc())?;
+    let applied = apply_pair(&rt, rt.alloc(), &mut counts, true);
     drop(counts);
     applied?;
     Ok(())
 }
 
 // The set passes the second test before the pair is applied, and not behind it. The slot's count is as it was, and it is no root.
-fn apply_pair(rt: &impl Abort, alloc: Global, counts: &mut Counts) -> Result<(), NoMemory>
+fn apply_pair(
+    rt: &impl Abort,
+    alloc: Global,
+    counts: &mut Counts,
+    steady: bool,
+) -> Result<(), NoMemory>
     requires { IsSetOfOne counts.old }
 {
     assert!(rt; delta(counts, 0));
     let (newer, older) = pair(rt, alloc)?;
-    apply(counts, &newer, &older);
+    apply(counts, &newer, &older, steady);
     drop((newer, older));
     assert_eq!(rt; counts.count(1), 1);
     assert_eq!(rt; counts.colour(1), Colour::Purple);

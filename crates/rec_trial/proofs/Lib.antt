@@ -8,6 +8,7 @@ pub mod Learning
 pub mod Marks
 pub mod Moving
 pub mod Orders
+pub mod Passing
 pub mod Places
 pub mod Promised
 pub mod Totals
@@ -25,4 +26,5 @@ pub mod Readings
 pub mod Whole
 pub mod Exactly
 pub mod Witnesses
+pub mod Seen
 pub mod Sends

@@ -86,6 +86,12 @@ abbrev pub collect_moved : (more : Bool) → Work → Work
 collect_moved true w = let x : ℕ = item_at w.counts.marked w.machine.tried 0 in set_begun_if (is_white (slot_at w.counts x).colour) w x
 collect_moved false w = record { machine = record w.machine { phase = Idle }; counts = cleared w.counts }
 
+-- the marked slot in this place is left as it is when it is looked at
+abbrev pub IsPassed : Phase → State → (place : ℕ) → Type 0
+IsPassed Scanning s i = (i < length s.marked) × (has_rest (slot_at s (item_at s.marked i 0)) ≡ false)
+IsPassed Collecting s i = (i < length s.marked) × (is_white (slot_at s (item_at s.marked i 0)).colour ≡ false)
+IsPassed _ s i = ⊥
+
 -- one move without a load
 abbrev pub moved_at : Phase → Work → Work
 moved_at Idle w = w

@@ -1,11 +1,13 @@
-ghost use Rattle.std.specs.Prelude.{◌≡◌, ◌<◌, ◌+◌, ◌^◌, ◌↔◌, ℕ, true, false, None, List, [], ◌∷◌, ◌++◌, length, IfSome, IsNone, IsSome};
+ghost use Rattle.std.specs.Prelude.{◌≡◌, ◌<◌, ◌≤◌, ◌+◌, ◌^◌, ◌↔◌, ℕ, true, false, None, List, [], ◌∷◌, ◌++◌, length, IfSome, IsNone, IsSome};
 ghost use Rattle.rec_word.specs.Word.{target_of};
-ghost use Rattle.rec_counts.specs.Counts.{State};
+ghost use Rattle.rec_counts.specs.Colour.{is_white as is_white_colour};
+ghost use Rattle.rec_counts.specs.Counts.{IsKept, State, slot_at};
+ghost use Rattle.rec_trial.specs.Moves.{has_rest};
 ghost use Rattle.rec_trial.specs.Loaded.{GoesOn, IsAtWork, Run, noted};
 ghost use Rattle.rec_trial.specs.Promised.{IsTrial, unloaded};
 ghost use Rattle.rec_trial.specs.declared.phase.Phase.TheVariants.{Collecting, Scanning};
 ghost use Rattle.rec_trial.specs.Rules.{CanCollect, CanMark, CanScan, IsReady, LeadsToUnreleased, RulesAt, visible};
-ghost use Rattle.rec_trial.specs.Trial.{NamesPlace, advanced, begun_at, collect_moved, idle_of, is_due, is_due_at, learnt_at, list_of, moved_at, next_of, pointed, roots_moved, scan_moved, settled, started_of, took_of};
+ghost use Rattle.rec_trial.specs.Trial.{IsPassed, NamesPlace, advanced, begun_at, collect_moved, idle_of, is_due, is_due_at, learnt_at, list_of, moved_at, next_of, pointed, roots_moved, scan_moved, settled, started_of, took_of};
 
 use crate::collecting::{begin, collect, last_members};
 use crate::marking::{drop_root, mark};
@@ -73,8 +75,7 @@ impl Trial {
     {
         counts.rules();
         self.begin_phase(Phase::Marking);
-        self.settle(counts);
-        self.point(counts);
+        self.settle(Phase::Marking, counts);
     }
 
     /// What comes next: a field of a marked slot is loaded. None where the trial is over.
@@ -89,6 +90,7 @@ impl Trial {
     }
 
     /// Learns the word that the field holds. One that leads to a Green slot counts as null: a trial doesn't see leaves.
+    #[inline(always)]
     pub fn took(&mut self, counts: &mut Counts, word: u64)
         requires busy { IsSome (next_of self.old) }
         requires kept { IsAtWork self.old counts.old }
@@ -103,21 +105,46 @@ impl Trial {
         ensures promised { (fields : ℕ) (before : State) (words : List ℕ) (r : Run) → r.work ≡ record { machine = self.old; counts = counts.old } → IsTrial fields before words r → IsTrial fields before (words ++ visible counts.old word ∷ []) (noted r (visible counts.old word)) }
         ensures recorded { (r : Run) → r.work ≡ record { machine = self.old; counts = counts.old } → (noted r (visible counts.old word)).work ≡ record { machine = self.new; counts = counts.new } }
     {
-        counts.rules();
-        let word = see(counts, word);
-        self.learn(counts, target(word));
-        self.advance();
-        self.settle(counts);
-        self.point(counts);
+        match self.phase {
+            Phase::Idle => unreachable!(),
+            Phase::Marking => self.took_in(Phase::Marking, counts, word),
+            Phase::Scanning => self.took_in(Phase::Scanning, counts, word),
+            Phase::Collecting => self.took_in(Phase::Collecting, counts, word),
+        }
     }
 
-    fn learn(&self, counts: &mut Counts, target: Option<u16>)
-        requires in_range { IfSome target (λ slot. slot < length counts.old.slots) }
-        requires due { is_due_at self.now.phase self.now.done counts.old ≡ true }
-        requires rules { RulesAt self.now.phase counts.old }
-        ensures { counts.new ≡ learnt_at self.now.phase counts.old target }
+    // The same in a phase that is known, so that what follows asks for it no more.
+    #[inline(always)]
+    fn took_in(&mut self, phase: Phase, counts: &mut Counts, word: u64)
+        requires phase { phase ≡ self.old.phase }
+        requires busy { IsSome (next_of self.old) }
+        requires kept { IsAtWork self.old counts.old }
+        requires named { LeadsToUnreleased counts.old word }
+
+        ensures took { record { machine = self.new; counts = counts.new } ≡ took_of (record { machine = self.old; counts = counts.old }) (visible counts.old word) }
+        ensures kept { IsAtWork self.new counts.new }
+        ensures place { NamesPlace (length counts.new.slots) self.new }
+        ensures slots { length counts.new.slots ≡ length counts.old.slots }
+
+        // The promises of the same trial go on, with one load more in its record.
+        ensures promised { (fields : ℕ) (before : State) (words : List ℕ) (r : Run) → r.work ≡ record { machine = self.old; counts = counts.old } → IsTrial fields before words r → IsTrial fields before (words ++ visible counts.old word ∷ []) (noted r (visible counts.old word)) }
+        ensures recorded { (r : Run) → r.work ≡ record { machine = self.old; counts = counts.old } → (noted r (visible counts.old word)).work ≡ record { machine = self.new; counts = counts.new } }
     {
-        match self.phase {
+        counts.rules();
+        let seen = seen_in(phase, counts, word);
+        self.learn(phase, counts, seen);
+        self.advance();
+        self.settle(phase, counts);
+    }
+
+    #[inline(always)]
+    fn learn(&self, phase: Phase, counts: &mut Counts, target: Option<u16>)
+        requires in_range { IfSome target (λ slot. slot < length counts.old.slots) }
+        requires due { is_due_at phase self.now.done counts.old ≡ true }
+        requires rules { RulesAt phase counts.old }
+        ensures { counts.new ≡ learnt_at phase counts.old target }
+    {
+        match phase {
             Phase::Idle => {}
             Phase::Marking => mark(counts, target),
             Phase::Scanning => scan(counts, target),
@@ -138,43 +165,63 @@ impl Trial {
         }
     }
 
-    // The list whose slots have their fields loaded, one after another.
-    fn list<'a>(&self, counts: &'a Counts) -> &'a [u16]
-        ensures { result.now ≡ list_of self.now.phase counts.now }
-    {
-        match self.phase {
-            Phase::Idle => &[],
-            Phase::Marking => counts.marked(),
-            Phase::Scanning => counts.work(),
-            Phase::Collecting => last_members(counts),
-        }
-    }
-
     // Whether a field is to be loaded, or nothing is left to do.
     fn is_due(&self, counts: &Counts) -> bool
         ensures { result ≡ is_due_at self.now.phase self.now.done counts.now }
     {
-        match self.phase {
-            Phase::Idle => true,
-            _ => self.done < self.list(counts).len(),
-        }
+        is_due_in(self.phase, self.done, counts)
     }
 
-    // Goes on without a load up to the next one, or to the end.
-    fn settle(&mut self, counts: &mut Counts)
+    // Goes on without a load up to the next one, or to the end, and finds its slot. Mostly the next load is due already.
+    #[inline(always)]
+    fn settle(&mut self, phase: Phase, counts: &mut Counts)
+        requires phase { phase ≡ self.old.phase }
+        requires goes_on { GoesOn self.old counts.old }
+        ensures { record { machine = self.new; counts = counts.new } ≡ pointed (settled (record { machine = self.old; counts = counts.old })) }
+    {
+        if is_due_in(phase, self.done, counts) {
+            self.point(phase, counts);
+            return;
+        }
+        self.go_on(counts);
+        self.point(self.phase, counts);
+    }
+
+    // The moves up to the next load, or to the end. Those that look at a marked slot and leave it are made together.
+    #[inline(never)]
+    fn go_on(&mut self, counts: &mut Counts)
         requires { GoesOn self.old counts.old }
         ensures { record { machine = self.new; counts = counts.new } ≡ settled (record { machine = self.old; counts = counts.old }) }
     {
         while !self.is_due(counts) {
+            counts.rules();
+            self.pass(counts);
             self.move_on(counts);
         }
     }
 
+    // Passes the marked slots that scanning, or collecting, looks at and leaves as they are.
+    fn pass(&mut self, counts: &Counts)
+        requires { IsKept counts.now }
+        ensures same { self.new ≡ record self.old { tried = self.new.tried } }
+        ensures further { self.old.tried ≤ self.new.tried }
+        ensures passed { (i : ℕ) → self.old.tried ≤ i → i < self.new.tried → IsPassed self.old.phase counts.now i }
+    {
+        let from = self.tried;
+        match self.phase {
+            Phase::Scanning => self.tried = pass_unheld(counts, from),
+            Phase::Collecting => self.tried = pass_others(counts, from),
+            _ => {}
+        }
+    }
+
     // The slot whose field is loaded next.
-    fn point(&mut self, counts: &Counts)
+    #[inline(always)]
+    fn point(&mut self, phase: Phase, counts: &Counts)
+        requires { phase ≡ self.old.phase }
         ensures { record { machine = self.new; counts = counts.now } ≡ pointed (record { machine = self.old; counts = counts.now }) }
     {
-        let list = self.list(counts);
+        let list = list_in(phase, counts);
         self.slot = if self.done < list.len() {
             list[self.done]
         } else {
@@ -260,6 +307,102 @@ impl Trial {
         self.done = 0;
         self.slot = 0;
         self.field = 0;
+    }
+}
+
+// The list whose slots have their fields loaded, one after another.
+#[inline(always)]
+fn list_in(phase: Phase, counts: &Counts) -> &[u16]
+    ensures { result.now ≡ list_of phase counts.now }
+{
+    match phase {
+        Phase::Idle => &[],
+        Phase::Marking => counts.marked(),
+        Phase::Scanning => counts.work(),
+        Phase::Collecting => last_members(counts),
+    }
+}
+
+// Whether a field is to be loaded in this phase, or nothing is left to do.
+#[inline(always)]
+fn is_due_in(phase: Phase, done: usize, counts: &Counts) -> bool
+    ensures { result ≡ is_due_at phase done counts.now }
+{
+    match phase {
+        Phase::Idle => true,
+        _ => done < list_in(phase, counts).len(),
+    }
+}
+
+// The place of the first marked slot from this one on that something holds besides; how many there are, or this one, where there is none.
+fn pass_unheld(counts: &Counts, from: usize) -> usize
+    requires { IsKept counts.now }
+    ensures further { from ≤ result }
+    ensures passed { (i : ℕ) → from ≤ i → i < result → IsPassed Scanning counts.now i }
+{
+    let marked = counts.marked();
+    for tried in from..marked.len() {
+        if is_held(counts, marked[tried]) {
+            return tried;
+        }
+    }
+    if from < marked.len() {
+        marked.len()
+    } else {
+        from
+    }
+}
+
+// The place of the first marked slot from this one on that is White; how many there are, or this one, where there is none.
+fn pass_others(counts: &Counts, from: usize) -> usize
+    requires { IsKept counts.now }
+    ensures further { from ≤ result }
+    ensures passed { (i : ℕ) → from ≤ i → i < result → IsPassed Collecting counts.now i }
+{
+    let marked = counts.marked();
+    for tried in from..marked.len() {
+        if is_white(counts, marked[tried]) {
+            return tried;
+        }
+    }
+    if from < marked.len() {
+        marked.len()
+    } else {
+        from
+    }
+}
+
+// Whether a marked slot has a rest.
+#[inline(always)]
+fn is_held(counts: &Counts, slot: u16) -> bool
+    requires { slot < length counts.now.slots }
+    ensures { result ≡ has_rest (slot_at counts.now slot) }
+{
+    match counts.colour(slot) {
+        Colour::Gray => counts.cyclic(slot) > 0,
+        _ => false,
+    }
+}
+
+// Whether it is White.
+#[inline(always)]
+fn is_white(counts: &Counts, slot: u16) -> bool
+    requires { slot < length counts.now.slots }
+    ensures { result ≡ is_white_colour (slot_at counts.now slot).colour }
+{
+    matches!(counts.colour(slot), Colour::White)
+}
+
+// The slot to which a word leads that is seen in this phase. Scanning and collecting leave a Green one as it is, so they needn't ask.
+#[inline(always)]
+fn seen_in(phase: Phase, counts: &Counts, word: u64) -> Option<u16>
+    requires { LeadsToUnreleased counts.now word }
+    ensures in_range { IfSome result (λ slot. slot < length counts.now.slots) }
+    ensures learnt { learnt_at phase counts.now result ≡ learnt_at phase counts.now (target_of (visible counts.now word)) }
+{
+    match phase {
+        Phase::Marking => target(see(counts, word)),
+        _ => target(word),
     }
 }
 

@@ -18,6 +18,7 @@ const ONE: Config = Config {
     mutators: 1,
     log_entries: 16,
     first_epoch: 1,
+    steady: false,
 };
 
 /// A heap with one mutator, in whose register 0 the first object stands.

@@ -21,6 +21,7 @@ const CONFIG: Config = Config {
     mutators: 1,
     log_entries: 16,
     first_epoch: 1,
+    steady: false,
 };
 
 // How many labels may wait to be heard.

@@ -183,7 +183,7 @@ opened_home config boxes are i there =
 pub opened_parts : (config : Config) (cells : Cells) (boxes : List (Option Contents)) (mutators : List Private) (collector : collectors.Private)
     → cells ≡ record { headers = 1 ∷ replicate (config.slots - 1) 0; words = replicate (config.slots * config.fields) 0; epoch = config.first_epoch; freed = 0; crossing = replicate config.mutators (crossing_word config.first_epoch Spare) }
     → boxes ≡ replicate config.mutators (Some (spare_of config)) → mutators ≡ opened_mutators config config.mutators
-    → collector ≡ collectors.opened config.slots config.fields config.registers config.mutators config.log_entries config.first_epoch
+    → collector ≡ collectors.opened config.slots config.fields config.registers config.mutators config.log_entries config.first_epoch config.steady
     → ◌≡◌ {A = Core} (record { config = config; headers = cells.headers; words = cells.words; epoch = cells.epoch; freed = cells.freed; crossing = cells.crossing; boxes = map held boxes; mutators = mutators; collector = collector; made = 1 }) (opened config)
 opened_parts config cells boxes mutators collector is are own counts =
     let make : Cells → List Contents → List Private → collectors.Private → Core

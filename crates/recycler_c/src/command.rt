@@ -1,17 +1,21 @@
 //! Commands and polls of a mutator that is out.
 ghost use Rattle.std.specs.Prelude.{Some, ◌≡◌, if◌then◌else◌, None};
-ghost use Rattle.recycler_c.specs.Calls.{Asks, Polls};
+ghost use Rattle.rec_table.specs.Rule.{MayAsk};
+ghost use Rattle.rec_table.specs.Views.{mutator_now};
+ghost use Rattle.recycler_c.specs.Calls.{Asks, HasAsked, Polls};
+ghost use Rattle.recycler_c.specs.declared.end.End.TheVariants as ends;
 ghost use Rattle.recycler_c.specs.Narrow.{narrow, byte as is_byte};
 ghost use Rattle.rec_model.specs.declared.command.Cmd.TheVariants as commands;
 
 use crate::code::Code;
-use crate::end::End;
+use crate::end::{End, Mutating};
 use crate::handle::Handle;
 use crate::told::{Asked, show_answer};
 use rec_model::Cmd;
 use std::alloc::Global;
 
-/// Carries out a command; `None` is one with a number that no byte holds.
+/// Carries out a command; `None` is one with a number that no byte holds. It is put into each export, where the command's kind is known.
+#[inline(always)]
 pub fn ask(alloc: Global, mutator: &mut Handle, cmd: Option<Cmd>, told: &mut Asked) -> Code
     ensures { Asks mutator.old.owned.held cmd told.old result mutator.new.owned.held told.new }
 {
@@ -24,6 +28,7 @@ pub fn ask(alloc: Global, mutator: &mut Handle, cmd: Option<Cmd>, told: &mut Ask
     code
 }
 
+#[inline(always)]
 fn ask_in(end: &mut End, cmd: Option<Cmd>, told: &mut Asked) -> Code
     ensures { Asks (Some end.old) cmd told.old result (Some end.new) told.new }
 {
@@ -38,13 +43,26 @@ fn ask_in(end: &mut End, cmd: Option<Cmd>, told: &mut Asked) -> Code
             if !out.can_ask(&cmd) {
                 return Code::Range;
             }
-            let answered = out.mutator.command(&out.heap, cmd);
-            *told = show_answer(answered.answer);
+            carry_out(out, cmd, told);
             Code::Ok
         }
         End::Collecting(_, _) | End::Listening(_) => Code::Other,
         _ => Code::Rests,
     }
+}
+
+// Carries out a command of a mutator, in straight code where it goes its usual way.
+#[inline(always)]
+fn carry_out(out: &mut Mutating, cmd: Cmd, told: &mut Asked)
+    requires { MayAsk (mutator_now out.old.mutator) cmd }
+    ensures { HasAsked (Some (ends.Mutating out.old)) cmd (Some (ends.Mutating out.new)) told.new }
+{
+    if let Some(answered) = out.mutator.straight(&out.heap, cmd) {
+        *told = show_answer(answered.answer);
+        return;
+    }
+    let answered = out.mutator.command(&out.heap, cmd);
+    *told = show_answer(answered.answer);
 }
 
 /// Crosses into the requested epoch, if the mutator isn't in it: which one, or 0.

@@ -1,5 +1,5 @@
 //! What C calls. Each export calls one function of the modules beside this one.
-ghost use Rattle.std.specs.Prelude.{◌≡◌, Some};
+ghost use Rattle.std.specs.Prelude.{true, ◌≡◌, Some};
 ghost use Rattle.rec_model.specs.declared.command.Cmd.TheVariants as commands;
 ghost use Rattle.recycler_c.specs.Calls.{Asks, AsksNotices, CollectsIn, Closes, Counts, HearsIn, Looks, Opens, Polls, Renews, Settles, Starts, Stops, Tallies, TurnsIn, held};
 ghost use Rattle.recycler_c.specs.Codes.{Answers};
@@ -13,7 +13,7 @@ use rec_model::Cmd;
 use rec_world::Config;
 use std::alloc::Global;
 
-/// Opens a heap at rest, in closed handles.
+/// Opens a heap at rest, in closed handles. It is steady: registers that didn't change touch nothing.
 #[unsafe(no_mangle)]
 pub extern "C" fn recycler_open(
     alloc: Global,
@@ -25,7 +25,7 @@ pub extern "C" fn recycler_open(
     log_entries: u32,
     first_epoch: u32,
 ) -> u32
-    ensures opens { Answers result (λ code. Opens (record { slots = slots; fields = fields; registers = registers; mutators = mutators; log_entries = log_entries; first_epoch = first_epoch }) (held r.old) r.old.mutators code (held r.new) r.new.mutators) }
+    ensures opens { Answers result (λ code. Opens (record { slots = slots; fields = fields; registers = registers; mutators = mutators; log_entries = log_entries; first_epoch = first_epoch; steady = true }) (held r.old) r.old.mutators code (held r.new) r.new.mutators) }
     ensures listener { r.new.listener ≡ r.old.listener }
 {
     let config = Config {
@@ -35,6 +35,7 @@ pub extern "C" fn recycler_open(
         mutators,
         log_entries,
         first_epoch,
+        steady: true,
     };
     opening::open(alloc, &mut r.collector, &mut r.mutators, config).number()
 }

@@ -396,7 +396,8 @@ impl Machine {
 }
 
 // Adds an entry to a log that has room.
-fn note(log: &mut Buffer, entry: Entry)
+#[inline(always)]
+pub(super) fn note(log: &mut Buffer, entry: Entry)
     requires { length log.old.entries < log.old.capacity }
     ensures { log.new ≡ record log.old { entries = log.old.entries ++ entry ∷ [] } }
 {
@@ -405,7 +406,8 @@ fn note(log: &mut Buffer, entry: Entry)
 }
 
 // Lets a register be this.
-fn put_in(frame: &mut Frame, r: u8, target: Option<u16>)
+#[inline(always)]
+pub(super) fn put_in(frame: &mut Frame, r: u8, target: Option<u16>)
     requires { r < length frame.old }
     ensures { frame.new ≡ slice_set frame.old r target }
 {

@@ -126,6 +126,7 @@ fn open_collector(
         config.mutators as u8,
         config.log_entries,
         config.first_epoch,
+        config.steady,
         counts.as_slice(),
         registers,
     )

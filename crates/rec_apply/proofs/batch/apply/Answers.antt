@@ -1,20 +1,34 @@
 -- The contract of `apply`: counts a batch.
-use Rattle.std.proofs.Common.{◌≡◌, refl, arith}
-use Rattle.rec_apply.specs.Batch.{batch}
+use Rattle.std.proofs.Common.{◌≡◌, ℕ, ◌+◌, Bool, List, refl, arith}
+use Rattle.rec_log.specs.declared.contents.Contents.{Contents}
+use Rattle.rec_counts.specs.Counts.{State, slot_at}
+use Rattle.rec_apply.specs.Batch.{applied, AreAlike, batch, IsApplied, IsCovered}
+use Rattle.rec_apply.specs.Targets.{added, taken, told_buffers}
 use Rattle.rec_apply.proofs.Touching.{taken_times}
-use Rattle.rec_apply.proofs.Whole.{is_batch}
+use Rattle.rec_apply.proofs.Told.{told_covered, told_even, told_fewer}
+use Rattle.rec_apply.proofs.Whole.{is_applied, applied_count}
 use Rattle.rec_apply.proofs.batch.apply.Goals as goal
 
 pub count_batch-requires : goal.count_batch-requires
-count_batch-requires c = record {
-  told = record { alike = c.requires.alike; in_range = λ x l. omega (arith, c.requires.covered.in_range x l, c.requires.covered.born x l) };
-  fits = c.requires.covered.fits;
-  covered = λ x. omega (arith, taken_times x c.args.older.now, c.requires.covered.covered x);
-  zeros = c.requires.zeros;
-}
+count_batch-requires c =
+    let steady : Bool = c.args.steady in
+    let newer : List Contents = c.args.newer.now in
+    let older : List Contents = c.args.older.now in
+    let covered : IsCovered c.args.counts.now (told_buffers steady newer older) (told_buffers steady older newer) = told_covered steady c.args.counts.now newer older c.requires.alike c.requires.covered in
+    record {
+      told = record { alike = c.requires.alike; in_range = λ x l. omega (arith, c.requires.covered.in_range x l, c.requires.covered.born x l) };
+      fits = covered.fits;
+      covered = λ x. omega (arith, taken_times x (told_buffers steady older newer), covered.covered x);
+      zeros = c.requires.zeros;
+    }
 
 pub returns : goal.returns
 unfolding batch
 returns c =
-    let e : c.count_batch.new.self ≡ batch c.args.counts.now c.args.newer.now c.args.older.now = c.count_batch.ensures in
-    rw e (record { batch = is_batch c.args.counts.now c.args.newer.now c.args.older.now c.requires.zeros c.requires.covered; order = refl })
+    let steady : Bool = c.args.steady in
+    let s : State = c.args.counts.now in
+    let newer : List Contents = c.args.newer.now in
+    let older : List Contents = c.args.older.now in
+    let e : c.count_batch.new.self ≡ applied steady s newer older = c.count_batch.ensures in
+    let is : IsApplied steady s newer older (applied steady s newer older) = is_applied steady s newer older c.requires.zeros c.requires.alike c.requires.covered in
+    rw e (record { batch = is; count = λ x. applied_count steady s newer older c.requires.alike is x; order = refl })

@@ -1,7 +1,8 @@
 -- The contract of `tell_older`: the older buffers, and all registers.
-use Rattle.std.proofs.Common.{◌≡◌, ℕ, ◌+◌, ◌<◌, ◌++◌, length, map, take, get_or, refl, arith, sym, ap, ◌∙◌}
+use Rattle.std.proofs.Common.{◌≡◌, ℕ, List, ◌+◌, ◌<◌, ◌++◌, length, map, take, get_or, refl, arith, sym, ap, ◌∙◌}
 use Rattle.std.specs.List.{flat_map}
-use Rattle.rec_apply.specs.Targets.{held, named, old_target, slots_in, taken_targets}
+use Rattle.rec_apply.specs.Targets.{held, named, old_target, slots_in, taken_targets, told_buffer, told_buffers}
+use Rattle.rec_apply.proofs.Told.{told_buffer_at, told_many}
 use Rattle.rec_apply.proofs.Naming.{part-le, slots_parts}
 use Rattle.rec_apply.proofs.Tells.{tells_none, tells_same, tells_then}
 use Rattle.std.proofs.lemmas.List.{get_or_read, take_all}
@@ -37,16 +38,26 @@ tell_older_buffer-requires c =
 pub loop-place-preserved : goal.loop-place-preserved
 loop-place-preserved c =
     let place : ℕ = c.loop-place.place in
+    let new : List Contents = told_buffers c.args.steady c.args.newer.now c.args.older.now in
+    let old : List Contents = told_buffers c.args.steady c.args.older.now c.args.newer.now in
     let older : c.index-older-place.result ≡ get_or c.args.older.now place blank = get_or_read c.args.older.now place _ c.loop-place-test.true c.index-older-place.is blank in
     let there : place < length c.args.newer.now = omega (arith, c.requires.alike.both, c.loop-place-test.true) in
     let newer : c.index-newer-place.result ≡ get_or c.args.newer.now place blank = get_or_read c.args.newer.now place _ there c.index-newer-place.is blank in
+    let more : get_or new place blank ≡ told_buffer c.args.steady c.index-newer-place.result c.index-older-place.result =
+    told_buffer_at c.args.steady c.args.newer.now c.args.older.now place ∙ ap (λ b. told_buffer c.args.steady b (get_or c.args.older.now place blank)) (sym newer) ∙ ap (λ b. told_buffer c.args.steady c.index-newer-place.result b) (sym older) in
+    let less : get_or old place blank ≡ told_buffer c.args.steady c.index-older-place.result c.index-newer-place.result =
+    told_buffer_at c.args.steady c.args.older.now c.args.newer.now place ∙ ap (λ b. told_buffer c.args.steady b (get_or c.args.newer.now place blank)) (sym older) ∙ ap (λ b. told_buffer c.args.steady c.index-older-place.result b) (sym newer) in
     record {
       marked = c.tell_older_buffer.ensures.marked ∙ c.loop-place.invariant.marked ∙ sym c.tell_older_buffer.ensures.many;
       tells = tells_then _ _ _ (λ x. refl)
-          (λ x. omega (arith, sum_by_more (λ (b : Contents). named x b.snapshot) c.args.newer.now place blank there, ap (λ (b : Contents). named x b.snapshot) newer))
-          (slots_parts c.args.older.now place blank c.loop-place-test.true ∙ ap (λ (b : Contents). slots_in (flat_map taken_targets (take place c.args.older.now)) ++ slots_in (taken_targets b)) (sym older))
+          (λ x. omega (arith, sum_by_more (λ (b : Contents). named x b.snapshot) new place blank (omega (arith, told_many c.args.steady c.args.newer.now c.args.older.now, there)), ap (λ (b : Contents). named x b.snapshot) more))
+          (slots_parts old place blank (omega (arith, told_many c.args.steady c.args.older.now c.args.newer.now, c.loop-place-test.true)) ∙ ap (λ (b : Contents). slots_in (flat_map taken_targets (take place old)) ++ slots_in (taken_targets b)) less)
           c.loop-place.invariant.tells c.tell_older_buffer.ensures;
     }
 
 pub returns : goal.returns
-returns c = tells_same _ _ _ (λ x. refl) (λ x. ap (held x) (sym (take_all c.loop-place.place c.args.newer.now (omega (arith, c.requires.alike.both))))) (ap (λ bs. slots_in (flat_map taken_targets bs)) (sym (take_all c.loop-place.place c.args.older.now (omega arith)))) c.loop-place.invariant.tells
+returns c =
+    let new : List Contents = told_buffers c.args.steady c.args.newer.now c.args.older.now in
+    let old : List Contents = told_buffers c.args.steady c.args.older.now c.args.newer.now in
+    tells_same _ _ _ (λ x. refl) (λ x. ap (held x) (sym (take_all c.loop-place.place new (omega (arith, told_many c.args.steady c.args.newer.now c.args.older.now, c.requires.alike.both)))))
+    (ap (λ bs. slots_in (flat_map taken_targets bs)) (sym (take_all c.loop-place.place old (omega (arith, told_many c.args.steady c.args.older.now c.args.newer.now))))) c.loop-place.invariant.tells

@@ -1,6 +1,6 @@
 -- The contract of `tell_older_buffer`: one older buffer, and the registers of its mutator.
-use Rattle.std.proofs.Common.{ℕ, ◌++◌, Option, List, length, map, refl, arith, sym, ap, ◌∙◌}
-use Rattle.rec_apply.specs.Targets.{named, old_target, slots_in, taken_targets}
+use Rattle.std.proofs.Common.{◌≡◌, ℕ, ◌++◌, Option, List, length, map, refl, arith, sym, ap, ◌∙◌}
+use Rattle.rec_apply.specs.Targets.{named, old_target, slots_in, taken_targets, told_buffer, told_registers}
 use Rattle.rec_apply.proofs.Tells.{tells_then}
 use Rattle.std.proofs.lemmas.List.Elements.{filter_map-append}
 use Rattle.rec_apply.proofs.Naming.{named-append}
@@ -20,8 +20,13 @@ tell_registers-requires c = record {
 }
 
 pub returns : goal.returns
-returns c = tells_then (λ x. 0) (λ x. named x c.args.newer.now.snapshot) (slots_in (taken_targets c.args.older.now)) (λ x. refl) (λ x. omega (arith, ap (named x) c.snapshot.ensures))
-    (filter_map-append (λ target. target) (map old_target c.args.older.now.entries) c.args.older.now.snapshot
-    ∙ ap (λ es. slots_in (map old_target es) ++ slots_in c.args.older.now.snapshot) (sym c.entries.ensures.entries)
-    ∙ ap (λ r. slots_in (map old_target c.entries.result.now) ++ slots_in r) (sym c.snapshot-2.ensures))
+returns c =
+    let rows : ◌≡◌ {A = List (Option ℕ)} c.snapshot-2.result.now c.args.older.now.snapshot = c.snapshot-2.ensures in
+    let new : List (Option ℕ) → List (Option ℕ) → List (Option ℕ) = λ a b. told_registers c.args.steady a b in
+    tells_then (λ x. 0) (λ x. named x (told_buffer c.args.steady c.args.newer.now c.args.older.now).snapshot) (slots_in (taken_targets (told_buffer c.args.steady c.args.older.now c.args.newer.now))) (λ x. refl)
+    (λ x. omega (arith, ap (λ r. named x (new r c.snapshot-2.result.now)) c.snapshot.ensures, ap (λ r. named x (new c.args.newer.now.snapshot r)) c.snapshot-2.ensures))
+    (filter_map-append (λ target. target) (map old_target c.args.older.now.entries) (new c.args.older.now.snapshot c.args.newer.now.snapshot)
+    ∙ ap (λ es. slots_in (map old_target es) ++ slots_in (new c.args.older.now.snapshot c.args.newer.now.snapshot)) (sym c.entries.ensures.entries)
+    ∙ ap (λ r. slots_in (map old_target c.entries.result.now) ++ slots_in (new r c.args.newer.now.snapshot)) (sym c.snapshot-2.ensures)
+    ∙ ap (λ r. slots_in (map old_target c.entries.result.now) ++ slots_in (new c.snapshot-2.result.now r)) (sym c.snapshot.ensures))
     c.tell_old_entries.ensures c.tell_registers.ensures

@@ -3,8 +3,10 @@ use Rattle.std.proofs.Common.{◌≡◌, Some, ap, refl, sym, subst, ◌∙◌, 
 use Rattle.rec_model.specs.declared.command.Cmd.{Cmd}
 use Rattle.rec_table.specs.Rule.{MayAsk}
 use Rattle.rec_table.specs.Views.{mutator_now}
+use Rattle.recycler_c.specs.Calls.{HasAsked}
 use Rattle.recycler_c.specs.Standing.{mutates_in}
 use Rattle.recycler_c.specs.declared.end.End.{End}
+use Rattle.recycler_c.specs.declared.end.End.TheVariants as ends
 use Rattle.recycler_c.proofs.command.ask_in.Goals as goal
 
 pub returns-then-has_left : goal.returns-then-has_left
@@ -41,23 +43,8 @@ returns-then-not-can_ask c = (
   refl,
 )
 
+pub carry_out-requires : goal.carry_out-requires
+carry_out-requires c = c.can_ask.ensures.0 (search rules)
+
 pub returns-else-not-can_ask : goal.returns-else-not-can_ask
-returns-else-not-can_ask c = (
-  c.in-Some.cmd,
-  c.in-Some.is,
-  record {
-    before = c.in-Mutating.out;
-    was = ap (λ (e : End). mutates_in (Some e)) c.in-Mutating.is;
-    valid = c.can_ask.ensures.0 (search rules);
-    after = _;
-    is = refl;
-    kept = record { heap = refl; is = c.command-answered.ensures.is };
-    answer = c.command-answered.result;
-    grows = c.command-answered.ensures.grows;
-    answered = c.command-answered.ensures.answer;
-    causes = c.command-answered.ensures.causes;
-    leaves = c.command-answered.ensures.leaves;
-    line = c.command-answered.ensures.line;
-    told_so = c.show_answer.ensures;
-  },
-)
+returns-else-not-can_ask c = (c.in-Some.cmd, c.in-Some.is, subst (λ (e : End). HasAsked (Some e) c.in-Some.cmd (Some (ends.Mutating c.carry_out.new.out)) c.carry_out.new.told) (sym c.in-Mutating.is) c.carry_out.ensures)

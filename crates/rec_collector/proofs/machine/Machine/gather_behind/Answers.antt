@@ -4,8 +4,8 @@ use Rattle.rec_log.specs.declared.contents.Contents.{Contents}
 use Rattle.rec_apply.specs.Batch.{AreAlike, IsCovered}
 use Rattle.rec_collector.proofs.Common.{IsFewTold, IsMachine, KeepsSizes, MayGatherBehind, Next, next_present, parts_of, told, Private}
 use Rattle.rec_collector.specs.Inside.{private}
-use Rattle.rec_collector.proofs.Following.{none_released, resting_cleared}
-use Rattle.rec_collector.proofs.Gathering.{batch_keeps, batch_lands, next_keeps, rows_alike}
+use Rattle.rec_collector.proofs.Following.{none_released, resting_cleared, rows_alike}
+use Rattle.rec_collector.proofs.Gathering.{batch_keeps, batch_lands, next_keeps}
 use Rattle.rec_collector.proofs.Keeping.{batch_follows}
 use Rattle.rec_collector.proofs.Landing.{landed, landed_sizes, Lands}
 use Rattle.rec_collector.proofs.Presence.{next_none}

@@ -19,7 +19,7 @@ pub invariant_of-result : goal.invariant_of-result
 invariant_of-result c =
     let counts : IsKeptCounts (opened_counts c.args.slots c.args.mutators) = subst (λ (s : State). IsKeptCounts s) (c.in_ok-counts.ensures ∙ ap (opened_counts c.args.slots) c.from.ensures) c.rules.ensures in
     subst IsMachine (sym (returns-clause-opened c))
-    (opened_keeps c.args.slots c.args.fields c.args.regs c.args.mutators c.args.cap c.args.first_epoch c.requires.fields c.ranges.fields.fits c.requires.registers c.requires.mutators c.ranges.mutators.fits c.requires.epoch counts)
+    (opened_keeps c.args.slots c.args.fields c.args.regs c.args.mutators c.args.cap c.args.first_epoch c.args.steady c.requires.fields c.ranges.fields.fits c.requires.registers c.requires.mutators c.ranges.mutators.fits c.requires.epoch counts)
 
 pub returns-clause-kept : goal.returns-clause-kept
 returns-clause-kept c = invariant_of-result c

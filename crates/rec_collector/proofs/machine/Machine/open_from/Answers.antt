@@ -12,7 +12,7 @@ pub invariant_of-result : goal.invariant_of-result
 invariant_of-result c =
     let counts : IsKeptCounts (counted_from c.args.slots c.args.counts.now) = subst (λ (s : State). IsKeptCounts s) c.in_ok-counts.ensures c.rules.ensures in
     subst IsMachine (sym (returns-clause-opened c))
-    (opened_from_keeps c.args.slots c.args.fields c.args.regs c.args.mutators c.args.cap c.args.first_epoch c.args.counts.now c.args.registers.now c.requires.fields c.ranges.fields.fits c.requires.mutators c.ranges.mutators.fits c.requires.epoch c.requires.some c.requires.registers counts)
+    (opened_from_keeps c.args.slots c.args.fields c.args.regs c.args.mutators c.args.cap c.args.first_epoch c.args.steady c.args.counts.now c.args.registers.now c.requires.fields c.ranges.fields.fits c.requires.mutators c.ranges.mutators.fits c.requires.epoch c.requires.some c.requires.registers counts)
 
 pub returns-clause-kept : goal.returns-clause-kept
 returns-clause-kept c = invariant_of-result c

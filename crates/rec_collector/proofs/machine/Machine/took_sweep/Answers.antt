@@ -14,10 +14,10 @@ invariant_of-self-2 c =
     elim c.if-is_none.branch [
       | then-is_none w ↦
           let d : is_some (next_of c.took.new.self) ≡ false = sym (ap (λ (o : Option Op). is_some o) c.next.ensures.next) ∙ c.is_none.ensures ∙ ap not w.if-is_none.true in
-          rw w.self-inside-is (sweeping_on _ c.in-Sweeping.sweep c.in-Sweeping.swept c.args.word (record { due = c.took.new.self; counts = c.took.new.counts }) (Closing (c.in-Sweeping.swept + 1)) (same_machine c.self-inside.view_is c.self.invariant) c.in-Sweeping.is c.took.ensures.took c.rules.ensures (sweeps_last (c.in-Sweeping.swept + 1) c.took.new.self d))
+          rw w.self-inside-inside-is (sweeping_on _ c.in-Sweeping.sweep c.in-Sweeping.swept c.args.word (record { due = c.took.new.self; counts = c.took.new.counts }) (Closing (c.in-Sweeping.swept + 1)) (same_machine c.self-inside.view_is c.self.invariant) c.in-Sweeping.is c.took.ensures.took c.rules.ensures (sweeps_last (c.in-Sweeping.swept + 1) c.took.new.self d))
       | else-is_none w ↦
           let d : is_some (next_of c.took.new.self) ≡ true = sym (ap (λ (o : Option Op). is_some o) c.next.ensures.next) ∙ c.is_none.ensures ∙ ap not w.if-is_none.false in
-          rw w.self-inside-is (sweeping_on _ c.in-Sweeping.sweep c.in-Sweeping.swept c.args.word (record { due = c.took.new.self; counts = c.took.new.counts }) (Sweeping c.took.new.self (c.in-Sweeping.swept + 1)) (same_machine c.self-inside.view_is c.self.invariant) c.in-Sweeping.is c.took.ensures.took c.rules.ensures (sweeps_more (c.in-Sweeping.swept + 1) c.took.new.self d))
+          rw w.self-inside-inside-is (sweeping_on _ c.in-Sweeping.sweep c.in-Sweeping.swept c.args.word (record { due = c.took.new.self; counts = c.took.new.counts }) (Sweeping c.took.new.self (c.in-Sweeping.swept + 1)) (same_machine c.self-inside.view_is c.self.invariant) c.in-Sweeping.is c.took.ensures.took c.rules.ensures (sweeps_more (c.in-Sweeping.swept + 1) c.took.new.self d))
     ]
 
 pub returns-clause-kept : goal.returns-clause-kept
@@ -25,8 +25,8 @@ returns-clause-kept c =
     elim c.if-is_none.branch [
       | then-is_none w ↦
           let d : is_some (next_of c.took.new.self) ≡ false = sym (ap (λ (o : Option Op). is_some o) c.next.ensures.next) ∙ c.is_none.ensures ∙ ap not w.if-is_none.true in
-          rw w.self-inside-is (sweeping_on _ c.in-Sweeping.sweep c.in-Sweeping.swept c.args.word (record { due = c.took.new.self; counts = c.took.new.counts }) (Closing (c.in-Sweeping.swept + 1)) (same_machine c.self-inside.view_is c.self.invariant) c.in-Sweeping.is c.took.ensures.took c.rules.ensures (sweeps_last (c.in-Sweeping.swept + 1) c.took.new.self d))
+          rw w.self-inside-inside-is (sweeping_on _ c.in-Sweeping.sweep c.in-Sweeping.swept c.args.word (record { due = c.took.new.self; counts = c.took.new.counts }) (Closing (c.in-Sweeping.swept + 1)) (same_machine c.self-inside.view_is c.self.invariant) c.in-Sweeping.is c.took.ensures.took c.rules.ensures (sweeps_last (c.in-Sweeping.swept + 1) c.took.new.self d))
       | else-is_none w ↦
           let d : is_some (next_of c.took.new.self) ≡ true = sym (ap (λ (o : Option Op). is_some o) c.next.ensures.next) ∙ c.is_none.ensures ∙ ap not w.if-is_none.false in
-          rw w.self-inside-is (sweeping_on _ c.in-Sweeping.sweep c.in-Sweeping.swept c.args.word (record { due = c.took.new.self; counts = c.took.new.counts }) (Sweeping c.took.new.self (c.in-Sweeping.swept + 1)) (same_machine c.self-inside.view_is c.self.invariant) c.in-Sweeping.is c.took.ensures.took c.rules.ensures (sweeps_more (c.in-Sweeping.swept + 1) c.took.new.self d))
+          rw w.self-inside-inside-is (sweeping_on _ c.in-Sweeping.sweep c.in-Sweeping.swept c.args.word (record { due = c.took.new.self; counts = c.took.new.counts }) (Sweeping c.took.new.self (c.in-Sweeping.swept + 1)) (same_machine c.self-inside.view_is c.self.invariant) c.in-Sweeping.is c.took.ensures.took c.rules.ensures (sweeps_more (c.in-Sweeping.swept + 1) c.took.new.self d))
     ]

@@ -1,101 +1,97 @@
--- The contract of `Actor::work`: begins a work and makes its steps to the end.
-use Rattle.std.proofs.Common.{◌≡◌, ◌+◌, ◌++◌, ℕ, ◌∙◌, ap, sym, subst}
+-- The contract of `Actor::work`: begins a work, makes its first step and goes on to the end.
+use Rattle.std.proofs.Common.{◌≡◌, ◌+◌, ◌++◌, ℕ, ◌∙◌, refl, ap, sym, subst}
 use Rattle.std.proofs.Common.{Some}
-use Rattle.rec_table.proofs.Common.{Private, KeepsSizes, IsMachine, IsValid, work_of, HasLabel, Saw, beats, ready, MutatorView, told, learnt, mutator_now, HasScanned, saw_all}
+use Rattle.rec_table.proofs.Common.{Private, Works, KeepsSizes, IsMachine, IsValid, work_of, HasLabel, Saw, beats, ready, MutatorView, told, learnt, mutator_now, HasScanned, saw_all}
 use Rattle.rec_mutator.specs.declared.made.Made.{Made}
 use Rattle.rec_mutator.specs.declared.work.Work.{Work}
 use Rattle.rec_mutator.specs.declared.work.Work.TheVariants as works
 use Rattle.rec_table.specs.declared.start.Start.{Start}
 use Rattle.rec_table.proofs.Steps.{begun_busy}
-use Rattle.rec_table.proofs.Answering.{Path, answered, begun_slots, busy_still, path_first, path_on, polled}
-use Rattle.rec_table.proofs.Beats.{told_both}
+use Rattle.rec_table.proofs.Answering.{Path, answered, begun_slots, path_first, polled}
 use Rattle.rec_table.proofs.Leaving.{leaves, poll_stays}
 use Rattle.rec_table.proofs.Lines.{tells}
-use Rattle.rec_table.proofs.Making.{begun_work, keeps_on, works_first, works_on}
+use Rattle.rec_table.proofs.Making.{begun_work, keeps_on, works_first}
+use Rattle.rec_table.proofs.Straight.{answered_idle}
 use Rattle.rec_table.proofs.actor.Actor.work.Goals as goal
+use Rattle.rec_table.proofs.actor.Actor.work.Goals.{After-step}
 
-pub loop-made-init : goal.loop-made-init
-loop-made-init c =
+abbrev start_of : (c : After-step) → Start
+start_of c = record { work = c.args.work; from = c.start-start.result.from }
+
+is_start : (c : After-step) → c.start-start.result ≡ start_of c
+is_start c = let P : Work → Start = λ work. record { work = work; from = c.start-start.result.from } in ap P c.start-start.ensures.work
+
+-- the work has made its first step
+first : (c : After-step) → Path (start_of c) (mutator_now c.args.self.now) c.args.self.now.log c.step.new.self.log (mutator_now c.step.new.self)
+first c =
     let p : Private = mutator_now c.args.self.now in
-    let from : ℕ = c.start-start.result.from in
-    let start : Start = record { work = c.args.work; from = from } in
-    let is : c.start-start.result ≡ start = (let P : Work → Start = λ work. record { work = work; from = from } in ap P c.start-start.ensures.work) in
-    let w = works_first c.args.self.now c.step.new.self c.args.work from c.step.result (c.step.ensures.grows ∙ ap (λ (s : Start). record c.args.self.now { log = c.args.self.now.log ++ beats (Some s) c.step.result }) is) in
-    record {
-      grows = w.0;
-      is = w.1;
-      work = c.step.ensures.work ∙ ap (λ (s : Start). work_of (ready p (Some s))) is ∙ begun_work p c.args.work from;
-      told = c.step.ensures.told;
-      path = (
-        from,
-        path_first start p (mutator_now c.step.new.self) c.args.self.now.log c.step.new.self.log c.step.result (ap (λ (h : MutatorView). h.log) c.step.ensures.grows ∙ ap (λ (s : Start). c.args.self.now.log ++ beats (Some s) c.step.result) is)
-            (subst (λ (s : Start). IsMachine (ready p (Some s))) is c.step.ensures.machine) (begun_busy p c.args.work from) (begun_work p c.args.work from) (begun_slots p c.args.work from)
-            (c.step.ensures.learns ∙ ap (λ (s : Start). learnt (ready p (Some s)) (Saw c.step.result)) is)
-            (c.step.ensures.steps ∙ ap (λ (s : Start). (ready p (Some s)).steps + 1) is),
-      );
-      same = c.step.ensures.same;
-    }
+    let is = is_start c in
+    path_first (start_of c) p (mutator_now c.step.new.self) c.args.self.now.log c.step.new.self.log c.step.result (ap (λ (h : MutatorView). h.log) c.step.ensures.grows ∙ ap (λ (s : Start). c.args.self.now.log ++ beats (Some s) c.step.result) is)
+    (subst (λ (s : Start). IsMachine (ready p (Some s))) is c.step.ensures.machine) (begun_busy p c.args.work c.start-start.result.from) (begun_work p c.args.work c.start-start.result.from) (begun_slots p c.args.work c.start-start.result.from)
+    (c.step.ensures.learns ∙ ap (λ (s : Start). learnt (ready p (Some s)) (Saw c.step.result)) is)
+    (c.step.ensures.steps ∙ ap (λ (s : Start). (ready p (Some s)).steps + 1) is)
+
+work_grows : (c : After-step) → Works c.args.work c.args.self.now.log c.step.new.self.log × (c.step.new.self ≡ record c.args.self.now { log = c.step.new.self.log })
+work_grows c = works_first c.args.self.now c.step.new.self c.args.work c.start-start.result.from c.step.result (c.step.ensures.grows ∙ ap (λ (s : Start). record c.args.self.now { log = c.args.self.now.log ++ beats (Some s) c.step.result }) (is_start c))
 
 pub step-requires-clause-may : goal.step-requires-clause-may
 step-requires-clause-may c =
     let p : Private = mutator_now c.args.self.now in
     (c.requires.may.0, c.requires.may.1, subst (IsValid p) (sym c.start-start.ensures.work) c.requires.may.2, subst HasLabel (sym c.start-start.ensures.work) c.requires.may.3, c.start-start.ensures.from)
 
-pub scan-requires-clause-busy : goal.scan-requires-clause-busy
-scan-requires-clause-busy c = busy_still (mutator_now c.loop-made.self) c.args.work c.loop-made.invariant.work (λ m e. c.in_default.not-Some m (c.answer.ensures.answer ∙ e))
+pub go_on-requires-clause-work : goal.go_on-requires-clause-work
+go_on-requires-clause-work c =
+    let a : After-step = (goal.at.go_on-requires-clause-work c).After-step in
+    let p : Private = mutator_now c.args.self.now in
+    c.step.ensures.work ∙ ap (λ (s : Start). work_of (ready p (Some s))) (is_start a) ∙ begun_work p c.args.work c.start-start.result.from
 
--- the record after a scan is what its list makes up
-went : (h h' : MutatorView) (scanned : HasScanned h h') → mutator_now h' ≡ told (mutator_now h) (saw_all scanned.words)
-went h h' scanned = ap mutator_now scanned.grows ∙ told_both h.opened h.log (saw_all scanned.words)
+pub go_on-requires-clause-told : goal.go_on-requires-clause-told
+go_on-requires-clause-told c = c.step.ensures.told
 
-pub loop-made-preserved : goal.loop-made-preserved
-loop-made-preserved c =
-    let i = c.loop-made.invariant in
-    let s = c.scan.ensures in
-    let e = c.step-in-loop-made.ensures in
-    let w = works_on c.args.self.now c.loop-made.self c.scan.new.self c.step-in-loop-made.new.self c.args.work c.step-in-loop-made.result i.grows i.is s.scanned e.grows in
-    let same : KeepsSizes (mutator_now c.args.self.now) (mutator_now c.scan.new.self) = keeps_on (mutator_now c.args.self.now) (mutator_now c.loop-made.self) (mutator_now c.scan.new.self) i.same s.same in
-    record {
-      grows = w.0;
-      is = w.1;
-      work = e.work ∙ s.work ∙ i.work;
-      told = e.told;
-      path = (
-        i.path.0,
-        path_on (record { work = c.args.work; from = i.path.0 }) (mutator_now c.args.self.now) (mutator_now c.loop-made.self) (mutator_now c.scan.new.self) (mutator_now c.step-in-loop-made.new.self) c.args.self.now.log c.loop-made.self.log c.scan.new.self.log c.step-in-loop-made.new.self.log s.scanned.words c.step-in-loop-made.result i.path.1
-            s.busy (s.work ∙ i.work) (ap (λ (h : MutatorView). h.log) s.scanned.grows) s.scanned.learns (went c.loop-made.self c.scan.new.self s.scanned) (ap (λ (h : MutatorView). h.log) e.grows) e.machine e.between same.slots e.learns s.scanned.steps e.steps,
-      );
-      same = keeps_on (mutator_now c.args.self.now) (mutator_now c.scan.new.self) (mutator_now c.step-in-loop-made.new.self) same e.same;
-    }
+pub returns-clause-grows : goal.returns-clause-grows
+returns-clause-grows c =
+    let a : After-step = (goal.at.returns-clause-grows c).After-step in
+    (c.go_on.ensures.grows c.args.self.now.log (work_grows a).0, c.go_on.ensures.is ∙ (λ k. record ((work_grows a).1 k) { log = c.go_on.new.self.log }))
 
-pub returns-in-Some-clause-causes : goal.returns-in-Some-clause-causes
-returns-in-Some-clause-causes c = λ cmd told is made.
-    let i = c.loop-made.invariant in
-    answered (mutator_now c.args.self.now) (mutator_now c.loop-made.self) cmd i.path.0 c.args.self.now.log c.loop-made.self.log told
-    (subst (λ (work : Work). Path (record { work = work; from = i.path.0 }) (mutator_now c.args.self.now) c.args.self.now.log c.loop-made.self.log (mutator_now c.loop-made.self)) is i.path.1)
-    (sym c.answer.ensures.answer ∙ c.in-Some.is ∙ ap (λ (m : Made). Some m) made)
+pub returns-clause-line : goal.returns-clause-line
+returns-clause-line c =
+    let a : After-step = (goal.at.returns-clause-line c).After-step in
+    let p : Private = mutator_now c.args.self.now in
+    tells p (mutator_now c.go_on.new.self) (start_of a) c.args.self.now.log c.go_on.new.self.log c.go_on.result (c.go_on.ensures.path (start_of a) p c.args.self.now.log refl (first a)) c.go_on.ensures.answer
 
-pub returns-in-Some-clause-leaves : goal.returns-in-Some-clause-leaves
-returns-in-Some-clause-leaves c = λ cmd told is made.
-    let i = c.loop-made.invariant in
-    leaves (mutator_now c.args.self.now) (mutator_now c.loop-made.self) cmd i.path.0 c.args.self.now.log c.loop-made.self.log told c.requires.may.1
-    (subst (λ (work : Work). Path (record { work = work; from = i.path.0 }) (mutator_now c.args.self.now) c.args.self.now.log c.loop-made.self.log (mutator_now c.loop-made.self)) is i.path.1)
-    (sym c.answer.ensures.answer ∙ c.in-Some.is ∙ ap (λ (m : Made). Some m) made)
+pub returns-clause-idle : goal.returns-clause-idle
+returns-clause-idle c = answered_idle (mutator_now c.go_on.new.self) c.go_on.result c.go_on.ensures.answer
 
-pub returns-in-Some-clause-stays : goal.returns-in-Some-clause-stays
-returns-in-Some-clause-stays c = λ is.
-    let i = c.loop-made.invariant in
-    poll_stays (mutator_now c.args.self.now) (mutator_now c.loop-made.self) i.path.0 c.args.self.now.log c.loop-made.self.log
-    (subst (λ (work : Work). Path (record { work = work; from = i.path.0 }) (mutator_now c.args.self.now) c.args.self.now.log c.loop-made.self.log (mutator_now c.loop-made.self)) is i.path.1)
+pub returns-clause-same : goal.returns-clause-same
+returns-clause-same c = keeps_on (mutator_now c.args.self.now) (mutator_now c.step.new.self) (mutator_now c.go_on.new.self) c.step.ensures.same c.go_on.ensures.same
 
-pub returns-in-Some-clause-polled : goal.returns-in-Some-clause-polled
-returns-in-Some-clause-polled c = λ epoch is made.
-    let i = c.loop-made.invariant in
-    polled (mutator_now c.args.self.now) (mutator_now c.loop-made.self) i.path.0 c.args.self.now.log c.loop-made.self.log epoch
-    (subst (λ (work : Work). Path (record { work = work; from = i.path.0 }) (mutator_now c.args.self.now) c.args.self.now.log c.loop-made.self.log (mutator_now c.loop-made.self)) is i.path.1)
-    (begun_busy (mutator_now c.args.self.now) works.Poll i.path.0) (sym c.answer.ensures.answer ∙ c.in-Some.is ∙ ap (λ (m : Made). Some m) made)
+pub returns-clause-causes : goal.returns-clause-causes
+returns-clause-causes c = λ cmd told is made.
+    let a : After-step = (goal.at.returns-clause-causes c).After-step in
+    let p : Private = mutator_now c.args.self.now in
+    answered p (mutator_now c.go_on.new.self) cmd c.start-start.result.from c.args.self.now.log c.go_on.new.self.log told
+    (subst (λ (work : Work). Path (record { work = work; from = c.start-start.result.from }) p c.args.self.now.log c.go_on.new.self.log (mutator_now c.go_on.new.self)) is (c.go_on.ensures.path (start_of a) p c.args.self.now.log refl (first a)))
+    (c.go_on.ensures.answer ∙ ap (λ (m : Made). Some m) made)
 
-pub returns-in-Some-clause-line : goal.returns-in-Some-clause-line
-returns-in-Some-clause-line c =
-    let i = c.loop-made.invariant in
-    tells (mutator_now c.args.self.now) (mutator_now c.loop-made.self) (record { work = c.args.work; from = i.path.0 }) c.args.self.now.log c.loop-made.self.log c.in-Some.made i.path.1 (sym c.answer.ensures.answer ∙ c.in-Some.is)
+pub returns-clause-leaves : goal.returns-clause-leaves
+returns-clause-leaves c = λ cmd told is made.
+    let a : After-step = (goal.at.returns-clause-leaves c).After-step in
+    let p : Private = mutator_now c.args.self.now in
+    leaves p (mutator_now c.go_on.new.self) cmd c.start-start.result.from c.args.self.now.log c.go_on.new.self.log told c.requires.may.1
+    (subst (λ (work : Work). Path (record { work = work; from = c.start-start.result.from }) p c.args.self.now.log c.go_on.new.self.log (mutator_now c.go_on.new.self)) is (c.go_on.ensures.path (start_of a) p c.args.self.now.log refl (first a)))
+    (c.go_on.ensures.answer ∙ ap (λ (m : Made). Some m) made)
+
+pub returns-clause-stays : goal.returns-clause-stays
+returns-clause-stays c = λ is.
+    let a : After-step = (goal.at.returns-clause-stays c).After-step in
+    let p : Private = mutator_now c.args.self.now in
+    poll_stays p (mutator_now c.go_on.new.self) c.start-start.result.from c.args.self.now.log c.go_on.new.self.log
+    (subst (λ (work : Work). Path (record { work = work; from = c.start-start.result.from }) p c.args.self.now.log c.go_on.new.self.log (mutator_now c.go_on.new.self)) is (c.go_on.ensures.path (start_of a) p c.args.self.now.log refl (first a)))
+
+pub returns-clause-polled : goal.returns-clause-polled
+returns-clause-polled c = λ epoch is made.
+    let a : After-step = (goal.at.returns-clause-polled c).After-step in
+    let p : Private = mutator_now c.args.self.now in
+    polled p (mutator_now c.go_on.new.self) c.start-start.result.from c.args.self.now.log c.go_on.new.self.log epoch
+    (subst (λ (work : Work). Path (record { work = work; from = c.start-start.result.from }) p c.args.self.now.log c.go_on.new.self.log (mutator_now c.go_on.new.self)) is (c.go_on.ensures.path (start_of a) p c.args.self.now.log refl (first a)))
+    (begun_busy p works.Poll c.start-start.result.from) (c.go_on.ensures.answer ∙ ap (λ (m : Made). Some m) made)

@@ -22,5 +22,5 @@ pub returns : goal.returns
 returns c =
     let counts = counted (goal.at.returns c).After-as_slice in
     IfOk-weaker c.open_from.result _ _
-    (λ collector is. is ∙ ap (λ ns. collectors.opened_from c.args.config.now.slots c.args.config.now.fields c.args.config.now.registers c.args.config.now.mutators c.args.config.now.log_entries c.args.config.now.first_epoch ns c.args.registers.now) counts)
+    (λ collector is. is ∙ ap (λ ns. collectors.opened_from c.args.config.now.slots c.args.config.now.fields c.args.config.now.registers c.args.config.now.mutators c.args.config.now.log_entries c.args.config.now.first_epoch c.args.config.now.steady ns c.args.registers.now) counts)
     c.open_from.ensures.opened

@@ -1,4 +1,4 @@
--- The contract of `Collector::turn_freeing`: one turn, and the label of the object that it freed.
+-- The contract of `Collector::turn_as`: one turn of a collector in a phase of a known kind.
 use Rattle.std.proofs.Common.{◌≡◌, ◌<◌, ℕ, length, Option, None, Some, refl, sym, ap, ◌∙◌, subst, arith}
 use Rattle.rec_table.proofs.Common.{Op, Core, gathered, gathered_all, CollectorView, collector_now, index_of, collecting_of, collecting_more, boxes_out, word_of, NotLooking, Saw, CollectorSeat, Collects}
 use Rattle.rec_word.specs.Header.{IsTakenHeader}
@@ -6,6 +6,7 @@ use Rattle.rec_word.specs.declared.op.Op.TheVariants as ops
 use Rattle.rec_table.specs.Rule.{FindsHeader}
 use Rattle.rec_collector.specs.Given.{IsGiven}
 use Rattle.rec_collector.specs.Kept.{IsMachine, KeepsSizes}
+use Rattle.rec_collector.specs.Kind.{kind_of}
 use Rattle.rec_collector.specs.Next.{next_of}
 use Rattle.rec_collector.specs.Private.{Private}
 use Rattle.rec_collector.specs.Step.{IsBetween}
@@ -16,8 +17,8 @@ use Rattle.rec_table.proofs.Gathering.{turn_there, turn_names, looking_of, not_l
 use Rattle.rec_table.proofs.Turn.{makes_none, makes_one}
 use Rattle.rec_table.specs.Telling.{Frees, IsFreeOp}
 use Rattle.rec_table.proofs.Freeing.{frees_slot, looks_none, frees_none, frees_found}
-use Rattle.rec_table.proofs.collector.Collector.turn_freeing.Goals as goal
-use Rattle.rec_table.proofs.collector.Collector.turn_freeing.Goals.{In-Some}
+use Rattle.rec_table.proofs.collector.Collector.turn_as.Goals as goal
+use Rattle.rec_table.proofs.collector.Collector.turn_as.Goals.{In-Some}
 
 abbrev key : (c : In-Some) → Core
 key c = c.args.board.now.table.shared.key.value
@@ -43,7 +44,7 @@ there c =
     turn_there (key c) c.in-Some.op c.self.inside.opened.value c.self.inside.machine c.args.board.now.table.shared.table_id.words c.requires.world (opened c) c.self.invariant.2 c.turns-turns.ensures.kept (named c) (omega (arith, wide.0, wide.1, wide.2))
 
 keeps : (a b d : Private) → KeepsSizes a b → KeepsSizes b d → KeepsSizes a d
-keeps a b d x y = record { slots = y.slots ∙ x.slots; fields = y.fields ∙ x.fields; registers = y.registers ∙ x.registers; capacity = y.capacity ∙ x.capacity; mutators = y.mutators ∙ x.mutators }
+keeps a b d x y = record { slots = y.slots ∙ x.slots; fields = y.fields ∙ x.fields; registers = y.registers ∙ x.registers; capacity = y.capacity ∙ x.capacity; steady = y.steady ∙ x.steady; mutators = y.mutators ∙ x.mutators }
 
 looking : (c : In-Some) (t e : ℕ) → c.in-Some.op ≡ ops.LookBox t e → (c.self.inside.machine.phase ≡ Looking t) × (c.self.inside.machine.epoch ≡ e)
 looking c t e is = looking_of c.self.inside.machine c.in-Some.op t e c.self.invariant.3 (named c) is
@@ -103,8 +104,11 @@ make_turn-word-requires c =
       there = there a;
     }
 
-pub took-requires : goal.took-requires
-took-requires c = let a : In-Some = (goal.at.took-requires c).In-Some in subst (λ (p : Private). IsGiven p c.make_turn-word.result) (sym (machine_is a)) c.make_turn-word.ensures.given
+pub took_as-requires-clause-given : goal.took_as-requires-clause-given
+took_as-requires-clause-given c = let a : In-Some = (goal.at.took_as-requires-clause-given c).In-Some in subst (λ (p : Private). IsGiven p c.make_turn-word.result) (sym (machine_is a)) c.make_turn-word.ensures.given
+
+pub took_as-requires-clause-kind : goal.took_as-requires-clause-kind
+took_as-requires-clause-kind c = let a : In-Some = (goal.at.took_as-requires-clause-kind c).In-Some in c.requires.kind ∙ ap (λ (p : Private). kind_of p.phase) (sym (now a))
 
 -- a freed slot had a taken header
 taken : (c : In-Some) (word : ℕ) → FindsHeader (gathered_all (key c).collector (collecting c).log) word → IsFreeOp c.in-Some.op → IsTakenHeader word
@@ -131,11 +135,11 @@ invariant_of-self-in_default-op c =
     let a : In-Some = (goal.at.invariant_of-self-in_default-op c).In-Some in
     let s = c.self.inside in
     let b = Saw c.make_turn-word.result in
-    let out = lone_out s.machine c.took.new.self c.make_turn-word.result c.self.invariant.3 (not_looking s.machine c.in-Some.op c.self.invariant.3 (named a) c.in_default-op.not-LookBox) c.took.ensures.took in
-    let seated : c.make_turn-word.new.seat.me ≡ (Collects (collecting_more (collecting a) b), boxes_out c.took.new.self) = c.make_turn-word.ensures.view ∙ (λ k. (Collects (collecting_more (collecting a) b), sym out.0 k)) in (
-      turn_me (collecting a) b c.took.new.self c.make_turn-word.new.seat.me seated,
-      turn_log s.opened.value s.machine c.took.new.self (collecting a) b c.make_turn-word.new.seat.me c.self.invariant.1 c.took.ensures.took seated,
-      keeps s.opened.value s.machine c.took.new.self c.self.invariant.2 c.took.ensures.same,
+    let out = lone_out s.machine c.took_as.new.self c.make_turn-word.result c.self.invariant.3 (not_looking s.machine c.in-Some.op c.self.invariant.3 (named a) c.in_default-op.not-LookBox) c.took_as.ensures.took in
+    let seated : c.make_turn-word.new.seat.me ≡ (Collects (collecting_more (collecting a) b), boxes_out c.took_as.new.self) = c.make_turn-word.ensures.view ∙ (λ k. (Collects (collecting_more (collecting a) b), sym out.0 k)) in (
+      turn_me (collecting a) b c.took_as.new.self c.make_turn-word.new.seat.me seated,
+      turn_log s.opened.value s.machine c.took_as.new.self (collecting a) b c.make_turn-word.new.seat.me c.self.invariant.1 c.took_as.ensures.took seated,
+      keeps s.opened.value s.machine c.took_as.new.self c.self.invariant.2 c.took_as.ensures.same,
       out.1,
     )
 
@@ -163,11 +167,11 @@ returns-in_default-op c =
     let a : In-Some = (goal.at.returns-in_default-op c).In-Some in
     let s = c.self.inside in
     let b = Saw c.make_turn-word.result in
-    let out = lone_out s.machine c.took.new.self c.make_turn-word.result c.self.invariant.3 (not_looking s.machine c.in-Some.op c.self.invariant.3 (named a) c.in_default-op.not-LookBox) c.took.ensures.took in
-    let seated : c.make_turn-word.new.seat.me ≡ (Collects (collecting_more (collecting a) b), boxes_out c.took.new.self) = c.make_turn-word.ensures.view ∙ (λ k. (Collects (collecting_more (collecting a) b), sym out.0 k)) in
-    let e = turn_end s.seat.table_id c.make_turn-word.new.seat.table_id s.opened.value s.machine c.took.new.self (collecting a) b c.make_turn-word.new.seat.me c.args.self.now c.self.view_is c.make_turn-word.ensures.seat.0 c.self.invariant.1 c.took.ensures.took seated in
+    let out = lone_out s.machine c.took_as.new.self c.make_turn-word.result c.self.invariant.3 (not_looking s.machine c.in-Some.op c.self.invariant.3 (named a) c.in_default-op.not-LookBox) c.took_as.ensures.took in
+    let seated : c.make_turn-word.new.seat.me ≡ (Collects (collecting_more (collecting a) b), boxes_out c.took_as.new.self) = c.make_turn-word.ensures.view ∙ (λ k. (Collects (collecting_more (collecting a) b), sym out.0 k)) in
+    let e = turn_end s.seat.table_id c.make_turn-word.new.seat.table_id s.opened.value s.machine c.took_as.new.self (collecting a) b c.make_turn-word.new.seat.me c.args.self.now c.self.view_is c.make_turn-word.ensures.seat.0 c.self.invariant.1 c.took_as.ensures.took seated in
     record {
-      turn = makes_one c.args.self.now _ c.in-Some.op b c.took.result (machine a) (its_op a) e.0 e.1 (c.took.ensures.turn ∙ ap (λ (p : Private). turn_of p c.make_turn-word.result) (now a));
+      turn = makes_one c.args.self.now _ c.in-Some.op b c.took_as.result (machine a) (its_op a) e.0 e.1 (c.took_as.ensures.turn ∙ ap (λ (p : Private). turn_of p c.make_turn-word.result) (now a));
       freed = frees_found c.args.self.now _ c.in-Some.op c.make_turn-word.result c.label_freed.result (its_op a) (ap (λ (x : CollectorView). x.collecting) e.0) (taken a c.make_turn-word.result c.make_turn-word.ensures.header) c.label_freed.ensures;
-      free = λ looks. ap boxes_out (e.1 ∙ ap (λ (p : Private). gathered p b) (sym (c.self.invariant.1 ∙ ap collector_now c.self.view_is)) ∙ sym c.took.ensures.took) ∙ out.0;
+      free = λ looks. ap boxes_out (e.1 ∙ ap (λ (p : Private). gathered p b) (sym (c.self.invariant.1 ∙ ap collector_now c.self.view_is)) ∙ sym c.took_as.ensures.took) ∙ out.0;
     }

@@ -1,8 +1,8 @@
--- The loops of `tell_registers`: the registers up to here are told.
+-- The loops of `tell_all`: the registers up to here are told.
 use Rattle.std.proofs.Common.{◌≡◌, length, take}
 use Rattle.rec_apply.specs.Targets.{named, slots_in}
 use Rattle.rec_apply.specs.Telling.{Tells}
-use Rattle.rec_apply.proofs.telling.tell_registers.Given as goal
+use Rattle.rec_apply.proofs.telling.tell_all.Given as goal
 
 abbrev pub invariant-loop-place : goal.invariant-loop-place
 invariant-loop-place l = record {

@@ -1,6 +1,6 @@
 -- The records with which a turn is made.
 use Rattle.rec_table.proofs.Common.{gathered_all, collecting_of}
-use Rattle.rec_table.proofs.collector.Collector.turn_freeing.Given as goal
+use Rattle.rec_table.proofs.collector.Collector.turn_as.Given as goal
 
 abbrev pub ghosts-look : goal.ghosts-look
 ghosts-look a = record { actor = a.machine.now; number = a.t }
