@@ -185,15 +185,18 @@ typedef struct recycler_totals_told {
     uint64_t cycles_freed, cycles_refused_delta, cycles_refused_sigma;
 } recycler_totals_told;
 
+/* How many entries a log is best given where so many slots are free beside the objects that stay live. */
+#define RECYCLER_LOG_ENTRIES(free_slots, mutators) ((free_slots) < 64 * (mutators) ? 16 : (free_slots) / (4 * (mutators)))
+
 /* Opens a heap at rest, in a closed `recycler`. One object with label 0 stands in slot 0 and in register 0 of each mutator. The memory of
  * the heap at rest and of its handles is taken here. What a register names that doesn't change in an epoch costs the collector no trial.
  * slots: objects that fit, 1 to 65,535. fields: of each object, 1 to 16. registers: of each mutator, 1 to 64. mutators: 1 to 63.
- * log_entries: that the log of each mutator holds, 1 to 262,143. An object that the mutator makes takes one, and so does a field that it
- * puts, a null one too; a refused command takes none. A poll that crosses empties the log, and there is an epoch to cross into once the
- * collector's turns have begun a collection. The larger the logs, the more slots mutators take before the collector comes by: in the
- * rings of bench/c-library, on a busy machine, logs of 64 entries had the longest wait for a slot at 10 to 14 ms, and logs of 4,096 at 15
- * to 45 ms; with the smaller ones three and eight times as many births were refused over 65,535 and 8,192 slots (bench/README.md, "The C
- * library"). first_epoch: 1 to 16,777,215.
+ * log_entries: that the log of each mutator holds, 1 to 262,143. Each allocation and each field write, null included, uses one entry; a
+ * refused command uses none. A poll that crosses empties the log, and there is an epoch to cross into once the collector's turns have begun
+ * a collection. So a log bounds how much of the heap its mutator takes in one epoch. RECYCLER_LOG_ENTRIES(free, mutators) is a good number,
+ * where `free` slots are left beside the objects that stay live. With fewer entries mutators wait for the collector sooner than they have
+ * to. With more they fill the heap, and each birth looks at many headers (bench/README.md, "The size of logs").
+ * first_epoch: 1 to 16,777,215.
  * Codes: OPEN_ALREADY, the six of the numbers, NO_MEMORY. */
 uint32_t recycler_open(recycler *r, uint32_t slots, uint32_t fields, uint32_t registers, uint32_t mutators, uint32_t log_entries,
                        uint32_t first_epoch);

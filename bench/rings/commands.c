@@ -1,5 +1,5 @@
 /* Commands over a full heap, for callgrind, which counts within the calls that it is told to. Word: how many slots. Each count has the
- * name of its command: get, put, and new where no slot is free. */
+ * name of its command: new is one where no slot is free, and poll one where no epoch is requested. */
 #include <stdint.h>
 #include <stdio.h>
 #include <stdlib.h>
@@ -35,6 +35,31 @@ static void put(void) {
     must(recycler_put(mutator, 0, 0, 0, &told), &told, RECYCLER_DONE, "put");
 }
 
+static void copy(void) {
+    recycler_asked told;
+    must(recycler_copy(mutator, 1, 0, &told), &told, RECYCLER_DONE, "copy");
+}
+
+static void value(void) {
+    recycler_asked told;
+    must(recycler_value(mutator, 0, &told), &told, RECYCLER_VALUE, "value");
+}
+
+static void same(void) {
+    recycler_asked told;
+    must(recycler_same(mutator, 0, 1, &told), &told, RECYCLER_YES, "same");
+}
+
+static void null(void) {
+    recycler_asked told;
+    must(recycler_null(mutator, 1, &told), &told, RECYCLER_DONE, "null");
+}
+
+static void poll(void) {
+    uint32_t crossed;
+    must(recycler_poll(mutator, &crossed), NULL, 0, "poll");
+}
+
 static void refused(void) {
     new(RECYCLER_FULL);
 }
@@ -58,6 +83,11 @@ int main(int argc, char **argv) {
     put();
     count(get, "get");
     count(put, "put");
+    count(copy, "copy");
+    count(value, "value");
+    count(same, "same");
+    count(null, "null");
+    count(poll, "poll");
     count(refused, "new");
     must(recycler_stop(&heap), NULL, 0, "stop");
     must(recycler_close(&heap), NULL, 0, "close");
