@@ -1,21 +1,22 @@
 -- What is learnt of the usual works all at once, behind their last operation, is what is learnt step by step.
-use Rattle.std.proofs.Common.{◌≡◌, ℕ, ◌+◌, ◌%◌, ◌<◌, Bool, true, false, List, [], ◌∷◌, ◌++◌, Option, Some, None, if◌then◌else◌, length, refl, sym, ap, subst, ◌∙◌, arith, set}
-use Rattle.rec_word.specs.Header.{is_leaf, IsTakenHeader}
+use Rattle.std.proofs.Common.{◌≡◌, ℕ, ◌+◌, ◌%◌, ◌<◌, Bool, true, false, List, [], ◌∷◌, ◌++◌, Option, Some, None, if◌then◌else◌, length, refl, sym, ap, subst, ◌∙◌, arith, set, inl, eq-eqb, ◌==◌}
+use Rattle.rec_word.specs.Header.{is_leaf, label_of, IsTakenHeader}
 use Rattle.rec_word.specs.Place.{place_of}
 use Rattle.rec_word.specs.Word.{target_of}
-use Rattle.rec_model.specs.Asking.{allocation, null_or_object, plain}
+use Rattle.rec_model.specs.Asking.{allocation, null_or_object, plain, same, yes_or_no}
+use Rattle.rec_model.specs.declared.answer.Answer.{Answer}
 use Rattle.rec_model.specs.declared.answer.Answer.TheVariants as answers
 use Rattle.rec_model.specs.declared.command.Cmd.{Cmd}
 use Rattle.rec_model.specs.declared.command.Cmd.TheVariants as commands
 use Rattle.rec_model.specs.declared.told.Told.{Told}
 use Rattle.rec_log.specs.declared.contents.Contents.{Contents}
 use Rattle.rec_log.specs.declared.entry.Entry.TheVariants as entries
-use Rattle.rec_mutator.specs.Next.{next_of, next_at, read_op, write_op, new_op}
+use Rattle.rec_mutator.specs.Next.{next_of, next_at, read_op, write_op, label_op, new_op}
 use Rattle.rec_mutator.specs.Private.{Private, register, is_busy, is_full, word_for, probe_of, HasOperands, IsValid, IsMachine}
-use Rattle.rec_mutator.specs.Took.{begun_of, took_of, took_at, moved, answered, with_entry, with_register, read_by, written_by, allowed_by, new_by, born_in, IsFound}
+use Rattle.rec_mutator.specs.Took.{begun_of, took_of, took_at, moved, answered, with_entry, with_register, read_by, written_by, allowed_by, label_by, new_by, born_in, IsFound, IsRequested}
 use Rattle.rec_mutator.specs.declared.made.Made.TheVariants as makes
 use Rattle.rec_mutator.specs.declared.phase.Phase.{Phase}
-use Rattle.rec_mutator.specs.declared.phase.Phase.TheVariants.{Begun, Scanning, Storing, Finished}
+use Rattle.rec_mutator.specs.declared.phase.Phase.TheVariants.{Begun, Scanning, Storing, Crossing, Finished}
 use Rattle.rec_mutator.specs.declared.work.Work.{Work}
 use Rattle.rec_mutator.specs.declared.work.Work.TheVariants as works
 use Rattle.rec_mutator.proofs.Around.{behind_near}
@@ -208,3 +209,54 @@ unfolding next_of next_at
 bore_machine p reg label leaf from before m room =
     subst (λ (q : Private). IsMachine (took_of q 0)) (sym (scans_is p reg label leaf from before room))
     (plain_machine (scanning p reg label leaf from before) 0 (scans_machine p reg label leaf from before m room) refl tt tt)
+
+-- A look at an object's label.
+abbrev value : (reg : ℕ) → Work
+value reg = works.Command (commands.Value reg)
+
+pub labelled_is : (p : Private) (reg slot header : ℕ) {label : ℕ} {phase : Phase} {told : Told} → register p reg ≡ Some slot → label ≡ label_of header → told ≡ plain (answers.Value label) → phase ≡ Finished (value reg) (makes.Answered told)
+    → record p { phase = phase; steps = 1 } ≡ took_of (begun_of p (value reg) p.from) header
+unfolding begun_of took_of took_at
+labelled_is p reg slot header object label tells ends =
+    let finished : Told → Private = λ told. record p { phase = Finished (value reg) (makes.Answered told); steps = 1 } in
+    (λ i. record p { phase = ends i; steps = 1 })
+    ∙ ap finished tells
+    ∙ ap (λ n. finished (plain (answers.Value n))) label
+    ∙ sym (ap (λ (x : Option ℕ). finished (plain (label_by header x))) object)
+
+pub labelled_machine : (p : Private) (reg slot header : ℕ) → IsMachine (begun_of p (value reg) p.from) → register p reg ≡ Some slot → IsTakenHeader header → IsMachine (took_of (begun_of p (value reg) p.from) header)
+unfolding begun_of next_of next_at
+labelled_machine p reg slot header m object taken =
+    let q : Private = begun_of p (value reg) p.from in
+    first_machine p (value reg) p.from header m (subst (λ (x : Option ℕ). IsFound q (label_op q x) header) (sym object) taken)
+
+-- A comparison of two registers.
+abbrev compare : (a b : ℕ) → Work
+compare a b = works.Command (commands.Same a b)
+
+pub compared_is : (p : Private) (a b word : ℕ) {one other : Option ℕ} {answer : Answer} {phase : Phase} {told : Told} → one ≡ register p a → other ≡ register p b → answer ≡ yes_or_no (same one other) → told ≡ plain answer → phase ≡ Finished (compare a b) (makes.Answered told)
+    → record p { phase = phase; steps = 1 } ≡ took_of (begun_of p (compare a b) p.from) word
+unfolding begun_of took_of took_at
+compared_is p a b word one other is tells ends =
+    let finished : Told → Private = λ told. record p { phase = Finished (compare a b) (makes.Answered told); steps = 1 } in
+    (λ i. record p { phase = ends i; steps = 1 }) ∙ ap finished (tells ∙ ap plain is ∙ (λ i. plain (yes_or_no (same (one i) (other i)))))
+
+pub compared_machine : (p : Private) (a b word : ℕ) → IsMachine (begun_of p (compare a b) p.from) → IsMachine (took_of (begun_of p (compare a b) p.from) word)
+unfolding begun_of next_of next_at
+compared_machine p a b word m = first_machine p (compare a b) p.from word m tt
+
+-- A poll that finds its own epoch requested.
+pub stayed_is : (p : Private) (word : ℕ) {phase : Phase} → word ≡ p.epoch → phase ≡ Finished works.Poll (makes.Crossed None) → record p { phase = phase; steps = 1 } ≡ took_of (begun_of p works.Poll p.from) word
+unfolding begun_of took_of took_at
+stayed_is p word own ends =
+    let here : (word == p.epoch) ≡ true = eq-eqb word p.epoch own in
+    (λ i. record p { phase = ends i; steps = 1 }) ∙ sym (ap (λ (b : Bool). record p { phase = if b then Finished works.Poll (makes.Crossed None) else Crossing; steps = 1 }) here)
+
+pub stayed_machine : (p : Private) (word : ℕ) → IsMachine (begun_of p works.Poll p.from) → word ≡ p.epoch → IsMachine (took_of (begun_of p works.Poll p.from) word)
+unfolding begun_of next_of next_at
+stayed_machine p word m own = first_machine p works.Poll p.from word m (inl own)
+
+-- and of one that finds another
+pub found_poll : (p : Private) (from word : ℕ) → IsRequested p word → IsFound (begun_of p works.Poll from) (next_of (begun_of p works.Poll from)) word
+unfolding begun_of next_of next_at
+found_poll p from word asked = asked

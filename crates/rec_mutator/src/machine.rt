@@ -289,6 +289,7 @@ impl Machine {
     }
 
     /// What came of the last work, or `None` where none was begun yet or it isn't finished.
+    #[inline(always)]
     pub fn answer(&self) -> Option<Made>
         ensures answer { result ≡ answer_of self.now }
         ensures none { IsNone result ↔ (IsNone (work_of self.now) ⊎ (is_busy self.now ≡ true)) }
@@ -310,6 +311,7 @@ impl Machine {
     }
 
     /// Whether the mutator has left: nothing more may be asked of it.
+    #[inline(always)]
     pub fn has_left(&self) -> bool
         ensures { result ≡ self.now.left }
     {
@@ -324,6 +326,7 @@ impl Machine {
     }
 
     /// What register `r` names.
+    #[inline(always)]
     pub fn register(&self, r: u8) -> Option<u16>
         requires { r < length self.now.registers }
         ensures { result ≡ register self.now r }
@@ -339,6 +342,7 @@ impl Machine {
     }
 
     /// The epoch that the mutator is in.
+    #[inline(always)]
     pub fn epoch(&self) -> u32
         ensures { result ≡ self.now.epoch }
     {
@@ -362,6 +366,7 @@ impl Machine {
     }
 
     /// How many steps were made since the last `begin`.
+    #[inline(always)]
     pub fn steps(&self) -> u32
         ensures steps { result ≡ self.now.steps }
         ensures limit { IfSome (work_of self.now) (λ work. result ≤ limit_of self.now.slots work) }
@@ -371,6 +376,7 @@ impl Machine {
     }
 
     /// Its number.
+    #[inline(always)]
     pub fn number(&self) -> u8
         ensures { result ≡ self.now.number }
     {
@@ -378,6 +384,7 @@ impl Machine {
     }
 
     /// Whether it may be asked this: the registers and the field that the command names are there.
+    #[inline(always)]
     pub fn valid(&self, cmd: &Cmd) -> bool
         ensures { IsTrue result ↔ HasOperands self.now cmd.now }
     {

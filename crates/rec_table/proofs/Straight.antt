@@ -20,12 +20,12 @@ use Rattle.rec_mutator.proofs.Steps.{TakesNone, here_same}
 use Rattle.rec_mutator.proofs.Straight.{scanning, scans_is}
 use Rattle.rec_table.specs.Answered.{worked}
 use Rattle.rec_table.specs.Rule.{MayBegin}
-use Rattle.rec_table.specs.Straight.{Carried, CarriedOr, IsPlainOp, Stands, record_of}
+use Rattle.rec_table.specs.Straight.{Bears, Carried, CarriesIf, IsPlainOp, Polled, Stands, record_of}
 use Rattle.rec_table.specs.declared.start.Start.{Start}
 use Rattle.rec_table.proofs.Common.{Op, Private, IsMachine, KeepsSizes, IsBetween, Contents, is_busy, is_busy_at, is_full, work_of, answer_at, answer_of, begun_of, took_of, spare, IsMutator, Core, mutator, MutatorView, mutator_view, mutator_now, IsOf, Works, told, learnt, ready, MayGo, births_of, births_told, beats, longer, seated_of, hands, me_after, taken_by, Saw, Beat, Seated, View, Mutates, index_of, IsWorld}
 use Rattle.rec_table.proofs.Acting.{opened_is, told_beats, ready_names}
-use Rattle.rec_table.proofs.Answering.{Path, answered, begun_slots, path_first, path_on}
-use Rattle.rec_table.proofs.Leaving.{leaves}
+use Rattle.rec_table.proofs.Answering.{Path, answered, begun_slots, path_first, path_on, polled}
+use Rattle.rec_table.proofs.Leaving.{leaves, poll_stays}
 use Rattle.rec_table.proofs.Lines.{tells}
 use Rattle.rec_table.proofs.Making.{begun_work, births_more, counted, keeps_on, learnt_between, learns_word, plain_hand, plain_taken, plain_phase, ready_between, ready_busy, ready_keeps, works_first}
 use Rattle.rec_table.proofs.Steps.{IsPlain, begun_busy, plain_takes_none}
@@ -89,28 +89,86 @@ owns z z' key o m me h view own seat is names same between =
       };
     }
 
--- A command whose first step answers it.
-pub carried_once : (h h' : MutatorView) (cmd : Cmd) (from word : ℕ) (answer : Told) → MayBegin (mutator_now h) (works.Command cmd) → from < (mutator_now h).slots → IsBetween (mutator_now h).phase → IsMachine (begun_of (mutator_now h) (works.Command cmd) from)
-    → h' ≡ record h { log = h.log ++ beats (Some (record { work = works.Command cmd; from = from })) word } → answer_of (mutator_now h') ≡ Some (makes.Answered answer) → is_busy (mutator_now h') ≡ false → Carried h h' cmd answer
-carried_once h h' cmd from word answer may low between machine grows tells_it idle =
-    let start : Start = record { work = works.Command cmd; from = from } in
+-- who has an answer isn't busy
+pub answered_idle : (p : Private) (made : Made) → answer_of p ≡ Some made → is_busy p ≡ false
+answered_idle p made answer = by p.phase refl
+  where
+    no : (phase : Phase) → p.phase ≡ phase → answer_at phase ≡ None → is_busy p ≡ false
+    no phase e none = let bad : ◌≡◌ {A = Option Made} None (Some made) = sym none ∙ sym (ap answer_at e) ∙ answer in cc
+
+    by : (phase : Phase) → p.phase ≡ phase → is_busy p ≡ false
+    by at.Idle e = ap is_busy_at e
+    by (at.Finished work m) e = ap is_busy_at e
+    by (at.Begun w) e = no (at.Begun w) e refl
+    by (at.Scanning reg label leaf b slot) e = no (at.Scanning reg label leaf b slot) e refl
+    by (at.Scanned reg label leaf b) e = no (at.Scanned reg label leaf b) e refl
+    by (at.Storing src f val slot) e = no (at.Storing src f val slot) e refl
+    by at.Crossing e = no at.Crossing e refl
+    by at.Swapping e = no at.Swapping e refl
+    by at.Giving e = no at.Giving e refl
+    by at.Leaving e = no at.Leaving e refl
+    by at.Retiring e = no at.Retiring e refl
+    by at.Parting e = no at.Parting e refl
+
+-- A command that has made all its steps.
+pub carried_path : (h h' : MutatorView) (cmd : Cmd) (from : ℕ) (answer : Told) → (mutator_now h).left ≡ false → Path (record { work = works.Command cmd; from = from }) (mutator_now h) h.log h'.log (mutator_now h') → Works (works.Command cmd) h.log h'.log → h' ≡ record h { log = h'.log }
+    → answer_of (mutator_now h') ≡ Some (makes.Answered answer) → is_busy (mutator_now h') ≡ false → KeepsSizes (mutator_now h) (mutator_now h') → Carried h h' cmd answer
+carried_path h h' cmd from answer stays path grew is tells_it idle same = record {
+  grows = grew;
+  is = is;
+  answer = tells_it;
+  causes = answered (mutator_now h) (mutator_now h') cmd from h.log h'.log answer path tells_it;
+  leaves = leaves (mutator_now h) (mutator_now h') cmd from h.log h'.log answer stays path tells_it;
+  line = tells (mutator_now h) (mutator_now h') (record { work = works.Command cmd; from = from }) h.log h'.log (makes.Answered answer) path tells_it;
+  idle = idle;
+  same = same;
+}
+
+-- and a poll that has.
+pub polled_path : (h h' : MutatorView) (from : ℕ) (epoch : Option ℕ) → Path (record { work = works.Poll; from = from }) (mutator_now h) h.log h'.log (mutator_now h') → Works works.Poll h.log h'.log → h' ≡ record h { log = h'.log }
+    → answer_of (mutator_now h') ≡ Some (makes.Crossed epoch) → KeepsSizes (mutator_now h) (mutator_now h') → Polled h h' epoch
+polled_path h h' from epoch path grew is tells_it same = record {
+  grows = grew;
+  is = is;
+  answer = tells_it;
+  causes = polled (mutator_now h) (mutator_now h') from h.log h'.log epoch path (begun_busy (mutator_now h) works.Poll from) tells_it;
+  left = poll_stays (mutator_now h) (mutator_now h') from h.log h'.log path;
+  line = tells (mutator_now h) (mutator_now h') (record { work = works.Poll; from = from }) h.log h'.log (makes.Crossed epoch) path tells_it;
+  idle = answered_idle (mutator_now h') _ tells_it;
+  same = same;
+}
+
+-- A work that has made its first step.
+pub path_once : (h h' : MutatorView) (work : Work) (from word : ℕ) → MayBegin (mutator_now h) work → from < (mutator_now h).slots → IsBetween (mutator_now h).phase → IsMachine (begun_of (mutator_now h) work from)
+    → h' ≡ record h { log = h.log ++ beats (Some (record { work = work; from = from })) word }
+    → Path (record { work = work; from = from }) (mutator_now h) h.log h'.log (mutator_now h') × Works work h.log h'.log × (h' ≡ record h { log = h'.log }) × KeepsSizes (mutator_now h) (mutator_now h')
+path_once h h' work from word may low between machine grows =
+    let start : Start = record { work = work; from = from } in
     let p : Private = mutator_now h in
     let q : Private = mutator_now h' in
     let logs : h'.log ≡ h.log ++ beats (Some start) word = ap (λ (x : MutatorView). x.log) grows in
-    let learns : q ≡ learnt (begun_of p (works.Command cmd) from) (Saw word) = ap mutator_now grows ∙ told_beats h.opened h.log (Some start) word in
+    let learns : q ≡ learnt (begun_of p work from) (Saw word) = ap mutator_now grows ∙ told_beats h.opened h.log (Some start) word in
     let c = counted p (Some start) word (may.0, may.1, may.2, may.3, low) between in
-    let w = works_first h h' (works.Command cmd) from word grows in
-    let path : Path start p h.log h'.log q = path_first start p q h.log h'.log word logs machine (begun_busy p (works.Command cmd) from) (begun_work p (works.Command cmd) from) (begun_slots p (works.Command cmd) from) learns (ap (λ (x : Private). x.steps) learns ∙ c.steps) in
-    record {
-      grows = w.0;
-      is = w.1;
-      answer = tells_it;
-      causes = answered p q cmd from h.log h'.log answer path tells_it;
-      leaves = leaves p q cmd from h.log h'.log answer may.1 path tells_it;
-      line = tells p q start h.log h'.log (makes.Answered answer) path tells_it;
-      idle = idle;
-      same = subst (KeepsSizes p) (sym learns) c.same;
-    }
+    let w = works_first h h' work from word grows in (
+      path_first start p q h.log h'.log word logs machine (begun_busy p work from) (begun_work p work from) (begun_slots p work from) learns (ap (λ (x : Private). x.steps) learns ∙ c.steps),
+      w.0,
+      w.1,
+      subst (KeepsSizes p) (sym learns) c.same,
+    )
+
+-- A command whose first step answers it.
+pub carried_once : (h h' : MutatorView) (cmd : Cmd) (from word : ℕ) (answer : Told) → MayBegin (mutator_now h) (works.Command cmd) → from < (mutator_now h).slots → IsBetween (mutator_now h).phase → IsMachine (begun_of (mutator_now h) (works.Command cmd) from)
+    → h' ≡ record h { log = h.log ++ beats (Some (record { work = works.Command cmd; from = from })) word } → answer_of (mutator_now h') ≡ Some (makes.Answered answer) → Carried h h' cmd answer
+carried_once h h' cmd from word answer may low between machine grows tells_it =
+    let once = path_once h h' (works.Command cmd) from word may low between machine grows in
+    carried_path h h' cmd from answer may.1 once.0 once.1 once.2 tells_it (answered_idle (mutator_now h') _ tells_it) once.3
+
+-- A poll whose first step answers it,
+pub polled_once : (h h' : MutatorView) (from word : ℕ) → MayBegin (mutator_now h) works.Poll → from < (mutator_now h).slots → IsBetween (mutator_now h).phase → IsMachine (begun_of (mutator_now h) works.Poll from)
+    → h' ≡ record h { log = h.log ++ beats (Some (record { work = works.Poll; from = from })) word } → answer_of (mutator_now h') ≡ Some (makes.Crossed None) → Polled h h' None
+polled_once h h' from word may low between machine grows tells_it =
+    let once = path_once h h' works.Poll from word may low between machine grows in
+    polled_path h h' from None once.0 once.1 once.2 tells_it once.3
 
 -- A command that is answered by its second step.
 pub carried_twice : (h h' : MutatorView) (cmd : Cmd) (from first second : ℕ) (m : Private) (answer : Told) → MayBegin (mutator_now h) (works.Command cmd) → from < (mutator_now h).slots → IsBetween (mutator_now h).phase → IsMachine (begun_of (mutator_now h) (works.Command cmd) from)
@@ -189,35 +247,6 @@ learns_first p m m' work from word same at took =
 pub seen_on : (z z' : TableId) (o : Private) (me me' : Me (Option Contents) View) (h : MutatorView) (bs : List Beat) → z' ≡ z → mutator_view z o (seated_of me.0) ≡ h → me' ≡ (Mutates (longer (seated_of me.0) bs), []) → mutator_view z' o (seated_of me'.0) ≡ record h { log = h.log ++ bs }
 seen_on z z' o me me' h bs same view at = (λ k. mutator_view (same k) o (seated_of (at k).0)) ∙ (λ k. record (view k) { log = (view k).log ++ bs })
 
--- who has an answer isn't busy
-pub answered_idle : (p : Private) (made : Made) → answer_of p ≡ Some made → is_busy p ≡ false
-answered_idle p made answer = by p.phase refl
-  where
-    no : (phase : Phase) → p.phase ≡ phase → answer_at phase ≡ None → is_busy p ≡ false
-    no phase e none = let bad : ◌≡◌ {A = Option Made} None (Some made) = sym none ∙ sym (ap answer_at e) ∙ answer in cc
-
-    by : (phase : Phase) → p.phase ≡ phase → is_busy p ≡ false
-    by at.Idle e = ap is_busy_at e
-    by (at.Finished work m) e = ap is_busy_at e
-    by (at.Begun w) e = no (at.Begun w) e refl
-    by (at.Scanning reg label leaf b slot) e = no (at.Scanning reg label leaf b slot) e refl
-    by (at.Scanned reg label leaf b) e = no (at.Scanned reg label leaf b) e refl
-    by (at.Storing src f val slot) e = no (at.Storing src f val slot) e refl
-    by at.Crossing e = no at.Crossing e refl
-    by at.Swapping e = no at.Swapping e refl
-    by at.Giving e = no at.Giving e refl
-    by at.Leaving e = no at.Leaving e refl
-    by at.Retiring e = no at.Retiring e refl
-    by at.Parting e = no at.Parting e refl
-
--- what a command in straight code comes to
-pub something : (h h' : MutatorView) (cmd : Cmd) (r : Option Told) (answer : Told) → CarriedOr h h' cmd r → r ≡ Some answer → Carried h h' cmd answer
-something h h' cmd r answer carried is = subst (CarriedOr h h' cmd) is carried
-
-pub nothing : (h h' : MutatorView) (cmd : Cmd) (r : Option Told) → CarriedOr h h' cmd r → ((answer : Told) → r ≡ Some answer → ⊥) → h' ≡ h
-nothing h h' cmd None same none = same
-nothing h h' cmd (Some answer) carried none = absurd (none answer refl)
-
 -- and of its second one, where that takes no mailbox
 pub learns_second : (q m m' : Private) (word : ℕ) → m ≡ q → is_busy m ≡ true → TakesNone m.phase → m' ≡ took_of m word → m' ≡ learnt q (Saw word)
 learns_second q m m' word same busy none took = took ∙ sym (here_same m word (spare (took_of m word)) busy none) ∙ ap (λ (x : Private). learnt x (Saw word)) same
@@ -261,13 +290,6 @@ one_born key o me me' op word births now opened is one at was more =
     let one_of : births_of (next_of (ready p None)) word ≡ 1 = ap (λ (x : Op). births_of x word) (sym is) ∙ one in
     births_more o p t.log None word births now (ap (λ (q : Private). told q t.log) (sym opened)) was (more ∙ ap (λ n. (births + n) % 2 ^ 64) (sym one_of)) ∙ ap (λ (l : List Beat). births_told o l % 2 ^ 64) (λ k. (seated_of (sym at k).0).log)
 
-pub none_happened : (h h' : MutatorView) (cmd : Cmd) (r : Option Told) → CarriedOr h h' cmd r → r ≡ None → h' ≡ h
-none_happened h h' cmd r carried is = subst (CarriedOr h h' cmd) is carried
-
-pub idle_after : (h h' : MutatorView) (cmd : Cmd) (r : Option Told) → CarriedOr h h' cmd r → is_busy (mutator_now h) ≡ false → is_busy (mutator_now h') ≡ false
-idle_after h h' cmd None same idle = ap (λ (m : MutatorView). is_busy (mutator_now m)) same ∙ idle
-idle_after h h' cmd (Some answer) carried idle = carried.idle
-
 -- the list after two steps of a command
 abbrev pub list_twice : MutatorView → Cmd → (from first second : ℕ) → List Beat
 list_twice h cmd from first second = (h.log ++ beats (Some (record { work = works.Command cmd; from = from })) first) ++ beats None second
@@ -298,15 +320,27 @@ path_twice h cmd from first second m may low between machine is machine' busy =
 pub works_twice : (h : MutatorView) (cmd : Cmd) (from first second : ℕ) → Works (works.Command cmd) h.log (list_twice h cmd from first second)
 works_twice h cmd from first second = Works.then _ second (Works.first from first)
 
-pub carried_path : (h h' : MutatorView) (cmd : Cmd) (from : ℕ) (answer : Told) → (mutator_now h).left ≡ false → Path (record { work = works.Command cmd; from = from }) (mutator_now h) h.log h'.log (mutator_now h') → Works (works.Command cmd) h.log h'.log → h' ≡ record h { log = h'.log }
-    → answer_of (mutator_now h') ≡ Some (makes.Answered answer) → is_busy (mutator_now h') ≡ false → KeepsSizes (mutator_now h) (mutator_now h') → Carried h h' cmd answer
-carried_path h h' cmd from answer stays path grew is tells_it idle same = record {
-  grows = grew;
-  is = is;
-  answer = tells_it;
-  causes = answered (mutator_now h) (mutator_now h') cmd from h.log h'.log answer path tells_it;
-  leaves = leaves (mutator_now h) (mutator_now h') cmd from h.log h'.log answer stays path tells_it;
-  line = tells (mutator_now h) (mutator_now h') (record { work = works.Command cmd; from = from }) h.log h'.log (makes.Answered answer) path tells_it;
-  idle = idle;
-  same = same;
-}
+-- Whoever carried a command out has no unfinished work.
+pub idle_if : (h h' : MutatorView) (cmd : Cmd) (b : Bool) → CarriesIf h h' cmd b → is_busy (mutator_now h) ≡ false → is_busy (mutator_now h') ≡ false
+idle_if h h' cmd true carried idle = carried.1.idle
+idle_if h h' cmd false same idle = ap (λ (m : MutatorView). is_busy (mutator_now m)) same ∙ idle
+
+pub idle_born : (h h' : MutatorView) (cmd : Cmd) (b : Bool) → Bears h h' cmd b → is_busy (mutator_now h') ≡ false
+idle_born h h' cmd true bears = bears.carried.idle
+idle_born h h' cmd false bears = bears.1.idle
+
+pub carries_born : (h h' : MutatorView) (cmd : Cmd) (b : Bool) → Bears h h' cmd b → CarriesIf h h' cmd true
+carries_born h h' cmd true bears = (bears.told, bears.carried)
+carries_born h h' cmd false bears = bears
+
+-- what a command was answered
+abbrev told_in : Told → Option Made → Told
+told_in d (Some (makes.Answered told)) = told
+told_in d (Some (makes.Crossed epoch)) = d
+told_in d None = d
+
+-- what it was answered is what its machine has
+pub carried_told : (h h' : MutatorView) (cmd : Cmd) (told told' : Told) → Carried h h' cmd told → answer_of (mutator_now h') ≡ Some (makes.Answered told') → Carried h h' cmd told'
+carried_told h h' cmd told told' carried has =
+    let same : ◌≡◌ {A = Option Made} (Some (makes.Answered told)) (Some (makes.Answered told')) = sym carried.answer ∙ has in
+    subst (Carried h h' cmd) (ap (told_in told) same) carried

@@ -1,9 +1,11 @@
 -- Commands in straight code: how a mutator stands between two operations, and what a command comes to.
-use Rattle.std.specs.Prelude.{◌≡◌, ℕ, ◌+◌, true, false, Option, Some, None, List, [], ◌∷◌, ◌++◌, fold, length}
+use Rattle.std.specs.Prelude.{◌≡◌, ℕ, ◌+◌, Bool, true, false, Option, Some, None, List, [], ◌∷◌, ◌++◌, fold, length}
 use Rattle.atomic_table.specs.Table.{Me}
 use Rattle.rec_word.specs.declared.op.Op.{Op}
 use Rattle.rec_word.specs.declared.op.Op.TheVariants as ops
 use Rattle.rec_log.specs.declared.contents.Contents.{Contents}
+use Rattle.rec_model.specs.declared.answer.Answer.{Answer}
+use Rattle.rec_model.specs.declared.answer.Answer.TheVariants as answers
 use Rattle.rec_model.specs.declared.command.Cmd.{Cmd}
 use Rattle.rec_model.specs.declared.told.Told.{Told}
 use Rattle.rec_mutator.specs.Private.{IsMachine, KeepsSizes, Private, answer_of, is_busy, work_of}
@@ -13,7 +15,7 @@ use Rattle.rec_mutator.specs.declared.made.Made.TheVariants as makes
 use Rattle.rec_mutator.specs.declared.work.Work.TheVariants as works
 use Rattle.rec_core.specs.Config.{IsMutator, IsNoLeave}
 use Rattle.rec_core.specs.Core.{Core, mutator}
-use Rattle.rec_table.specs.Answered.{IsAnswered, Leaves, worked}
+use Rattle.rec_table.specs.Answered.{IsAnswered, IsPolled, Leaves, worked}
 use Rattle.rec_table.specs.Beats.{learnt, told}
 use Rattle.rec_table.specs.Journals.{Tells}
 use Rattle.rec_table.specs.Rule.{hands, seated_of}
@@ -74,7 +76,29 @@ pub record Carried (h h' : MutatorView) (cmd : Cmd) (answered : Told) : Type 0 w
   pub idle : is_busy (mutator_now h') ≡ false
   pub same : KeepsSizes (mutator_now h) (mutator_now h')
 
--- or nothing happened
-abbrev pub CarriedOr : (h h' : MutatorView) → Cmd → Option Told → Type 0
-CarriedOr h h' cmd None = h' ≡ h
-CarriedOr h h' cmd (Some answered) = Carried h h' cmd answered
+-- So it was answered.
+pub record Carries (h h' : MutatorView) (cmd : Cmd) (answer : Answer) : Type 0 where
+  pub told : Told
+  pub answers : told.answer ≡ answer
+  pub carried : Carried h h' cmd told
+
+-- an allocation was carried out: it won the first slot that it probed, or it was answered so
+abbrev pub Bears : (h h' : MutatorView) → Cmd → Bool → Type 0
+Bears h h' cmd true = Carries h h' cmd answers.Done
+Bears h h' cmd false = (told : Told) × Carried h h' cmd told
+
+-- it was carried out, or nothing happened
+abbrev pub CarriesIf : (h h' : MutatorView) → Cmd → Bool → Type 0
+CarriesIf h h' cmd true = (told : Told) × Carried h h' cmd told
+CarriesIf h h' cmd false = h' ≡ h
+
+-- A poll was made: the epoch into which the mutator crossed, or none.
+pub record Polled (h h' : MutatorView) (epoch : Option ℕ) : Type 0 where
+  pub grows : Works works.Poll h.log h'.log
+  pub is : h' ≡ record h { log = h'.log }
+  pub answer : answer_of (mutator_now h') ≡ Some (makes.Crossed epoch)
+  pub causes : IsPolled (mutator_now h) h.log h'.log epoch
+  pub left : (mutator_now h').left ≡ (mutator_now h).left
+  pub line : Tells (mutator_now h) h.log h'.log []
+  pub idle : is_busy (mutator_now h') ≡ false
+  pub same : KeepsSizes (mutator_now h) (mutator_now h')

@@ -1,7 +1,7 @@
 //! A mutator on the table.
 ghost use Rattle.std.specs.Prelude.{◌≡◌, ◌<◌, ◌≤◌, ◌↔◌, [], ◌++◌, false, true, length, Option, IfSome, IsTrue};
 ghost use Rattle.rec_mutator.specs.Next.{next_of};
-ghost use Rattle.rec_mutator.specs.Private.{is_busy, register, HasOperands, IsMachine, KeepsSizes};
+ghost use Rattle.rec_mutator.specs.Private.{is_busy, is_full, register, HasOperands, IsMachine, KeepsSizes};
 ghost use Rattle.rec_mutator.specs.Step.{NamesSlots};
 ghost use Rattle.rec_mutator.specs.Took.{IsBetween, IsFound, spare, took_of};
 ghost use Rattle.rec_mutator.specs.declared.phase.Phase.TheVariants.{Begun};
@@ -286,34 +286,33 @@ impl Actor {
         }
     }
 
-    // A work, and where its scan is to begin, if it makes one.
+    // The slot with which its next scan begins.
     #[inline(always)]
-    fn start(&self, board: &Board, work: Work) -> Start
+    fn next_scan(&self, board: &Board) -> u16
         requires own { IsOf board.now.table.shared.table_id board.now.table.shared.key.value self.now }
         requires world { IsWorld board.now.table.shared.key.value }
 
-        ensures work { result.work ≡ work }
-        ensures from { result.from < (mutator_now self.now).slots }
+        ensures from { result < (mutator_now self.now).slots }
+        ensures there { result < board.now.layout.slots }
     {
         let _steps = self.machine.steps();
         if usize::from(self.cursor) < board.layout.slots {
-            return Start {
-                work,
-                from: self.cursor,
-            };
+            self.cursor
+        } else {
+            0
         }
-        Start { work, from: 0 }
     }
 
     // What came of the last work, if it is finished.
     #[inline(always)]
-    fn answer(&self) -> Option<Made>
+    pub(crate) fn answer(&self) -> Option<Made>
         ensures answer { result ≡ answer_of (mutator_now self.now) }
     {
         self.machine.answer()
     }
 
     // Whether the registers and the field are there that it would be asked of.
+    #[inline(always)]
     pub(crate) fn valid(&self, cmd: &Cmd) -> bool
         ensures { IsTrue result ↔ HasOperands (mutator_now self.now) cmd.now }
     {
@@ -321,13 +320,23 @@ impl Actor {
     }
 
     // Whether it has left.
+    #[inline(always)]
     pub(crate) fn left(&self) -> bool
         ensures { result ≡ (mutator_now self.now).left }
     {
         self.machine.has_left()
     }
 
+    // Whether its log has no room for another entry.
+    #[inline(always)]
+    pub(crate) fn is_full(&self) -> bool
+        ensures { result ≡ is_full (mutator_now self.now) }
+    {
+        self.machine.is_full()
+    }
+
     // What register `r` names.
+    #[inline(always)]
     pub(crate) fn register(&self, r: u8) -> Option<u16>
         requires { r < length (mutator_now self.now).registers }
         ensures { result ≡ register (mutator_now self.now) r }
@@ -336,6 +345,7 @@ impl Actor {
     }
 
     // The epoch that it is in.
+    #[inline(always)]
     pub(crate) fn epoch(&self) -> u32
         ensures { result ≡ (mutator_now self.now).epoch }
     {
@@ -343,6 +353,7 @@ impl Actor {
     }
 
     // Its number.
+    #[inline(always)]
     pub(crate) fn number(&self) -> u8
         ensures { result ≡ (mutator_now self.now).number }
     {
@@ -396,8 +407,8 @@ impl Actor {
         ensures polled { (epoch : Option ℕ) → work ≡ works.Poll → result ≡ makes.Crossed epoch → IsPolled (mutator_now self.old) self.old.log self.new.log epoch }
         ensures stays { work ≡ works.Poll → (mutator_now self.new).left ≡ (mutator_now self.old).left }
     {
-        let start = self.start(board, work);
-        self.step(board, Some(start));
+        let from = self.next_scan(board);
+        self.step(board, Some(Start { work, from }));
         self.go_on(board, work)
     }
 }

@@ -32,6 +32,7 @@ pub struct Board {
 
 impl Board {
     // Where the word of an operation stands.
+    #[inline(always)]
     pub(crate) fn index(&self, op: Op) -> usize
         ensures { result ≡ index_of (length self.now.table.shared.key.value.words) (length self.now.table.shared.key.value.headers) op }
     {

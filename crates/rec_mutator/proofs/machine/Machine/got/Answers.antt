@@ -16,7 +16,7 @@ pub returns-clause-took : goal.returns-clause-took
 returns-clause-took c =
     let p : Private = private c.self.inside in
     let object : register p c.args.src ≡ Some c.args.slot = ap (λ (q : Private). register q c.args.src) c.self.view_is ∙ c.requires.object in
-    let ends = c.answered-self-inside.ensures ∙ ap (λ (answer : Answer). Finished (works.Command (commands.Get c.args.dst c.args.src c.args.field)) (makes.Answered (record { answer = answer; saw = c.args.word; left = 0 }))) c.null_or_object.ensures in
+    let ends = c.answered-self-inside.ensures ∙ ap (λ (answer : Answer). Finished (works.Command (commands.Get c.args.dst c.args.src c.args.field)) (makes.Answered (record { answer = answer; saw = c.args.word; left = 0 }))) c.null_or_object-answer.ensures in
     got_is p c.args.dst c.args.src c.args.field c.args.slot c.args.word object c.target-target.ensures.target c.put_in.ensures ends
     ∙ ap (λ (p : Private). took_of (begun_of p (works.Command (commands.Get c.args.dst c.args.src c.args.field)) p.from) c.args.word) c.self.view_is
 
@@ -27,7 +27,7 @@ pub invariant_of-self : goal.invariant_of-self
 invariant_of-self c =
     let p : Private = private c.self.inside in
     let object : register p c.args.src ≡ Some c.args.slot = ap (λ (q : Private). register q c.args.src) c.self.view_is ∙ c.requires.object in
-    let ends = c.answered-self-inside.ensures ∙ ap (λ (answer : Answer). Finished (works.Command (commands.Get c.args.dst c.args.src c.args.field)) (makes.Answered (record { answer = answer; saw = c.args.word; left = 0 }))) c.null_or_object.ensures in
+    let ends = c.answered-self-inside.ensures ∙ ap (λ (answer : Answer). Finished (works.Command (commands.Get c.args.dst c.args.src c.args.field)) (makes.Answered (record { answer = answer; saw = c.args.word; left = 0 }))) c.null_or_object-answer.ensures in
     subst IsMachine (sym (got_is p c.args.dst c.args.src c.args.field c.args.slot c.args.word object c.target-target.ensures.target c.put_in.ensures ends))
     (got_machine p c.args.dst c.args.src c.args.field c.args.slot c.args.word
     (begun_machine p (works.Command (commands.Get c.args.dst c.args.src c.args.field)) p.from c.self.invariant (subst (λ (q : Private). HasOperands q (commands.Get c.args.dst c.args.src c.args.field)) (sym c.self.view_is) c.requires.valid) (ap (λ (q : Private). q.left) c.self.view_is ∙ c.requires.stays) c.self.invariant.from) object)

@@ -2,6 +2,8 @@
 use Rattle.std.proofs.Common.{◌≡◌, ℕ, ◌<◌, [], Option, Some, None, false, refl, sym, ap, subst, ◌∙◌}
 use Rattle.rec_word.specs.declared.op.Op.TheVariants as ops
 use Rattle.rec_model.specs.declared.command.Cmd.TheVariants as commands
+use Rattle.rec_model.specs.Asking.{plain}
+use Rattle.rec_model.specs.declared.answer.Answer.TheVariants as answers
 use Rattle.rec_mutator.specs.Next.{next_of, next_at}
 use Rattle.rec_mutator.specs.Private.{HasOperands}
 use Rattle.rec_mutator.specs.declared.made.Made.TheVariants as makes
@@ -12,7 +14,7 @@ use Rattle.rec_table.specs.Rule.{MayBegin}
 use Rattle.rec_table.specs.Straight.{Stands, record_of}
 use Rattle.rec_table.specs.declared.start.Start.{Start}
 use Rattle.rec_table.proofs.Common.{Op, Private, IsBetween, IsMachine, Core, register, answer_of, is_busy, begun_of, mutator_now, MutatorView, Saw, beats, ready, MayGo, learnt, seated_of}
-use Rattle.rec_table.proofs.Straight.{Kept, Owns, answered_idle, carried_once, kept_by, learns_first, none_born, opened_on, owns, seen_on}
+use Rattle.rec_table.proofs.Straight.{Kept, Owns, carried_once, kept_by, learns_first, none_born, opened_on, owns, seen_on}
 use Rattle.rec_table.proofs.actor.Actor.null.Goals as goal
 use Rattle.rec_table.proofs.actor.Actor.null.Goals.{After-from-from}
 
@@ -94,8 +96,8 @@ returns c =
     let start : Start = record { work = work a; from = c.from-from.result } in
     let same = o.machine ∙ sym o.now in
     let grows = seen_on s.seat.table_id c.perform-word.new.seat.table_id s.opened.value s.seat.me c.perform-word.new.seat.me c.args.self.now (beats (Some start) c.perform-word.result) c.perform-word.ensures.seat.0 c.self.view_is c.perform-word.ensures.me in
-    carried_once c.args.self.now _ (commands.Null c.args.reg) c.from-from.result c.perform-word.result c.nulled.result c.requires.may
+    let carried = carried_once c.args.self.now _ (commands.Null c.args.reg) c.from-from.result c.perform-word.result (plain answers.Done) c.requires.may
     (subst (λ (p : Private). c.from-from.result < p.slots) same (low a)) (subst (λ (p : Private). IsBetween p.phase) same c.self.invariant.4) (subst (λ (p : Private). IsMachine (begun_of p (work a) c.from-from.result)) same (begun a))
     grows
-    (ap answer_of (sym (invariant_of-self c).1) ∙ c.nulled.ensures.answer)
-    (ap is_busy (sym (invariant_of-self c).1) ∙ answered_idle c.nulled.new.self _ c.nulled.ensures.answer)
+    (ap answer_of (sym (invariant_of-self c).1) ∙ c.nulled.ensures.answer) in
+    record { told = plain answers.Done; answers = refl; carried = carried }

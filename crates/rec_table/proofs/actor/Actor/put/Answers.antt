@@ -5,6 +5,9 @@ use Rattle.rec_word.specs.Header.{is_leaf, IsTakenHeader}
 use Rattle.rec_word.specs.Place.{place_of}
 use Rattle.rec_word.specs.declared.op.Op.TheVariants as ops
 use Rattle.rec_model.specs.declared.command.Cmd.TheVariants as commands
+use Rattle.rec_model.specs.Asking.{plain}
+use Rattle.rec_model.specs.declared.answer.Answer.TheVariants as answers
+use Rattle.rec_model.specs.declared.told.Told.{Told}
 use Rattle.rec_mutator.specs.Next.{next_of, next_at, write_op}
 use Rattle.rec_mutator.specs.Private.{HasOperands, HasStamp, word_for}
 use Rattle.rec_mutator.specs.declared.made.Made.TheVariants as makes
@@ -45,7 +48,7 @@ object : (c : After-from-from) → register c.self.inside.machine c.args.src ≡
 object c = sym c.register.ensures ∙ c.in-Some.is
 
 room : (c : After-from-from) → is_full c.self.inside.machine ≡ false
-room c = sym c.is_full.ensures ∙ c.if-is_full.false
+room c = ap is_full ((owned c).machine ∙ sym (owned c).now) ∙ c.requires.room
 
 -- a write that has looked at its object
 abbrev storing : (p : Private) (src f val slot : ℕ) → Private
@@ -152,11 +155,11 @@ returns-then-unpack c =
     let start : Start = record { work = work a; from = c.from-from.result } in
     let same = o.machine ∙ sym o.now in
     let grows = seen_on s.seat.table_id c.perform-header.new.seat.table_id s.opened.value s.seat.me c.perform-header.new.seat.me c.args.self.now (beats (Some start) c.perform-header.result) c.perform-header.ensures.seat.0 c.self.view_is c.perform-header.ensures.me in
-    carried_once c.args.self.now _ (commands.Put c.args.src c.args.field c.args.val) c.from-from.result c.perform-header.result c.barred.result c.requires.may
+    let carried = carried_once c.args.self.now _ (commands.Put c.args.src c.args.field c.args.val) c.from-from.result c.perform-header.result (plain answers.NoField) c.requires.may
     (subst (λ (p : Private). c.from-from.result < p.slots) same (low a)) (subst (λ (p : Private). IsBetween p.phase) same c.self.invariant.4) (subst (λ (p : Private). IsMachine (begun_of p (work a) c.from-from.result)) same (begun a))
     grows
-    (ap answer_of (sym (invariant_of-self c).1) ∙ c.barred.ensures.answer)
-    (ap is_busy (sym (invariant_of-self c).1) ∙ answered_idle c.barred.new.self _ c.barred.ensures.answer)
+    (ap answer_of (sym (invariant_of-self c).1) ∙ c.barred.ensures.answer) in
+    record { told = plain answers.NoField; answers = refl; carried = carried }
 
 -- No leaf.
 pub perform-word-requires-clause-may : goal.perform-word-requires-clause-may
@@ -206,11 +209,13 @@ returns c =
     = c.perform-header.ensures.learns ∙ ap (λ (p : Private). learnt (begun_of p (work a) c.from-from.result) (Saw c.perform-header.result)) (sym o.now) in
     let one = seen_on s.seat.table_id c.perform-header.new.seat.table_id s.opened.value s.seat.me c.perform-header.new.seat.me c.args.self.now (beats (Some start) c.perform-header.result) c.perform-header.ensures.seat.0 c.self.view_is c.perform-header.ensures.me in
     let grows = seen_on c.perform-header.new.seat.table_id c.perform-word.new.seat.table_id s.opened.value c.perform-header.new.seat.me c.perform-word.new.seat.me _ (beats None c.perform-word.result) c.perform-word.ensures.seat.0 one c.perform-word.ensures.me in
-    carried_twice c.args.self.now _ (commands.Put c.args.src c.args.field c.args.val) c.from-from.result c.perform-header.result c.perform-word.result (learnt (begun_of now (work a) c.from-from.result) (Saw c.perform-header.result)) c.wrote.result c.requires.may
+    let told : Told = record { answer = answers.Done; saw = c.perform-word.result; left = c.word_for-left.result } in
+    let carried = carried_twice c.args.self.now _ (commands.Put c.args.src c.args.field c.args.val) c.from-from.result c.perform-header.result c.perform-word.result (learnt (begun_of now (work a) c.from-from.result) (Saw c.perform-header.result)) told c.requires.may
     (subst (λ (p : Private). c.from-from.result < p.slots) same (low a)) (subst (λ (p : Private). IsBetween p.phase) same c.self.invariant.4) (subst (λ (p : Private). IsMachine (begun_of p (work a) c.from-from.result)) same (begun a))
     refl
     (subst IsMachine learns (mid_machine a c.perform-header.new.seat.me c.perform-header.result (c.perform-header.ensures.found, no_leaf) c.perform-header.ensures.learns))
     (ap is_busy (sym learns ∙ sym (mid a c.perform-header.new.seat.me c.perform-header.result no_leaf c.perform-header.ensures.learns)))
     grows
     (ap answer_of (sym (invariant_of-self-2 c).1) ∙ c.wrote.ensures.answer)
-    (ap is_busy (sym (invariant_of-self-2 c).1) ∙ answered_idle c.wrote.new.self _ c.wrote.ensures.answer)
+    (ap is_busy (sym (invariant_of-self-2 c).1) ∙ answered_idle c.wrote.new.self _ c.wrote.ensures.answer) in
+    record { told = told; answers = refl; carried = carried }

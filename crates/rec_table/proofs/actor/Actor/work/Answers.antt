@@ -16,34 +16,30 @@ use Rattle.rec_table.proofs.actor.Actor.work.Goals as goal
 use Rattle.rec_table.proofs.actor.Actor.work.Goals.{After-step}
 
 abbrev start_of : (c : After-step) → Start
-start_of c = record { work = c.args.work; from = c.start-start.result.from }
-
-is_start : (c : After-step) → c.start-start.result ≡ start_of c
-is_start c = let P : Work → Start = λ work. record { work = work; from = c.start-start.result.from } in ap P c.start-start.ensures.work
+start_of c = record { work = c.args.work; from = c.next_scan-from.result }
 
 -- the work has made its first step
 first : (c : After-step) → Path (start_of c) (mutator_now c.args.self.now) c.args.self.now.log c.step.new.self.log (mutator_now c.step.new.self)
 first c =
     let p : Private = mutator_now c.args.self.now in
-    let is = is_start c in
-    path_first (start_of c) p (mutator_now c.step.new.self) c.args.self.now.log c.step.new.self.log c.step.result (ap (λ (h : MutatorView). h.log) c.step.ensures.grows ∙ ap (λ (s : Start). c.args.self.now.log ++ beats (Some s) c.step.result) is)
-    (subst (λ (s : Start). IsMachine (ready p (Some s))) is c.step.ensures.machine) (begun_busy p c.args.work c.start-start.result.from) (begun_work p c.args.work c.start-start.result.from) (begun_slots p c.args.work c.start-start.result.from)
-    (c.step.ensures.learns ∙ ap (λ (s : Start). learnt (ready p (Some s)) (Saw c.step.result)) is)
-    (c.step.ensures.steps ∙ ap (λ (s : Start). (ready p (Some s)).steps + 1) is)
+    path_first (start_of c) p (mutator_now c.step.new.self) c.args.self.now.log c.step.new.self.log c.step.result (ap (λ (h : MutatorView). h.log) c.step.ensures.grows)
+    c.step.ensures.machine (begun_busy p c.args.work c.next_scan-from.result) (begun_work p c.args.work c.next_scan-from.result) (begun_slots p c.args.work c.next_scan-from.result)
+    c.step.ensures.learns
+    c.step.ensures.steps
 
 work_grows : (c : After-step) → Works c.args.work c.args.self.now.log c.step.new.self.log × (c.step.new.self ≡ record c.args.self.now { log = c.step.new.self.log })
-work_grows c = works_first c.args.self.now c.step.new.self c.args.work c.start-start.result.from c.step.result (c.step.ensures.grows ∙ ap (λ (s : Start). record c.args.self.now { log = c.args.self.now.log ++ beats (Some s) c.step.result }) (is_start c))
+work_grows c = works_first c.args.self.now c.step.new.self c.args.work c.next_scan-from.result c.step.result c.step.ensures.grows
 
 pub step-requires-clause-may : goal.step-requires-clause-may
 step-requires-clause-may c =
     let p : Private = mutator_now c.args.self.now in
-    (c.requires.may.0, c.requires.may.1, subst (IsValid p) (sym c.start-start.ensures.work) c.requires.may.2, subst HasLabel (sym c.start-start.ensures.work) c.requires.may.3, c.start-start.ensures.from)
+    (c.requires.may.0, c.requires.may.1, c.requires.may.2, c.requires.may.3, c.next_scan-from.ensures.from)
 
 pub go_on-requires-clause-work : goal.go_on-requires-clause-work
 go_on-requires-clause-work c =
     let a : After-step = (goal.at.go_on-requires-clause-work c).After-step in
     let p : Private = mutator_now c.args.self.now in
-    c.step.ensures.work ∙ ap (λ (s : Start). work_of (ready p (Some s))) (is_start a) ∙ begun_work p c.args.work c.start-start.result.from
+    c.step.ensures.work ∙ begun_work p c.args.work c.next_scan-from.result
 
 pub go_on-requires-clause-told : goal.go_on-requires-clause-told
 go_on-requires-clause-told c = c.step.ensures.told
@@ -69,29 +65,29 @@ pub returns-clause-causes : goal.returns-clause-causes
 returns-clause-causes c = λ cmd told is made.
     let a : After-step = (goal.at.returns-clause-causes c).After-step in
     let p : Private = mutator_now c.args.self.now in
-    answered p (mutator_now c.go_on.new.self) cmd c.start-start.result.from c.args.self.now.log c.go_on.new.self.log told
-    (subst (λ (work : Work). Path (record { work = work; from = c.start-start.result.from }) p c.args.self.now.log c.go_on.new.self.log (mutator_now c.go_on.new.self)) is (c.go_on.ensures.path (start_of a) p c.args.self.now.log refl (first a)))
+    answered p (mutator_now c.go_on.new.self) cmd c.next_scan-from.result c.args.self.now.log c.go_on.new.self.log told
+    (subst (λ (work : Work). Path (record { work = work; from = c.next_scan-from.result }) p c.args.self.now.log c.go_on.new.self.log (mutator_now c.go_on.new.self)) is (c.go_on.ensures.path (start_of a) p c.args.self.now.log refl (first a)))
     (c.go_on.ensures.answer ∙ ap (λ (m : Made). Some m) made)
 
 pub returns-clause-leaves : goal.returns-clause-leaves
 returns-clause-leaves c = λ cmd told is made.
     let a : After-step = (goal.at.returns-clause-leaves c).After-step in
     let p : Private = mutator_now c.args.self.now in
-    leaves p (mutator_now c.go_on.new.self) cmd c.start-start.result.from c.args.self.now.log c.go_on.new.self.log told c.requires.may.1
-    (subst (λ (work : Work). Path (record { work = work; from = c.start-start.result.from }) p c.args.self.now.log c.go_on.new.self.log (mutator_now c.go_on.new.self)) is (c.go_on.ensures.path (start_of a) p c.args.self.now.log refl (first a)))
+    leaves p (mutator_now c.go_on.new.self) cmd c.next_scan-from.result c.args.self.now.log c.go_on.new.self.log told c.requires.may.1
+    (subst (λ (work : Work). Path (record { work = work; from = c.next_scan-from.result }) p c.args.self.now.log c.go_on.new.self.log (mutator_now c.go_on.new.self)) is (c.go_on.ensures.path (start_of a) p c.args.self.now.log refl (first a)))
     (c.go_on.ensures.answer ∙ ap (λ (m : Made). Some m) made)
 
 pub returns-clause-stays : goal.returns-clause-stays
 returns-clause-stays c = λ is.
     let a : After-step = (goal.at.returns-clause-stays c).After-step in
     let p : Private = mutator_now c.args.self.now in
-    poll_stays p (mutator_now c.go_on.new.self) c.start-start.result.from c.args.self.now.log c.go_on.new.self.log
-    (subst (λ (work : Work). Path (record { work = work; from = c.start-start.result.from }) p c.args.self.now.log c.go_on.new.self.log (mutator_now c.go_on.new.self)) is (c.go_on.ensures.path (start_of a) p c.args.self.now.log refl (first a)))
+    poll_stays p (mutator_now c.go_on.new.self) c.next_scan-from.result c.args.self.now.log c.go_on.new.self.log
+    (subst (λ (work : Work). Path (record { work = work; from = c.next_scan-from.result }) p c.args.self.now.log c.go_on.new.self.log (mutator_now c.go_on.new.self)) is (c.go_on.ensures.path (start_of a) p c.args.self.now.log refl (first a)))
 
 pub returns-clause-polled : goal.returns-clause-polled
 returns-clause-polled c = λ epoch is made.
     let a : After-step = (goal.at.returns-clause-polled c).After-step in
     let p : Private = mutator_now c.args.self.now in
-    polled p (mutator_now c.go_on.new.self) c.start-start.result.from c.args.self.now.log c.go_on.new.self.log epoch
-    (subst (λ (work : Work). Path (record { work = work; from = c.start-start.result.from }) p c.args.self.now.log c.go_on.new.self.log (mutator_now c.go_on.new.self)) is (c.go_on.ensures.path (start_of a) p c.args.self.now.log refl (first a)))
-    (begun_busy p works.Poll c.start-start.result.from) (c.go_on.ensures.answer ∙ ap (λ (m : Made). Some m) made)
+    polled p (mutator_now c.go_on.new.self) c.next_scan-from.result c.args.self.now.log c.go_on.new.self.log epoch
+    (subst (λ (work : Work). Path (record { work = work; from = c.next_scan-from.result }) p c.args.self.now.log c.go_on.new.self.log (mutator_now c.go_on.new.self)) is (c.go_on.ensures.path (start_of a) p c.args.self.now.log refl (first a)))
+    (begun_busy p works.Poll c.next_scan-from.result) (c.go_on.ensures.answer ∙ ap (λ (m : Made). Some m) made)

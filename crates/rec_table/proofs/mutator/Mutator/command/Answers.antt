@@ -1,63 +1,84 @@
 -- The contract of `Mutator::command`: carries out a command, and tells the answer.
-use Rattle.std.proofs.Common.{◌≡◌, None, Some, [], ◌∷◌, refl, sym, ◌∙◌, subst}
-use Rattle.rec_mutator.specs.declared.work.Work.TheVariants as works
-use Rattle.rec_table.proofs.Common.{KeepsSizes, IsMutatorOf, MutatorView, Works, mutator_now}
-use Rattle.rec_table.specs.Answered.{IsAnswered, Leaves}
-use Rattle.rec_table.specs.Journals.{Tells}
+use Rattle.std.proofs.Common.{◌≡◌, Some, true, false, [], ◌∷◌, sym, ◌∙◌, subst}
+use Rattle.rec_model.specs.declared.told.Told.{Told}
+use Rattle.rec_table.proofs.Common.{IsMutatorOf, MutatorView, mutator_now}
 use Rattle.rec_table.specs.Rule.{MayAsk}
-use Rattle.rec_table.proofs.Straight.{none_happened, something}
+use Rattle.rec_table.specs.Straight.{Carried, CarriesIf}
+use Rattle.rec_table.proofs.Straight.{carried_told}
 use Rattle.rec_table.proofs.mutator.Mutator.command.Goals as goal
+use Rattle.rec_table.proofs.mutator.Mutator.command.Goals.{After-straight, After-told, After-by_steps}
+
+-- it went its usual way
+went : (c : After-told) → Carried c.args.self.now c.straight.new.self c.args.cmd c.told.result
+went c =
+    let carried : CarriesIf c.args.self.now c.straight.new.self c.args.cmd true = subst (CarriesIf c.args.self.now c.straight.new.self c.args.cmd) c.if-straight.true c.straight.ensures in
+    carried_told c.args.self.now c.straight.new.self c.args.cmd carried.0 c.told.result carried.1 c.told.ensures
+
+-- or nothing happened
+stood : (c : After-by_steps) → c.straight.new.self ≡ c.args.self.now
+stood c = subst (CarriesIf c.args.self.now c.straight.new.self c.args.cmd) c.if-straight.false c.straight.ensures
+
+made : (c : After-by_steps) → Carried c.args.self.now c.by_steps.new.self c.args.cmd c.by_steps.result
+made c =
+    let e = c.by_steps.ensures in
+    let was : Carried c.straight.new.self c.by_steps.new.self c.args.cmd c.by_steps.result = record { grows = e.grows; is = e.is; answer = e.answer; causes = e.causes; leaves = e.leaves; line = e.line; idle = e.idle; same = e.same } in
+    subst (λ (m : MutatorView). Carried m c.by_steps.new.self c.args.cmd c.by_steps.result) (stood c) was
+
+pub told-requires : goal.told-requires
+told-requires c =
+    let carried : CarriesIf c.args.self.now c.straight.new.self c.args.cmd true = subst (CarriesIf c.args.self.now c.straight.new.self c.args.cmd) c.if-straight.true c.straight.ensures in
+    (carried.0, carried.1.answer)
 
 pub by_steps-requires-clause-own : goal.by_steps-requires-clause-own
-by_steps-requires-clause-own c = subst (IsMutatorOf c.args.heap.now) (sym (none_happened c.args.self.now c.straight.new.self c.args.cmd c.straight.result c.straight.ensures c.in-None.is)) c.requires.own
+by_steps-requires-clause-own c = subst (IsMutatorOf c.args.heap.now) (sym (subst (CarriesIf c.args.self.now c.straight.new.self c.args.cmd) c.if-straight.false c.straight.ensures)) c.requires.own
 
 pub by_steps-requires-clause-valid : goal.by_steps-requires-clause-valid
-by_steps-requires-clause-valid c = subst (λ (m : MutatorView). MayAsk (mutator_now m) c.args.cmd) (sym (none_happened c.args.self.now c.straight.new.self c.args.cmd c.straight.result c.straight.ensures c.in-None.is)) c.requires.valid
+by_steps-requires-clause-valid c = subst (λ (m : MutatorView). MayAsk (mutator_now m) c.args.cmd) (sym (subst (CarriesIf c.args.self.now c.straight.new.self c.args.cmd) c.if-straight.false c.straight.ensures)) c.requires.valid
 
-pub returns-in-Some-clause-grows : goal.returns-in-Some-clause-grows
-returns-in-Some-clause-grows c = (something c.args.self.now c.straight.new.self c.args.cmd c.straight.result c.in-Some.told c.straight.ensures c.in-Some.is).grows
+pub returns-then-straight-clause-grows : goal.returns-then-straight-clause-grows
+returns-then-straight-clause-grows c = (went (goal.at.returns-then-straight-clause-grows c).After-told).grows
 
-pub returns-in-None-clause-grows : goal.returns-in-None-clause-grows
-returns-in-None-clause-grows c = subst (λ (m : MutatorView). Works (works.Command c.args.cmd) m.log c.by_steps.new.self.log) (none_happened c.args.self.now c.straight.new.self c.args.cmd c.straight.result c.straight.ensures c.in-None.is) c.by_steps.ensures.grows
+pub returns-clause-grows : goal.returns-clause-grows
+returns-clause-grows c = (made (goal.at.returns-clause-grows c).After-by_steps).grows
 
-pub returns-in-Some-clause-is : goal.returns-in-Some-clause-is
-returns-in-Some-clause-is c = (something c.args.self.now c.straight.new.self c.args.cmd c.straight.result c.in-Some.told c.straight.ensures c.in-Some.is).is
+pub returns-then-straight-clause-is : goal.returns-then-straight-clause-is
+returns-then-straight-clause-is c = (went (goal.at.returns-then-straight-clause-is c).After-told).is
 
-pub returns-in-None-clause-is : goal.returns-in-None-clause-is
-returns-in-None-clause-is c = c.by_steps.ensures.is ∙ (λ i. record ((none_happened c.args.self.now c.straight.new.self c.args.cmd c.straight.result c.straight.ensures c.in-None.is) i) { log = c.by_steps.new.self.log })
+pub returns-clause-is : goal.returns-clause-is
+returns-clause-is c = (made (goal.at.returns-clause-is c).After-by_steps).is
 
-pub returns-in-Some-clause-answer : goal.returns-in-Some-clause-answer
-returns-in-Some-clause-answer c = (something c.args.self.now c.straight.new.self c.args.cmd c.straight.result c.in-Some.told c.straight.ensures c.in-Some.is).answer
+pub returns-then-straight-clause-answer : goal.returns-then-straight-clause-answer
+returns-then-straight-clause-answer c = (went (goal.at.returns-then-straight-clause-answer c).After-told).answer
 
-pub returns-in-None-clause-answer : goal.returns-in-None-clause-answer
-returns-in-None-clause-answer c = c.by_steps.ensures.answer
+pub returns-clause-answer : goal.returns-clause-answer
+returns-clause-answer c = (made (goal.at.returns-clause-answer c).After-by_steps).answer
 
-pub returns-in-Some-clause-causes : goal.returns-in-Some-clause-causes
-returns-in-Some-clause-causes c = (something c.args.self.now c.straight.new.self c.args.cmd c.straight.result c.in-Some.told c.straight.ensures c.in-Some.is).causes
+pub returns-then-straight-clause-causes : goal.returns-then-straight-clause-causes
+returns-then-straight-clause-causes c = (went (goal.at.returns-then-straight-clause-causes c).After-told).causes
 
-pub returns-in-None-clause-causes : goal.returns-in-None-clause-causes
-returns-in-None-clause-causes c = subst (λ (m : MutatorView). IsAnswered (mutator_now m) c.args.cmd m.log c.by_steps.new.self.log (mutator_now c.by_steps.new.self) c.by_steps.result) (none_happened c.args.self.now c.straight.new.self c.args.cmd c.straight.result c.straight.ensures c.in-None.is) c.by_steps.ensures.causes
+pub returns-clause-causes : goal.returns-clause-causes
+returns-clause-causes c = (made (goal.at.returns-clause-causes c).After-by_steps).causes
 
-pub returns-in-Some-clause-leaves : goal.returns-in-Some-clause-leaves
-returns-in-Some-clause-leaves c = (something c.args.self.now c.straight.new.self c.args.cmd c.straight.result c.in-Some.told c.straight.ensures c.in-Some.is).leaves
+pub returns-then-straight-clause-leaves : goal.returns-then-straight-clause-leaves
+returns-then-straight-clause-leaves c = (went (goal.at.returns-then-straight-clause-leaves c).After-told).leaves
 
-pub returns-in-None-clause-leaves : goal.returns-in-None-clause-leaves
-returns-in-None-clause-leaves c = subst (λ (m : MutatorView). Leaves (mutator_now m) c.args.cmd c.by_steps.result (mutator_now c.by_steps.new.self)) (none_happened c.args.self.now c.straight.new.self c.args.cmd c.straight.result c.straight.ensures c.in-None.is) c.by_steps.ensures.leaves
+pub returns-clause-leaves : goal.returns-clause-leaves
+returns-clause-leaves c = (made (goal.at.returns-clause-leaves c).After-by_steps).leaves
 
-pub returns-in-Some-clause-line : goal.returns-in-Some-clause-line
-returns-in-Some-clause-line c = (something c.args.self.now c.straight.new.self c.args.cmd c.straight.result c.in-Some.told c.straight.ensures c.in-Some.is).line
+pub returns-then-straight-clause-line : goal.returns-then-straight-clause-line
+returns-then-straight-clause-line c = (went (goal.at.returns-then-straight-clause-line c).After-told).line
 
-pub returns-in-None-clause-line : goal.returns-in-None-clause-line
-returns-in-None-clause-line c = subst (λ (m : MutatorView). Tells (mutator_now m) m.log c.by_steps.new.self.log ((c.args.cmd, c.by_steps.result) ∷ [])) (none_happened c.args.self.now c.straight.new.self c.args.cmd c.straight.result c.straight.ensures c.in-None.is) c.by_steps.ensures.line
+pub returns-clause-line : goal.returns-clause-line
+returns-clause-line c = (made (goal.at.returns-clause-line c).After-by_steps).line
 
-pub returns-in-Some-clause-idle : goal.returns-in-Some-clause-idle
-returns-in-Some-clause-idle c = (something c.args.self.now c.straight.new.self c.args.cmd c.straight.result c.in-Some.told c.straight.ensures c.in-Some.is).idle
+pub returns-then-straight-clause-idle : goal.returns-then-straight-clause-idle
+returns-then-straight-clause-idle c = (went (goal.at.returns-then-straight-clause-idle c).After-told).idle
 
-pub returns-in-None-clause-idle : goal.returns-in-None-clause-idle
-returns-in-None-clause-idle c = c.by_steps.ensures.idle
+pub returns-clause-idle : goal.returns-clause-idle
+returns-clause-idle c = (made (goal.at.returns-clause-idle c).After-by_steps).idle
 
-pub returns-in-Some-clause-same : goal.returns-in-Some-clause-same
-returns-in-Some-clause-same c = (something c.args.self.now c.straight.new.self c.args.cmd c.straight.result c.in-Some.told c.straight.ensures c.in-Some.is).same
+pub returns-then-straight-clause-same : goal.returns-then-straight-clause-same
+returns-then-straight-clause-same c = (went (goal.at.returns-then-straight-clause-same c).After-told).same
 
-pub returns-in-None-clause-same : goal.returns-in-None-clause-same
-returns-in-None-clause-same c = subst (λ (m : MutatorView). KeepsSizes (mutator_now m) (mutator_now c.by_steps.new.self)) (none_happened c.args.self.now c.straight.new.self c.args.cmd c.straight.result c.straight.ensures c.in-None.is) c.by_steps.ensures.same
+pub returns-clause-same : goal.returns-clause-same
+returns-clause-same c = (made (goal.at.returns-clause-same c).After-by_steps).same
