@@ -3,7 +3,7 @@ use Rattle.std.proofs.Common.{◌≡◌, ℕ, ◌+◌, ◌-◌, ◌<◌, ◌≤�
 use Rattle.std.proofs.lemmas.List.{length-map, get_or-map, ext_get_or, length-append}
 use Rattle.std.proofs.lemmas.Bool.{ltb-true, ltb-false}
 use Rattle.rec_counts.specs.declared.slot.Slot.{Slot}
-use Rattle.rec_counts.specs.Slot.{absent, is_in, unbuffered, unrooted, unrooted_if, unbuffered_if, out_of_set}
+use Rattle.rec_counts.specs.Slot.{absent, dead_if, renewed_if, is_in, unbuffered, unrooted, unrooted_if, unbuffered_if, out_of_set}
 use Rattle.rec_counts.specs.Lists.{times}
 use Rattle.rec_counts.specs.Groups.{last_set}
 use Rattle.rec_counts.specs.Kept.{Kept}
@@ -13,6 +13,14 @@ use Rattle.rec_counts.proofs.Keeping.{no_set, some_set, keep_drop}
 pub unbuffered_twice : (b : Bool) (v : Slot) → unbuffered (unbuffered_if b v) ≡ unbuffered v
 unbuffered_twice true v = refl
 unbuffered_twice false v = refl
+
+pub renewed_twice : (b : Bool) (v : Slot) → renewed_if true (renewed_if b v) ≡ renewed_if true v
+renewed_twice true v = refl
+renewed_twice false v = refl
+
+pub dead_twice : (b : Bool) (v : Slot) → dead_if true (dead_if b v) ≡ dead_if true v
+dead_twice true v = refl
+dead_twice false v = refl
 
 -- lists with the same changes are one list
 pub all_of : (f : Slot → Slot) (slots slots' : List Slot) → length slots' ≡ length slots → ((x : ℕ) → get_or slots' x absent ≡ f (get_or slots x absent)) → slots' ≡ map f slots

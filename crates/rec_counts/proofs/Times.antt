@@ -6,7 +6,7 @@ use Rattle.std.proofs.lemmas.List.{length_push}
 use Rattle.std.proofs.lemmas.Map.Keys.{IsDistinct-cons}
 use Rattle.std.proofs.lemmas.Map.Steps.{length-le_from_distinct_below}
 use Rattle.std.proofs.lemmas.Bool.Decides.{nat_tests, eqb_tells}
-use Rattle.std.proofs.lemmas.Bool.{lt-ltb, eq-eqb}
+use Rattle.std.proofs.lemmas.Bool.{cases_lt, lt-ltb, eq-eqb}
 use Rattle.rec_counts.specs.Lists.{one, times, EachOnce}
 
 pub times-nil : (x : ℕ) → times x [] ≡ 0
@@ -139,3 +139,11 @@ once_none n x = omega (arith, times-nil x)
 -- what stands in such a list is below n
 pub in_range_once : (n : ℕ) (xs : List ℕ) (x : ℕ) → EachOnce n xs → 0 < times x xs → x < n
 in_range_once n xs x h l = below x n (omega (arith, h x))
+
+-- two lists that share no slot
+pub both_once : (n : ℕ) (xs ys : List ℕ) → EachOnce n xs → EachOnce n ys → ((x : ℕ) → 0 < times x ys → times x xs ≡ 0) → EachOnce n (xs ++ ys)
+both_once n xs ys k l new x =
+    elim (cases_lt 0 (times x ys)) [
+      | inl some ↦ omega (arith, new x some, l x, times-append x xs ys)
+      | inr none ↦ omega (arith, none, k x, times-append x xs ys)
+    ]

@@ -93,3 +93,13 @@ unbuffered_if false v = v
 -- a member of the set of this number is in no buffer any more, others stay
 abbrev pub out_of_set : ℕ → Slot → Slot
 out_of_set number v = unbuffered_if (is_in number v.set) v
+
+-- the cyclic count becomes the true count
+abbrev pub renewed_if : Bool → Slot → Slot
+renewed_if true v = record v { cyclic = v.count }
+renewed_if false v = v
+
+-- released and Black
+abbrev pub dead_if : Bool → Slot → Slot
+dead_if true v = record v { released = true; colour = Black }
+dead_if false v = v

@@ -1,12 +1,12 @@
 //! The counts, colours, flags, buffers and lists of all slots.
-ghost use Rattle.std.specs.Prelude.{IfOk, ◌≡◌, ℕ, ◌+◌, ◌-◌, ◌<◌, ◌≤◌, ◌^◌, true, false, Some, None, List, [], ◌∷◌, ◌++◌, length, drop, map, slice_get, slice_index_or as item_at};
+ghost use Rattle.std.specs.Prelude.{IfOk, ◌≡◌, ℕ, ◌+◌, ◌-◌, ◌<◌, ◌≤◌, ◌^◌, true, false, Some, None, List, [], ◌∷◌, ◌++◌, length, drop, map, nat_lt, slice_get, slice_index_or as item_at};
 ghost use Rattle.rec_counts.specs.Batched.{batched};
 ghost use Rattle.rec_counts.specs.Counts.{IsKept, IsLastSetNew, counted_slots as counted_slots_of, decremented, opened, opened_from, opened_slots, slot_at, unlisted, with_joined, with_slot, without_last_set, without_root};
 ghost use Rattle.rec_counts.specs.Groups.{last_set};
 ghost use Rattle.rec_counts.specs.Kept.{Kept};
 ghost use Rattle.rec_counts.specs.Lists.{EachOnce, times};
 ghost use Rattle.rec_counts.specs.Shelf.{empty};
-ghost use Rattle.rec_counts.specs.Slot.{absent, lowered, raised, swept_clean, unbuffered_if, unrooted};
+ghost use Rattle.rec_counts.specs.Slot.{absent, dead_if, lowered, raised, renewed_if, swept_clean, unbuffered_if, unrooted};
 
 use crate::changes::{Changes, make_changes};
 use crate::colour::Colour;
@@ -14,7 +14,7 @@ use crate::cycle_buffer::CycleBuffer;
 use crate::queue::Queue;
 use crate::slot::{Due, Slot};
 use crate::touched::Touched;
-use crate::unbuffer::unbuffer;
+use crate::unbuffer::{give_up, renew, unbuffer};
 use std::alloc::{AllocError as NoMemory, Global};
 use std::marker::Model;
 
@@ -270,6 +270,7 @@ impl Counts {
     /// Counts one reference to `slot` less. Where it was the last one, the slot is Black and goes to the zeros; else it is
     /// Purple, and goes into the root buffer where it is in no buffer. A released slot changes in nothing but its count. A
     /// Green one stays Green, and goes nowhere but to the zeros.
+    #[inline(always)]
     pub fn decrement(&mut self, slot: u16)
         requires in_range { slot < length self.old.slots }
         requires counted { 0 < (slot_at self.old slot).count }
@@ -328,6 +329,16 @@ impl Counts {
         ensures { self.new ≡ with_slot self.old slot (record (slot_at self.old slot) { colour = to }) }
     {
         self.slots[slot as usize].colour = to;
+    }
+
+    /// Gives `slot` the colour `to` and the cyclic count `cyclic`.
+    pub fn shade(&mut self, slot: u16, to: Colour, cyclic: u64)
+        requires { slot < length self.old.slots }
+        ensures { self.new ≡ with_slot self.old slot (record (slot_at self.old slot) { colour = to; cyclic = cyclic }) }
+    {
+        let kept = &mut self.slots[slot as usize];
+        kept.colour = to;
+        kept.cyclic = cyclic;
     }
 
     /// Says that `slot` is released: it waits to be swept.
@@ -469,6 +480,34 @@ impl Counts {
         ensures { self.new ≡ record self.old { free = [] } }
     {
         self.free.clear();
+    }
+
+    /// Moves the work list to the end of the free list, in its order.
+    pub fn free_work(&mut self)
+        requires { (x : ℕ) → 0 < times x self.old.work → times x self.old.free ≡ 0 }
+        ensures { self.new ≡ record self.old { free = self.old.free ++ self.old.work; work = [] } }
+    {
+        self.free.push_all(self.work.as_slice());
+        self.work.clear();
+    }
+
+    /// Gives each member of set `i` its true count as its cyclic count.
+    pub fn renew_set(&mut self, i: u16)
+        requires { i < length self.old.sets }
+        ensures rest { self.new ≡ record self.old { slots = self.new.slots } }
+        ensures many { length self.new.slots ≡ length self.old.slots }
+        ensures slots { (x : ℕ) → slot_at self.new x ≡ renewed_if (nat_lt 0 (times x (item_at self.old.sets i []))) (slot_at self.old x) }
+    {
+        renew(&mut self.slots, self.sets.set(i as usize));
+    }
+
+    /// Says that each slot of the work list is released, and makes it Black.
+    pub fn give_up_work(&mut self)
+        ensures rest { self.new ≡ record self.old { slots = self.new.slots } }
+        ensures many { length self.new.slots ≡ length self.old.slots }
+        ensures slots { (x : ℕ) → slot_at self.new x ≡ dead_if (nat_lt 0 (times x self.old.work)) (slot_at self.old x) }
+    {
+        give_up(&mut self.slots, self.work.as_slice());
     }
 
     /// Begins a set without members, behind the others.

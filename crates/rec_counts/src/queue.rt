@@ -35,6 +35,16 @@ fn move_to_front(items: &mut [u16], head: usize)
     items.copy_within(head..end, 0);
 }
 
+/// Writes `slots` from this place on.
+fn write_at(items: &mut [u16], place: usize, slots: &[u16])
+    requires { place + length slots.now ≤ length items.old }
+    ensures { take (place + length slots.now) items.new ≡ take place items.old ++ slots.now }
+{
+    for index in 0..slots.len() {
+        items[place + index] = slots[index];
+    }
+}
+
 impl Queue {
     /// An empty list with this room.
     pub fn open(alloc: Global, room: usize) -> Result<Queue, NoMemory>
@@ -60,11 +70,12 @@ impl Queue {
         requires { length self.old.list < self.old.room }
         ensures { self.new ≡ record self.old { list = self.old.list ++ slot ∷ [] } }
     {
-        if self.end < self.items.len() {
-            self.items[self.end] = slot;
-            self.end += 1;
+        let end = self.end;
+        if end < self.items.len() {
+            self.items[end] = slot;
+            self.end = end + 1;
         } else {
-            let len = self.end - self.head;
+            let len = end - self.head;
             move_to_front(&mut self.items, self.head);
             self.items[len] = slot;
             self.head = 0;
@@ -74,6 +85,20 @@ impl Queue {
 
     /// Appends all of `slots`, in their order.
     pub fn push_all(&mut self, slots: &[u16])
+        requires { length self.old.list + length slots.now ≤ self.old.room }
+        ensures { self.new ≡ record self.old { list = self.old.list ++ slots.now } }
+    {
+        let end = self.end;
+        if slots.len() <= self.items.len() - end {
+            write_at(&mut self.items, end, slots);
+            self.end = end + slots.len();
+        } else {
+            self.push_each(slots);
+        }
+    }
+
+    /// Appends all of `slots` one after another.
+    fn push_each(&mut self, slots: &[u16])
         requires { length self.old.list + length slots.now ≤ self.old.room }
         ensures { self.new ≡ record self.old { list = self.old.list ++ slots.now } }
     {

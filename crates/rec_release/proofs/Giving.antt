@@ -1,6 +1,6 @@
 -- A set is given up.
-use Rattle.std.proofs.Common.{◌≡◌, ℕ, ◌+◌, ◌-◌, ◌<◌, ◌≤◌, Bool, true, false, ltb, IfSome, List, ◌++◌, length, refl, arith, sym, ◌∙◌, ap, subst, inl, inr}
-use Rattle.std.proofs.lemmas.List.{length-map}
+use Rattle.std.proofs.Common.{◌≡◌, ℕ, ◌+◌, ◌-◌, ◌<◌, ◌≤◌, Bool, true, false, ltb, IfSome, List, ◌++◌, length, take, refl, arith, sym, ◌∙◌, ap, subst, inl, inr}
+use Rattle.std.proofs.lemmas.List.{length-map, take_all}
 use Rattle.std.proofs.lemmas.Bool.{cases_lt}
 use Rattle.rec_counts.specs.declared.slot.Slot.{Slot}
 use Rattle.rec_counts.specs.Counts.{State, IsKept, slot_at, without_last_set}
@@ -17,10 +17,6 @@ use Rattle.rec_release.specs.CycleFree.{dead_if, given_up, given_up_slot, IsAtWo
 -- what a slot has then
 pub given_slot : (s : State) (x : ℕ) → slot_at (given_up s) x ≡ given_up_slot (length s.sets - 1) (slot_at s x)
 given_slot s x = map_at (given_up_slot (length s.sets - 1)) refl s.slots x
-
-pub dead_twice : (b : Bool) (v : Slot) → dead_if true (dead_if b v) ≡ dead_if true v
-dead_twice true v = refl
-dead_twice false v = refl
 
 -- all members are dead
 pub dead_all : (s t : State) (i : ℕ) → IsKept s → length (last_set s.sets) ≤ i → Changed dead_if (last_set s.sets) (without_last_set s) t i → t ≡ given_up s
@@ -45,6 +41,17 @@ given_released s x k f = ap (λ (v : Slot). one v.released) (given_slot s x) ∙
 
 pub given_work : (s : State) → IsFreeable s → (given_up s).work ≡ last_set s.sets
 given_work s f = ap (λ ws. ws ++ last_set s.sets) f.work
+
+-- the last set is taken out, and what then stands in the work list is given up
+pub all_given : (s d t : State) → IsKept s → IsFreeable s → d ≡ without_last_set s → t ≡ record d { slots = t.slots } → length t.slots ≡ length d.slots → ((x : ℕ) → slot_at t x ≡ dead_if (ltb 0 (times x d.work)) (slot_at d x)) → t ≡ given_up s
+all_given s d t k f e r m h =
+    let ms : List ℕ = last_set s.sets in
+    let w : d.work ≡ ms = ap (λ (u : State). u.work) e ∙ given_work s f in
+    dead_all s t (length ms) k (omega arith) (record {
+      rest = r ∙ ap {A = State} {B = State} (λ u. record u { slots = t.slots }) e;
+      many = m ∙ ap (λ (u : State). length u.slots) e;
+      slots = λ x. h x ∙ ap (λ xs. dead_if (ltb 0 (times x xs)) (slot_at d x)) (w ∙ sym (take_all (length ms) ms (omega arith))) ∙ ap (λ u. dead_if (ltb 0 (times x (take (length ms) ms))) (slot_at u x)) e;
+    })
 
 -- the counts are as the freeing wants them
 pub given_is_work : (s : State) (fields : ℕ) → 0 < fields → IsKept s → IsFreeable s → IsAtWork (record { fields = fields; at = first_in (last_set s.sets) }) (given_up s)

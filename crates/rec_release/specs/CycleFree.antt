@@ -1,15 +1,16 @@
 -- The freeing of a set: what comes next, and what is learnt of the word that came out.
-use Rattle.std.specs.Prelude.{◌≡◌, ℕ, ◌-◌, ◌<◌, Bool, true, false, Option, None, Some, IfSome, [], ◌++◌, length, map}
+use Rattle.std.specs.Prelude.{◌≡◌, ℕ, ◌-◌, ◌<◌, true, false, Option, None, Some, IfSome, [], ◌++◌, length, map}
 use Rattle.rec_word.specs.Place.{place_of}
 use Rattle.rec_word.specs.Word.{target_of}
 use Rattle.rec_word.specs.declared.op.Op.{Op}
 use Rattle.rec_word.specs.declared.op.Op.TheVariants.{ClearField}
-use Rattle.rec_counts.specs.declared.colour.Colour.TheVariants.{Black, Orange}
+use Rattle.rec_counts.specs.declared.colour.Colour.TheVariants.{Orange}
 use Rattle.rec_counts.specs.declared.slot.Slot.{Slot}
 use Rattle.rec_counts.specs.Counts.{State, slot_at}
 use Rattle.rec_counts.specs.Groups.{last_set, earlier_sets}
 use Rattle.rec_counts.specs.Lists.{times}
 use Rattle.rec_counts.specs.Slot.{is_in, out_of_set}
+pub use Rattle.rec_counts.specs.Slot.{dead_if}
 use Rattle.rec_walk.specs.declared.member.Member.{Member}
 use Rattle.rec_walk.specs.Walk.{behind, first_in, IsOf}
 use Rattle.rec_release.specs.Release.{IsReady}
@@ -32,11 +33,6 @@ op_at fields (Some a) = Some (ClearField (place_of a.slot a.field fields))
 
 unfoldable pub next_of : Machine → Option Op
 next_of m = op_at m.fields m.at
-
--- released and Black
-abbrev pub dead_if : Bool → Slot → Slot
-dead_if true v = record v { released = true; colour = Black }
-dead_if false v = v
 
 -- a member of the set of this number is released and Black, and in no buffer
 abbrev pub given_up_slot : ℕ → Slot → Slot

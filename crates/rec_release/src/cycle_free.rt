@@ -1,16 +1,16 @@
 ghost use Rattle.std.specs.Prelude.{◌≡◌, ◌+◌, ◌<◌, ◌↔◌, ◌++◌, ℕ, List, [], None, length, true, IfSome, IsNone, IsSome};
 ghost use Rattle.rec_word.specs.Word.{target_of};
-ghost use Rattle.rec_counts.specs.Counts.{State, slot_at, with_slot};
+ghost use Rattle.rec_counts.specs.Counts.{State, slot_at};
 ghost use Rattle.rec_counts.specs.Groups.{earlier_sets, last_set};
 ghost use Rattle.rec_counts.specs.Lists.{times};
 ghost use Rattle.rec_walk.specs.Load.{Load, loaded_at};
 ghost use Rattle.rec_walk.specs.Walk.{IsOf, first_member};
-ghost use Rattle.rec_release.specs.CycleFree.{IsAtWork, IsFreeable, dead_if, given_up, gone_on, listed, next_of, started_of, took_of};
+ghost use Rattle.rec_release.specs.CycleFree.{IsAtWork, IsFreeable, given_up, gone_on, listed, next_of, started_of, took_of};
 ghost use Rattle.rec_release.specs.Freed.{FreedTo};
 ghost use Rattle.rec_release.specs.TakenOff.{AllZerosButOrange, IsApart, KeepsOrange};
 
 use crate::take_off::take_off;
-use rec_counts::{Colour, Counts};
+use rec_counts::Counts;
 use rec_walk::Member;
 use rec_word::{Op, place, target};
 use std::marker::Model;
@@ -118,19 +118,7 @@ fn give_up(counts: &mut Counts)
 {
     counts.rules();
     counts.drop_set();
-    for index in 0..counts.work().len() {
-        let slot = counts.work()[index];
-        give_up_slot(counts, slot);
-    }
-}
-
-// The slot is released and Black.
-fn give_up_slot(counts: &mut Counts, slot: u16)
-    requires { slot < length counts.old.slots }
-    ensures { counts.new ≡ with_slot counts.old slot (dead_if true (slot_at counts.old slot)) }
-{
-    counts.release(slot);
-    counts.set_colour(slot, Colour::Black);
+    counts.give_up_work();
 }
 
 // The field behind this one comes next; behind the last one all members go to the free list.
@@ -163,8 +151,5 @@ fn list_members(counts: &mut Counts)
     requires { (x : ℕ) → 0 < times x counts.old.work → times x counts.old.free ≡ 0 }
     ensures { counts.new ≡ listed counts.old }
 {
-    counts.rules();
-    while let Some(slot) = counts.pop_work() {
-        counts.push_free(slot);
-    }
+    counts.free_work();
 }

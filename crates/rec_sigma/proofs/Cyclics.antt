@@ -57,10 +57,6 @@ renewed_rest : (b : Bool) (v : Slot) → record (renewed_if b v) { cyclic = 0 } 
 renewed_rest true v = refl
 renewed_rest false v = refl
 
-pub renewed_twice : (b : Bool) (v : Slot) → renewed_if true (renewed_if b v) ≡ renewed_if true v
-renewed_twice true v = refl
-renewed_twice false v = refl
-
 -- of each slot no more than its cyclic count changes
 slots_others : (s : State) (slots : List Slot) → ((x : ℕ) → get_or slots x absent ≡ record (slot_at s x) { cyclic = (get_or slots x absent).cyclic }) → length slots ≡ length s.slots → KeepsOthers s (record s { slots = slots })
 slots_others s slots e l = record { slots = e; many = l; roots = refl; sets = refl; marked = refl; work = refl; zeros = refl; free = refl }

@@ -7,6 +7,7 @@ use Rattle.rec_word.specs.declared.op.Op.TheVariants.{LoadChild}
 use Rattle.rec_counts.specs.declared.slot.Slot.{Slot}
 use Rattle.rec_counts.specs.Counts.{State, slot_at, with_slot}
 use Rattle.rec_counts.specs.Slot.{is_in}
+pub use Rattle.rec_counts.specs.Slot.{renewed_if}
 use Rattle.rec_walk.specs.declared.member.Member.{Member}
 use Rattle.rec_walk.specs.Walk.{behind, IsOf}
 use Rattle.rec_sigma.specs.declared.at.At.{At}
@@ -32,11 +33,6 @@ op_at fields (Some a) = Some (LoadChild (place_of a.member.slot a.member.field f
 
 unfoldable pub next_of : Machine → Option Op
 next_of m = op_at m.fields m.at
-
--- the cyclic count becomes the true count
-abbrev pub renewed_if : Bool → Slot → Slot
-renewed_if true v = record v { cyclic = v.count }
-renewed_if false v = v
 
 -- each member of the set of this number has its true count as its cyclic count
 abbrev pub renewed : State → ℕ → State

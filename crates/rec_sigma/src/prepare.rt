@@ -1,9 +1,9 @@
 ghost use Rattle.std.specs.Prelude.{◌≡◌, ◌+◌, ◌<◌, ◌≤◌, ◌↔◌, ◌++◌, ℕ, List, [], None, length, drop, IfSome, IsNone, IsSome, true};
 ghost use Rattle.rec_word.specs.Word.{target_of};
-ghost use Rattle.rec_counts.specs.Counts.{State, slot_at, with_slot};
+ghost use Rattle.rec_counts.specs.Counts.{State};
 ghost use Rattle.rec_walk.specs.Load.{Load};
 ghost use Rattle.rec_sigma.specs.declared.at.At.{At};
-ghost use Rattle.rec_sigma.specs.Prepare.{IsAtWork, IsHeld, first_of, gone_on, next_of, next_set, renewed, renewed_if, started_of, taken_off, took_of};
+ghost use Rattle.rec_sigma.specs.Prepare.{IsAtWork, IsHeld, first_of, gone_on, next_of, next_set, renewed, started_of, taken_off, took_of};
 ghost use Rattle.rec_sigma.specs.Prepared.{KeepsOthers, PreparedTo, loaded_at};
 
 use crate::at::At;
@@ -157,17 +157,5 @@ fn renew(counts: &mut Counts, set: u16)
     ensures { counts.new ≡ renewed counts.old set }
 {
     counts.rules();
-    for index in 0..counts.set(set).len() {
-        let slot = counts.set(set)[index];
-        renew_slot(counts, slot);
-    }
-}
-
-// The cyclic count of the slot becomes its true count.
-fn renew_slot(counts: &mut Counts, slot: u16)
-    requires { slot < length counts.old.slots }
-    ensures { counts.new ≡ with_slot counts.old slot (renewed_if true (slot_at counts.old slot)) }
-{
-    let count = counts.count(slot);
-    counts.set_cyclic(slot, count);
+    counts.renew_set(set);
 }

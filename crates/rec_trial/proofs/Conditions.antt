@@ -1,6 +1,7 @@
 -- What the calls of a trial require, from what holds of it.
-use Rattle.std.proofs.Common.{◌≡◌, ℕ, ◌+◌, ◌<◌, ◌≤◌, Bool, true, false, eqb, Some, List, [], ◌∷◌, ◌++◌, length, take, get_or, slice_get, refl, sym, ap, ◌∙◌, arith, inl, inr, ◌≢◌, ◌⊎◌}
+use Rattle.std.proofs.Common.{◌≡◌, ℕ, ◌+◌, ◌-◌, ◌<◌, ◌≤◌, Bool, true, false, eqb, Some, List, [], ◌∷◌, ◌++◌, length, take, get_or, slice_get, refl, sym, ap, ◌∙◌, arith, inl, inr, ◌≢◌, ◌⊎◌}
 use Rattle.std.specs.List.{concat}
+use Rattle.std.proofs.Math.ListN.{set}
 use Rattle.std.proofs.lemmas.List.{get_or-set_same, get_or-set_other, length-set, set-set, take_all}
 use Rattle.std.proofs.lemmas.Bool.{false_from_ne_true, false≢true}
 use Rattle.std.proofs.lemmas.Bool.Decides.{eqb_tells}
@@ -10,7 +11,7 @@ use Rattle.rec_counts.specs.Lists as in_counts
 use Rattle.rec_counts.specs.Slot.{absent}
 use Rattle.rec_counts.proofs.Leaving.{all_of}
 use Rattle.rec_counts.proofs.Times.{times-nil, times-cons, times_more, times_at, in_range_once, one-same, one-none}
-use Rattle.rec_trial.specs.Moves.{with_colour, touched_if, whitened, whitened_if, all_whitened}
+use Rattle.rec_trial.specs.Moves.{one_off, with_colour, touched_if, whitened, whitened_if, all_whitened}
 
 pub unbuffered_white : (s : State) → IsKept s → CanCollect s → (x : ℕ) → is_white (slot_at s x).colour ≡ true → (slot_at s x).buffered ≡ false
 unbuffered_white s k c x e =
@@ -23,14 +24,12 @@ pub set_room : (s : State) → IsKept s → CanCollect s → (x : ℕ) → x < l
 set_room s k c x l e = omega (arith, c.few, member_room k x l (unbuffered_white s k c x e))
 
 -- what is written twice is written once
-pub touched_made : (s t u : State) (x : ℕ) → x < length s.slots → t ≡ with_colour s x Gray → u ≡ with_slot t x (record (slot_at t x) { cyclic = (slot_at t x).count }) → record u { marked = u.marked ++ x ∷ [] } ≡ touched_if false s x
-touched_made s t u x l e f =
-    let v : Slot = record (slot_at s x) { colour = Gray } in
-    let here : slot_at (with_slot s x v) x ≡ v = get_or-set_same s.slots x v absent l in
-    let w : Slot → State = λ y. with_slot (with_slot s x v) x (record y { cyclic = y.count }) in
-    let g : u ≡ w v = f ∙ ap (λ (a : State). with_slot a x (record (slot_at a x) { cyclic = (slot_at a x).count })) e ∙ ap w here in
-    ap (λ (a : State). record a { marked = a.marked ++ x ∷ [] }) g
-    ∙ ap (λ (xs : List Slot). record s { slots = xs; marked = s.marked ++ x ∷ [] }) (set-set s.slots x v (record v { cyclic = v.count }))
+pub touched_off : (s : State) (x : ℕ) → x < length s.slots → record (with_slot s x (record (slot_at s x) { colour = Gray; cyclic = (slot_at s x).count - 1 })) { marked = s.marked ++ x ∷ [] } ≡ one_off (touched_if false s x) x
+touched_off s x l =
+    let v : Slot = record (slot_at s x) { colour = Gray; cyclic = (slot_at s x).count } in
+    let here : get_or (set s.slots x v) x absent ≡ v = get_or-set_same s.slots x v absent l in
+    let to : List Slot → State = λ xs. record s { slots = xs; marked = s.marked ++ x ∷ [] } in
+    sym (ap (λ (u : Slot). to (set (set s.slots x v) x (record u { cyclic = u.cyclic - 1 }))) here ∙ ap to (set-set s.slots x v (record v { cyclic = v.cyclic - 1 })))
 
 -- whitening, slot by slot of the marked list: a slot that is not done yet is as it was, and does not stand in that part
 pub record Whitening (index : ℕ) (now then : State) : Type 0 where

@@ -17,6 +17,7 @@ pub mod Views
 pub mod Visible
 pub mod Rest
 pub mod Course
+pub mod Running
 pub mod Runs
 pub mod Conditions
 pub mod Counted

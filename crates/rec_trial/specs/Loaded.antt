@@ -1,11 +1,11 @@
 -- A trial with what it loaded: the record that proofs keep of it.
-use Rattle.std.specs.Prelude.{◌≡◌, ℕ, ◌<◌, List, [], ◌∷◌, fold, IsSome}
+use Rattle.std.specs.Prelude.{◌≡◌, ℕ, ◌+◌, ◌<◌, List, [], ◌∷◌, fold, IsSome}
 use Rattle.rec_word.specs.Word.{target_of}
 use Rattle.rec_counts.specs.Counts.{State, IsKept}
 use Rattle.rec_walk.specs.Load.{Load}
 use Rattle.rec_trial.specs.declared.phase.Phase.{Phase}
 use Rattle.rec_trial.specs.declared.phase.Phase.TheVariants.{Idle, Marking, Scanning, Collecting}
-use Rattle.rec_trial.specs.Rules.{IsReady, LeadsToVisible, AllLeadToVisible}
+use Rattle.rec_trial.specs.Rules.{IsReady, LeadsToUnreleased, LeadsToVisible, AllLeadToVisible, visible}
 use Rattle.rec_trial.specs.Trial.{Machine, Work, next_of, took_of, started_of, opened_of, advanced, learnt_at}
 
 -- a trial, with what marking loaded, what blackening loaded and what collecting loaded, the last load first
@@ -51,3 +51,8 @@ pub record IsAtWork (m : Machine) (s : State) : Type 0 where
 pub data GoesOn : Machine → State → Type 0 where
   begins : {fields : ℕ} {s : State} → 0 < fields → IsKept s → IsReady s → GoesOn (opened_of fields) s
   learns : {m : Machine} {s : State} → IsAtWork m s → IsSome (next_of m) → (word : ℕ) → LeadsToVisible s word → GoesOn (advanced m) (learnt_at m.phase s (target_of word))
+
+-- From the first work a trial took in so many words, each of which led to no released slot, and came to this one.
+pub data Ran (first : Work) : ℕ → Work → Type 0 where
+  none : Ran first 0 first
+  more : (n : ℕ) (w : Work) (word : ℕ) → Ran first n w → IsSome (next_of w.machine) → LeadsToUnreleased w.counts word → Ran first (n + 1) (took_of w (visible w.counts word))

@@ -18,11 +18,13 @@
 
 mod collecting;
 mod laws;
+mod loads;
 mod marking;
 mod phase;
 mod scanning;
 mod trial;
 
 pub use laws::{trial_ends, trial_is_careful, trial_is_exact, trial_is_whole, trial_is_witnessed};
+pub use loads::Loads;
 pub use phase::Phase;
 pub use trial::Trial;

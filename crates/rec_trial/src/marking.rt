@@ -3,7 +3,7 @@ ghost use Rattle.std.specs.Prelude.{◌≡◌, ◌<◌, true, false, length, IfS
 ghost use Rattle.rec_counts.specs.Counts.{slot_at};
 ghost use Rattle.rec_counts.specs.Lists.{times};
 ghost use Rattle.rec_counts.specs.Colour.{is_gray};
-ghost use Rattle.rec_trial.specs.Moves.{dropped, marked_by, touched};
+ghost use Rattle.rec_trial.specs.Moves.{dropped, marked_by, one_off, touched};
 ghost use Rattle.rec_trial.specs.Rules.{CanMark};
 
 use rec_counts::{Colour, Counts};
@@ -17,8 +17,22 @@ fn touch(counts: &mut Counts, slot: u16)
     match counts.colour(slot) {
         Colour::Gray => {}
         _ => {
-            counts.set_colour(slot, Colour::Gray);
-            counts.set_cyclic(slot, counts.count(slot));
+            counts.shade(slot, Colour::Gray, counts.count(slot));
+            counts.push_marked(slot);
+        }
+    }
+}
+
+// The same, with one taken off its cyclic count. What it was is written once.
+fn mark_slot(counts: &mut Counts, slot: u16)
+    requires in_range { slot < length counts.old.slots }
+    requires new { is_gray (slot_at counts.old slot).colour ≡ false → times slot counts.old.marked ≡ 0 }
+    ensures { counts.new ≡ one_off (touched counts.old slot) slot }
+{
+    match counts.colour(slot) {
+        Colour::Gray => counts.set_cyclic(slot, counts.cyclic(slot).saturating_sub(1)),
+        _ => {
+            counts.shade(slot, Colour::Gray, counts.count(slot).saturating_sub(1));
             counts.push_marked(slot);
         }
     }
@@ -30,9 +44,9 @@ pub(crate) fn mark(counts: &mut Counts, target: Option<u16>)
     requires rules { CanMark counts.old }
     ensures { counts.new ≡ marked_by counts.old target }
 {
+    counts.rules();
     if let Some(slot) = target {
-        touch(counts, slot);
-        counts.set_cyclic(slot, counts.cyclic(slot).saturating_sub(1));
+        mark_slot(counts, slot);
     }
 }
 

@@ -1,5 +1,5 @@
 /// What a trial is about.
-#[derive(Clone, Copy, Drop)]
+#[derive(Clone, Copy, PartialEq, Eq, Drop)]
 pub enum Phase {
     /// Nothing: no trial is at work.
     Idle,

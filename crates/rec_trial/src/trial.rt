@@ -1,15 +1,16 @@
-ghost use Rattle.std.specs.Prelude.{◌≡◌, ◌<◌, ◌≤◌, ◌+◌, ◌^◌, ◌↔◌, ℕ, true, false, None, List, [], ◌∷◌, ◌++◌, length, IfSome, IsNone, IsSome};
+ghost use Rattle.std.specs.Prelude.{◌≡◌, ◌<◌, ◌≤◌, ◌+◌, ◌^◌, ◌↔◌, ℕ, true, false, None, List, [], ◌∷◌, ◌++◌, length, IfSome, IsNone, IsSome, IsTrue};
 ghost use Rattle.rec_word.specs.Word.{target_of};
 ghost use Rattle.rec_counts.specs.Colour.{is_white as is_white_colour};
 ghost use Rattle.rec_counts.specs.Counts.{IsKept, State, slot_at};
 ghost use Rattle.rec_trial.specs.Moves.{has_rest};
-ghost use Rattle.rec_trial.specs.Loaded.{GoesOn, IsAtWork, Run, noted};
+ghost use Rattle.rec_trial.specs.Loaded.{GoesOn, IsAtWork, Ran, Run, noted};
 ghost use Rattle.rec_trial.specs.Promised.{IsTrial, unloaded};
 ghost use Rattle.rec_trial.specs.declared.phase.Phase.TheVariants.{Collecting, Scanning};
 ghost use Rattle.rec_trial.specs.Rules.{CanCollect, CanMark, CanScan, IsReady, LeadsToUnreleased, RulesAt, visible};
-ghost use Rattle.rec_trial.specs.Trial.{IsPassed, NamesPlace, advanced, begun_at, collect_moved, idle_of, is_due, is_due_at, learnt_at, list_of, moved_at, next_of, pointed, roots_moved, scan_moved, settled, started_of, took_of};
+ghost use Rattle.rec_trial.specs.Trial.{IsPassed, NamesPlace, Work, advanced, begun_at, collect_moved, idle_of, is_due, is_due_at, learnt_at, list_of, moved_at, next_of, pointed, roots_moved, scan_moved, settled, started_of, took_of};
 
 use crate::collecting::{begin, collect, last_members};
+use crate::loads::Loads;
 use crate::marking::{drop_root, mark};
 use crate::phase::Phase;
 use crate::scanning::{blacken_held, scan, whiten};
@@ -113,6 +114,105 @@ impl Trial {
         }
     }
 
+    /// Loads words and learns them, at least one and at most so many, as long as something comes next. It answers how many. All that
+    /// the trial has is kept in locals meanwhile: the compiler loads nothing of it again behind a load that others may see.
+    #[inline(always)]
+    pub fn run<L: Loads>(&mut self, counts: &mut Counts, loads: &mut L, most: u32) -> u32
+        requires busy { IsSome (next_of self.old) }
+        requires kept { IsAtWork self.old counts.old }
+        requires some { 0 < most }
+        requires stands { L.StandsAt loads.old 0 (record { machine = self.old; counts = counts.old }) }
+
+        ensures ran { Ran (record { machine = self.old; counts = counts.old }) result (record { machine = self.new; counts = counts.new }) }
+        ensures some { 0 < result }
+        ensures few { result ≤ most }
+        ensures stands { L.StandsAt loads.new result (record { machine = self.new; counts = counts.new }) }
+    {
+        let mut trial = Trial {
+            fields: self.fields,
+            phase: self.phase,
+            tried: self.tried,
+            done: self.done,
+            slot: self.slot,
+            field: self.field,
+        };
+        let mut made = 0;
+        while made < most && trial.is_busy() {
+            made = trial.run_on(counts, loads, made, most);
+        }
+        *self = trial;
+        made
+    }
+
+    #[inline(always)]
+    fn is_busy(&self) -> bool
+        ensures { IsTrue result ↔ IsSome (next_of self.now) }
+    {
+        self.next().is_some()
+    }
+
+    // Goes on with a run up to the end of a phase, where so many words of so many were loaded, and answers how many were then.
+    #[inline(always)]
+    fn run_on<L: Loads>(&mut self, counts: &mut Counts, loads: &mut L, from: u32, most: u32) -> u32
+        requires busy { IsSome (next_of self.old) }
+        requires kept { IsAtWork self.old counts.old }
+        requires fewer { from < most }
+        requires stands { L.StandsAt loads.old from (record { machine = self.old; counts = counts.old }) }
+
+        ensures ran { (first : Work) → Ran first from (record { machine = self.old; counts = counts.old }) → Ran first result (record { machine = self.new; counts = counts.new }) }
+        ensures kept { IsAtWork self.new counts.new }
+        ensures further { from < result }
+        ensures few { result ≤ most }
+        ensures stands { L.StandsAt loads.new result (record { machine = self.new; counts = counts.new }) }
+    {
+        match self.phase {
+            Phase::Idle => unreachable!(),
+            Phase::Marking => self.run_in(Phase::Marking, counts, loads, from, most),
+            Phase::Scanning => self.run_in(Phase::Scanning, counts, loads, from, most),
+            Phase::Collecting => self.run_in(Phase::Collecting, counts, loads, from, most),
+        }
+    }
+
+    // The same in a phase that is known: a loop whose phase is known is straight code.
+    #[inline(always)]
+    fn run_in<L: Loads>(
+        &mut self,
+        phase: Phase,
+        counts: &mut Counts,
+        loads: &mut L,
+        from: u32,
+        most: u32,
+    ) -> u32
+        requires phase { phase ≡ self.old.phase }
+        requires busy { IsSome (next_of self.old) }
+        requires kept { IsAtWork self.old counts.old }
+        requires fewer { from < most }
+        requires stands { L.StandsAt loads.old from (record { machine = self.old; counts = counts.old }) }
+
+        ensures ran { (first : Work) → Ran first from (record { machine = self.old; counts = counts.old }) → Ran first result (record { machine = self.new; counts = counts.new }) }
+        ensures kept { IsAtWork self.new counts.new }
+        ensures further { from < result }
+        ensures few { result ≤ most }
+        ensures stands { L.StandsAt loads.new result (record { machine = self.new; counts = counts.new }) }
+    {
+        for made in from..most {
+            let word = loads.load(place(self.slot, self.field, self.fields));
+            self.took_in(phase, counts, word);
+            if !self.is_in(phase) {
+                return made + 1;
+            }
+        }
+        most
+    }
+
+    // Whether it is in this phase.
+    #[inline(always)]
+    fn is_in(&self, phase: Phase) -> bool
+        ensures { IsTrue result ↔ (phase ≡ self.now.phase) }
+    {
+        phase == self.phase
+    }
+
     // The same in a phase that is known, so that what follows asks for it no more.
     #[inline(always)]
     fn took_in(&mut self, phase: Phase, counts: &mut Counts, word: u64)
@@ -183,12 +283,19 @@ impl Trial {
             self.point(phase, counts);
             return;
         }
-        self.go_on(counts);
+        *self = gone_on(
+            self.fields,
+            self.phase,
+            self.tried,
+            self.done,
+            self.slot,
+            self.field,
+            counts,
+        );
         self.point(self.phase, counts);
     }
 
     // The moves up to the next load, or to the end. Those that look at a marked slot and leave it are made together.
-    #[inline(never)]
     fn go_on(&mut self, counts: &mut Counts)
         requires { GoesOn self.old counts.old }
         ensures { record { machine = self.new; counts = counts.new } ≡ settled (record { machine = self.old; counts = counts.old }) }
@@ -308,6 +415,33 @@ impl Trial {
         self.slot = 0;
         self.field = 0;
     }
+}
+
+// A trial that has come this far, once it has gone on. It is handed over by its parts, so that a caller's trial needs no place in memory.
+#[inline(never)]
+fn gone_on(
+    fields: u8,
+    phase: Phase,
+    tried: usize,
+    done: usize,
+    slot: u16,
+    field: u8,
+    counts: &mut Counts,
+) -> Trial
+    requires field { field < fields }
+    requires goes_on { GoesOn (record { fields = fields; phase = phase; tried = tried; done = done; slot = slot; field = field }) counts.old }
+    ensures { record { machine = result; counts = counts.new } ≡ settled (record { machine = record { fields = fields; phase = phase; tried = tried; done = done; slot = slot; field = field }; counts = counts.old }) }
+{
+    let mut trial = Trial {
+        fields,
+        phase,
+        tried,
+        done,
+        slot,
+        field,
+    };
+    trial.go_on(counts);
+    trial
 }
 
 // The list whose slots have their fields loaded, one after another.

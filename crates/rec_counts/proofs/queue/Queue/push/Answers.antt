@@ -9,8 +9,8 @@ use Rattle.rec_counts.proofs.queue.Queue.push.Goals as goal
 shelf_push : (xs : List ℕ) (h e v : ℕ) → h ≤ e → e < length xs → (let s : Shelf = record { list = take (e + 1 - h) (drop h (set xs e v)); room = length (set xs e v) } in s) ≡ record { list = take (e - h) (drop h xs) ++ v ∷ []; room = length xs }
 shelf_push xs h e v l r = rw (window_push xs h e v l r, length-set xs e v) refl
 
-pub returns-then-self-len : goal.returns-then-self-len
-returns-then-self-len c =
+pub returns-then-end-len : goal.returns-then-end-len
+returns-then-end-len c =
     rw (← c.self.view_is) (shelf_push c.self.inside.items.items c.self.inside.head c.self.inside.end c.args.slot c.self.invariant.0 (omega arith))
 
 -- what was moved to the front is the list as it was, with room behind it
@@ -26,10 +26,10 @@ moved_push xs ys h e v len l end all size free front =
     ∙ shelf_push ys 0 (e - h) v (omega arith) (omega (arith, size, free))
     ∙ ap₂ shelf (ap (λ n. take n ys) here ∙ front ∙ sym there) size
 
-pub returns-else-self-len : goal.returns-else-self-len
-returns-else-self-len c =
+pub returns-else-end-len : goal.returns-else-end-len
+returns-else-end-len c =
     let xs : List ℕ = c.self.inside.items.items in
-    let end : c.self.inside.end ≡ length xs = omega (arith, c.self.invariant.1, c.if-self-len.false, c.len.ensures) in
+    let end : c.self.inside.end ≡ length xs = omega (arith, c.self.invariant.1, c.if-end-len.false, c.len.ensures) in
     let all : c.self.inside.items.len ≡ length xs = omega arith in
     let size : length c.move_to_front.new.items ≡ length xs = c.move_to_front.auto.items ∙ ap (length {A = ℕ}) c.deref_mut.ensures.value in
     let room = rw (← c.self.view_is) at c.requires in
