@@ -1,6 +1,7 @@
 -- The modules of the proofs.
 pub mod Always
 pub mod Answering
+pub mod Bare
 pub mod Clearing
 pub mod Common
 pub mod Counting

@@ -14,7 +14,7 @@ use Rattle.rec_mutator.specs.Private.{is_busy, is_busy_at}
 use Rattle.rec_mutator.specs.Took.{is_uncollected_in}
 use Rattle.rec_mutator.specs.declared.phase.Phase as phases
 use Rattle.rec_mutator.specs.declared.phase.Phase.TheVariants as at
-use Rattle.rec_mutator.proofs.Sizes.{step_keeps}
+use Rattle.rec_mutator.proofs.Sizes.{step_keeps, step_dates}
 use Rattle.rec_mutator.proofs.Machines.{IsBox, step_machine}
 
 -- a mutator that isn't finished with its work hasn't left
@@ -39,6 +39,7 @@ own_stepped own sized found step label idle =
       between = step_between step;
       label = label;
       idle = idle;
+      dates = step_dates step ∙ own.dates;
     }
 
 -- a settled mutator gives no mailbox back

@@ -28,8 +28,7 @@ use Rattle.rec_collector.proofs.Always.{names_word}
 use Rattle.rec_core.specs.Loads.{cleared_by, cleared_in, IsKnown, Loaded, tried_in}
 use Rattle.rec_core.proofs.Batches.{none_of}
 use Rattle.rec_core.proofs.Landings.{early_writes}
-use Rattle.rec_mutator.proofs.LogStamps.{word_stamp}
-use Rattle.rec_core.proofs.Rules.{epoch_of_stamp}
+use Rattle.rec_core.proofs.Rules.{epoch_of_put}
 use Rattle.rec_core.proofs.Runs.{rule_of}
 use Rattle.rec_core.proofs.Turning.{turn_case}
 use Rattle.rec_core.proofs.Actors.{busy_stays}
@@ -154,7 +153,7 @@ module _ {p q : Private} {word : ℕ} {box left : Contents} {op : Op} (leaves : 
 load_leaves : (place word : ℕ) → LeavesWords word (ops.LoadField place)
 load_leaves place word cells e = ap (slice_set cells.words place) (sym e) ∙ set-get_or cells.words place 0
 
-step_logs : {p q : Private} {word : ℕ} {box left : Contents} {op : Op} → 0 < p.number → IsMachine p → Step p word box op q → LeavesBox p box left → IsPlain op word p q box left ⊎ IsPut op word p q box left
+step_logs : {p q : Private} {word : ℕ} {box left : Contents} {op : Op} → p.dates ≡ true → IsMachine p → Step p word box op q → LeavesBox p box left → IsPlain op word p q box left ⊎ IsPut op word p q box left
 step_logs some m (Step.null reg d) b = inl (plain_decides b d (λ cells e. refl) (λ e. e))
 step_logs some m (Step.copy dst src d) b = inl (plain_decides b d (λ cells e. refl) (λ e. e))
 step_logs some m (Step.compare x y d) b = inl (plain_decides b d (λ cells e. refl) (λ e. e))
@@ -173,7 +172,7 @@ step_logs {p} {q} {word} {box} {left} some m (Step.put src f val slot d) b =
       place = place_of slot f p.fields;
       new = word_for p val;
       operation = d.operation;
-      stamp = epoch_of_stamp (word_for p val) (next_stamp p) some (word_stamp p val m store.stamp room);
+      stamp = epoch_of_put p val m store.stamp room some;
       here = other;
       settled = settled;
       more = λ g. omega (arith, ap (λ (x : Private). wrote g x.log) d.after, writes_more g p.log.entries (place_of slot f p.fields) (word_for p val) word, ap (wrote g) (box_stays b other));
@@ -288,7 +287,7 @@ module _ (w : Core) (t : ℕ) (kept : IsKept w) (is : IsMutator w.config t) (bus
       let actor = actor_of w t kept is in
       let whole = whole_made p word own_box busy actor.own.between in
       let numbered : 0 < p.number = omega (arith, actor.own.number, is.0) in
-      logged_keeps (step_logs numbered actor.own.machine whole.own whole.mailbox)
+      logged_keeps (step_logs actor.own.dates actor.own.machine whole.own whole.mailbox)
 
 -- what a turn of the collector does to its buffers: nothing, or the older ones are cleared and become the newer ones
 data Rows (p q : collectors.Private) : Type 0 where

@@ -2,6 +2,8 @@
 pub mod Actors
 pub mod Applying
 pub mod Asked
+pub mod Bare
+pub mod BareSeen
 pub mod Batches
 pub mod Begun
 pub mod Common
@@ -15,6 +17,7 @@ pub mod CyclesTest
 pub mod CyclesTrial
 pub mod CyclesWait
 pub mod Cycling
+pub mod Dated
 pub mod EarlyWords
 pub mod Freed
 pub mod Freeing

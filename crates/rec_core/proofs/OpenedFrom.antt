@@ -145,6 +145,7 @@ module _ (config : Config) (o : Objects) (is : IsConfig config) (are : AreObject
     between = tt;
     label = tt;
     idle = λ left. absurd (false≢true left);
+    dates = refl;
   }
 
   -- its crossing word and its mailbox

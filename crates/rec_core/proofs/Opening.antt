@@ -36,6 +36,7 @@ own_kept config t is there =
       between = tt;
       label = tt;
       idle = λ left. absurd (false≢true left);
+      dates = refl;
     }
 
 -- its crossing word and its mailbox

@@ -1,11 +1,10 @@
 -- Each step of a mutator keeps what every heap with its collector keeps.
-use Rattle.std.proofs.Common.{◌≡◌, inl, inr, ℕ, ◌+◌, ◌-◌, ◌*◌, ◌^◌, ◌<◌, ◌≤◌, false, List, [], ◌∷◌, ◌++◌, Option, None, Some, length, slice_index_or, slice_set, refl, sym, ap, subst, ◌∙◌, arith, length-append, add-zero, Bool, true, ◌==◌, if◌then◌else◌}
-use Rattle.std.proofs.lemmas.Bool.{cond-false, false≢true, cases_eq, ne_eqb}
+use Rattle.std.proofs.Common.{◌≡◌, inl, inr, ℕ, ◌+◌, ◌-◌, ◌*◌, ◌^◌, ◌<◌, ◌≤◌, false, List, [], ◌∷◌, ◌++◌, Option, None, Some, length, slice_index_or, slice_set, refl, sym, ap, subst, ◌∙◌, arith, length-append, add-zero, Bool, true}
+use Rattle.std.proofs.lemmas.Bool.{false≢true, cases_eq}
 use Rattle.std.proofs.lemmas.List.{length-set, get_or-set_same, get_or-set_other}
 use Rattle.std.proofs.lemmas.List.Elements.{All-set}
 use Rattle.std.proofs.lemmas.Option.{same_Some}
-use Rattle.rec_core.proofs.Common.{Retired, Spare, WithCollector, WithMutator, place_of, target_of, stamp_of, Op, Loads, AccountMove, node_of, epoch_of, Holds, Sight, IsTaken, IsSound, word_at, sight_with_header, sight_with_word, register_sound, birth_sound, write_sound, Contents, Entry, Private, register, word_for, next_stamp, IsStore, probe_of, slot_behind, Step, Decides, HasRoom, TakesNone, cell, IsMutator, HasLabel, Core, cells_of, sight, mutator, box, crossing_of, with_mutator, HasLabelAt, HasPassed, HasLearnt, entries_made, IsKept, IsActor, IsHeader, performed, code, epoch_at, has_let_go, pending, header_word, is_leaf}
-use Rattle.rec_word.specs.declared.stamps.Stamp.{Stamp}
+use Rattle.rec_core.proofs.Common.{Retired, Spare, WithCollector, WithMutator, place_of, target_of, Op, Loads, AccountMove, node_of, epoch_of, Holds, Sight, IsTaken, IsSound, word_at, sight_with_header, sight_with_word, register_sound, birth_sound, write_sound, Contents, Entry, Private, register, word_for, IsMachine, IsStore, probe_of, slot_behind, Step, Decides, HasRoom, TakesNone, cell, IsMutator, HasLabel, Core, cells_of, sight, mutator, box, crossing_of, with_mutator, HasLabelAt, HasPassed, HasLearnt, entries_made, IsKept, IsActor, IsHeader, performed, code, epoch_at, has_let_go, pending, header_word, is_leaf}
 use Rattle.rec_word.specs.Mailbox.{mailbox_of}
 use Rattle.rec_word.specs.declared.mailbox.Mailbox.{Mailbox}
 use Rattle.rec_word.specs.declared.op.Op.TheVariants as ops
@@ -22,19 +21,18 @@ use Rattle.rec_mutator.specs.declared.work.Work.TheVariants as works
 use Rattle.rec_mutator.proofs.Around.{behind_below}
 use Rattle.rec_mutator.proofs.Refusals.{at_phase}
 use Rattle.rec_core.proofs.Actors.{one_entry, epoch_here, mailbox_told}
-use Rattle.rec_mutator.proofs.LogStamps.{word_stamp}
-use Rattle.rec_mutator.proofs.Machines.{has_room, register_target}
+use Rattle.rec_mutator.proofs.LogStamps.{word_date, word_target}
+use Rattle.rec_mutator.specs.Private.{HasStamp}
 use Rattle.rec_core.proofs.Moves.{code_target, home_of, has_register, put_moves, birth_moves}
 use Rattle.rec_core.proofs.Places.{place_within}
 use Rattle.rec_core.proofs.Shapes.{after_cross, after_field, after_header, after_epoch, after_freed, after_probe, after_swap, after_claim}
-use Rattle.rec_word.proofs.Packing.{target_of-packed}
 use Rattle.rec_core.proofs.Steps.{Makes, stand_of, actor_of, in_list, register_taken, target_taken, taken_slot, held_stays, emptied_stays, changed_kept, moved_accounts, answers, answered_actor, unchanged, sets, goes_on, about_to_cross, registers_stay, registers_set, Answers}
 use Rattle.rec_word.proofs.Headers.{header_is, header_taken}
 
--- the epoch of a word that a mutator put is that of its stamp
-pub epoch_of_stamp : (x : ℕ) (s : Stamp) → 0 < s.writer → stamp_of x ≡ s → epoch_of x ≡ s.epoch
+-- a mutator that puts dated words puts them in its own epoch
+pub epoch_of_put : (p : Private) (val : ℕ) → IsMachine p → HasStamp p → HasRoom p → p.dates ≡ true → epoch_of (word_for p val) ≡ p.epoch
 unfolding epoch_of
-epoch_of_stamp x s some is = ap (λ (y : Stamp). if y.writer == 0 then 0 else y.epoch) is ∙ cond-false (s.writer == 0) 0 s.epoch (ne_eqb s.writer 0 (λ none. omega (arith, none, some)))
+epoch_of_put p val m stamp room dates = word_date p val m stamp room dates
 
 -- a field's word, where its place was reckoned by the mutator
 pub word_found : (w : Core) (t word slot f : ℕ) (op : Op) → IsKept w → IsMutator w.config t → word ≡ cell (cells_of w) op → op ≡ ops.LoadField (place_of slot f (mutator w t).fields) → word ≡ word_at (sight w) slot f
@@ -55,11 +53,8 @@ names_held w t r slot kept is held within names = subst (Holds (pending w) (epoc
 pub leads_to : (w : Core) (t val : ℕ) → IsKept w → IsMutator w.config t → (mutator w t).left ≡ false → HasRoom (mutator w t) → target_of (word_for (mutator w t) val) ≡ register (mutator w t) val
 leads_to w t val kept is stays room =
     let p : Private = mutator w t in
-    let own = (actor_of w t kept is).own in
-    let machine = own.machine in
-    let free : length p.log.entries < p.log.capacity = has_room p machine room in
-    let most : p.log.capacity ≤ 2 ^ 18 = machine.capacity in
-    target_of-packed (register p val) (next_stamp p) (register_target p val machine) (record { writer = machine.number; epoch = machine.stamped stays; index = omega arith })
+    let machine = (actor_of w t kept is).own.machine in
+    word_target p val machine (machine.stamped stays) room
 
 module _ {w : Core} {t word : ℕ} {op : Op} {q : Private} (m : Makes w t word op q) where
   abbrev p : Private
@@ -97,9 +92,8 @@ module _ {w : Core} {t word : ℕ} {op : Op} {q : Private} (m : Makes w t word o
       let a = answers refl m (decided_at fields is_word d) in
       let free : length p.log.entries < p.log.capacity = store.room in
       let room : HasRoom p = λ full. omega (arith, free, full) in
-      let stamp : stamp_of left ≡ next_stamp p = word_stamp p val actor.own.machine store.stamp room in
       let here : epoch_at p ≡ p.epoch = epoch_here p a.here in
-      let in_epoch : epoch_of left ≡ epoch_at p = epoch_of_stamp left (next_stamp p) (omega (arith, actor.own.number, m.is.0)) stamp ∙ sym here in
+      let in_epoch : epoch_of left ≡ epoch_at p = epoch_of_put p val actor.own.machine store.stamp room actor.own.dates ∙ sym here in
       let leads : target_of left ≡ register p val = leads_to w t val m.kept m.is a.stays room in
       let node : node_of left ≡ code (register p val) = sym (code_target left) ∙ ap code leads in
       let there : t - 1 < length w.mutators = in_list w t m.kept m.is in

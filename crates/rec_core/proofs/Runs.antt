@@ -14,6 +14,7 @@ use Rattle.rec_collector.specs.Next.{is_spent, next_of, next_at}
 use Rattle.rec_collector.specs.Step.{Step}
 use Rattle.rec_collector.proofs.Keeping.{machine_kept}
 use Rattle.rec_collector.proofs.Steps.{step_made}
+use Rattle.rec_core.specs.Bare.{bare_core}
 use Rattle.rec_core.specs.Run.{by_actor, Every, maker, over, steps_of}
 use Rattle.rec_core.specs.Run as step
 use Rattle.rec_core.proofs.Applying.{covered}
@@ -21,8 +22,6 @@ use Rattle.rec_core.proofs.Crossings.{step_kept, begun_kept}
 use Rattle.rec_core.proofs.Freeing as freeing
 use Rattle.rec_core.proofs.Gathering.{awaits_kept}
 use Rattle.rec_core.proofs.Offering.{offering_kept}
-use Rattle.rec_core.proofs.Opening.{opened_kept}
-use Rattle.rec_core.proofs.OpenedFrom.{opened_from_kept}
 use Rattle.rec_core.specs.Objects.{Objects, AreObjects, HaveLabels}
 use Rattle.rec_core.specs.OpenedFrom.{opened_from}
 use Rattle.rec_core.proofs.Preparing.{loads_due, seen_there}
@@ -129,15 +128,6 @@ pub moves_kept : (w : Core) (ms : List Move) → IsKept w → AllFit w ms → Is
 moves_kept w [] kept fit = kept
 moves_kept w (m ∷ ms) kept fit = moves_kept (after_move w m) ms (move_kept w m kept fit.0) fit.1
 
--- so does every start
-start_kept : (start : Core) → IsConfig start.config → IsStart start → IsKept start
-start_kept start is (IsStart.opens opens) = subst IsKept (sym opens) (opened_kept start.config is)
-start_kept start is (IsStart.opens_from o are labels opens) = subst IsKept (sym opens) (opened_from_kept start.config o is are labels)
-
--- and the end of every run
-pub run_kept : (start : Core) (moves : List Move) (end : Core) → IsConfig start.config → IsRun start moves end → IsKept end
-run_kept start moves end is run = subst IsKept run.ends (moves_kept start moves (start_kept start is run.starts) run.fit)
-
 -- where the moves of two lists lead, one after the other
 pub after_both : (w : Core) (ms ns : List Move) → after_moves w (ms ++ ns) ≡ after_moves (after_moves w ms) ns
 after_both w [] ns = refl
@@ -193,10 +183,6 @@ mutator_stays w (Move.Steps t) x fits is other = get_or-set_other w.mutators (t 
 mutator_stays w Move.Turns x fits is other = ap (λ ps. slice_index_or ps (x - 1) nobody) (turned_mutators w)
 mutator_stays w Move.Offers x fits is other = refl
 
--- a state that some run ends in keeps it, which has the numbers of its start
-pub end_kept : (w : Core) → IsConfig w.config → EndsRun w → IsKept w
-end_kept w is (start, moves, run) = run_kept start moves w (subst IsConfig (ap (λ (v : Core). v.config) (sym run.ends) ∙ config_after start moves) is) run
-
 -- a run that ends there goes on with a move that fits
 pub run_more : (w : Core) (m : Move) → EndsRun w → Fits w m → EndsRun (after_move w m)
 run_more w m (start, moves, run) fits = (
@@ -210,15 +196,15 @@ run_more w m (start, moves, run) fits = (
 )
 
 -- the opening is the end of the run without moves
-pub run_opened : (config : Config) → EndsRun (opened config)
-run_opened config = (opened config, [], record { starts = IsStart.opens refl; fit = tt; ends = refl })
+pub run_opened : (config : Config) → EndsRun (bare_core (opened config))
+run_opened config = (bare_core (opened config), [], record { starts = IsStart.opens refl; fit = tt; ends = refl })
 
 -- so is such an opening from objects
-pub run_opened_from : (config : Config) (o : Objects) → AreObjects config o → HaveLabels o.nodes → EndsRun (opened_from config o)
-run_opened_from config o are labels = (opened_from config o, [], record { starts = IsStart.opens_from o are labels refl; fit = tt; ends = refl })
+pub run_opened_from : (config : Config) (o : Objects) → AreObjects config o → HaveLabels o.nodes → EndsRun (bare_core (opened_from config o))
+run_opened_from config o are labels = (bare_core (opened_from config o), [], record { starts = IsStart.opens_from o are labels refl; fit = tt; ends = refl })
 
 -- a run began as a heap is opened with the numbers of its end, with one object or from objects
-pub run_opens : (w : Core) → EndsRun w → RunsFrom (opened w.config) w ⊎ ((o : Objects) × AreObjects w.config o × HaveLabels o.nodes × RunsFrom (opened_from w.config o) w)
+pub run_opens : (w : Core) → EndsRun w → RunsFrom (bare_core (opened w.config)) w ⊎ ((o : Objects) × AreObjects w.config o × HaveLabels o.nodes × RunsFrom (bare_core (opened_from w.config o)) w)
 run_opens w (start, moves, run) = by run.starts
   where
     numbers : start.config ≡ w.config
@@ -227,6 +213,6 @@ run_opens w (start, moves, run) = by run.starts
     from : (first : Core) → start ≡ first → RunsFrom first w
     from first same = (moves, subst (λ v. AllFit v moves) same run.fit, ap (λ v. after_moves v moves) (sym same) ∙ run.ends)
 
-    by : IsStart start → RunsFrom (opened w.config) w ⊎ ((o : Objects) × AreObjects w.config o × HaveLabels o.nodes × RunsFrom (opened_from w.config o) w)
-    by (IsStart.opens opens) = inl (from (opened w.config) (opens ∙ ap opened numbers))
-    by (IsStart.opens_from o are labels opens) = inr (o, subst (λ (config : Config). AreObjects config o) numbers are, labels, from (opened_from w.config o) (opens ∙ ap (λ config. opened_from config o) numbers))
+    by : IsStart start → RunsFrom (bare_core (opened w.config)) w ⊎ ((o : Objects) × AreObjects w.config o × HaveLabels o.nodes × RunsFrom (bare_core (opened_from w.config o)) w)
+    by (IsStart.opens opens) = inl (from (bare_core (opened w.config)) (opens ∙ ap (λ c. bare_core (opened c)) numbers))
+    by (IsStart.opens_from o are labels opens) = inr (o, subst (λ (config : Config). AreObjects config o) numbers are, labels, from (bare_core (opened_from w.config o)) (opens ∙ ap (λ config. bare_core (opened_from config o)) numbers))

@@ -63,6 +63,8 @@ pub record IsOwn (config : Config) (t : ℕ) (p : Private) : Type 0 where
   pub label : HasLabelAt p.phase
   -- one that has left does nothing
   pub idle : p.left ≡ true → is_busy p ≡ false
+  -- the words that it puts are dated
+  pub dates : p.dates ≡ true
 
 -- A write was made in this epoch. A birth bears no stamp.
 abbrev pub IsMadeIn : (epoch : ℕ) → Entry → Type 0

@@ -19,6 +19,7 @@ ghost use Rattle.rec_counts.specs.Lists.{times};
 ghost use Rattle.rec_collector.specs.Touched.{IsOrangeIn, WasUntouched};
 ghost use Rattle.rec_collector.specs.Zeros.{AreTheZeros};
 ghost use Rattle.rec_sigma.specs.Prepared.{seen};
+ghost use Rattle.rec_core.specs.Bare.{bare_core, Behind};
 ghost use Rattle.rec_core.specs.Config.{IsConfig, IsMutator};
 ghost use Rattle.rec_core.specs.Core.{Core, sight, mutator, opened};
 ghost use Rattle.rec_word.specs.declared.op.Op.TheVariants.{FreeHeader};
@@ -39,14 +40,15 @@ ghost use Rattle.rec_core.specs.StepAnswers.{IsShown};
 ghost use Rattle.rec_core.specs.Turn.{IsTurn, turn_told};
 ghost use Rattle.rec_core.specs.declared.config.Config.{Config};
 
-/// What every heap keeps holds at the end of every run.
+/// Behind the end of every run stands a heap of dated words: its bare words are those of the end, and it keeps what every such heap
+/// keeps.
 pub fn runs_keep()
-    ensures { (start : Core) (moves : List Move) (end : Core) → IsConfig start.config → IsRun start moves end → IsKept end }
+    ensures { (start : Core) (moves : List Move) (end : Core) → IsConfig start.config → IsRun start moves end → (dated : Core) × (bare_core dated ≡ end) × IsKept dated }
 {}
 
 /// Where a run ends, one from an opening with its numbers ends too: from the opening with one object, or from one from objects.
 pub fn runs_begin_with_an_opening()
-    ensures { (w : Core) → EndsRun w → RunsFrom (opened w.config) w ⊎ ((o : Objects) × AreObjects w.config o × HaveLabels o.nodes × RunsFrom (opened_from w.config o) w) }
+    ensures { (w : Core) → EndsRun w → RunsFrom (bare_core (opened w.config)) w ⊎ ((o : Objects) × AreObjects w.config o × HaveLabels o.nodes × RunsFrom (bare_core (opened_from w.config o)) w) }
 {}
 
 /// A run goes on with every move that fits its end.
@@ -76,27 +78,27 @@ pub fn turns_keep_their_promises()
 /// such a set are at once, is in the reach of no epoch from that one on, and is named by no register, by no field of a slot that
 /// isn't given up and by nothing that is pending, until its slot is freed.
 pub fn sets_that_pass_are_garbage()
-    ensures passed { (w : Core) (number : ℕ) → IsConfig w.config → EndsRun w → TestsSets w.collector.phase → Passes w number → IsProvenGarbage w number }
-    ensures gone { (w : Core) → IsConfig w.config → EndsRun w → AreGone w }
+    ensures passed { (w : Core) → IsConfig w.config → EndsRun w → Behind w (λ v. (number : ℕ) → TestsSets v.collector.phase → Passes v number → IsProvenGarbage v number) }
+    ensures gone { (w : Core) → IsConfig w.config → EndsRun w → Behind w AreGone }
 {}
 
 /// A header is set to 0, in any state of any run of a heap with its collector, only where no register, no field of any slot and
 /// nothing that is pending names the slot, and the slot stands in no list of the collector but the free list.
 pub fn freed_slots_are_forgotten()
-    ensures { (w : Core) (slot : ℕ) → IsConfig w.config → EndsRun w → collector_next w.collector ≡ Some (FreeHeader slot) → IsForgotten w slot }
+    ensures { (w : Core) → IsConfig w.config → EndsRun w → Behind w (λ v. (slot : ℕ) → collector_next v.collector ≡ Some (FreeHeader slot) → IsForgotten v slot) }
 {}
 
 /// The true count of every slot is the count formula of its node at the epoch of the last batch, in every state of every run
 /// of a heap with its collector.
 pub fn true_counts_are_the_formula()
-    ensures { (w : Core) → IsConfig w.config → EndsRun w → (slot : ℕ) → slot < w.config.slots → (slot_at w.collector.counts slot).count ≡ count_formula (pending w) (pending w).applied (slot + 1) }
+    ensures { (w : Core) → IsConfig w.config → EndsRun w → Behind w (λ v. (slot : ℕ) → slot < v.config.slots → (slot_at v.collector.counts slot).count ≡ count_formula (pending v) (pending v).applied (slot + 1)) }
 {}
 
 /// Where an allocation is answered Full or Busy, over whatever moves of whatever run its steps were made, its first step found the
 /// freed word that is told. Then each header was claimed, once round from the slot with which the allocation was begun, and each was
 /// found taken. Full comes where that word was even and its last step found the same, and Busy tells both where that is not so.
 pub fn failed_allocations_probed_every_slot()
-    ensures { (w : Core) (moves : List Move) (t reg label : ℕ) (leaf : Bool) (told : Told) → IsConfig w.config → EndsRun w → IsMutator w.config t → (mutator w t).phase ≡ Begun (works.Command (allocation leaf reg label)) → AllFit w moves → BeginsNone t moves → is_busy (mutator (after_moves w moves) t) ≡ true → answer_of (mutator (stepped (after_moves w moves) t) t) ≡ Some (makes.Answered told) → FailsByProbes w t (header_word leaf label) moves (after_moves w moves) told.answer }
+    ensures { (w : Core) → IsConfig w.config → EndsRun w → Behind w (λ v. (moves : List Move) (t reg label : ℕ) (leaf : Bool) (told : Told) → IsMutator v.config t → (mutator v t).phase ≡ Begun (works.Command (allocation leaf reg label)) → AllFit v moves → BeginsNone t moves → is_busy (mutator (after_moves v moves) t) ≡ true → answer_of (mutator (stepped (after_moves v moves) t) t) ≡ Some (makes.Answered told) → FailsByProbes v t (header_word leaf label) moves (after_moves v moves) told.answer) }
 {}
 
 /// What the collector loads from fields stays what it is, whether marking, blackening, collecting or preparation loads it, until the
@@ -104,14 +106,14 @@ pub fn failed_allocations_probed_every_slot()
 /// loaded was put in the epoch requested then, or before. At their end it stands in its field, or a write of that epoch or of a later
 /// one replaced it there, or the collector took it out.
 pub fn loaded_words_stay_references()
-    ensures { (w : Core) (moves : List Move) (l : Loaded) → IsConfig w.config → EndsRun w → AllFit w moves → IsSameTrial w (after_moves w moves) → Contains (loaded_over w moves) l → IsReferenceStill (after_moves w moves) (cleared_over w moves) l }
+    ensures { (w : Core) → IsConfig w.config → EndsRun w → Behind w (λ v. (moves : List Move) (l : Loaded) → AllFit v moves → IsSameTrial v (after_moves v moves) → Contains (loaded_over v moves) l → IsReferenceStill (after_moves v moves) (cleared_over v moves) l) }
 {}
 
 /// A member of a prepared set that is Orange still was touched by nothing since. Take any moves of mutators and collector over which no
 /// trial begins. The member was Orange in the same set before them. No increment, decrement or snapshot of a batch named it, and no
 /// decrement since; but in a steady heap a register may have named it that named it in both snapshots of a batch. Each reference that was lowered came off its true count and off its cyclic count, not below zero.
 pub fn orange_members_stay_untouched()
-    ensures { (w : Core) (moves : List Move) (number x : ℕ) → IsConfig w.config → EndsRun w → HasSets w.collector.phase → AllFit w moves → IsSameTrial w (after_moves w moves) → IsOrangeIn (after_moves w moves).collector.counts number x → WasUntouched w.collector.counts (after_moves w moves).collector.counts number x (named_over w moves x) }
+    ensures { (w : Core) → IsConfig w.config → EndsRun w → Behind w (λ v. (moves : List Move) (number x : ℕ) → HasSets v.collector.phase → AllFit v moves → IsSameTrial v (after_moves v moves) → IsOrangeIn (after_moves v moves).collector.counts number x → WasUntouched v.collector.counts (after_moves v moves).collector.counts number x (named_over v moves x)) }
 {}
 
 /// The outside count of a member is read off the run. Take the turn with which the preparation of sets begins, and any moves behind it
@@ -120,9 +122,9 @@ pub fn orange_members_stay_untouched()
 /// fields of its set's members that lead to it. Each reference that was lowered since took one more off, not below zero. So a member of
 /// a set that passes both tests has no more references than there are such words.
 pub fn outside_counts_are_of_the_run()
-    ensures places { (w : Core) (moves : List Move) → IsConfig w.config → EndsRun w → BeginsPreparing w → AllFit (turned w) moves → IsSameTrial (turned w) (after_moves (turned w) moves) → HasSets (after_moves (turned w) moves).collector.phase → map (λ (l : Loaded). l.place) (loaded_over (turned w) moves) ≡ places_of w.config.fields (concat (turned w).collector.counts.sets) }
-    ensures passed { (w : Core) (moves : List Move) (number x : ℕ) → IsConfig w.config → EndsRun w → BeginsPreparing w → AllFit (turned w) moves → IsSameTrial (turned w) (after_moves (turned w) moves) → HasSets (after_moves (turned w) moves).collector.phase → Passes (after_moves (turned w) moves) number → (slot_at (after_moves (turned w) moves).collector.counts x).set ≡ Some number → (slot_at (after_moves (turned w) moves).collector.counts x).count ≤ seen (turned w).collector.counts number (fields_loaded w.config.fields (loaded_over (turned w) moves)) x }
-    ensures members { (w : Core) (moves : List Move) (number x : ℕ) → IsConfig w.config → EndsRun w → BeginsPreparing w → AllFit (turned w) moves → IsSameTrial (turned w) (after_moves (turned w) moves) → HasSets (after_moves (turned w) moves).collector.phase → IsOrangeIn (after_moves (turned w) moves).collector.counts number x → IsOutside (turned w).collector.counts (after_moves (turned w) moves).collector.counts (fields_loaded w.config.fields (loaded_over (turned w) moves)) number x }
+    ensures places { (w : Core) → IsConfig w.config → EndsRun w → Behind w (λ v. (moves : List Move) → BeginsPreparing v → AllFit (turned v) moves → IsSameTrial (turned v) (after_moves (turned v) moves) → HasSets (after_moves (turned v) moves).collector.phase → map (λ (l : Loaded). l.place) (loaded_over (turned v) moves) ≡ places_of v.config.fields (concat (turned v).collector.counts.sets)) }
+    ensures passed { (w : Core) → IsConfig w.config → EndsRun w → Behind w (λ v. (moves : List Move) (number x : ℕ) → BeginsPreparing v → AllFit (turned v) moves → IsSameTrial (turned v) (after_moves (turned v) moves) → HasSets (after_moves (turned v) moves).collector.phase → Passes (after_moves (turned v) moves) number → (slot_at (after_moves (turned v) moves).collector.counts x).set ≡ Some number → (slot_at (after_moves (turned v) moves).collector.counts x).count ≤ seen (turned v).collector.counts number (fields_loaded v.config.fields (loaded_over (turned v) moves)) x) }
+    ensures members { (w : Core) → IsConfig w.config → EndsRun w → Behind w (λ v. (moves : List Move) (number x : ℕ) → BeginsPreparing v → AllFit (turned v) moves → IsSameTrial (turned v) (after_moves (turned v) moves) → HasSets (after_moves (turned v) moves).collector.phase → IsOrangeIn (after_moves (turned v) moves).collector.counts number x → IsOutside (turned v).collector.counts (after_moves (turned v) moves).collector.counts (fields_loaded v.config.fields (loaded_over (turned v) moves)) number x) }
 {}
 
 /// In every state of every run of a heap with its collector, the zeros are exactly the slots without a count that are neither
@@ -136,25 +138,25 @@ pub fn zeros_are_exact()
 /// answered only where no slot is free. That a mutator leaves is decided by the step that takes its mailbox, before the one that
 /// answers. Every other step leaves all that is seen.
 pub fn answers_are_explained()
-    ensures { (w : Core) (t : ℕ) → IsConfig w.config → EndsRun w → IsMutator w.config t → is_busy (mutator w t) ≡ true → IsShown w t (answer_of (mutator (stepped w t) t)) (stepped w t) }
+    ensures { (w : Core) → IsConfig w.config → EndsRun w → Behind w (λ v. (t : ℕ) → IsMutator v.config t → is_busy (mutator v t) ≡ true → IsShown v t (answer_of (mutator (stepped v t) t)) (stepped v t)) }
 {}
 
 /// Whatever the machines ask of the heap in which they make a step holds in every state of every run of a heap with its
 /// collector: the word that a step names is there, and is one that the machine may find, and a mailbox that is taken holds what
 /// it has to. So the code that runs them tests none of it.
 pub fn conditions_are_met()
-    ensures steps { (w : Core) (t : ℕ) → IsConfig w.config → EndsRun w → IsMutator w.config t → is_busy (mutator w t) ≡ true → MayStep w t }
-    ensures turns { (w : Core) → IsConfig w.config → EndsRun w → IfSome (collector_next w.collector) (MayTurn w) }
+    ensures steps { (w : Core) → IsConfig w.config → EndsRun w → Behind w (λ v. (t : ℕ) → IsMutator v.config t → is_busy (mutator v t) ≡ true → MayStep v t) }
+    ensures turns { (w : Core) → IsConfig w.config → EndsRun w → Behind w (λ v. IfSome (collector_next v.collector) (MayTurn v)) }
 {}
 
 /// The set of which a watch is shown that it passed both tests is garbage. Behind that step, in any state of any run of a heap with its
 /// collector, each member is in the reach of no epoch from that of the last batch on, and nothing names it.
 pub fn shown_sets_are_garbage()
-    ensures { (w : Core) (members : List ℕ) (slot : ℕ) → IsConfig w.config → EndsRun w → passed_of w.collector ≡ Some members → 0 < times slot members → IsGone w slot }
+    ensures { (w : Core) → IsConfig w.config → EndsRun w → Behind w (λ v. (members : List ℕ) (slot : ℕ) → passed_of v.collector ≡ Some members → 0 < times slot members → IsGone v slot) }
 {}
 
 /// Over every run from an opening with one object, each buffer holds what its own mutator did: places and slots of the heap, and each
 /// write under a stamp of the mutator's number and the write's place in its log.
 pub fn buffers_are_their_mutators_own()
-    ensures { (config : Config) (w : Core) → IsConfig config → RunsFrom (opened config) w → HasOwnBuffers w }
+    ensures { (config : Config) (w : Core) → IsConfig config → RunsFrom (bare_core (opened config)) w → Behind w HasOwnBuffers }
 {}

@@ -1,5 +1,6 @@
 -- The modules of the proofs.
 pub mod Around
+pub mod Bare
 pub mod Found
 pub mod Leaving
 pub mod LogStamps
