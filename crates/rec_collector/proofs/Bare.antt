@@ -1,5 +1,5 @@
 -- What the collector does next and what it learns is the same in a heap of bare words: it reads of a word where it leads, and nothing else.
-use Rattle.std.proofs.Common.{◌≡◌, Bool, true, false, ℕ, ◌+◌, ◌-◌, ◌<◌, ◌≤◌, ◌==◌, if◌then◌else◌, List, [], ◌∷◌, ◌++◌, Option, None, Some, IfSome, flat_map, length, map, slice_index_or, slice_set, refl, sym, ap, subst, ◌∙◌, arith}
+use Rattle.std.proofs.Common.{◌≡◌, Bool, true, false, ℕ, ◌+◌, ◌-◌, ◌^◌, ◌<◌, ◌≤◌, ◌==◌, if◌then◌else◌, List, [], ◌∷◌, ◌++◌, Option, None, Some, IfSome, flat_map, length, map, slice_index_or, slice_set, refl, sym, ap, subst, ◌∙◌, arith}
 use Rattle.std.specs.List.{sum_by}
 use Rattle.std.proofs.Math.ListN.{get_or-map}
 use Rattle.std.proofs.lemmas.List.{map-set}
@@ -18,8 +18,8 @@ use Rattle.rec_log.specs.Words.{buffer_by, entry_by}
 use Rattle.rec_log.specs.declared.contents.Contents.{Contents}
 use Rattle.rec_log.specs.declared.entry.Entry.{Entry}
 use Rattle.rec_log.specs.declared.entry.Entry.TheVariants as entries
-use Rattle.rec_apply.specs.Batch.{batch}
-use Rattle.rec_apply.specs.Targets.{added, leaf_born, leaves, named, new_target, old_target, slots_in, taken_targets}
+use Rattle.rec_apply.specs.Batch.{applied, batch, IsCovered}
+use Rattle.rec_apply.specs.Targets.{added, leaf_born, leaves, named, new_target, old_target, slots_in, taken, taken_targets, told_buffer, told_buffers, told_each}
 use Rattle.rec_counts.specs.Batched.{batched}
 use Rattle.rec_counts.specs.Colour.{is_green}
 use Rattle.rec_counts.specs.Counts.{State, slot_at}
@@ -82,6 +82,34 @@ taken_bare (b ∷ bs) = let at : map old_target (map (entry_by bare) b.entries) 
 pub batch_bare : (s : State) (newer older : List Contents) → batch s (bare_buffers newer) (bare_buffers older) ≡ batch s newer older
 unfolding batch
 batch_bare s newer older = λ i. batched s (λ x. leaves_bare x newer i) (λ x. added_bare x newer i) (slots_in (taken_bare older i))
+
+off_bare : (x : ℕ) (bs : List Contents) → taken x (bare_buffers bs) ≡ taken x bs
+off_bare x bs = sums_bare (λ b. named x (map old_target b.entries) + named x b.snapshot) (λ b. named x (map old_target b.entries) + named x b.snapshot) (λ b. ap (λ ts. named x ts + named x b.snapshot) (old_bare b.entries)) bs
+
+-- of what a steady heap is told the words are bare too
+each_bare : (own other : List Contents) → told_each (bare_buffers own) (bare_buffers other) ≡ bare_buffers (told_each own other)
+each_bare [] others = refl
+each_bare (b ∷ bs) [] = refl
+each_bare (b ∷ bs) (c ∷ cs) = ap (λ (ds : List Contents). buffer_by bare (told_buffer true b c) ∷ ds) (each_bare bs cs)
+
+told_same : (steady : Bool) (own other : List Contents) → told_buffers steady (bare_buffers own) (bare_buffers other) ≡ bare_buffers (told_buffers steady own other)
+told_same false own other = refl
+told_same true own other = each_bare own other
+
+-- the batch of a heap
+applied_bare : (steady : Bool) (s : State) (newer older : List Contents) → applied steady s (bare_buffers newer) (bare_buffers older) ≡ applied steady s newer older
+applied_bare steady s newer older =
+    ap (λ (bs : List Contents). batch s bs (told_buffers steady (bare_buffers older) (bare_buffers newer))) (told_same steady newer older)
+    ∙ (ap (batch s (bare_buffers (told_buffers steady newer older))) (told_same steady older newer) ∙ batch_bare s (told_buffers steady newer older) (told_buffers steady older newer))
+
+-- a batch that is covered is covered still
+pub covered_bare : (s : State) (newer older : List Contents) → IsCovered s newer older → IsCovered s (bare_buffers newer) (bare_buffers older)
+covered_bare s newer older c = record {
+  in_range = λ x past. let more = added_bare x newer in let less = off_bare x older in (λ i. more i + less i) ∙ c.in_range x past;
+  born = λ x past. leaves_bare x newer ∙ c.born x past;
+  fits = λ x. subst (λ n. (slot_at s x).count + n < 2 ^ 64) (sym (added_bare x newer)) (c.fits x);
+  covered = λ x. let more = added_bare x newer in let less = off_bare x older in subst (λ n. n ≤ (slot_at s x).count + added x (bare_buffers newer)) (sym less) (subst (λ n. taken x older ≤ (slot_at s x).count + n) (sym more) (c.covered x));
+}
 
 -- ---- what comes next
 
@@ -195,7 +223,7 @@ came_bare p n = ended_if_bare n.phase (moved (with_parts p n.parts) n.phase)
 
 -- the batch
 gathering_bare : (p : Private) (x : Option ℕ) → gathering_on (bare_private p) x ≡ bare_private (gathering_on p x)
-gathering_bare p None = ap (λ s. came (bare_private p) (followed (zeros_released false (record (parts_of p) { counts = s })))) (batch_bare p.counts p.newer p.older) ∙ came_bare p (batch_next p)
+gathering_bare p None = ap (λ s. came (bare_private p) (followed (zeros_released false (record (parts_of p) { counts = s })))) (applied_bare p.steady p.counts p.newer p.older) ∙ came_bare p (batch_next p)
 gathering_bare p (Some t) = refl
 
 behind_bare : (p : Private) (t : ℕ) → behind (bare_private p) t ≡ bare_private (behind p t)
@@ -277,7 +305,7 @@ step_bare p word b op named = ap (λ (q : Private). swapped_of q (buffer_by bare
 -- ---- what a turn answers
 
 gathering_told : (p : Private) (x : Option ℕ) → gathering_turn (bare_private p) x ≡ gathering_turn p x
-gathering_told p None = ap (λ s. came_turn p.epoch (followed (zeros_released false (record (parts_of p) { counts = s }))).phase) (batch_bare p.counts p.newer p.older)
+gathering_told p None = ap (λ s. came_turn p.epoch (followed (zeros_released false (record (parts_of p) { counts = s }))).phase) (applied_bare p.steady p.counts p.newer p.older)
 gathering_told p (Some t) = refl
 
 requested_told : (p : Private) (spent : Bool) → (if spent then EpochsSpent else behind_turn (bare_private (requested p)) 0) ≡ (if spent then EpochsSpent else behind_turn (requested p) 0)

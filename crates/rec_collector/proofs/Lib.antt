@@ -2,6 +2,7 @@
 pub mod Always
 pub mod Answering
 pub mod Bare
+pub mod BareKept
 pub mod Clearing
 pub mod Common
 pub mod Counting

@@ -199,7 +199,7 @@ begun_from_bare w t work from =
     ∙ ap (λ (ps : List Private). record (bare_core w) { mutators = ps }) (sym (map-set mutators.bare_private w.mutators (t - 1) (begun_of (mutator w t) work from)))
 
 -- A move of the heap of bare words leaves the bare words of what it leaves of the one of dated words.
-pub move_bare : (w : Core) (m : Move) → IsKept w → Fits w m → after_move (bare_core w) m ≡ bare_core (after_move w m)
+pub move_bare : (w : Core) (m : Move) → IsKept true w → Fits w m → after_move (bare_core w) m ≡ bare_core (after_move w m)
 move_bare w (Move.Begins t work from) kept fits = begun_from_bare w t work from
 move_bare w (Move.Steps t) kept fits = stepped_bare w t (actor_of w t kept fits.0).own.machine
 move_bare w Move.Turns kept fits = turned_bare w

@@ -9,10 +9,12 @@ use Rattle.rec_model.specs.Reach.{named, IsReached}
 use Rattle.rec_model.specs.Sight.{Reaches, Sight, targets_of, words_of}
 use Rattle.rec_mutator.specs.Bare as mutators
 use Rattle.rec_mutator.specs.Private.{Private}
+use Rattle.rec_collector.proofs.Bare as collecting
 use Rattle.rec_core.specs.Bare.{bare_core}
 use Rattle.rec_core.specs.Core.{Core, sight}
 use Rattle.rec_core.specs.Moves.{Move, turned}
 use Rattle.rec_core.specs.Reach.{KeepsReached}
+use Rattle.rec_core.specs.Swept.{IsSweep, SweepsNothing}
 use Rattle.rec_core.proofs.Bare.{move_bare}
 use Rattle.rec_core.proofs.Dated.{Explains}
 
@@ -41,6 +43,10 @@ pub reached_too : (v : Core) (slot : ℕ) → Reaches (sight (bare_core v)) slot
 reached_too v slot from =
     subst (λ (f : ℕ → List ℕ). IsReached (roots (sight v).registers) f slot) (λ i s. targets_bare v s i) (subst (λ rss. IsReached (roots rss) (targets_of (sight (bare_core v))) slot) (registers_bare v) from)
 
+pub reached_bare : (v : Core) (slot : ℕ) → Reaches (sight v) slot → Reaches (sight (bare_core v)) slot
+reached_bare v slot from =
+    subst (λ (f : ℕ → List ℕ). IsReached (roots (sight (bare_core v)).registers) f slot) (λ i s. sym (targets_bare v s) i) (subst (λ rss. IsReached (roots rss) (targets_of (sight v)) slot) (sym (registers_bare v)) from)
+
 -- what a move leaves of what registers reach
 pub keeps_bare : (v u : Core) → KeepsReached (sight v) (sight u) → KeepsReached (sight (bare_core v)) (sight (bare_core u))
 keeps_bare v u k = record {
@@ -51,6 +57,12 @@ keeps_bare v u k = record {
       (old.0, words_bare u slot ∙ (ap (map bare) old.1 ∙ sym (words_bare v slot)));
   others = k.others;
 }
+
+-- what a turn sweeps
+pub sweep_bare : (w v : Core) → IsSweep w v → IsSweep (bare_core w) (bare_core v)
+sweep_bare w v (IsSweep.rests nothing headers freed some) = IsSweep.rests (subst SweepsNothing (sym (collecting.next_bare w.collector)) nothing) headers freed some
+sweep_bare w v (IsSweep.marks named headers freed some none) = IsSweep.marks (collecting.next_bare w.collector ∙ named) headers freed some none
+sweep_bare w v (IsSweep.frees slot named there taken unreached odd headers freed) = IsSweep.frees slot (collecting.next_bare w.collector ∙ named) there taken (λ from. unreached (reached_too w slot from)) odd headers freed
 
 -- a turn of the heap is the bare one of the heap behind it
 pub turned_behind : (v w : Core) → Explains v w → bare_core (turned v) ≡ turned w

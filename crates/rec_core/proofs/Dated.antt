@@ -1,5 +1,5 @@
 -- Behind each run of a heap stands a run of a heap of dated words, by the same moves, which is kept.
-use Rattle.std.proofs.Common.{◌≡◌, false, ℕ, List, [], ◌∷◌, refl, sym, ap, subst, ◌∙◌}
+use Rattle.std.proofs.Common.{◌≡◌, false, ℕ, List, [], ◌∷◌, refl, sym, ap, subst, ◌∙◌, true}
 use Rattle.rec_mutator.specs.Bare as mutators
 use Rattle.rec_mutator.specs.Private.{IsValid, Private, is_busy}
 use Rattle.rec_mutator.specs.declared.work.Work.{Work}
@@ -7,11 +7,12 @@ use Rattle.rec_mutator.specs.declared.work.Work.TheVariants as works
 use Rattle.rec_mutator.proofs.Bare.{busy_bare}
 use Rattle.rec_core.specs.Bare.{bare_core}
 use Rattle.rec_core.specs.Config.{IsConfig}
-use Rattle.rec_core.specs.Core.{Core, mutator, opened}
+use Rattle.rec_core.specs.Core.{Core, heap_by, mutator}
 use Rattle.rec_core.specs.Kept.{IsKept}
 use Rattle.rec_core.specs.Moves.{Move, AllFit, EndsRun, Fits, IsRun, IsStart, after_move, after_moves}
-use Rattle.rec_core.specs.OpenedFrom.{opened_from}
+use Rattle.rec_core.specs.OpenedFrom.{heap_from_by}
 use Rattle.rec_core.proofs.Bare.{move_bare, mutator_bare}
+use Rattle.rec_core.proofs.BareOpened.{heap_bare, heap_from_bare}
 use Rattle.rec_core.proofs.OpenedFrom.{opened_from_kept}
 use Rattle.rec_core.proofs.Opening.{opened_kept}
 use Rattle.rec_core.proofs.Runs.{config_after, move_kept}
@@ -40,7 +41,7 @@ fits_bare v Move.Offers fits = fits
 -- it is kept, and its bare words are those of the heap
 pub record Explains (v w : Core) : Type 0 where
   pub bare : bare_core v ≡ w
-  pub kept : IsKept v
+  pub kept : IsKept true v
 
 pub move_explained : (v w : Core) (m : Move) → Explains v w → Fits w m → Fits v m × Explains (after_move v m) (after_move w m)
 move_explained v w m e fits =
@@ -56,8 +57,8 @@ moves_explained v w (m ∷ ms) e fit =
 
 -- the dated start
 pub start_explained : (start : Core) → IsConfig start.config → IsStart start → (v : Core) × Explains v start
-start_explained start is (IsStart.opens opens) = (opened start.config, record { bare = sym opens; kept = opened_kept start.config is })
-start_explained start is (IsStart.opens_from o are labels opens) = (opened_from start.config o, record { bare = sym opens; kept = opened_from_kept start.config o is are labels })
+start_explained start is (IsStart.opens opens) = (heap_by true start.config, record { bare = heap_bare start.config ∙ sym opens; kept = opened_kept start.config is })
+start_explained start is (IsStart.opens_from o are labels opens) = (heap_from_by true start.config o, record { bare = heap_from_bare start.config o is are labels ∙ sym opens; kept = opened_from_kept start.config o is are labels })
 
 -- and the dated end, to which the same moves lead
 pub run_explained : (start : Core) (moves : List Move) (end : Core) → IsConfig start.config → IsRun start moves end → (v : Core) × Explains v end

@@ -239,7 +239,7 @@ late_at config requested t p crossing b left (Returning u) present h = own_late 
 late_at config requested t p crossing b left _ present h = omega (arith, home_late config requested p crossing b (has_left left t) present h)
 
 -- a step of a mutator
-module _ (w : Core) (t : ℕ) (kept : IsKept w) (is : IsMutator w.config t) (busy : is_busy (mutator w t) ≡ true) where
+module _ (w : Core) (t : ℕ) (kept : IsKept true w) (is : IsMutator w.config t) (busy : is_busy (mutator w t) ≡ true) where
   abbrev p : Private
   p = mutator w t
 
@@ -344,7 +344,7 @@ op_goes w v ops.AddFreed epoch place slots fields mutators is names = Goes.stays
 op_goes w v _ epoch place slots fields mutators is names = absurd names
 
 -- a turn of the collector
-module _ (w : Core) (op : Op) (kept : IsKept w) (named : ◌≡◌ {A = Option Op} (collectors_next.next_of w.collector) (Some op)) where
+module _ (w : Core) (op : Op) (kept : IsKept true w) (named : ◌≡◌ {A = Option Op} (collectors_next.next_of w.collector) (Some op)) where
   open w use {collector as c}
 
   abbrev found : ℕ
@@ -369,7 +369,7 @@ module _ (w : Core) (op : Op) (kept : IsKept w) (named : ◌≡◌ {A = Option O
       let many : length c.newer ≡ w.config.mutators = kept.collector.mutators in
       none_of (wrote g) c.older (collectors.blank 0 0) (λ i below.
       let at : i + 1 - 1 ≡ i = omega arith in
-      let one : IsBufferOf w.config (older_at w.epoch c.phase) (slice_index_or c.older i (collectors.blank 0 0)) = subst (λ n. IsBufferOf w.config (older_at w.epoch c.phase) (slice_index_or c.older n (collectors.blank 0 0))) at (kept.collector.older (i + 1) (omega arith, omega (arith, below, both, many))) in
+      let one : IsBufferOf true w.config (older_at w.epoch c.phase) (slice_index_or c.older i (collectors.blank 0 0)) = subst (λ n. IsBufferOf true w.config (older_at w.epoch c.phase) (slice_index_or c.older n (collectors.blank 0 0))) at (kept.collector.older (i + 1) (omega arith, omega (arith, below, both, many))) in
       early_writes g (older_at w.epoch c.phase) (tried_in w) (slice_index_or c.older i (collectors.blank 0 0)).entries (older_early w.config.first_epoch c.collections w.epoch c.phase kept.config.some_epoch kept.collector.begun) early one.made)
 
   rows_keep : v.boxes ≡ w.boxes → Rows c q → (g : Write → ℕ) → ((x : Write) → epoch_of x.new < tried_in w → g x ≡ 0) → sum_by g (writes_of w) ≤ sum_by g (writes_of v)
@@ -430,15 +430,15 @@ module _ (w : Core) (op : Op) (kept : IsKept w) (named : ◌≡◌ {A = Option O
 same_keeps : (w v : Core) (epoch : ℕ) → v.words ≡ w.words → ((g : Write → ℕ) → sum_by g (writes_of w) ≤ sum_by g (writes_of v)) → Keeps w v [] epoch
 same_keeps w v epoch words writes = record { words = λ place. Goes.stays (ap (λ ws. slice_index_or ws place 0) words); writes = λ g _. writes g }
 
-turn_keeps : (w : Core) → IsKept w → Keeps w (turned w) (cleared_in w Move.Turns) (tried_in w)
+turn_keeps : (w : Core) → IsKept true w → Keeps w (turned w) (cleared_in w Move.Turns) (tried_in w)
 turn_keeps w kept = turn_case w (λ o v. Keeps w v (cleared_by w o) (tried_in w)) (λ none. same_keeps w w (tried_in w) refl (λ g. omega arith)) (λ op named. op_keeps w op kept named)
 
-begun_keeps : (w : Core) (t : ℕ) (work : Work) (from : ℕ) → IsKept w → IsMutator w.config t → Keeps w (begun_from w t work from) [] (tried_in w)
+begun_keeps : (w : Core) (t : ℕ) (work : Work) (from : ℕ) → IsKept true w → IsMutator w.config t → Keeps w (begun_from w t work from) [] (tried_in w)
 unfolding begun_of
 begun_keeps w t work from kept is = same_keeps w (begun_from w t work from) (tried_in w) refl (λ g. omega (arith, writes_sum g (begun_from w t work from), writes_sum g w, sum_by-set (λ (x : Private). wrote g x.log) w.mutators (t - 1) (begun_of (mutator w t) work from) nobody (in_list w t kept is), zip_sum-first_same (wrote_in_box g) w.mutators w.boxes (t - 1) (begun_of (mutator w t) work from) nobody (λ b. refl)))
 
 -- each move keeps what was loaded
-pub move_keeps : (w : Core) (m : Move) → IsKept w → Fits w m → Keeps w (after_move w m) (cleared_in w m) (tried_in w)
+pub move_keeps : (w : Core) (m : Move) → IsKept true w → Fits w m → Keeps w (after_move w m) (cleared_in w m) (tried_in w)
 move_keeps w (Move.Begins t work from) kept fits = begun_keeps w t work from kept fits.0
 move_keeps w (Move.Steps t) kept fits = step_keeps w t kept fits.0 fits.1
 move_keeps w Move.Turns kept fits = turn_keeps w kept

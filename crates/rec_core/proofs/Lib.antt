@@ -3,6 +3,9 @@ pub mod Actors
 pub mod Applying
 pub mod Asked
 pub mod Bare
+pub mod BareKept
+pub mod BareOpened
+pub mod BareRuns
 pub mod BareSeen
 pub mod Batches
 pub mod Begun

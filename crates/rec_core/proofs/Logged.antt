@@ -1,10 +1,11 @@
 -- The buffers of every run are their mutators' own: through each step of a mutator.
-use Rattle.std.proofs.Common.{◌≡◌, ◌≢◌, inl, inr, Bool, ℕ, ◌+◌, ◌-◌, ◌*◌, ◌^◌, ◌<◌, ◌≤◌, Option, None, Some, List, [], ◌∷◌, ◌++◌, true, length, replicate, slice_index_or, slice_set, refl, sym, ap, subst, ◌∙◌, arith, length-append}
+use Rattle.std.proofs.Common.{◌≡◌, ◌≢◌, inl, inr, Bool, ℕ, ◌+◌, ◌-◌, ◌*◌, ◌^◌, ◌<◌, ◌≤◌, Option, None, Some, List, [], ◌∷◌, ◌++◌, true, length, replicate, slice_index_or, slice_set, refl, sym, ap, subst, ◌∙◌, arith, length-append, false}
 use Rattle.std.proofs.lemmas.Bool.{cases_eq, cases_lt}
 use Rattle.std.proofs.lemmas.List.{get_or-append_right, get_or-replicate, get_or-set_other, get_or-set_same, get_or_append_left, get_or_past, length-replicate, length-set}
 use Rattle.rec_core.proofs.Common.{header_word, target_bits, stamp_of, place_of, Op, Contents, Entry, Private, register, is_busy, Step, Decides, GoesOn, blank, IsMutator, Core, cells_of, mutator, box, nobody, IsKept, found_by, Config}
+use Rattle.rec_word.specs.Bare.{dated_word}
 use Rattle.rec_word.specs.Op.{cell_of, written}
-use Rattle.rec_word.specs.Word.{low_bits, predecessor, target_of}
+use Rattle.rec_word.specs.Word.{low_bits, packed, IsStamp}
 use Rattle.rec_word.specs.declared.cell.Cell.{Cell}
 use Rattle.rec_word.specs.declared.cell.Cell.TheVariants as words
 use Rattle.rec_word.specs.declared.op.Op.TheVariants as ops
@@ -19,8 +20,7 @@ use Rattle.rec_mutator.specs.Step.{Crosses, HasLeft, LeavesBox, LetsGo}
 use Rattle.rec_mutator.specs.Took.{left_of, step_of, took_of}
 use Rattle.rec_mutator.specs.declared.phase.Phase as phases
 use Rattle.rec_mutator.proofs.Around.{behind_below}
-use Rattle.rec_mutator.proofs.LogStamps.{word_stamp, word_target}
-use Rattle.rec_mutator.specs.Step.{HasRoom}
+use Rattle.rec_mutator.proofs.LogStamps.{word_stamp}
 use Rattle.rec_mutator.proofs.Refusals.{at_phase}
 use Rattle.rec_mutator.proofs.Steps.{whole_made}
 use Rattle.rec_core.specs.Cells.{Cells, cell, with_cell, with_word}
@@ -31,7 +31,7 @@ use Rattle.rec_core.proofs.Steps.{actor_of, register_taken, taken_slot}
 -- ---- words
 
 pub null_word : (config : Config) → IsFieldWord config 0
-null_word config = record { leads = omega arith }
+null_word config = record { leads = omega arith; fits = omega arith }
 
 abbrev AreFieldWords : Config → List ℕ → Type 0
 AreFieldWords config xs = (place : ℕ) → IsFieldWord config (slice_index_or xs place 0)
@@ -113,15 +113,17 @@ leaves {config = config} {t = t} log l = record { word = subst (WritesWord confi
 left : {config : Config} {t : ℕ} {p : Private} {op : Op} {q : Private} → IsOwnBuffer config t p.log → HasLeft p op q → DoesOwn config t op q
 left {config = config} {t = t} log l = record { word = subst (WritesWord config) (sym l.operation) tt; log = subst (IsOwnBuffer config t) (sym (ap (λ (x : Private). x.log) l.after)) log }
 
--- a word that is put is one of the heap
-put_word : (config : Config) (p : Private) (val : ℕ) → target_of (word_for p val) ≡ register p val → low_bits (register p val) ≤ config.slots → IsFieldWord config (word_for p val)
-put_word config p val leads few = record { leads = subst (λ n. n ≤ config.slots) (sym (bits_of (word_for p val) (register p val) leads)) few }
+-- a packed word is one of the heap
+packed_word : (config : Config) (target : Option ℕ) (stamp : Stamp) → IsStamp stamp → low_bits target ≤ config.slots → config.slots ≤ 65535 → IsFieldWord config (packed target stamp)
+packed_word config target stamp is leads few =
+    let small : low_bits target ≤ 65535 = omega arith in
+    record { leads = bits (low_bits target) (is.writer) (is.epoch) (is.index) small leads; fits = fits (low_bits target) is.writer is.epoch is.index small }
   where
-    low_target : (n : ℕ) → low_bits (predecessor n) ≡ n
-    low_target n = grind arith
+    bits : (n : ℕ) → stamp.writer < 2 ^ 6 → stamp.epoch < 2 ^ 24 → stamp.index < 2 ^ 18 → n ≤ 65535 → n ≤ config.slots → target_bits (n + stamp.epoch * 2 ^ 16 + stamp.writer * 2 ^ 40 + stamp.index * 2 ^ 46) ≤ config.slots
+    bits n a b c few most = grind arith
 
-    bits_of : (word : ℕ) (x : Option ℕ) → target_of word ≡ x → target_bits word ≡ low_bits x
-    bits_of word x is = sym (low_target (target_bits word)) ∙ ap low_bits is
+    fits : (n : ℕ) → stamp.writer < 2 ^ 6 → stamp.epoch < 2 ^ 24 → stamp.index < 2 ^ 18 → n ≤ 65535 → n + stamp.epoch * 2 ^ 16 + stamp.writer * 2 ^ 40 + stamp.index * 2 ^ 46 < 2 ^ 64
+    fits n a b c few = omega arith
 
 -- what a register names is below the slots
 low_of : (config : Config) (x : Option ℕ) → ((slot : ℕ) → x ≡ Some slot → slot < config.slots) → low_bits x ≤ config.slots
@@ -130,12 +132,12 @@ low_of config (Some slot) below = let h : slot < config.slots = below slot refl 
 
 -- what is known of a mutator whose step it is, and of the word that it finds
 record Acts (w : Core) (t : ℕ) : Type 0 where
-  kept : IsKept w
+  kept : IsKept false w
   is : IsMutator w.config t
   own : HasOwnBuffers w
 
 -- what a register names is a slot
-names_slot : (w : Core) (t r slot : ℕ) → IsKept w → register (mutator w t) r ≡ Some slot → slot < w.config.slots
+names_slot : (w : Core) (t r slot : ℕ) → IsKept false w → register (mutator w t) r ≡ Some slot → slot < w.config.slots
 names_slot w t r slot kept names = taken_slot w kept slot (register_taken w kept t r slot names)
 
 -- a write
@@ -146,11 +148,12 @@ put_does w t src f val slot word op q a found d =
     let p : Private = mutator w t in
     let actor = actor_of w t a.kept a.is in
     let store = (at_phase p _ actor.own.machine d.phase).0 in
+    let few : w.config.slots ≤ 65535 = a.kept.config.few_slots in
     let log : length p.log.entries < p.log.capacity = store.room in
     let most : p.log.capacity ≤ 2 ^ 18 = actor.own.machine.capacity in
     let stamp : stamp_of (word_for p val) ≡ next_stamp p = word_stamp p val actor.own.machine store.stamp (λ full. absurd (omega arith)) in
-    let room : HasRoom p = λ full. absurd (omega arith) in
-    let new : IsFieldWord w.config (word_for p val) = put_word w.config p val (word_target p val actor.own.machine store.stamp room) (low_of w.config (register p val) (λ s names. names_slot w t val s a.kept names)) in
+    let packs : IsFieldWord w.config (packed (register p val) (next_stamp p)) = packed_word w.config (register p val) (next_stamp p) (record { writer = actor.own.machine.number; epoch = store.stamp; index = omega arith }) (low_of w.config (register p val) (λ s names. names_slot w t val s a.kept names)) few in
+    let new : IsFieldWord w.config (word_for p val) = subst (λ b. IsFieldWord w.config (dated_word b p.epoch (packed (register p val) (next_stamp p)))) (sym actor.own.dates) packs in
     decided {p = p} new
     (more_own w.config t p.log (entries.Put (place_of slot f p.fields) (word_for p val) word) (a.own.logs t a.is)
     (record {
@@ -225,7 +228,7 @@ each_set P config xs t x d is many all own = λ s there. elim (cases_eq s t) [
 ]
 
 -- a step of a mutator
-pub stepped_own : (w : Core) (t : ℕ) → IsKept w → HasOwnBuffers w → IsMutator w.config t → is_busy (mutator w t) ≡ true → HasOwnBuffers (stepped w t)
+pub stepped_own : (w : Core) (t : ℕ) → IsKept false w → HasOwnBuffers w → IsMutator w.config t → is_busy (mutator w t) ≡ true → HasOwnBuffers (stepped w t)
 stepped_own w t kept own is busy =
     let p : Private = mutator w t in
     let word : ℕ = found_by w t in

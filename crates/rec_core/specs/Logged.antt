@@ -11,9 +11,10 @@ use Rattle.rec_core.specs.Config.{IsMutator}
 use Rattle.rec_core.specs.Core.{Core, box, mutator}
 use Rattle.rec_core.specs.declared.config.Config.{Config}
 
--- a word that leads to a slot of the heap, or nowhere
+-- a word of 64 bits that leads to a slot of the heap, or nowhere
 pub record IsFieldWord (config : Config) (word : ℕ) : Type 0 where
   pub leads : target_bits word ≤ config.slots
+  pub fits : word < 2 ^ 64
 
 -- A write of this mutator: the word that it put bears the mutator's number, and at which place of the log the write stands.
 pub record IsOwnWrite (config : Config) (t index place new old : ℕ) : Type 0 where

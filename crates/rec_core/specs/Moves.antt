@@ -14,7 +14,6 @@ use Rattle.rec_collector.specs.Next as collector_next
 use Rattle.rec_collector.specs.Took as collector_took
 use Rattle.rec_collector.specs.declared.phase.Phase.{Phase}
 use Rattle.rec_collector.specs.declared.phase.Phase.TheVariants.{Looking}
-use Rattle.rec_core.specs.Bare.{bare_core}
 use Rattle.rec_core.specs.Cells.{cell, with_cell, births_of}
 use Rattle.rec_core.specs.Config.{IsMutator, HasLabel}
 use Rattle.rec_core.specs.Core.{Core, cells_of, with_cells, mutator, box, opened}
@@ -119,8 +118,8 @@ AllFit w (m ∷ ms) = Fits w m × AllFit (after_move w m) ms
 
 -- where a run may begin: a heap as it is opened with its numbers, with one object or from objects that a register reaches
 pub data IsStart (start : Core) : Type 0 where
-  opens : start ≡ bare_core (opened start.config) → IsStart start
-  opens_from : (o : Objects) → AreObjects start.config o → HaveLabels o.nodes → start ≡ bare_core (opened_from start.config o) → IsStart start
+  opens : start ≡ opened start.config → IsStart start
+  opens_from : (o : Objects) → AreObjects start.config o → HaveLabels o.nodes → start ≡ opened_from start.config o → IsStart start
 
 -- a run from a start, and the state at its end
 pub record IsRun (start : Core) (moves : List Move) (end : Core) : Type 0 where

@@ -19,7 +19,7 @@ ghost use Rattle.rec_counts.specs.Lists.{times};
 ghost use Rattle.rec_collector.specs.Touched.{IsOrangeIn, WasUntouched};
 ghost use Rattle.rec_collector.specs.Zeros.{AreTheZeros};
 ghost use Rattle.rec_sigma.specs.Prepared.{seen};
-ghost use Rattle.rec_core.specs.Bare.{bare_core, Behind};
+ghost use Rattle.rec_core.specs.Bare.{Behind};
 ghost use Rattle.rec_core.specs.Config.{IsConfig, IsMutator};
 ghost use Rattle.rec_core.specs.Core.{Core, sight, mutator, opened};
 ghost use Rattle.rec_word.specs.declared.op.Op.TheVariants.{FreeHeader};
@@ -40,15 +40,15 @@ ghost use Rattle.rec_core.specs.StepAnswers.{IsShown};
 ghost use Rattle.rec_core.specs.Turn.{IsTurn, turn_told};
 ghost use Rattle.rec_core.specs.declared.config.Config.{Config};
 
-/// Behind the end of every run stands a heap of dated words: its bare words are those of the end, and it keeps what every such heap
-/// keeps.
+/// What every heap keeps holds at the end of every run: behind it stands a heap of dated words, whose bare words are those of the end,
+/// and which keeps what is said of epochs too.
 pub fn runs_keep()
-    ensures { (start : Core) (moves : List Move) (end : Core) → IsConfig start.config → IsRun start moves end → (dated : Core) × (bare_core dated ≡ end) × IsKept dated }
+    ensures { (start : Core) (moves : List Move) (end : Core) → IsConfig start.config → IsRun start moves end → IsKept false end }
 {}
 
 /// Where a run ends, one from an opening with its numbers ends too: from the opening with one object, or from one from objects.
 pub fn runs_begin_with_an_opening()
-    ensures { (w : Core) → EndsRun w → RunsFrom (bare_core (opened w.config)) w ⊎ ((o : Objects) × AreObjects w.config o × HaveLabels o.nodes × RunsFrom (bare_core (opened_from w.config o)) w) }
+    ensures { (w : Core) → EndsRun w → RunsFrom (opened w.config) w ⊎ ((o : Objects) × AreObjects w.config o × HaveLabels o.nodes × RunsFrom (opened_from w.config o) w) }
 {}
 
 /// A run goes on with every move that fits its end.
@@ -98,7 +98,7 @@ pub fn true_counts_are_the_formula()
 /// freed word that is told. Then each header was claimed, once round from the slot with which the allocation was begun, and each was
 /// found taken. Full comes where that word was even and its last step found the same, and Busy tells both where that is not so.
 pub fn failed_allocations_probed_every_slot()
-    ensures { (w : Core) → IsConfig w.config → EndsRun w → Behind w (λ v. (moves : List Move) (t reg label : ℕ) (leaf : Bool) (told : Told) → IsMutator v.config t → (mutator v t).phase ≡ Begun (works.Command (allocation leaf reg label)) → AllFit v moves → BeginsNone t moves → is_busy (mutator (after_moves v moves) t) ≡ true → answer_of (mutator (stepped (after_moves v moves) t) t) ≡ Some (makes.Answered told) → FailsByProbes v t (header_word leaf label) moves (after_moves v moves) told.answer) }
+    ensures { (w : Core) (moves : List Move) (t reg label : ℕ) (leaf : Bool) (told : Told) → IsConfig w.config → EndsRun w → IsMutator w.config t → (mutator w t).phase ≡ Begun (works.Command (allocation leaf reg label)) → AllFit w moves → BeginsNone t moves → is_busy (mutator (after_moves w moves) t) ≡ true → answer_of (mutator (stepped (after_moves w moves) t) t) ≡ Some (makes.Answered told) → FailsByProbes w t (header_word leaf label) moves (after_moves w moves) told.answer }
 {}
 
 /// What the collector loads from fields stays what it is, whether marking, blackening, collecting or preparation loads it, until the
@@ -138,15 +138,15 @@ pub fn zeros_are_exact()
 /// answered only where no slot is free. That a mutator leaves is decided by the step that takes its mailbox, before the one that
 /// answers. Every other step leaves all that is seen.
 pub fn answers_are_explained()
-    ensures { (w : Core) → IsConfig w.config → EndsRun w → Behind w (λ v. (t : ℕ) → IsMutator v.config t → is_busy (mutator v t) ≡ true → IsShown v t (answer_of (mutator (stepped v t) t)) (stepped v t)) }
+    ensures { (w : Core) (t : ℕ) → IsConfig w.config → EndsRun w → IsMutator w.config t → is_busy (mutator w t) ≡ true → IsShown w t (answer_of (mutator (stepped w t) t)) (stepped w t) }
 {}
 
 /// Whatever the machines ask of the heap in which they make a step holds in every state of every run of a heap with its
 /// collector: the word that a step names is there, and is one that the machine may find, and a mailbox that is taken holds what
 /// it has to. So the code that runs them tests none of it.
 pub fn conditions_are_met()
-    ensures steps { (w : Core) → IsConfig w.config → EndsRun w → Behind w (λ v. (t : ℕ) → IsMutator v.config t → is_busy (mutator v t) ≡ true → MayStep v t) }
-    ensures turns { (w : Core) → IsConfig w.config → EndsRun w → Behind w (λ v. IfSome (collector_next v.collector) (MayTurn v)) }
+    ensures steps { (w : Core) (t : ℕ) → IsConfig w.config → EndsRun w → IsMutator w.config t → is_busy (mutator w t) ≡ true → MayStep w t }
+    ensures turns { (w : Core) → IsConfig w.config → EndsRun w → IfSome (collector_next w.collector) (MayTurn w) }
 {}
 
 /// The set of which a watch is shown that it passed both tests is garbage. Behind that step, in any state of any run of a heap with its
@@ -158,5 +158,5 @@ pub fn shown_sets_are_garbage()
 /// Over every run from an opening with one object, each buffer holds what its own mutator did: places and slots of the heap, and each
 /// write under a stamp of the mutator's number and the write's place in its log.
 pub fn buffers_are_their_mutators_own()
-    ensures { (config : Config) (w : Core) → IsConfig config → RunsFrom (bare_core (opened config)) w → Behind w HasOwnBuffers }
+    ensures { (config : Config) (w : Core) → IsConfig config → RunsFrom (opened config) w → HasOwnBuffers w }
 {}

@@ -30,10 +30,10 @@ pub record Private : Type 0 where
   pub left : Bool
   pub dates : Bool
 
--- a mutator as it is opened with these registers: its log is empty, and so is the snapshot of `regs` registers in it. The words that it
--- puts are dated.
-abbrev pub opened_with : (number epoch slots fields : ℕ) (registers : List (Option ℕ)) (regs cap : ℕ) → Private
-opened_with number epoch slots fields registers regs cap =
+-- a mutator as it is opened with these registers: its log is empty, and so is the snapshot of `regs` registers in it; and its words are
+-- dated or not
+abbrev pub opened_by : (dates : Bool) → (number epoch slots fields : ℕ) (registers : List (Option ℕ)) (regs cap : ℕ) → Private
+opened_by dates number epoch slots fields registers regs cap =
     record {
       number = number;
       epoch = epoch;
@@ -45,10 +45,14 @@ opened_with number epoch slots fields registers regs cap =
       phase = Idle;
       steps = 0;
       left = false;
-      dates = true;
+      dates = dates;
     }
 
--- a mutator as it is opened: register 0 names slot 0, all else is null or empty
+-- a machine as it is opened with these registers, as heaps have them
+abbrev pub opened_with : (number epoch slots fields : ℕ) (registers : List (Option ℕ)) (regs cap : ℕ) → Private
+opened_with number epoch slots fields registers regs cap = opened_by false number epoch slots fields registers regs cap
+
+-- a machine as it is opened: register 0 names slot 0, all else is null or empty
 abbrev pub opened : (number epoch slots fields regs cap : ℕ) → Private
 opened number epoch slots fields regs cap = opened_with number epoch slots fields (Some 0 ∷ replicate (regs - 1) None) regs cap
 

@@ -1,7 +1,6 @@
 ghost use Rattle.std.specs.Prelude.{◌≡◌, ◌⊎◌, ◌+◌, ◌^◌, ◌<◌, ◌≤◌, ◌↔◌, true, false, All, length, IfOk, IfSome, IsNone, IsTrue};
 ghost use Rattle.rec_word.specs.Place.{place_of};
 ghost use Rattle.rec_word.specs.Word.{IsTarget};
-ghost use Rattle.rec_mutator.specs.Bare.{bare_private};
 ghost use Rattle.rec_mutator.specs.Private.{Private, opened, opened_with, register, is_full, word_for, probe_of, is_busy, work_of, answer_of, HasOperands, IsValid, limit_of, HasStamp, IsMachine, KeepsSizes};
 ghost use Rattle.rec_mutator.specs.Next.{next_of, begun_op, first_op, own_word, write_op};
 ghost use Rattle.rec_mutator.specs.Causes.{HasCause, PollHasCause};
@@ -72,7 +71,7 @@ impl Machine {
         requires registers { 0 < regs }
         requires capacity { cap ≤ 2 ^ 18 }
 
-        ensures opened { IfOk result (λ machine. machine ≡ bare_private (opened number epoch slots fields regs cap)) }
+        ensures opened { IfOk result (λ machine. machine ≡ opened number epoch slots fields regs cap) }
         ensures kept { IfOk result IsMachine }
     {
         let mut frame = Frame::open(alloc, regs)?;
@@ -110,7 +109,7 @@ impl Machine {
         requires targets { All IsTarget registers.now }
         requires capacity { cap ≤ 2 ^ 18 }
 
-        ensures opened { IfOk result (λ machine. machine ≡ bare_private (opened_with number epoch slots fields registers.now (length registers.now) cap)) }
+        ensures opened { IfOk result (λ machine. machine ≡ opened_with number epoch slots fields registers.now (length registers.now) cap) }
         ensures kept { IfOk result IsMachine }
     {
         let frame = Frame::of(alloc, registers)?;

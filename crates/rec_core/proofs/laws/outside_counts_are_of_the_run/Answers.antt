@@ -1,5 +1,5 @@
 -- The outside count of a member is read off the run.
-use Rattle.std.proofs.Common.{List}
+use Rattle.std.proofs.Common.{List, true}
 use Rattle.rec_core.proofs.Common.{Core, AllFit, after_moves, IsKept, Move, turned}
 use Rattle.rec_core.specs.Loads.{IsSameTrial}
 use Rattle.rec_core.proofs.Dated.{end_explained}
@@ -9,7 +9,7 @@ use Rattle.rec_core.proofs.Runs.{move_kept}
 use Rattle.rec_core.proofs.laws.outside_counts_are_of_the_run.Goals as goal
 
 -- the moves from the preparation on
-same_trial : (v : Core) (moves : List Move) → IsKept v → AllFit (turned v) moves → IsSameTrial (turned v) (after_moves (turned v) moves) → BeginsNoTrial (turned v) moves
+same_trial : (v : Core) (moves : List Move) → IsKept true v → AllFit (turned v) moves → IsSameTrial (turned v) (after_moves (turned v) moves) → BeginsNoTrial (turned v) moves
 same_trial v moves kept fit same = no_trial (turned v) moves (move_kept v Move.Turns kept tt) fit same
 
 pub returns : goal.returns
