@@ -59,6 +59,7 @@ pub mod SetTests
 pub mod Shapes
 pub mod Showing
 pub mod Shows
+pub mod Stamped
 pub mod Step
 pub mod Steps
 pub mod Sums

@@ -215,7 +215,7 @@ module _ (config : Config) (is : IsConfig config) where
   not_wrong : (x : ℕ) → is_wrong_register last config.first_epoch (dated config.first_epoch x) ≡ 0
   not_wrong x = grind (arith, nat_tests, some_epoch)
 
-  pending_opens : IsOpening (pending start) config.first_epoch config.mutators
+  pub pending_opens : IsOpening (pending start) config.first_epoch config.mutators
   pending_opens = record {
     applied = omega (arith, some_epoch);
     requested = refl;
