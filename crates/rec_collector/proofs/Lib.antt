@@ -1,6 +1,8 @@
 -- The modules of the proofs.
 pub mod Always
 pub mod Answering
+pub mod Bare
+pub mod BareKept
 pub mod Clearing
 pub mod Common
 pub mod Counting

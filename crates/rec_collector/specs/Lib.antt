@@ -1,4 +1,5 @@
 -- The modules of the definitions.
+pub mod Bare
 pub mod Causes
 pub mod Clearing
 pub mod Followed

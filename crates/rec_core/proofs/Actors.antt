@@ -14,11 +14,11 @@ use Rattle.rec_mutator.specs.Private.{is_busy, is_busy_at}
 use Rattle.rec_mutator.specs.Took.{is_uncollected_in}
 use Rattle.rec_mutator.specs.declared.phase.Phase as phases
 use Rattle.rec_mutator.specs.declared.phase.Phase.TheVariants as at
-use Rattle.rec_mutator.proofs.Sizes.{step_keeps}
+use Rattle.rec_mutator.proofs.Sizes.{step_keeps, step_dates}
 use Rattle.rec_mutator.proofs.Machines.{IsBox, step_machine}
 
 -- a mutator that isn't finished with its work hasn't left
-pub busy_stays : {config : Config} {t : ℕ} {p : Private} → IsOwn config t p → is_busy p ≡ true → p.left ≡ false
+pub busy_stays : {dated : Bool} → {config : Config} {t : ℕ} {p : Private} → IsOwn dated config t p → is_busy p ≡ true → p.left ≡ false
 busy_stays {p = p} own busy = elim (cases_Bool p.left) [ inl left ↦ absurd (false≢true (sym (own.idle left) ∙ busy)) | inr stays ↦ stays ]
 
 -- one that doesn't leave is idle where it has left
@@ -26,7 +26,7 @@ pub idle_of : (p q : Private) → p.left ≡ false → q.left ≡ p.left → q.l
 idle_of p q stays same left = absurd (false≢true (sym stays ∙ sym same ∙ left))
 
 -- the machine of a mutator after its step
-pub own_stepped : {config : Config} {t : ℕ} {p : Private} {word : ℕ} {box : Contents} {op : Op} {q : Private} → IsOwn config t p → IsBox p box → IsFound p op word → Step p word box op q → HasLabelAt q.phase → (q.left ≡ true → is_busy q ≡ false) → IsOwn config t q
+pub own_stepped : {config : Config} {t : ℕ} {p : Private} {word : ℕ} {box : Contents} {op : Op} {q : Private} → IsOwn true config t p → IsBox p box → IsFound p op word → Step p word box op q → HasLabelAt q.phase → (q.left ≡ true → is_busy q ≡ false) → IsOwn true config t q
 own_stepped own sized found step label idle =
     let same : KeepsSizes _ _ = (step_keeps sized.capacity step).0 in
     record {
@@ -39,6 +39,7 @@ own_stepped own sized found step label idle =
       between = step_between step;
       label = label;
       idle = idle;
+      dates = step_dates step ∙ own.dates;
     }
 
 -- a settled mutator gives no mailbox back
@@ -179,17 +180,17 @@ leaving_home config requested p crossing box stand stays phase h = go stand h
 
 -- an actor whose step leaves its log, its epoch and its mailbox
 pub actor_stays : {config : Config} {requested : ℕ} {stand : Handshake} {t : ℕ} {p q : Private} {crossing : ℕ} {box : Contents}
-    → IsActor config requested stand t p crossing box → IsOwn config t q → p.left ≡ false → gives_back p.phase ≡ false → gives_back q.phase ≡ false → ((mailbox : Mailbox) → crossing ≡ crossing_word requested mailbox → IsSettledIn mailbox q.phase) → q.epoch ≡ p.epoch → q.left ≡ p.left
-    → IsBufferOf config (epoch_at p) q.log → named q.log.snapshot ≡ [] → q.log.last ≡ false → IsActor config requested stand t q crossing box
+    → IsActor true config requested stand t p crossing box → IsOwn true config t q → p.left ≡ false → gives_back p.phase ≡ false → gives_back q.phase ≡ false → ((mailbox : Mailbox) → crossing ≡ crossing_word requested mailbox → IsSettledIn mailbox q.phase) → q.epoch ≡ p.epoch → q.left ≡ p.left
+    → IsBufferOf true config (epoch_at p) q.log → named q.log.snapshot ≡ [] → q.log.last ≡ false → IsActor true config requested stand t q crossing box
 actor_stays {config = config} {requested = requested} {stand = stand} {t = t} {p = p} {q = q} {crossing = crossing} {box = box} a own stays here next settled epoch left log unwritten unmarked =
     let same : epoch_at q ≡ epoch_at p = epoch_here q next ∙ epoch ∙ sym (epoch_here p here) in
     record {
       own = own;
-      log = subst (λ (e : ℕ). IsBufferOf config e q.log) (sym same) log;
+      log = subst (λ (e : ℕ). IsBufferOf true config e q.log) (sym same) log;
       unwritten = unwritten;
       unmarked = unmarked;
       let_go = λ gone. absurd (false≢true (sym (holds_registers q (left ∙ stays) (not_parting q.phase next)) ∙ gone));
-      mailbox = subst (λ (e : ℕ). IsBufferOf config (e - 1) box) (sym same) a.mailbox;
+      mailbox = subst (λ (e : ℕ). IsBufferOf true config (e - 1) box) (sym same) a.mailbox;
       handshake = handshake_stays config requested p q crossing box stand stays here next settled epoch left a.handshake;
     }
 
@@ -205,7 +206,7 @@ mailbox_told epoch Retired = ap mailbox_by (mod-mul-add epoch 4 2 (lit< tt))
 mailbox_told epoch WithCollector = ap mailbox_by (mod-mul-add epoch 4 3 (lit< tt))
 
 -- a log with one entry more
-pub one_entry : (config : Config) (epoch : ℕ) (b : Contents) (entry : Entry) → IsBufferOf config epoch b → length b.entries < b.capacity → IsMadeIn epoch entry → IsBufferOf config epoch (record b { entries = b.entries ++ entry ∷ [] })
+pub one_entry : (config : Config) (epoch : ℕ) (b : Contents) (entry : Entry) → IsBufferOf true config epoch b → length b.entries < b.capacity → IsMadeIn epoch entry → IsBufferOf true config epoch (record b { entries = b.entries ++ entry ∷ [] })
 one_entry config epoch b entry is room made =
     let more : length (b.entries ++ entry ∷ []) ≡ length b.entries + 1 = length-append b.entries (entry ∷ []) in
     record {
@@ -216,13 +217,13 @@ one_entry config epoch b entry is room made =
     }
 
 -- a spare buffer is one of any epoch
-pub spare_buffer : (config : Config) (epoch : ℕ) → IsBufferOf config epoch (spare_of config)
+pub spare_buffer : (config : Config) (epoch : ℕ) → IsBufferOf true config epoch (spare_of config)
 spare_buffer config epoch = record { snapshot = length-replicate config.registers None; capacity = refl; few = omega arith; made = All-nil (IsMadeIn epoch) }
 
 -- all mutators, where one is changed with its crossing word and its mailbox
 pub others_stay : {config : Config} {requested : ℕ} {stands : (t : ℕ) → Handshake} {mutators : List Private} {crossing : List ℕ} {boxes : List Contents} (t : ℕ) (q : Private) (word : ℕ) (box : Contents)
-    → HasMutators config requested stands mutators crossing boxes → IsMutator config t → IsActor config requested (stands t) t q word box
-    → HasMutators config requested stands (slice_set mutators (t - 1) q) (slice_set crossing (t - 1) word) (slice_set boxes (t - 1) box)
+    → HasMutators true config requested stands mutators crossing boxes → IsMutator config t → IsActor true config requested (stands t) t q word box
+    → HasMutators true config requested stands (slice_set mutators (t - 1) q) (slice_set crossing (t - 1) word) (slice_set boxes (t - 1) box)
 others_stay {config = config} {requested = requested} {stands = stands} {mutators = mutators} {crossing = crossing} {boxes = boxes} t q word box m is actor =
     let many : length mutators ≡ config.mutators = m.many in
     let words : length crossing ≡ config.mutators = m.words in
@@ -236,22 +237,22 @@ others_stay {config = config} {requested = requested} {stands = stands} {mutator
             let p_is : slice_index_or (slice_set mutators (t - 1) q) (s - 1) nobody ≡ q = ap (λ n. slice_index_or (slice_set mutators (t - 1) q) (n - 1) nobody) same ∙ get_or-set_same mutators (t - 1) q nobody (omega (arith, is.0, is.1)) in
             let word_is : slice_index_or (slice_set crossing (t - 1) word) (s - 1) 0 ≡ word = ap (λ n. slice_index_or (slice_set crossing (t - 1) word) (n - 1) 0) same ∙ get_or-set_same crossing (t - 1) word 0 (omega (arith, is.0, is.1)) in
             let box_is : slice_index_or (slice_set boxes (t - 1) box) (s - 1) (blank 0 0) ≡ box = ap (λ n. slice_index_or (slice_set boxes (t - 1) box) (n - 1) (blank 0 0)) same ∙ get_or-set_same boxes (t - 1) box (blank 0 0) (omega (arith, is.0, is.1)) in
-            actor_as s p_is word_is box_is (subst (λ (n : ℕ). IsActor config requested (stands n) n q word box) (sym same) actor)
+            actor_as s p_is word_is box_is (subst (λ (n : ℕ). IsActor true config requested (stands n) n q word box) (sym same) actor)
         | inr other ↦
             let apart : (s - 1) ≢ (t - 1) = λ e. other (omega (arith, is.0, there.0)) in
             actor_as s (get_or-set_other mutators (t - 1) (s - 1) q nobody apart) (get_or-set_other crossing (t - 1) (s - 1) word 0 apart) (get_or-set_other boxes (t - 1) (s - 1) box (blank 0 0) apart) (m.each s there)
       ];
     }
   where
-    actor_as : (s : ℕ) {p p2 : Private} {n n2 : ℕ} {b b2 : Contents} → p2 ≡ p → n2 ≡ n → b2 ≡ b → IsActor config requested (stands s) s p n b → IsActor config requested (stands s) s p2 n2 b2
+    actor_as : (s : ℕ) {p p2 : Private} {n n2 : ℕ} {b b2 : Contents} → p2 ≡ p → n2 ≡ n → b2 ≡ b → IsActor true config requested (stands s) s p n b → IsActor true config requested (stands s) s p2 n2 b2
     actor_as s {p} {p2} {n} {n2} {b} {b2} ps ns bs a =
-        subst (λ (x : Private). IsActor config requested (stands s) s x n2 b2) (sym ps) (subst (λ (x : ℕ). IsActor config requested (stands s) s p x b2) (sym ns) (subst (λ (x : Contents). IsActor config requested (stands s) s p n x) (sym bs) a))
+        subst (λ (x : Private). IsActor true config requested (stands s) s x n2 b2) (sym ps) (subst (λ (x : ℕ). IsActor true config requested (stands s) s p x b2) (sym ns) (subst (λ (x : Contents). IsActor true config requested (stands s) s p n x) (sym bs) a))
 
 -- where the crossing word and the mailbox stay
 pub mutator_changes : {config : Config} {requested : ℕ} {stands : (t : ℕ) → Handshake} {mutators : List Private} {crossing : List ℕ} {boxes : List Contents} (t : ℕ) (q : Private)
-    → HasMutators config requested stands mutators crossing boxes → IsMutator config t → IsActor config requested (stands t) t q (slice_index_or crossing (t - 1) 0) (slice_index_or boxes (t - 1) (blank 0 0))
-    → HasMutators config requested stands (slice_set mutators (t - 1) q) crossing boxes
+    → HasMutators true config requested stands mutators crossing boxes → IsMutator config t → IsActor true config requested (stands t) t q (slice_index_or crossing (t - 1) 0) (slice_index_or boxes (t - 1) (blank 0 0))
+    → HasMutators true config requested stands (slice_set mutators (t - 1) q) crossing boxes
 mutator_changes {config = config} {requested = requested} {stands = stands} {mutators = mutators} {crossing = crossing} {boxes = boxes} t q m is actor =
-    subst (λ (cs : List ℕ). HasMutators config requested stands (slice_set mutators (t - 1) q) cs boxes) (set-get_or crossing (t - 1) 0)
-    (subst (λ (bs : List Contents). HasMutators config requested stands (slice_set mutators (t - 1) q) (slice_set crossing (t - 1) (slice_index_or crossing (t - 1) 0)) bs) (set-get_or boxes (t - 1) (blank 0 0))
+    subst (λ (cs : List ℕ). HasMutators true config requested stands (slice_set mutators (t - 1) q) cs boxes) (set-get_or crossing (t - 1) 0)
+    (subst (λ (bs : List Contents). HasMutators true config requested stands (slice_set mutators (t - 1) q) (slice_set crossing (t - 1) (slice_index_or crossing (t - 1) 0)) bs) (set-get_or boxes (t - 1) (blank 0 0))
     (others_stay t q (slice_index_or crossing (t - 1) 0) (slice_index_or boxes (t - 1) (blank 0 0)) m is actor))

@@ -94,7 +94,7 @@ by_number n i below = (omega arith, omega arith)
 
 -- a buffer of an epoch from the requested one on, or a spare
 record IsFar (config : Config) (requested epoch : ℕ) (b : Contents) : Type 0 where
-  pub buffer : IsBufferOf config epoch b
+  pub buffer : IsBufferOf true config epoch b
   pub late : (requested ≤ epoch) ⊎ (b ≡ spare_of config)
 
 -- a batch counts nothing of it
@@ -118,7 +118,7 @@ record IsFarFrom (config : Config) (requested : ℕ) (p : Private) (box : Conten
 
 -- where a mutator has left
 far_left : {config : Config} {requested : ℕ} {stand : Handshake} {t : ℕ} {p : Private} {crossing : ℕ} {box : Contents}
-    → IsActor config requested stand t p crossing box → p.left ≡ true → (requested ≤ epoch_at p - 1) ⊎ (box ≡ spare_of config) → IsFarFrom config requested p box
+    → IsActor true config requested stand t p crossing box → p.left ≡ true → (requested ≤ epoch_at p - 1) ⊎ (box ≡ spare_of config) → IsFarFrom config requested p box
 far_left {p = p} a left late = record {
   log = record { buffer = a.log; late = inr (a.let_go (left_let_go p left)).log };
   mailbox = record { buffer = a.mailbox; late = late };
@@ -127,7 +127,7 @@ far_left {p = p} a left late = record {
 
 -- where its turn in the gathering is past
 far_done : {config : Config} {requested : ℕ} {stand : Handshake} {t : ℕ} {p : Private} {crossing : ℕ} {box : Contents}
-    → IsActor config requested stand t p crossing box → IsHandshake config requested p crossing box Handshake.Done → IsFarFrom config requested p box
+    → IsActor true config requested stand t p crossing box → IsHandshake config requested p crossing box Handshake.Done → IsFarFrom config requested p box
 far_done a (inl (crossed, stays, spare)) =
     let here = crossed_here crossed in
     record { log = record { buffer = a.log; late = inl (omega (arith, here)) }; mailbox = record { buffer = a.mailbox; late = inr spare }; registers = inr (omega (arith, here)) }
@@ -153,7 +153,7 @@ zip_within f most (x ∷ xs) (y ∷ ys) d e within =
     omega (arith, sum_by-cons f (x, y) (zip xs ys), product)
 
 -- Every mailbox is home: what the batch counts.
-module _ (w : Core) (t : ℕ) (kept : IsKeptBy (stand_at w.collector.left Opening) w) (phase : w.collector.phase ≡ Returning t) where
+module _ (w : Core) (t : ℕ) (kept : IsKeptBy true (stand_at w.collector.left Opening) w) (phase : w.collector.phase ≡ Returning t) where
   open w use {collector as c}
   open kept use {collector.{slots as slots_are}}
 
@@ -169,7 +169,7 @@ module _ (w : Core) (t : ℕ) (kept : IsKeptBy (stand_at w.collector.left Openin
     | inr present ↦ far_done (actor s there) (subst (IsHandshake w.config w.epoch (mutator w s) (crossing_of w s) (box w s)) (cond-false (has_left c.left s) Handshake.Gone Handshake.Done present) (actor s there).handshake)
   ]
     where
-      actor : (s : ℕ) → IsMutator w.config s → IsActor w.config w.epoch (stand_at c.left Opening s) s (mutator w s) (crossing_of w s) (box w s)
+      actor : (s : ℕ) → IsMutator w.config s → IsActor true w.config w.epoch (stand_at c.left Opening s) s (mutator w s) (crossing_of w s) (box w s)
       actor s there = kept.mutators.each s there
 
   some_epochs : 2 ≤ w.epoch
@@ -192,11 +192,11 @@ module _ (w : Core) (t : ℕ) (kept : IsKeptBy (stand_at w.collector.left Openin
       let at : i + 1 - 1 ≡ i = omega arith in
       subst (λ n. IsFarFrom w.config w.epoch (slice_index_or w.mutators n nobody) (slice_index_or w.boxes n (collectors.blank 0 0))) at (far (i + 1) is)
 
-  newer_of : (i : ℕ) → i < length c.newer → IsBufferOf w.config (w.epoch - 1) (slice_index_or c.newer i (collectors.blank 0 0))
+  newer_of : (i : ℕ) → i < length c.newer → IsBufferOf true w.config (w.epoch - 1) (slice_index_or c.newer i (collectors.blank 0 0))
   newer_of = buffer_there w.config (w.epoch - 1) c.newer many kept.collector.newer
 
-  older_of : (i : ℕ) → i < length c.older → IsBufferOf w.config (w.epoch - 2) (slice_index_or c.older i (collectors.blank 0 0))
-  older_of = buffer_there w.config (w.epoch - 2) c.older (kept.collector.machine.both ∙ many) (λ t is. subst (λ e. IsBufferOf w.config e (collectors.buffer_at c.older (t - 1))) older_is (kept.collector.older t is))
+  older_of : (i : ℕ) → i < length c.older → IsBufferOf true w.config (w.epoch - 2) (slice_index_or c.older i (collectors.blank 0 0))
+  older_of = buffer_there w.config (w.epoch - 2) c.older (kept.collector.machine.both ∙ many) (λ t is. subst (λ e. IsBufferOf true w.config e (collectors.buffer_at c.older (t - 1))) older_is (kept.collector.older t is))
 
   -- what is added by the accounts is what the newer buffers add
   pub added_is : (x : ℕ) → added (pending w) (x + 1) ≡ targets.added x c.newer
@@ -331,7 +331,7 @@ module _ (w : Core) (t : ℕ) (kept : IsKeptBy (stand_at w.collector.left Openin
         ap (λ n. n * cap) (sym (both ∙ many)),
       )
     where
-      log_within : {e : ℕ} {b : Contents} → IsBufferOf w.config e b → length (writes_in b.entries) ≤ w.config.log_entries
+      log_within : {e : ℕ} {b : Contents} → IsBufferOf true w.config e b → length (writes_in b.entries) ≤ w.config.log_entries
       log_within {e} {b} is = let capacity : b.capacity ≡ w.config.log_entries = is.capacity in omega (arith, fewer_writes b.entries, is.few)
 
   few_names : length (snapshots_of w) ≤ 252 * 64
@@ -355,7 +355,7 @@ module _ (w : Core) (t : ℕ) (kept : IsKeptBy (stand_at w.collector.left Openin
         ap (λ n. n * cap) (sym (both ∙ many)),
       )
     where
-      names_within : {e : ℕ} {b : Contents} (o : ℕ) → IsBufferOf w.config e b → length (dated_names o b.snapshot) ≤ w.config.registers
+      names_within : {e : ℕ} {b : Contents} (o : ℕ) → IsBufferOf true w.config e b → length (dated_names o b.snapshot) ≤ w.config.registers
       names_within {e} {b} o is = omega (arith, fewer_names o b.snapshot, is.snapshot)
 
   few_words : length w.words ≤ 65535 * 16

@@ -11,10 +11,10 @@ use Rattle.rec_collector.specs.Private as collectors
 use Rattle.rec_core.proofs.Moves.{code_target}
 
 -- what is known of each mutator's buffer is known at each place of their row
-pub buffer_there : (config : Config) (epoch : ℕ) (row : List Contents) → length row ≡ config.mutators → ((t : ℕ) → IsMutator config t → IsBufferOf config epoch (collectors.buffer_at row (t - 1))) → (i : ℕ) → i < length row → IsBufferOf config epoch (slice_index_or row i (collectors.blank 0 0))
+pub buffer_there : (config : Config) (epoch : ℕ) (row : List Contents) → length row ≡ config.mutators → ((t : ℕ) → IsMutator config t → IsBufferOf true config epoch (collectors.buffer_at row (t - 1))) → (i : ℕ) → i < length row → IsBufferOf true config epoch (slice_index_or row i (collectors.blank 0 0))
 buffer_there config epoch row many each i below =
     let at : i + 1 - 1 ≡ i = omega arith in
-    subst (λ n. IsBufferOf config epoch (slice_index_or row n (collectors.blank 0 0))) at (each (i + 1) (omega arith, omega (arith, many)))
+    subst (λ n. IsBufferOf true config epoch (slice_index_or row n (collectors.blank 0 0))) at (each (i + 1) (omega arith, omega (arith, many)))
 
 -- one name of a slot is one of its node
 pub same_name : (x : ℕ) (target : Option ℕ) → one_if_same (x + 1) (code target) ≡ one (is_slot x target)
@@ -105,18 +105,18 @@ abbrev pub loss : (epoch node : ℕ) → (of : ℕ) → Contents → ℕ
 loss epoch node of b = sum_by (replaces_in epoch node) (writes_in b.entries) + sum_by (is_at epoch node) (births_in of b.entries) + sum_by (is_at epoch node) (dated_names of b.snapshot)
 
 -- a buffer of the batch's epoch adds what it names newly
-pub gain_named : (config : Config) (epoch x : ℕ) (b : Contents) → IsBufferOf config epoch b → gain epoch (x + 1) epoch b ≡ named x (map new_target b.entries) + named x b.snapshot
+pub gain_named : (config : Config) (epoch x : ℕ) (b : Contents) → IsBufferOf true config epoch b → gain epoch (x + 1) epoch b ≡ named x (map new_target b.entries) + named x b.snapshot
 gain_named config epoch x b is = omega (arith, puts_named epoch x b.entries is.made, snapshot_named epoch x b.snapshot)
 
 -- one of another epoch adds nothing
-pub gain_none : (config : Config) (epoch other node : ℕ) (b : Contents) → epoch ≢ other → IsBufferOf config other b → gain epoch node other b ≡ 0
+pub gain_none : (config : Config) (epoch other node : ℕ) (b : Contents) → epoch ≢ other → IsBufferOf true config other b → gain epoch node other b ≡ 0
 gain_none config epoch other node b apart is = omega (arith, puts_none epoch other node b.entries apart is.made, snapshot_none epoch other node b.snapshot apart)
 
 -- and so of what is taken
-pub loss_named : (config : Config) (epoch x : ℕ) (b : Contents) → IsBufferOf config epoch b → loss epoch (x + 1) epoch b ≡ named x (map old_target b.entries) + named x b.snapshot
+pub loss_named : (config : Config) (epoch x : ℕ) (b : Contents) → IsBufferOf true config epoch b → loss epoch (x + 1) epoch b ≡ named x (map old_target b.entries) + named x b.snapshot
 loss_named config epoch x b is = omega (arith, olds_named epoch x b.entries is.made, snapshot_named epoch x b.snapshot)
 
-pub loss_none : (config : Config) (epoch other node : ℕ) (b : Contents) → epoch ≢ other → IsBufferOf config other b → loss epoch node other b ≡ 0
+pub loss_none : (config : Config) (epoch other node : ℕ) (b : Contents) → epoch ≢ other → IsBufferOf true config other b → loss epoch node other b ≡ 0
 loss_none config epoch other node b apart is = omega (arith, olds_none epoch other node b.entries apart is.made, snapshot_none epoch other node b.snapshot apart)
 
 -- sums over rows that agree item by item

@@ -25,7 +25,7 @@ member_there s x k member = elim (cases_lt x (length s.slots)) [
   | inr past ↦ absurd (omega (arith, member, k.buffers x, ap (λ (v : Slot). one v.buffered) (get_or_past s.slots x absent past)))
 ]
 
-module _ (w : Core) (t : ℕ) (kept : IsKeptBy (stand_at w.collector.left Opening) w) (phase : w.collector.phase ≡ Returning t) where
+module _ (w : Core) (t : ℕ) (kept : IsKeptBy true (stand_at w.collector.left Opening) w) (phase : w.collector.phase ≡ Returning t) where
   open w use {collector as c}
   open kept use {collector.{slots}}
 

@@ -68,7 +68,7 @@ due_gathers requested t left phase = go (has_left left t) phase
     go false _ due = cc
 
 -- one whose mailbox is held stands so
-pub held_stands : (w : Core) (t : ℕ) → IsKept w → w.collector.phase ≡ Returning t → stand_of w t ≡ Handshake.Held
+pub held_stands : {dated : Bool} → (w : Core) (t : ℕ) → IsKept dated w → w.collector.phase ≡ Returning t → stand_of w t ≡ Handshake.Held
 held_stands w t kept phase =
     let held : IsHeldAt w (Returning t) = subst (IsHeldAt w) phase kept.held in
     ap (λ (x : Phase). stand_at w.collector.left x t) phase ∙ cond-false (has_left w.collector.left t) Handshake.Gone (stand_in (Returning t) t) held.0
@@ -76,15 +76,15 @@ held_stands w t kept phase =
     ∙ cond-true (t == t) Handshake.Held Handshake.Due (eq-eqb t t refl)
 
 -- one mailbox of a heap
-boxed : (w : Core) (t : ℕ) → IsKept w → IsMutator w.config t → t - 1 < length w.boxes
+boxed : {dated : Bool} → (w : Core) (t : ℕ) → IsKept dated w → IsMutator w.config t → t - 1 < length w.boxes
 boxed w t kept is = let many : length w.boxes ≡ w.config.mutators = kept.mutators.mailboxes in omega (arith, is.0, is.1)
 
 -- a mutator that is about to take its mailbox to cross is behind, and its turn in the gathering is to come
-pub behind_of : (w : Core) (t : ℕ) → IsKept w → IsMutator w.config t → (mutator w t).phase ≡ at.Crossing → (stand_of w t ≡ Handshake.Due) × IsBehind w.config w.epoch (mutator w t) (crossing_of w t) (box w t)
+pub behind_of : {dated : Bool} → (w : Core) (t : ℕ) → IsKept dated w → IsMutator w.config t → (mutator w t).phase ≡ at.Crossing → (stand_of w t ≡ Handshake.Due) × IsBehind w.config w.epoch (mutator w t) (crossing_of w t) (box w t)
 behind_of w t kept is phase = crossing_due w.config w.epoch (mutator w t) (crossing_of w t) (box w t) (stand_of w t) (stays_here w t kept is (ap is_busy_at phase)) phase (actor_of w t kept is).handshake
 
 -- one that is about to give its mailbox back at the end of a poll is crossing, and its turn in the gathering is to come
-pub giving_of : (w : Core) (t : ℕ) → IsKept w → IsMutator w.config t → (mutator w t).phase ≡ at.Giving → (stand_of w t ≡ Handshake.Due) × IsCrossing w.config w.epoch (mutator w t) (crossing_of w t) (box w t)
+pub giving_of : {dated : Bool} → (w : Core) (t : ℕ) → IsKept dated w → IsMutator w.config t → (mutator w t).phase ≡ at.Giving → (stand_of w t ≡ Handshake.Due) × IsCrossing w.config w.epoch (mutator w t) (crossing_of w t) (box w t)
 giving_of w t kept is phase =
     elim (giving_crosses w.config w.epoch (mutator w t) (crossing_of w t) (box w t) (stand_of w t) (stays_here w t kept is (ap is_busy_at phase)) (ap gives_back phase) (actor_of w t kept is).handshake) [
       | inl crosses ↦ crosses
@@ -96,9 +96,9 @@ abbrev exchanged : Core → (t word : ℕ) → Private → Contents → Core
 exchanged w t word q b = record (with_mutator w t q) { crossing = slice_set w.crossing ((mutator w t).number - 1) word; boxes = slice_set w.boxes (t - 1) b }
 
 -- A heap in which a mutator has taken its mailbox, or given it back, is kept where each part of it is.
-exchanged_kept : (w : Core) (t word : ℕ) (q : Private) (b : Contents) → IsKept w → IsMutator w.config t → IsActor w.config w.epoch (stand_of w t) t q word b
+exchanged_kept : (w : Core) (t word : ℕ) (q : Private) (b : Contents) → IsKept true w → IsMutator w.config t → IsActor true w.config w.epoch (stand_of w t) t q word b
     → HasLearnt w.config.slots w.headers w.freed q.from q.phase → entries_made w.config (mutator w t) + 0 ≤ entries_made w.config q → (w.collector.phase ≡ Returning t → q.left ≡ (mutator w t).left)
-    → IsSound (sight (with_mutator w t q)) → HasAccounts w (pending (exchanged w t word q b)) → IsKept (exchanged w t word q b)
+    → IsSound (sight (with_mutator w t q)) → HasAccounts w (pending (exchanged w t word q b)) → IsKept true (exchanged w t word q b)
 exchanged_kept w t word q b kept is actor learnt more left sound accounts =
     let number : (mutator w t).number ≡ t = (actor_of w t kept is).own.number in
     record {
@@ -106,7 +106,7 @@ exchanged_kept w t word q b kept is actor learnt more left sound accounts =
         config = kept.config;
         headers = kept.headers;
         labels = kept.labels;
-        mutators = subst (λ (n : ℕ). HasMutators w.config w.epoch (stand_at w.collector.left w.collector.phase) (slice_set w.mutators (t - 1) q) (slice_set w.crossing (n - 1) word) (slice_set w.boxes (t - 1) b)) (sym number)
+        mutators = subst (λ (n : ℕ). HasMutators true w.config w.epoch (stand_at w.collector.left w.collector.phase) (slice_set w.mutators (t - 1) q) (slice_set w.crossing (n - 1) word) (slice_set w.boxes (t - 1) b)) (sym number)
             (others_stay t q word b kept.mutators is actor);
         collector = kept.collector;
         sweeps = kept.sweeps;
@@ -119,6 +119,7 @@ exchanged_kept w t word q b kept is actor learnt more left sound accounts =
         cycles = accounts.cycles;
       };
       held = held_after w (exchanged w t word q b) t q kept is refl refl left;
+      behind = tt;
     }
 
 -- the entries of a full log stand for those of the log that is retired
@@ -133,11 +134,11 @@ retired_entries config p q early few at_p at_q log =
     omega (arith, product, before, after)
 
 -- a log that is retired is a buffer of the epoch that it was written in
-retired_buffer : (config : Config) (epoch : ℕ) (log : Contents) (names : List (Option ℕ)) (last : Bool) → IsBufferOf config epoch log → length names ≡ config.registers → IsBufferOf config epoch (record log { snapshot = names; last = last })
+retired_buffer : (config : Config) (epoch : ℕ) (log : Contents) (names : List (Option ℕ)) (last : Bool) → IsBufferOf true config epoch log → length names ≡ config.registers → IsBufferOf true config epoch (record log { snapshot = names; last = last })
 retired_buffer config epoch log names last is many = record { snapshot = many; capacity = is.capacity; few = is.few; made = is.made }
 
 -- a mutator takes its mailbox to cross
-taken_kept : (w : Core) (t : ℕ) → IsKept w → IsMutator w.config t → is_busy (mutator w t) ≡ true → IsFound (mutator w t) (next_of (mutator w t)) (found_by w t) → (mutator w t).phase ≡ at.Crossing → IsKept (stepped w t)
+taken_kept : (w : Core) (t : ℕ) → IsKept true w → IsMutator w.config t → is_busy (mutator w t) ≡ true → IsFound (mutator w t) (next_of (mutator w t)) (found_by w t) → (mutator w t).phase ≡ at.Crossing → IsKept true (stepped w t)
 taken_kept w t kept is busy may phase =
     let p : Private = mutator w t in
     let word : ℕ = found_by w t in
@@ -164,17 +165,17 @@ taken_kept w t kept is busy may phase =
     let unapplied : (pending w).applied < p.epoch = omega (arith, gathers, way) in
     let its_word : ℕ = crossing_word (p.epoch + 1) WithMutator in
     let crossings : List ℕ = slice_set w.crossing (p.number - 1) its_word in
-    let own : IsOwn w.config t q = own_stepped actor.own (its_box w t kept is) may (step_made p word (box w t) busy actor.own.between) (subst HasLabelAt (sym q_phase) tt) (idle_of p q stays q_left) in
+    let own : IsOwn true w.config t q = own_stepped actor.own (its_box w t kept is) may (step_made p word (box w t) busy actor.own.between) (subst HasLabelAt (sym q_phase) tt) (idle_of p q stays q_left) in
     let held : has_let_go p ≡ false = holds_registers p stays (not_parting p.phase here) in
     let holds : has_let_go q ≡ false = holds_registers q (q_left ∙ stays) (ap is_parting q_phase) in
-    let q_actor : IsActor w.config w.epoch (stand_of w t) t q its_word b
+    let q_actor : IsActor true w.config w.epoch (stand_of w t) t q its_word b
     = record {
       own = own;
-      log = subst (IsBufferOf w.config (epoch_at q)) (sym q_log) (spare_buffer w.config (epoch_at q));
+      log = subst (IsBufferOf true w.config (epoch_at q)) (sym q_log) (spare_buffer w.config (epoch_at q));
       unwritten = ap (λ (x : Contents). named x.snapshot) q_log ∙ named-nones w.config.registers;
       unmarked = ap (λ (x : Contents). x.last) q_log;
       let_go = λ gone. absurd (false≢true (sym holds ∙ gone));
-      mailbox = subst (IsBufferOf w.config (epoch_at q - 1)) (sym left) (retired_buffer w.config (epoch_at q - 1) p.log p.registers p.log.last (subst (λ (e : ℕ). IsBufferOf w.config e p.log) (at_p ∙ sym last) actor.log) actor.own.registers);
+      mailbox = subst (IsBufferOf true w.config (epoch_at q - 1)) (sym left) (retired_buffer w.config (epoch_at q - 1) p.log p.registers p.log.last (subst (λ (e : ℕ). IsBufferOf true w.config e p.log) (at_p ∙ sym last) actor.log) actor.own.registers);
       handshake = subst (IsHandshake w.config w.epoch q its_word b) (sym due)
           (inr (inl (record {
             epoch = ap (λ n. n + 1) q_epoch ∙ epoch;
@@ -190,7 +191,7 @@ taken_kept w t kept is busy may phase =
     let alive = machine_alive w.collector w.collector.phase kept.collector.machine kept.collector.machine.now in
     let many : length p.log.entries ≤ p.log.capacity = actor.log.few in
     let capacity : p.log.capacity ≡ w.config.log_entries = actor.own.capacity in
-    let whole : IsKept (exchanged w t its_word q b)
+    let whole : IsKept true (exchanged w t its_word q b)
     = exchanged_kept w t its_word q b kept is q_actor (subst (HasLearnt w.config.slots w.headers w.freed q.from) (sym q_phase) tt) (retired_entries w.config p q (omega arith) (omega arith) at_p at_q q_log) (λ _. q_left)
     (subst (λ (rss : List (List (Option ℕ))). IsSound (record (sight w) { registers = rss })) (sym (registers_stay w t q q_registers)) kept.sound)
     (record {
@@ -199,10 +200,10 @@ taken_kept w t kept is busy may phase =
       cycles = cycles_moved w.collector w.collector.phase (AccountMove.dropping drops) tt (λ done. absurd {A = ⊥} (omega (arith, unapplied, epoch, done))) half alive
           (cycles_moved w.collector w.collector.phase (AccountMove.crossing amid) tt (λ _. tt) kept.accounted alive kept.cycles);
     }) in
-    after_take IsKept w t p.number (p.epoch + 1) word q b (next_of p) c.operation whole
+    after_take (IsKept true) w t p.number (p.epoch + 1) word q b (next_of p) c.operation whole
 
 -- a mutator takes its mailbox to leave
-letting_go_kept : (w : Core) (t : ℕ) → IsKept w → IsMutator w.config t → is_busy (mutator w t) ≡ true → IsFound (mutator w t) (next_of (mutator w t)) (found_by w t) → (mutator w t).phase ≡ at.Leaving → IsKept (stepped w t)
+letting_go_kept : (w : Core) (t : ℕ) → IsKept true w → IsMutator w.config t → is_busy (mutator w t) ≡ true → IsFound (mutator w t) (next_of (mutator w t)) (found_by w t) → (mutator w t).phase ≡ at.Leaving → IsKept true (stepped w t)
 letting_go_kept w t kept is busy may phase =
     let p : Private = mutator w t in
     let word : ℕ = found_by w t in
@@ -224,7 +225,7 @@ letting_go_kept w t kept is busy may phase =
     let last : epoch_at q - 1 ≡ p.epoch = omega (arith, at_q) in
     let its_word : ℕ = crossing_word (p.epoch + 1) WithMutator in
     let crossings : List ℕ = slice_set w.crossing (p.number - 1) its_word in
-    let own : IsOwn w.config t q = own_stepped actor.own (its_box w t kept is) may (step_made p word (box w t) busy actor.own.between) (subst HasLabelAt (sym q_phase) tt) (idle_of p q stays q_left) in
+    let own : IsOwn true w.config t q = own_stepped actor.own (its_box w t kept is) may (step_made p word (box w t) busy actor.own.between) (subst HasLabelAt (sym q_phase) tt) (idle_of p q stays q_left) in
     let gone : has_let_go q ≡ true = ap (λ (x : Bool). x || q.left) (ap is_parting q_phase) in
     let nulls : length (nulls_of p) ≡ w.config.registers = length-replicate (length p.registers) None ∙ actor.own.registers in
     let crosses : (into : ℕ) → p.epoch + 1 ≡ into → IsCrossing w.config into q its_word b
@@ -235,14 +236,14 @@ letting_go_kept w t kept is busy may phase =
       spare = q_log;
       last = ap (λ (x : Contents). x.last) left ∙ sym (ap is_parting q_phase);
     } in
-    let q_actor : IsActor w.config w.epoch (stand_of w t) t q its_word b
+    let q_actor : IsActor true w.config w.epoch (stand_of w t) t q its_word b
     = record {
       own = own;
-      log = subst (IsBufferOf w.config (epoch_at q)) (sym q_log) (spare_buffer w.config (epoch_at q));
+      log = subst (IsBufferOf true w.config (epoch_at q)) (sym q_log) (spare_buffer w.config (epoch_at q));
       unwritten = ap (λ (x : Contents). named x.snapshot) q_log ∙ named-nones w.config.registers;
       unmarked = ap (λ (x : Contents). x.last) q_log;
       let_go = λ _. record { registers = ap named q_registers ∙ named-nones (length p.registers); log = q_log };
-      mailbox = subst (IsBufferOf w.config (epoch_at q - 1)) (sym left) (retired_buffer w.config (epoch_at q - 1) p.log (nulls_of p) true (subst (λ (e : ℕ). IsBufferOf w.config e p.log) (at_p ∙ sym last) actor.log) nulls);
+      mailbox = subst (IsBufferOf true w.config (epoch_at q - 1)) (sym left) (retired_buffer w.config (epoch_at q - 1) p.log (nulls_of p) true (subst (λ (e : ℕ). IsBufferOf true w.config e p.log) (at_p ∙ sym last) actor.log) nulls);
       handshake = elim home.2 [
         | inl done ↦ subst (IsHandshake w.config w.epoch q its_word b) (sym done.0) (inr (inl (crosses (w.epoch + 1) (ap (λ n. n + 1) done.1), q_phase)))
         | inr due ↦ subst (IsHandshake w.config w.epoch q its_word b) (sym due.0) (inr (inl (crosses w.epoch due.1)))
@@ -251,11 +252,11 @@ letting_go_kept w t kept is busy may phase =
     let moves = leaving_moves w t q b crossings (in_list w t kept is) (boxed w t kept is) p.epoch at_p at_q gone actor.unwritten home.0 q_log left in
     let many : length p.log.entries ≤ p.log.capacity = actor.log.few in
     let capacity : p.log.capacity ≡ w.config.log_entries = actor.own.capacity in
-    let whole : IsKept (exchanged w t its_word q b)
+    let whole : IsKept true (exchanged w t its_word q b)
     = exchanged_kept w t its_word q b kept is q_actor (subst (HasLearnt w.config.slots w.headers w.freed q.from) (sym q_phase) tt) (retired_entries w.config p q (opened_before home.2) (omega arith) at_p at_q q_log) (λ _. q_left)
     (subst (λ (rss : List (List (Option ℕ))). IsSound (record (sight w) { registers = rss })) (sym (registers_leave w t q q_registers)) (leave_sound (sight w) t kept.sound))
     (moved_accounts w (pending (exchanged w t its_word q b)) kept (AccountMove.leaving moves) tt tt) in
-    after_take IsKept w t p.number (p.epoch + 1) word q b (next_of p) l.operation whole
+    after_take (IsKept true) w t p.number (p.epoch + 1) word q b (next_of p) l.operation whole
   where
     opened_before : ((stand_of w t ≡ Handshake.Done) × ((mutator w t).epoch ≡ w.epoch)) ⊎ ((stand_of w t ≡ Handshake.Due) × ((mutator w t).epoch + 1 ≡ w.epoch)) → w.config.first_epoch ≤ (mutator w t).epoch
     opened_before (inl done) = let begun : w.config.first_epoch + w.collector.collections + under_way w.collector.phase ≡ w.epoch = kept.collector.begun in omega (arith, done.1)
@@ -264,20 +265,20 @@ letting_go_kept w t kept is busy may phase =
         omega (arith, due.1, (due_gathers w.epoch t w.collector.left w.collector.phase due.0).1)
 
 -- A mutator that gives its mailbox back keeps its log, its registers, whether it holds them, and its dates.
-given_back : (w : Core) (t word : ℕ) (q : Private) → IsKept w → IsMutator w.config t → IsActor w.config w.epoch (stand_of w t) t q word (box w t)
+given_back : (w : Core) (t word : ℕ) (q : Private) → IsKept true w → IsMutator w.config t → IsActor true w.config w.epoch (stand_of w t) t q word (box w t)
     → HasLearnt w.config.slots w.headers w.freed q.from q.phase → (w.collector.phase ≡ Returning t → q.left ≡ (mutator w t).left)
     → q.log ≡ (mutator w t).log → has_let_go q ≡ has_let_go (mutator w t) → q.registers ≡ (mutator w t).registers → epoch_at q ≡ epoch_at (mutator w t)
-    → IsKept (record (with_mutator w t q) { crossing = slice_set w.crossing ((mutator w t).number - 1) word })
+    → IsKept true (record (with_mutator w t q) { crossing = slice_set w.crossing ((mutator w t).number - 1) word })
 given_back w t word q kept is actor learnt left log held registers epoch =
     let quiet : pending (exchanged w t word q (box w t)) ≡ pending w = ap (λ (bs : List Contents). pending (record (with_mutator w t q) { boxes = bs })) (same_boxes w t) ∙ same_pending w t q log held registers epoch in
-    subst (λ (bs : List Contents). IsKept (record (with_mutator w t q) { crossing = slice_set w.crossing ((mutator w t).number - 1) word; boxes = bs })) (same_boxes w t)
+    subst (λ (bs : List Contents). IsKept true (record (with_mutator w t q) { crossing = slice_set w.crossing ((mutator w t).number - 1) word; boxes = bs })) (same_boxes w t)
     (exchanged_kept w t word q (box w t) kept is actor learnt (same_entries w.config (mutator w t) q epoch log) left
     (subst (λ (rss : List (List (Option ℕ))). IsSound (record (sight w) { registers = rss })) (sym (registers_stay w t q registers)) kept.sound)
     (stayed_accounts w (pending (exchanged w t word q (box w t))) kept quiet))
 
 -- a mutator gives its mailbox back, and is in the next epoch
-given_kept : (w : Core) (t : ℕ) → IsKept w → IsMutator w.config t → is_busy (mutator w t) ≡ true → IsFound (mutator w t) (next_of (mutator w t)) (found_by w t) → (mutator w t).phase ≡ at.Giving
-    → left_of (took_of (mutator w t) (found_by w t)) (box w t) ≡ box w t → IsKept (stepped w t)
+given_kept : (w : Core) (t : ℕ) → IsKept true w → IsMutator w.config t → is_busy (mutator w t) ≡ true → IsFound (mutator w t) (next_of (mutator w t)) (found_by w t) → (mutator w t).phase ≡ at.Giving
+    → left_of (took_of (mutator w t) (found_by w t)) (box w t) ≡ box w t → IsKept true (stepped w t)
 given_kept w t kept is busy may phase same =
     let p : Private = mutator w t in
     let word : ℕ = found_by w t in
@@ -293,30 +294,30 @@ given_kept w t kept is busy may phase same =
     let at_p : epoch_at p ≡ p.epoch + 1 = epoch_next p (ap gives_back phase) in
     let at_q : epoch_at q ≡ epoch_at p = epoch_here q (ap gives_back q_phase) ∙ q_epoch ∙ sym at_p in
     let its_word : ℕ = crossing_word (p.epoch + 1) Retired in
-    let own : IsOwn w.config t q = own_stepped actor.own (its_box w t kept is) may (step_made p word (box w t) busy actor.own.between) (subst HasLabelAt (sym q_phase) tt) (idle_of p q stays q_left) in
+    let own : IsOwn true w.config t q = own_stepped actor.own (its_box w t kept is) may (step_made p word (box w t) busy actor.own.between) (subst HasLabelAt (sym q_phase) tt) (idle_of p q stays q_left) in
     let held : has_let_go p ≡ false = holds_registers p stays (ap is_parting phase) in
     let holds : has_let_go q ≡ false = holds_registers q (q_left ∙ stays) (ap is_parting q_phase) in
-    let q_actor : IsActor w.config w.epoch (stand_of w t) t q its_word (box w t)
+    let q_actor : IsActor true w.config w.epoch (stand_of w t) t q its_word (box w t)
     = record {
       own = own;
-      log = subst (λ (e : ℕ). IsBufferOf w.config e q.log) (sym at_q) (subst (IsBufferOf w.config (epoch_at p)) (sym q_log) actor.log);
+      log = subst (λ (e : ℕ). IsBufferOf true w.config e q.log) (sym at_q) (subst (IsBufferOf true w.config (epoch_at p)) (sym q_log) actor.log);
       unwritten = ap (λ (x : Contents). named x.snapshot) q_log ∙ actor.unwritten;
       unmarked = ap (λ (x : Contents). x.last) q_log ∙ actor.unmarked;
       let_go = λ gone. absurd (false≢true (sym holds ∙ gone));
-      mailbox = subst (λ (e : ℕ). IsBufferOf w.config (e - 1) (box w t)) (sym at_q) actor.mailbox;
+      mailbox = subst (λ (e : ℕ). IsBufferOf true w.config (e - 1) (box w t)) (sym at_q) actor.mailbox;
       handshake = subst (IsHandshake w.config w.epoch q its_word (box w t)) (sym due)
           (inr (inr (
             record { epoch = q_epoch ∙ crosses.epoch; word = ap (λ n. crossing_word n Retired) crosses.epoch; settled = subst (IsSettledIn Retired) (sym q_phase) tt },
             crosses.last ∙ ap is_parting phase ∙ sym (q_left ∙ stays),
           )));
     } in
-    subst (λ (b : Contents). IsKept (performed w t (next_of p) word q b)) (sym same)
-    (after_give IsKept w t p.number (p.epoch + 1) word q (next_of p) c.operation
+    subst (λ (b : Contents). IsKept true (performed w t (next_of p) word q b)) (sym same)
+    (after_give (IsKept true) w t p.number (p.epoch + 1) word q (next_of p) c.operation
     (given_back w t its_word q kept is q_actor (subst (HasLearnt w.config.slots w.headers w.freed q.from) (sym q_phase) tt) (λ _. q_left) q_log (holds ∙ sym held) (ap (λ (x : Private). x.registers) c.after) at_q))
 
 -- a mutator that leaves gives its mailbox back, and has left
-parted_kept : (w : Core) (t : ℕ) → IsKept w → IsMutator w.config t → is_busy (mutator w t) ≡ true → IsFound (mutator w t) (next_of (mutator w t)) (found_by w t) → (mutator w t).phase ≡ at.Parting
-    → left_of (took_of (mutator w t) (found_by w t)) (box w t) ≡ box w t → IsKept (stepped w t)
+parted_kept : (w : Core) (t : ℕ) → IsKept true w → IsMutator w.config t → is_busy (mutator w t) ≡ true → IsFound (mutator w t) (next_of (mutator w t)) (found_by w t) → (mutator w t).phase ≡ at.Parting
+    → left_of (took_of (mutator w t) (found_by w t)) (box w t) ≡ box w t → IsKept true (stepped w t)
 parted_kept w t kept is busy may phase same =
     let p : Private = mutator w t in
     let word : ℕ = found_by w t in
@@ -331,18 +332,18 @@ parted_kept w t kept is busy may phase same =
     let q_registers : q.registers ≡ p.registers = ap (λ (x : Private). x.registers) l.after in
     let at_q : epoch_at q ≡ epoch_at p = epoch_here q (ap gives_back q_phase) ∙ q_epoch ∙ sym (epoch_next p (ap gives_back phase)) in
     let its_word : ℕ = crossing_word (p.epoch + 1) Retired in
-    let own : IsOwn w.config t q = own_stepped actor.own (its_box w t kept is) may (step_made p word (box w t) busy actor.own.between) (subst HasLabelAt (sym q_phase) tt) (λ _. ap is_busy_at q_phase) in
+    let own : IsOwn true w.config t q = own_stepped actor.own (its_box w t kept is) may (step_made p word (box w t) busy actor.own.between) (subst HasLabelAt (sym q_phase) tt) (λ _. ap is_busy_at q_phase) in
     let held : has_let_go p ≡ true = ap (λ (x : Bool). x || p.left) (ap is_parting phase) in
     let gone : LetGo w.config p = actor.let_go held in
     let marked : is_parting p.phase ≡ true = ap is_parting phase in
-    let q_actor : IsActor w.config w.epoch (stand_of w t) t q its_word (box w t)
+    let q_actor : IsActor true w.config w.epoch (stand_of w t) t q its_word (box w t)
     = record {
       own = own;
-      log = subst (λ (e : ℕ). IsBufferOf w.config e q.log) (sym at_q) (subst (IsBufferOf w.config (epoch_at p)) (sym q_log) actor.log);
+      log = subst (λ (e : ℕ). IsBufferOf true w.config e q.log) (sym at_q) (subst (IsBufferOf true w.config (epoch_at p)) (sym q_log) actor.log);
       unwritten = ap (λ (x : Contents). named x.snapshot) q_log ∙ actor.unwritten;
       unmarked = ap (λ (x : Contents). x.last) q_log ∙ actor.unmarked;
       let_go = λ _. record { registers = ap named q_registers ∙ gone.registers; log = q_log ∙ gone.log };
-      mailbox = subst (λ (e : ℕ). IsBufferOf w.config (e - 1) (box w t)) (sym at_q) actor.mailbox;
+      mailbox = subst (λ (e : ℕ). IsBufferOf true w.config (e - 1) (box w t)) (sym at_q) actor.mailbox;
       handshake = elim crosses [
         | inl due ↦ subst (IsHandshake w.config w.epoch q its_word (box w t)) (sym due.0)
             (inr (inr (
@@ -358,13 +359,13 @@ parted_kept w t kept is busy may phase same =
       | inl due ↦ let no : Handshake.Held ≡ Handshake.Due = sym (held_stands w t kept at) ∙ due.0 in (cc)
       | inr done ↦ let no : Handshake.Held ≡ Handshake.Done = sym (held_stands w t kept at) ∙ done.0 in (cc)
     ]) in
-    subst (λ (b : Contents). IsKept (performed w t (next_of p) word q b)) (sym same)
-    (after_give IsKept w t p.number (p.epoch + 1) word q (next_of p) l.operation
+    subst (λ (b : Contents). IsKept true (performed w t (next_of p) word q b)) (sym same)
+    (after_give (IsKept true) w t p.number (p.epoch + 1) word q (next_of p) l.operation
     (given_back w t its_word q kept is q_actor (subst (HasLearnt w.config.slots w.headers w.freed q.from) (sym q_phase) tt) unheld q_log (left_let_go q q_left ∙ sym held) q_registers at_q))
 
 -- a work begins
-pub begun_kept : (w : Core) (t : ℕ) (work : Work) (from : ℕ) → IsKept w → IsMutator w.config t → is_busy (mutator w t) ≡ false → (mutator w t).left ≡ false → IsValid (mutator w t) work → HasLabel work → from < w.config.slots
-    → IsKept (begun_from w t work from)
+pub begun_kept : (w : Core) (t : ℕ) (work : Work) (from : ℕ) → IsKept true w → IsMutator w.config t → is_busy (mutator w t) ≡ false → (mutator w t).left ≡ false → IsValid (mutator w t) work → HasLabel work → from < w.config.slots
+    → IsKept true (begun_from w t work from)
 unfolding begun_of
 begun_kept w t work from kept is idle stays valid label there =
     let p : Private = mutator w t in
@@ -372,7 +373,7 @@ begun_kept w t work from kept is idle stays valid label there =
     let actor = actor_of w t kept is in
     let machine : IsMachine p = actor.own.machine in
     let here : gives_back p.phase ≡ false = idle_here p.phase idle in
-    let own : IsOwn w.config t q = record {
+    let own : IsOwn true w.config t q = record {
       number = actor.own.number;
       slots = actor.own.slots;
       fields = actor.own.fields;
@@ -394,6 +395,7 @@ begun_kept w t work from kept is idle stays valid label there =
       between = tt;
       label = label;
       idle = λ left. absurd (false≢true (sym stays ∙ left));
+      dates = actor.own.dates;
     } in
     quiet_kept w t q kept is stays here refl refl refl (actor_stays actor own stays here refl (λ mailbox word. tt) refl refl actor.log actor.unwritten actor.unmarked) refl refl tt
 
@@ -410,7 +412,7 @@ gives_or_parts at.Parting back = inr refl
 gives_or_parts _ back = absurd (false≢true back)
 
 -- the words of a heap fit its mutators
-fitting : (w : Core) (t : ℕ) → IsKept w → IsMutator w.config t → is_busy (mutator w t) ≡ true → IsFitting (mutator w t) (cell (cells_of w))
+fitting : {dated : Bool} → (w : Core) (t : ℕ) → IsKept dated w → IsMutator w.config t → is_busy (mutator w t) ≡ true → IsFitting (mutator w t) (cell (cells_of w))
 fitting w t kept is busy =
     let actor = actor_of w t kept is in
     let headers : length w.headers ≡ w.config.slots = kept.headers in
@@ -445,11 +447,11 @@ fitting w t kept is busy =
     requested Handshake.Gone gone = absurd (false≢true (sym stays ∙ gone.left))
 
 -- what the next step finds is what it may find
-pub next_found : (w : Core) (t : ℕ) → IsKept w → IsMutator w.config t → is_busy (mutator w t) ≡ true → IsFound (mutator w t) (next_of (mutator w t)) (found_by w t)
+pub next_found : {dated : Bool} → (w : Core) (t : ℕ) → IsKept dated w → IsMutator w.config t → is_busy (mutator w t) ≡ true → IsFound (mutator w t) (next_of (mutator w t)) (found_by w t)
 next_found w t kept is busy = finds_fitting (mutator w t) (cell (cells_of w)) (fitting w t kept is busy)
 
 -- a step keeps what every heap keeps, by the phase of the mutator
-step_at : (w : Core) (t : ℕ) (phase : phases.Phase) → IsKept w → IsMutator w.config t → is_busy (mutator w t) ≡ true → (mutator w t).phase ≡ phase → TakesNone phase → IsKept (stepped w t)
+step_at : (w : Core) (t : ℕ) (phase : phases.Phase) → IsKept true w → IsMutator w.config t → is_busy (mutator w t) ≡ true → (mutator w t).phase ≡ phase → TakesNone phase → IsKept true (stepped w t)
 step_at w t phase kept is busy at_phase none =
     let p : Private = mutator w t in
     let word : ℕ = found_by w t in
@@ -462,14 +464,14 @@ step_at w t phase kept is busy at_phase none =
       | inr here ↦
           let m : Makes w t word (next_of p) (step_of p word (box w t))
           = record { kept = kept; is = is; none = its_none; busy = busy; found = refl; may = found; step = step_made p word (box w t) busy (actor_of w t kept is).own.between } in
-          subst (λ (b : Contents). IsKept (performed w t (next_of p) word (step_of p word (box w t)) b)) (sym left) (performed_kept here m m.step)
+          subst (λ (b : Contents). IsKept true (performed w t (next_of p) word (step_of p word (box w t)) b)) (sym left) (performed_kept here m m.step)
     ]
 
 -- a step of a mutator keeps what every heap with its collector keeps
-pub step_kept : (w : Core) (t : ℕ) → IsKept w → IsMutator w.config t → is_busy (mutator w t) ≡ true → IsKept (stepped w t)
+pub step_kept : (w : Core) (t : ℕ) → IsKept true w → IsMutator w.config t → is_busy (mutator w t) ≡ true → IsKept true (stepped w t)
 step_kept w t kept is busy = go (mutator w t).phase refl (actor_of w t kept is).own.between
   where
-    go : (phase : phases.Phase) → (mutator w t).phase ≡ phase → IsBetween phase → IsKept (stepped w t)
+    go : (phase : phases.Phase) → (mutator w t).phase ≡ phase → IsBetween phase → IsKept true (stepped w t)
     go at.Idle at_phase between = step_at w t at.Idle kept is busy at_phase tt
     go (at.Begun work) at_phase between = step_at w t (at.Begun work) kept is busy at_phase tt
     go (at.Scanning reg label leaf before probed) at_phase between = step_at w t (at.Scanning reg label leaf before probed) kept is busy at_phase tt

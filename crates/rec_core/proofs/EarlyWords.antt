@@ -4,9 +4,10 @@ use Rattle.std.specs.Option.{option_map}
 use Rattle.std.proofs.lemmas.List.Elements.{All-head, All-tail}
 use Rattle.std.proofs.lemmas.List.Folds.{sum_by-replicate}
 use Rattle.std.proofs.lemmas.List.Sums.{sum_by-cons}
-use Rattle.rec_word.proofs.Packing.{stamp_of-packed, target_of-packed}
-use Rattle.rec_word.specs.Word.{IsStamp}
-use Rattle.rec_word.specs.declared.stamps.Stamp.{Stamp}
+use Rattle.std.proofs.Math.Nat.{div-eq_of_lt}
+use Rattle.rec_word.proofs.Bare.{packed_small}
+use Rattle.rec_word.proofs.Packing.{target_of-packed}
+use Rattle.rec_word.specs.Word.{packed, IsStamp}
 use Rattle.rec_model.specs.Accounted.{late}
 use Rattle.rec_model.specs.Heap.{Field}
 use Rattle.rec_model.proofs.Ledgers.{epoch_of_null, node_of_null}
@@ -15,7 +16,7 @@ use Rattle.rec_core.proofs.Batches.{same_word}
 use Rattle.rec_core.specs.Objects.{early_fields, early_stamp, early_word, early_words}
 
 -- its parts are within their ranges
-early_is : (p : ℕ) → p < 2 ^ 42 → IsStamp (early_stamp p)
+pub early_is : (p : ℕ) → p < 2 ^ 42 → IsStamp (early_stamp p)
 early_is p small = record { writer = lit< tt; epoch = omega (arith, small); index = omega arith }
 
 -- such a word leads where it is to lead,
@@ -27,7 +28,7 @@ early_target p (Some slot) small is = target_of-packed (Some slot) (early_stamp 
 pub early_epoch : (p : ℕ) (x : Option ℕ) → p < 2 ^ 42 → IsTarget x → epoch_of (early_word p x) ≡ 0
 unfolding epoch_of
 early_epoch p None small is = refl
-early_epoch p (Some slot) small is = ap (λ (y : Stamp). if y.writer == 0 then 0 else y.epoch) (stamp_of-packed (Some slot) (early_stamp p) is (early_is p small))
+early_epoch p (Some slot) small is = let few : packed (Some slot) (early_stamp p) < 2 ^ 64 = packed_small (Some slot) (early_stamp p) is (early_is p small) in div-eq_of_lt few
 
 -- as many as there are
 pub length-early : (p : ℕ) (xs : List (Option ℕ)) → length (early_words p xs) ≡ length xs

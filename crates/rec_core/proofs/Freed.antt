@@ -26,7 +26,7 @@ use Rattle.rec_core.proofs.Steps.{slot_there}
 use Rattle.rec_core.proofs.Turns.{cycles_in, now_at}
 
 -- A set that passes both tests.
-passes_with : (w : Core) (number : ℕ) → IsKept w → SetsTest (pending w) w.collector.counts → IsApart w.collector.counts → Passes w number → IsProvenGarbage w number
+passes_with : (w : Core) (number : ℕ) → IsKept true w → SetsTest (pending w) w.collector.counts → IsApart w.collector.counts → Passes w number → IsProvenGarbage w number
 passes_with w number kept tests apart p =
     let judged : IsJudged (pending w) w.collector.counts number = record {
       kept = kept.collector.machine.counts;
@@ -43,7 +43,7 @@ passes_with w number kept tests apart p =
       unreached = λ node member from. passed_out_of_reach (pending w) (is_member_of w.collector.counts number) tested.passes.0 kept.accounted.ledger kept.accounted.late tested.passes.1 node from member;
     }
 
-pub passed_are_garbage : (w : Core) (number : ℕ) → IsKept w → TestsSets w.collector.phase → Passes w number → IsProvenGarbage w number
+pub passed_are_garbage : (w : Core) (number : ℕ) → IsKept true w → TestsSets w.collector.phase → Passes w number → IsProvenGarbage w number
 passed_are_garbage w number kept tests p = go w.collector.phase refl tests
   where
     go : (phase : Phase) → w.collector.phase ≡ phase → TestsSets phase → IsProvenGarbage w number
@@ -56,7 +56,7 @@ dead_is : (free released : Bool) → released ≡ true → (if free then true el
 dead_is true released is = refl
 dead_is false released is = is
 
-pub given_up_are_gone : (w : Core) → IsKept w → AreGone w
+pub given_up_are_gone : (w : Core) → IsKept true w → AreGone w
 given_up_are_gone w kept = record {
   released = λ slot below is.
       let dead : is_dead (pending w) (slot + 1) ≡ true = dead_is ((pending w).free (slot + 1)) ((pending w).released (slot + 1)) (ap (λ (v : Slot). v.released) (slot_there w kept slot below) ∙ is) in
@@ -72,7 +72,7 @@ given_up_are_gone w kept = record {
     members_released _ here is slot some = absurd is
 
 -- A slot that is swept next.
-swept_is_forgotten : (w : Core) (n slot : ℕ) → IsKept w → w.collector.phase ≡ Sweeping (Some slot) n → IsForgotten w slot
+swept_is_forgotten : (w : Core) (n slot : ℕ) → IsKept true w → w.collector.phase ≡ Sweeping (Some slot) n → IsForgotten w slot
 swept_is_forgotten w n slot kept is =
     let now = now_at w (Sweeping (Some slot) n) kept is in
     let c = w.collector.counts in
@@ -126,7 +126,7 @@ sweeps_it slot None e = cc
 sweeps_it slot (Some x) e = cc
 
 -- A slot whose header is to be set to 0.
-pub freed_is_forgotten : (w : Core) (slot : ℕ) → IsKept w → ◌≡◌ {A = Option Op} (next_of w.collector) (Some (ops.FreeHeader slot)) → IsForgotten w slot
+pub freed_is_forgotten : (w : Core) (slot : ℕ) → IsKept true w → ◌≡◌ {A = Option Op} (next_of w.collector) (Some (ops.FreeHeader slot)) → IsForgotten w slot
 unfolding next_of next_at release_next freeing_next trial_next prep_next sweep_next
 freed_is_forgotten w slot kept named = go w.collector.phase refl named
   where
@@ -140,7 +140,7 @@ freed_is_forgotten w slot kept named = go w.collector.phase refl named
     go _ is e = absurd (cc)
 
 -- a set of which a watch is shown that it passed both tests is given up
-pub shown_is_gone : (w : Core) (members : List ℕ) (slot : ℕ) → IsKept w → passed_of w.collector ≡ Some members → 0 < times slot members → IsGone w slot
+pub shown_is_gone : (w : Core) (members : List ℕ) (slot : ℕ) → IsKept true w → passed_of w.collector ≡ Some members → 0 < times slot members → IsGone w slot
 shown_is_gone w members slot kept passed member = go w.collector.phase refl passed
   where
     gone : AreGone w
@@ -164,7 +164,7 @@ shown_is_gone w members slot kept passed member = go w.collector.phase refl pass
     go _ e is = absurd (cc)
 
 -- its members are slots of the heap, and there are some
-pub shown_is_within : (w : Core) (members : List ℕ) → IsKept w → passed_of w.collector ≡ Some members → (0 < length members) × All (λ slot. slot < w.config.slots) members
+pub shown_is_within : (w : Core) (members : List ℕ) → IsKept true w → passed_of w.collector ≡ Some members → (0 < length members) × All (λ slot. slot < w.config.slots) members
 shown_is_within w members kept passed = go w.collector.phase refl passed
   where
     all : w.collector.counts.work ≡ members → All (λ slot. slot < w.config.slots) members
@@ -189,7 +189,7 @@ shown_is_within w members kept passed = go w.collector.phase refl passed
     go _ e is = absurd (cc)
 
 -- and they are taken
-pub shown_is_taken : (w : Core) (members : List ℕ) (slot : ℕ) → IsKept w → passed_of w.collector ≡ Some members → 0 < times slot members → 0 < slice_index_or w.headers slot 0
+pub shown_is_taken : (w : Core) (members : List ℕ) (slot : ℕ) → IsKept true w → passed_of w.collector ≡ Some members → 0 < times slot members → 0 < slice_index_or w.headers slot 0
 shown_is_taken w members slot kept passed member = elim (cases_lt 0 (slice_index_or w.headers slot 0)) [
   | inl taken ↦ taken
   | inr none ↦ go w.collector.phase refl passed none

@@ -15,7 +15,7 @@ use Rattle.rec_core.proofs.Taken as taken
 use Rattle.rec_core.proofs.Turns.{cycles_in, emptied_in, now_at}
 use Rattle.rec_core.proofs.Zeros.{HasCome, AreEmpty, cleared, empty_uncounted, listed_come, zeros_come}
 
-module _ (w : Core) (m : Machine) (a : Member) (kept : IsKept w) (phase : w.collector.phase ≡ Freeing m) (at : m.at ≡ Some a) where
+module _ (w : Core) (m : Machine) (a : Member) (kept : IsKept true w) (phase : w.collector.phase ≡ Freeing m) (at : m.at ≡ Some a) where
   open w use {collector as c}
   open (taken.emptied_at w a.slot a.field) use {place, word, words}
 

@@ -78,7 +78,7 @@ settled_moved from to at.Parting same settled = absurd settled
 settled_moved from to _ same settled = tt
 
 -- The next epoch is requested: nobody has crossed into it yet but who left the last one.
-module _ (w : Core) (kept : IsKept w) (idle : w.collector.phase ≡ Idle) (more : w.collector.epoch + 1 ≢ 2 ^ 24) where
+module _ (w : Core) (kept : IsKept true w) (idle : w.collector.phase ≡ Idle) (more : w.collector.epoch + 1 ≢ 2 ^ 24) where
   rest : collector_kept.IsAt w.collector Idle
   rest = now_at w Idle kept idle
 
@@ -140,7 +140,7 @@ module _ (w : Core) (kept : IsKept w) (idle : w.collector.phase ≡ Idle) (more 
           let idle_ = (kept.mutators.each t is).own.idle retired.left in
           inr (inr (record { epoch = retired.epoch; word = retired.word; settled = idle_settled Retired (mutator w t).phase idle_ }, retired.last ∙ sym retired.left))
 
-  pub requesting_kept : IsKeptBy (stand_at w.collector.left (Looking 1)) (requesting w)
+  pub requesting_kept : IsKeptBy true (stand_at w.collector.left (Looking 1)) (requesting w)
   requesting_kept =
       let k = kept.collector in
       let m = kept.mutators in
@@ -172,8 +172,8 @@ module _ (w : Core) (kept : IsKept w) (idle : w.collector.phase ≡ Idle) (more 
           begun = omega (arith, begun, way);
           newer = λ t is.
               let many : length w.collector.newer ≡ w.config.mutators = k.mutators in
-              subst (IsBufferOf w.config (w.epoch + 1 - 1)) (sym (spare_newer (t - 1) (omega (arith, is.0, is.1)))) (spare_buffer w.config (w.epoch + 1 - 1));
-          older = λ t is. subst (λ e. IsBufferOf w.config e (collectors.buffer_at w.collector.older (t - 1))) (last ∙ sym same) (k.older t is);
+              subst (IsBufferOf true w.config (w.epoch + 1 - 1)) (sym (spare_newer (t - 1) (omega (arith, is.0, is.1)))) (spare_buffer w.config (w.epoch + 1 - 1));
+          older = λ t is. subst (λ e. IsBufferOf true w.config e (collectors.buffer_at w.collector.older (t - 1))) (last ∙ sym same) (k.older t is);
           listed = k.listed;
           emptied = emptied_in w Idle kept.whole idle;
         };
@@ -188,13 +188,13 @@ module _ (w : Core) (kept : IsKept w) (idle : w.collector.phase ≡ Idle) (more 
       }
 
 -- a mutator whose mailbox is looked at hasn't crossed, is crossing, or waits for the collector
-pub looked_due : (w : Core) (t : ℕ) → IsKept w → IsMutator w.config t → w.collector.phase ≡ Looking t → IsHandshake w.config w.epoch (mutator w t) (crossing_of w t) (box w t) Handshake.Due
+pub looked_due : {dated : Bool} → (w : Core) (t : ℕ) → IsKept dated w → IsMutator w.config t → w.collector.phase ≡ Looking t → IsHandshake w.config w.epoch (mutator w t) (crossing_of w t) (box w t) Handshake.Due
 looked_due w t kept is looks =
     subst (IsHandshake w.config w.epoch (mutator w t) (crossing_of w t) (box w t)) (stand_present w.collector.left w.collector.phase t (now_at w (Looking t) kept looks).present ∙ ap (λ p. stand_in p t) looks ∙ stand_own t)
     (kept.mutators.each t is).handshake
 
 -- One that is waited for hasn't left: its last buffer would be there.
-pub awaited_stays : (w : Core) (t : ℕ) → IsKept w → IsMutator w.config t → WaitsFor w t → (mutator w t).left ≡ false
+pub awaited_stays : {dated : Bool} → (w : Core) (t : ℕ) → IsKept dated w → IsMutator w.config t → WaitsFor w t → (mutator w t).left ≡ false
 awaited_stays w t kept is waits = go (looked_due w t kept is waits.looks)
   where
     go : IsHandshake w.config w.epoch (mutator w t) (crossing_of w t) (box w t) Handshake.Due → (mutator w t).left ≡ false
@@ -206,7 +206,7 @@ awaited_stays w t kept is waits = go (looked_due w t kept is waits.looks)
     go (inr (inr (crossed, last))) = absurd (waits.behind crossed.word)
 
 -- A mutator's mailbox is taken: the buffer in it is one of the newer ones now, and a spare is left.
-module _ (w : Core) (t : ℕ) (kept : IsKept w) (phase : w.collector.phase ≡ Looking t) (is : IsMutator w.config t) (crossed : crossing_of w t ≡ crossing_word w.epoch Retired) where
+module _ (w : Core) (t : ℕ) (kept : IsKept true w) (phase : w.collector.phase ≡ Looking t) (is : IsMutator w.config t) (crossed : crossing_of w t ≡ crossing_word w.epoch Retired) where
   abbrev gathered_by : collectors.Private
   gathered_by = record w.collector { newer = slice_set w.collector.newer (t - 1) (box w t); phase = Returning t; turns = w.collector.turns + 1 }
 
@@ -255,7 +255,7 @@ module _ (w : Core) (t : ℕ) (kept : IsKept w) (phase : w.collector.phase ≡ L
         ap (λ e. sum_by (share g f e) w.collector.older) older,
       )
 
-  pub gathered_kept : collector_kept.IsMachine gathered_by → IsKept gathered
+  pub gathered_kept : collector_kept.IsMachine gathered_by → IsKept true gathered
   gathered_kept machine =
       let k = kept.collector in
       let a = kept.mutators.each t is in
@@ -280,7 +280,7 @@ module _ (w : Core) (t : ℕ) (kept : IsKept w) (phase : w.collector.phase ≡ L
                 unwritten = a.unwritten;
                 unmarked = a.unmarked;
                 let_go = a.let_go;
-                mailbox = subst (IsBufferOf w.config (epoch_at (mutator w t) - 1)) (sym (its_spare k)) (spare_buffer w.config (epoch_at (mutator w t) - 1));
+                mailbox = subst (IsBufferOf true w.config (epoch_at (mutator w t) - 1)) (sym (its_spare k)) (spare_buffer w.config (epoch_at (mutator w t) - 1));
                 handshake = subst (IsHandshake w.config w.epoch (mutator w t) (crossing_word w.epoch WithCollector) (collectors.spare w.collector)) (sym (stand_present w.collector.left (Returning t) t looking.present ∙ stand_held t))
                     (record { epoch = has_crossed.epoch; word = refl; settled = settled_moved Retired WithCollector (mutator w t).phase (λ collected. collected) has_crossed.settled }, its_spare k);
               })
@@ -300,12 +300,12 @@ module _ (w : Core) (t : ℕ) (kept : IsKept w) (phase : w.collector.phase ≡ L
               | inl same ↦
                   let at : slice_index_or (slice_set w.collector.newer (t - 1) (box w t)) (s - 1) (collectors.blank 0 0) ≡ box w t
                   = ap (λ n. slice_index_or (slice_set w.collector.newer (t - 1) (box w t)) (n - 1) (collectors.blank 0 0)) same ∙ get_or-set_same w.collector.newer (t - 1) (box w t) (collectors.blank 0 0) (omega (arith, is.0, is.1)) in
-                  subst (IsBufferOf w.config (w.epoch - 1)) (sym at) (subst (λ e. IsBufferOf w.config (e - 1) (box w t)) (crossed_here has_crossed) a.mailbox)
+                  subst (IsBufferOf true w.config (w.epoch - 1)) (sym at) (subst (λ e. IsBufferOf true w.config (e - 1) (box w t)) (crossed_here has_crossed) a.mailbox)
               | inr other ↦
                   let apart : (s - 1) ≢ (t - 1) = λ e. other (omega (arith, is.0, there.0)) in
-                  subst (IsBufferOf w.config (w.epoch - 1)) (sym (get_or-set_other w.collector.newer (t - 1) (s - 1) (box w t) (collectors.blank 0 0) apart)) (k.newer s there)
+                  subst (IsBufferOf true w.config (w.epoch - 1)) (sym (get_or-set_other w.collector.newer (t - 1) (s - 1) (box w t) (collectors.blank 0 0) apart)) (k.newer s there)
             ];
-            older = λ s there. subst (λ e. IsBufferOf w.config e (collectors.buffer_at w.collector.older (s - 1))) older (k.older s there);
+            older = λ s there. subst (λ e. IsBufferOf true w.config e (collectors.buffer_at w.collector.older (s - 1))) older (k.older s there);
             listed = k.listed;
             emptied = emptied_in w (Looking t) kept.whole phase;
           };
@@ -320,10 +320,11 @@ module _ (w : Core) (t : ℕ) (kept : IsKept w) (phase : w.collector.phase ≡ L
               (sets_wait_moved w.collector.counts (AccountMove.dropping drops) tt kept.accounted (alive_in w (Looking t) kept.whole phase) (cycles_in w (Looking t) kept.whole phase));
         };
         held = (looking.present, ap (λ (b : Contents). b.last) (get_or-set_same w.collector.newer (t - 1) (box w t) (collectors.blank 0 0) (omega (arith, is.0, is.1, many))) ∙ has_retired.1);
+        behind = tt;
       }
 
 -- A mailbox is given back: if the last buffer of its mutator came from there, that has left.
-module _ (w : Core) (t : ℕ) (kept : IsKept w) (phase : w.collector.phase ≡ Returning t) (is : IsMutator w.config t) where
+module _ (w : Core) (t : ℕ) (kept : IsKept true w) (phase : w.collector.phase ≡ Returning t) (is : IsMutator w.config t) where
   -- the collector knows of it then
   abbrev now_left : List Bool
   now_left = (noted w.collector t).left
@@ -356,17 +357,17 @@ module _ (w : Core) (t : ℕ) (kept : IsKept w) (phase : w.collector.phase ≡ R
             (inl (record { epoch = crossed.epoch; word = refl; settled = settled_moved WithCollector Spare (mutator w t).phase (λ _. refl) crossed.settled }, stays, spare))
       ]
 
-  returned_mutators : HasMutators w.config w.epoch (stand_at now_left (Looking (t + 1))) w.mutators (crossing_with w t Spare) w.boxes
+  returned_mutators : HasMutators true w.config w.epoch (stand_at now_left (Looking (t + 1))) w.mutators (crossing_with w t Spare) w.boxes
   returned_mutators =
       let a = kept.mutators.each t is in
-      subst (λ (bs : List Contents). HasMutators w.config w.epoch (stand_at now_left (Looking (t + 1))) w.mutators (crossing_with w t Spare) bs) (same_boxes w t)
+      subst (λ (bs : List Contents). HasMutators true w.config w.epoch (stand_at now_left (Looking (t + 1))) w.mutators (crossing_with w t Spare) bs) (same_boxes w t)
       (collector_moves t (crossing_word w.epoch Spare) (box w t) kept.mutators is
       (record { own = a.own; log = a.log; unwritten = a.unwritten; unmarked = a.unmarked; let_go = a.let_go; mailbox = a.mailbox; handshake = returned_stands })
       (λ s there other.
       ap (λ (gone : Bool). if gone then Handshake.Gone else stand_in (Looking (t + 1)) s) (noted_other s there other)
       ∙ stands_as w.collector.left s (stand_returned t s other ∙ sym (ap (λ p. stand_in p s) phase))))
 
-  pub giving_back_kept : IsKeptBy (stand_at now_left (Looking (t + 1))) (giving_back w t)
+  pub giving_back_kept : IsKeptBy true (stand_at now_left (Looking (t + 1))) (giving_back w t)
   giving_back_kept =
       let k = kept.collector in
       let now : collector_kept.IsAt w.collector (Returning t) = now_at w (Returning t) kept phase in
@@ -391,7 +392,7 @@ module _ (w : Core) (t : ℕ) (kept : IsKept w) (phase : w.collector.phase ≡ R
           epoch = k.epoch;
           begun = omega (arith, k.begun, way);
           newer = k.newer;
-          older = λ s there. subst (λ e. IsBufferOf w.config e (collectors.buffer_at w.collector.older (s - 1))) older (k.older s there);
+          older = λ s there. subst (λ e. IsBufferOf true w.config e (collectors.buffer_at w.collector.older (s - 1))) older (k.older s there);
           listed = k.listed;
           emptied = emptied_in w (Returning t) kept.whole phase;
         };
@@ -406,7 +407,7 @@ module _ (w : Core) (t : ℕ) (kept : IsKept w) (phase : w.collector.phase ≡ R
       }
 
 -- Behind a mutator the next one follows, or none.
-module _ (u : Core) (t : ℕ) (kept : IsKeptBy (stand_at u.collector.left (Looking (t + 1))) u) (n : ℕ) (phase : u.collector.phase ≡ Returning n) where
+module _ (u : Core) (t : ℕ) (kept : IsKeptBy true (stand_at u.collector.left (Looking (t + 1))) u) (n : ℕ) (phase : u.collector.phase ≡ Returning n) where
   -- each mutator stands as where the next one's mailbox is looked at
   next_stands : (next s : ℕ) → IsNextPresent u.collector.left t next → stand_at u.collector.left (Looking next) s ≡ stand_at u.collector.left (Looking (t + 1)) s
   next_stands next s found = elim (cases_Bool (has_left u.collector.left s)) [
@@ -423,7 +424,7 @@ module _ (u : Core) (t : ℕ) (kept : IsKeptBy (stand_at u.collector.left (Looki
         ]
       ]
 
-  pub next_kept : (next : ℕ) → IsNextPresent u.collector.left t next → collector_kept.IsMachine (moved u.collector (Looking next)) → IsKept (record u { collector = moved u.collector (Looking next) })
+  pub next_kept : (next : ℕ) → IsNextPresent u.collector.left t next → collector_kept.IsMachine (moved u.collector (Looking next)) → IsKept true (record u { collector = moved u.collector (Looking next) })
   next_kept next found machine =
       let k = kept.collector in
       let way : collector_kept.under_way u.collector.phase ≡ 1 = ap collector_kept.under_way phase in
@@ -449,7 +450,7 @@ module _ (u : Core) (t : ℕ) (kept : IsKeptBy (stand_at u.collector.left (Looki
             epoch = k.epoch;
             begun = omega (arith, k.begun, way);
             newer = k.newer;
-            older = λ s there. subst (λ e. IsBufferOf u.config e (collectors.buffer_at u.collector.older (s - 1))) older (k.older s there);
+            older = λ s there. subst (λ e. IsBufferOf true u.config e (collectors.buffer_at u.collector.older (s - 1))) older (k.older s there);
             listed = k.listed;
             emptied = emptied_in u (Returning n) kept phase;
           };
@@ -463,10 +464,11 @@ module _ (u : Core) (t : ℕ) (kept : IsKeptBy (stand_at u.collector.left (Looki
           cycles = subst (λ x. SetsWait x u.collector.counts) (sym same) (cycles_in u (Returning n) kept phase);
         };
         held = tt;
+        behind = tt;
       }
 
   -- every mailbox is home where nobody follows
-  pub home_kept : HaveLeft u.collector.left t → IsKeptBy (stand_at u.collector.left Opening) u
+  pub home_kept : HaveLeft u.collector.left t → IsKeptBy true (stand_at u.collector.left Opening) u
   home_kept gone =
       let many : length u.collector.newer ≡ u.config.mutators = kept.collector.mutators in
       record {
@@ -492,7 +494,7 @@ module _ (u : Core) (t : ℕ) (kept : IsKeptBy (stand_at u.collector.left (Looki
       }
 
 -- What a turn finds that applies the batch: every mailbox is home.
-pub awaits_kept : (w u : Core) → IsKept w → Awaits w u → IsKeptBy (stand_at u.collector.left Opening) u
+pub awaits_kept : (w u : Core) → IsKept true w → Awaits w u → IsKeptBy true (stand_at u.collector.left Opening) u
 awaits_kept w _ kept (Awaits.alone idle more gone) =
     home_kept (requesting w) 0 (requesting_kept w kept idle (λ last. more (ap (λ n. n + 1) (sym kept.collector.epoch) ∙ last))) (length w.collector.newer) refl gone
 awaits_kept w _ kept (Awaits.last t is phase gone) = home_kept (giving_back w t) t (giving_back_kept w t kept phase is) (length w.collector.newer) refl gone

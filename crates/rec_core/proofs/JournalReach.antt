@@ -93,7 +93,7 @@ tells_births b = births_in b.epoch b.buffer.entries
 abbrev tells_names : Filed → List Dated
 tells_names b = dated_names b.epoch b.buffer.snapshot
 
-module _ (w : Core) (kept : IsKept w) (slot : ℕ) where
+module _ (w : Core) (kept : IsKept true w) (slot : ℕ) where
   abbrev its : Dated → ℕ
   its = is_from (applied_in w) (slot + 1)
 
@@ -157,7 +157,7 @@ module _ (w : Core) (kept : IsKept w) (slot : ℕ) where
       one a e n same = grind (arith, nat_tests)
 
 -- the fields of a free slot are null
-pub free_word : (w : Core) (place : ℕ) → IsKept w → slice_index_or w.headers (place / w.config.fields) 0 ≡ 0 → slice_index_or w.words place 0 ≡ 0
+pub free_word : (w : Core) (place : ℕ) → IsKept true w → slice_index_or w.headers (place / w.config.fields) 0 ≡ 0 → slice_index_or w.words place 0 ≡ 0
 free_word w place kept free = elim (cases_lt slot (length w.headers)) [
   | inl there ↦
       let null : words_of (sight w) slot ≡ replicate w.config.fields 0 = kept.sound.free slot there (λ taken. omega (arith, taken, free)) in
@@ -183,7 +183,7 @@ free_word w place kept free = elim (cases_lt slot (length w.headers)) [
     split = omega (arith, div-add-mod place w.config.fields, mul_comm w.config.fields (place / w.config.fields))
 
 -- What a later write replaced was of a slot in reach.
-pub replaced_home : (w : Core) (place word : ℕ) → IsKept w → 0 < sum_by (closes (record { place = place; word = word; epoch = applied_in w + 1 })) (writes_of w) → IsInReach (pending w) (applied_in w) (home w.config.fields place)
+pub replaced_home : (w : Core) (place word : ℕ) → IsKept true w → 0 < sum_by (closes (record { place = place; word = word; epoch = applied_in w + 1 })) (writes_of w) → IsInReach (pending w) (applied_in w) (home w.config.fields place)
 replaced_home w place word kept some =
     let node : ℕ = home w.config.fields place in
     kept.accounted.held (applied_in w) (omega arith) kept.accounted.epochs.behind node (omega arith)

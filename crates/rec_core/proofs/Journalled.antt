@@ -26,7 +26,7 @@ applied_in w = applied_at w.epoch w.collector.phase
 
 -- ---- logs and mailboxes have entries of later epochs alone
 
-pub log_later : (w : Core) (t : ℕ) → IsKept w → IsMutator w.config t → (applied_in w < epoch_at (mutator w t)) ⊎ ((mutator w t).log.entries ≡ [])
+pub log_later : (w : Core) (t : ℕ) → IsKept true w → IsMutator w.config t → (applied_in w < epoch_at (mutator w t)) ⊎ ((mutator w t).log.entries ≡ [])
 log_later w t kept is = elim (cases_Bool (has_let_go (mutator w t))) [
   | inl gone ↦ inr (ap (λ (b : Contents). b.entries) ((actor_of w t kept is).let_go gone).log)
   | inr held ↦ inl (later (has_register w t 0 (in_list w t kept is) held first))
@@ -44,7 +44,7 @@ log_later w t kept is = elim (cases_Bool (has_let_go (mutator w t))) [
         wrong : (e n a r : ℕ) → e ≤ a → (d : Dated) → is_at e n d ≤ is_wrong_register a r d
         wrong e n a r early d = grind (arith, nat_tests)
 
-pub box_later : (w : Core) (t : ℕ) → IsKept w → IsMutator w.config t → (applied_in w < epoch_at (mutator w t) - 1) ⊎ ((box w t).entries ≡ [])
+pub box_later : (w : Core) (t : ℕ) → IsKept true w → IsMutator w.config t → (applied_in w < epoch_at (mutator w t) - 1) ⊎ ((box w t).entries ≡ [])
 box_later w t kept is = go (stand_of w t) refl (actor_of w t kept is).handshake
   where
     behind : applied_in w < w.epoch
@@ -87,13 +87,13 @@ other_writes g e epoch (entries.Put place new old ∷ es) other of made =
 other_writes g e epoch (entries.Born slot leaf ∷ es) other of made = other_writes g e epoch es other of (All-tail (IsMadeIn e) (entries.Born slot leaf) es made)
 
 -- a row of buffers of another epoch, or of spares
-row_none : (w : Core) (g : Write → ℕ) (e epoch : ℕ) (row : List Contents) → length row ≡ w.config.mutators → e ≢ epoch → IsOfEpoch epoch g → ((t : ℕ) → IsMutator w.config t → IsBufferOf w.config e (buffer_at row (t - 1))) → sum_by (wrote g) row ≡ 0
+row_none : (w : Core) (g : Write → ℕ) (e epoch : ℕ) (row : List Contents) → length row ≡ w.config.mutators → e ≢ epoch → IsOfEpoch epoch g → ((t : ℕ) → IsMutator w.config t → IsBufferOf true w.config e (buffer_at row (t - 1))) → sum_by (wrote g) row ≡ 0
 row_none w g e epoch row many other of all = none_of (wrote g) row (blank 0 0) (λ i below.
     let at : i + 1 - 1 ≡ i = omega arith in
-    let one : IsBufferOf w.config e (slice_index_or row i (blank 0 0)) = subst (λ n. IsBufferOf w.config e (slice_index_or row n (blank 0 0))) at (all (i + 1) (omega arith, omega (arith, below, many))) in
+    let one : IsBufferOf true w.config e (slice_index_or row i (blank 0 0)) = subst (λ n. IsBufferOf true w.config e (slice_index_or row n (blank 0 0))) at (all (i + 1) (omega arith, omega (arith, below, many))) in
     other_writes g e epoch (slice_index_or row i (blank 0 0)).entries other of one.made)
 
-last_sum : (w : Core) (g : Write → ℕ) → IsKept w → IsOfEpoch (applied_in w) g → sum_by g (writes_of w) ≡ sum_by (wrote g) (last_batch w.collector)
+last_sum : (w : Core) (g : Write → ℕ) → IsKept true w → IsOfEpoch (applied_in w) g → sum_by g (writes_of w) ≡ sum_by (wrote g) (last_batch w.collector)
 last_sum w g kept of = omega (arith, writes_sum g w, logs, boxes, rows w.collector.phase refl)
   where
     number : (i : ℕ) → i < length w.mutators → IsMutator w.config (i + 1)
@@ -180,7 +180,7 @@ stands_in g (b ∷ row) some = elim (cases_lt 0 (wrote g b)) [
 ]
 
 -- What a write replaced since this epoch, it replaced since the next one, or in this one: then it is one of the last batch.
-pub replaced_when : (w : Core) (place word : ℕ) → IsKept w → 0 < sum_by (closes (record { place = place; word = word; epoch = applied_in w })) (writes_of w)
+pub replaced_when : (w : Core) (place word : ℕ) → IsKept true w → 0 < sum_by (closes (record { place = place; word = word; epoch = applied_in w })) (writes_of w)
     → (0 < sum_by (closes (record { place = place; word = word; epoch = applied_in w + 1 })) (writes_of w)) ⊎ ((new : ℕ) × StandsIn (last_batch w.collector) (entries.Put place new word))
 replaced_when w place word kept some =
     let now : Loaded = record { place = place; word = word; epoch = applied_in w } in

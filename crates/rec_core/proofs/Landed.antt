@@ -27,13 +27,13 @@ begun_freeing (Some phase) = freeing_due phase
 -- begun.
 pub record HasLanded (w : Core) (crossing words : List ℕ) (b : Begun) : Type 0 where
   pub stands : (t : ℕ) → Handshake
-  pub kept : IsKeptBy stands w
+  pub kept : IsKeptBy true stands w
   -- the collection is under way, and nothing is swept yet
   pub way : collector_kept.under_way w.collector.phase ≡ 1
   pub still : one_if_sweeping w.collector.phase ≡ 0
   pub older : older_at w.epoch w.collector.phase ≡ w.epoch - 2
   -- no mailbox is to be gathered
-  pub mutators : HasMutators w.config w.epoch (stand_at w.collector.left Opening) w.mutators crossing w.boxes
+  pub mutators : HasMutators true w.config w.epoch (stand_at w.collector.left Opening) w.mutators crossing w.boxes
   -- the batch of the last epoch is applied
   pub accounted : IsAccounted (landed_pending w words b.parts.counts)
   pub uncounted : begun_freeing b.phase ≡ None → HasUncountedReleased (landed_pending w words b.parts.counts)

@@ -63,7 +63,7 @@ early_names weight epoch bound (Some x ∷ xs) early none =
 
 -- A collection is complete: the older buffers are forgotten, and the newer ones are the older of the next collection.
 module _ (w : Core) (c : collectors.Private) (before : Phase) (some : 2 ≤ w.epoch) (older_before : older_at w.epoch before ≡ w.epoch - 2)
-    (both : length c.older ≡ w.config.mutators) (filed_older : (t : ℕ) → IsMutator w.config t → IsBufferOf w.config (w.epoch - 2) (collectors.buffer_at c.older (t - 1))) where
+    (both : length c.older ≡ w.config.mutators) (filed_older : (t : ℕ) → IsMutator w.config t → IsBufferOf true w.config (w.epoch - 2) (collectors.buffer_at c.older (t - 1))) where
   abbrev amid : Core
   amid = record w { collector = record c { phase = before } }
 
@@ -71,7 +71,7 @@ module _ (w : Core) (c : collectors.Private) (before : Phase) (some : 2 ≤ w.ep
   complete turns collections = record w { collector = record c { phase = Idle; turns = turns; collections = collections; newer = map cleared c.older; older = c.newer } }
 
   -- one of the older buffers
-  older_there : (i : ℕ) → i < length c.older → IsBufferOf w.config (w.epoch - 2) (slice_index_or c.older i (collectors.blank 0 0))
+  older_there : (i : ℕ) → i < length c.older → IsBufferOf true w.config (w.epoch - 2) (slice_index_or c.older i (collectors.blank 0 0))
   older_there = buffer_there w.config (w.epoch - 2) c.older both filed_older
 
   -- cleared buffers add nothing
@@ -139,7 +139,7 @@ alike_drops p words s t same = record {
 }
 
 -- a row of cleared buffers is one of spares of this size
-pub cleared_buffer : (config : Config) (epoch e : ℕ) (b : Contents) → IsBufferOf config e b → IsBufferOf config epoch (cleared b)
+pub cleared_buffer : (config : Config) (epoch e : ℕ) (b : Contents) → IsBufferOf true config e b → IsBufferOf true config epoch (cleared b)
 cleared_buffer config epoch e b is = record { snapshot = length-replicate (length b.snapshot) None ∙ is.snapshot; capacity = is.capacity; few = omega arith; made = All-nil (IsMadeIn epoch) }
 
 -- Counts with the same slots, as far as counting and releasing go; and what gets into the free list is released.
@@ -304,13 +304,13 @@ pub here_pending : (w : Core) (phase : Phase) → w.collector.phase ≡ phase �
 here_pending w phase is on = ap (λ (n : ℕ). let p : Pending = record (pending w) { applied = n } in p) (ap (applied_at w.epoch) is ∙ on.applied)
 
 -- the requested epoch is the next one
-pub here_done : (w : Core) → IsKept w → w.epoch - 1 + 1 ≡ w.epoch
+pub here_done : (w : Core) → IsKept true w → w.epoch - 1 + 1 ≡ w.epoch
 here_done w kept =
     let first : 1 ≤ w.config.first_epoch = kept.config.some_epoch in
     omega (arith, first, kept.collector.begun)
 
 -- in such a phase, a collection has come to where it is
-pub lands_here : (w : Core) (phase : Phase) → IsKept w → w.collector.phase ≡ phase → IsUnswept w.epoch phase → HasLanded w w.crossing w.words (record { parts = parts_of w.collector; phase = Some w.collector.phase })
+pub lands_here : (w : Core) (phase : Phase) → IsKept true w → w.collector.phase ≡ phase → IsUnswept w.epoch phase → HasLanded w w.crossing w.words (record { parts = parts_of w.collector; phase = Some w.collector.phase })
 lands_here w phase kept is on =
     let k = kept.collector in
     let same : pending w ≡ landed_pending w w.words w.collector.counts = here_pending w phase is on in
@@ -338,12 +338,12 @@ module _ (w : Core) (crossing words : List ℕ) (q : collectors.Private) (machin
   landed = record w { crossing = crossing; words = words; collector = q }
 
   -- the collection goes on
-  pub goes_on : (v : Parts) (next : Phase) → HasLanded w crossing words (record { parts = v; phase = Some next }) → IsUnswept w.epoch next → HasCyclesAt (landed_pending w words v.counts) (with_parts w.collector v) next → q ≡ moved (with_parts w.collector v) next → IsKept landed
+  pub goes_on : (v : Parts) (next : Phase) → HasLanded w crossing words (record { parts = v; phase = Some next }) → IsUnswept w.epoch next → HasCyclesAt (landed_pending w words v.counts) (with_parts w.collector v) next → q ≡ moved (with_parts w.collector v) next → IsKept true landed
   goes_on v next l on cycles is =
       let k = l.kept.collector in
       let c : collectors.Private = moved (with_parts w.collector v) next in
       let same : pending (record w { crossing = crossing; words = words; collector = c }) ≡ landed_pending w words v.counts = rw (on.applied, on.older, l.older) refl in
-      let whole : IsKept (record w { crossing = crossing; words = words; collector = c }) = record {
+      let whole : IsKept true (record w { crossing = crossing; words = words; collector = c }) = record {
         whole = record {
           config = l.kept.config;
           headers = l.kept.headers;
@@ -361,7 +361,7 @@ module _ (w : Core) (crossing words : List ℕ) (q : collectors.Private) (machin
             epoch = k.epoch;
             begun = omega (arith, k.begun, l.way, on.way);
             newer = k.newer;
-            older = λ s there. subst (λ e. IsBufferOf w.config e (collectors.buffer_at w.collector.older (s - 1))) (l.older ∙ sym on.older) (k.older s there);
+            older = λ s there. subst (λ e. IsBufferOf true w.config e (collectors.buffer_at w.collector.older (s - 1))) (l.older ∙ sym on.older) (k.older s there);
             listed = l.listed;
             emptied = l.emptied;
           };
@@ -375,22 +375,23 @@ module _ (w : Core) (crossing words : List ℕ) (q : collectors.Private) (machin
           cycles = subst (λ p. HasCyclesAt p c next) (sym same) (came_cycles (landed_pending w words v.counts) (with_parts w.collector v) next cycles);
         };
         held = on.held (record w { crossing = crossing; words = words; collector = c });
+        behind = tt;
       } in
-      subst (λ (x : collectors.Private). IsKept (record w { crossing = crossing; words = words; collector = x })) (sym is) whole
+      subst (λ (x : collectors.Private). IsKept true (record w { crossing = crossing; words = words; collector = x })) (sym is) whole
 
   -- the collection is complete
-  completes : (v : Parts) → HasLanded w crossing words (still v) → SetsWait (landed_pending w words v.counts) v.counts → q ≡ ended (with_parts w.collector v) → IsKept landed
+  completes : (v : Parts) → HasLanded w crossing words (still v) → SetsWait (landed_pending w words v.counts) v.counts → q ≡ ended (with_parts w.collector v) → IsKept true landed
   completes v l waits is =
       let k = l.kept.collector in
       let c : collectors.Private = ended (with_parts w.collector v) in
       let its : collector_kept.IsMachine c = subst collector_kept.IsMachine is machine in
       let both : length w.collector.older ≡ w.config.mutators = k.machine.both ∙ k.mutators in
-      let older : (t : ℕ) → IsMutator w.config t → IsBufferOf w.config (w.epoch - 2) (collectors.buffer_at w.collector.older (t - 1))
-      = λ s there. subst (λ e. IsBufferOf w.config e (collectors.buffer_at w.collector.older (s - 1))) l.older (k.older s there) in
+      let older : (t : ℕ) → IsMutator w.config t → IsBufferOf true w.config (w.epoch - 2) (collectors.buffer_at w.collector.older (t - 1))
+      = λ s there. subst (λ e. IsBufferOf true w.config e (collectors.buffer_at w.collector.older (s - 1))) l.older (k.older s there) in
       let some_epochs : 2 ≤ w.epoch = (let first : 1 ≤ w.config.first_epoch = l.kept.config.some_epoch in omega (arith, k.begun, l.way)) in
       let drops : Drops (landed_pending w words v.counts) (pending (record w { crossing = crossing; words = words; collector = c }))
       = complete_drops w w.collector w.collector.phase some_epochs l.older both older words v.counts 0 (w.collector.collections + 1) in
-      let whole : IsKept (record w { crossing = crossing; words = words; collector = c }) = record {
+      let whole : IsKept true (record w { crossing = crossing; words = words; collector = c }) = record {
         whole = record {
           config = l.kept.config;
           headers = l.kept.headers;
@@ -409,7 +410,7 @@ module _ (w : Core) (crossing words : List ℕ) (q : collectors.Private) (machin
             begun = omega (arith, k.begun, l.way);
             newer = λ s there.
                 let at : slice_index_or (map cleared w.collector.older) (s - 1) (cleared (collectors.blank 0 0)) ≡ cleared (collectors.buffer_at w.collector.older (s - 1)) = get_or-map cleared w.collector.older (s - 1) (collectors.blank 0 0) in
-                subst (IsBufferOf w.config (w.epoch - 1)) (sym at) (cleared_buffer w.config (w.epoch - 1) (w.epoch - 2) (collectors.buffer_at w.collector.older (s - 1)) (older s there));
+                subst (IsBufferOf true w.config (w.epoch - 1)) (sym at) (cleared_buffer w.config (w.epoch - 1) (w.epoch - 2) (collectors.buffer_at w.collector.older (s - 1)) (older s there));
             older = k.newer;
             listed = l.listed;
             emptied = l.emptied;
@@ -424,15 +425,16 @@ module _ (w : Core) (crossing words : List ℕ) (q : collectors.Private) (machin
           cycles = sets_wait_moved v.counts (AccountMove.dropping drops) tt l.accounted (none_alive v.counts (none_released its.now.0)) waits;
         };
         held = tt;
+        behind = tt;
       } in
-      subst (λ (x : collectors.Private). IsKept (record w { crossing = crossing; words = words; collector = x })) (sym is) whole
+      subst (λ (x : collectors.Private). IsKept true (record w { crossing = crossing; words = words; collector = x })) (sym is) whole
 
   -- all fields, by the slots of the counts
   places_landed : {b : Begun} → HasLanded w crossing words b → (slots : ℕ) → length b.parts.counts.slots ≡ slots → length words ≡ slots * w.config.fields
   places_landed l slots many = l.many_words ∙ l.kept.sound.places ∙ ap (λ n. n * w.config.fields) (l.kept.headers ∙ sym l.slots ∙ many)
 
   -- whatever follows a preparation
-  pub prepares_kept : (v : Parts) (u : preps.Work) (turn : Turn) → HasLanded w crossing words (still (record v { counts = u.counts })) → AreSeen (landed_pending w words u.counts) u.counts u.machine → PreparesOn w.collector v u q turn → IsKept landed
+  pub prepares_kept : (v : Parts) (u : preps.Work) (turn : Turn) → HasLanded w crossing words (still (record v { counts = u.counts })) → AreSeen (landed_pending w words u.counts) u.counts u.machine → PreparesOn w.collector v u q turn → IsKept true landed
   prepares_kept v u turn l seen on = go on
     where
       its : Parts
@@ -443,7 +445,7 @@ module _ (w : Core) (crossing words : List ℕ) (q : collectors.Private) (machin
           let all : prepared.PreparedTo w.config.fields seen.before None u.counts seen.loads = subst (λ a. prepared.PreparedTo w.config.fields seen.before a u.counts seen.loads) done seen.prepares in
           sets_wait_prepared (landed_pending w words u.counts) seen.before u.counts seen.loads seen.before_kept (places_landed l (length seen.before.slots) all.others.many) seen.fields all seen.stands
 
-      go : PreparesOn w.collector v u q turn → IsKept landed
+      go : PreparesOn w.collector v u q turn → IsKept true landed
       go (PreparesOn.more some g) = goes_on its (Preparing u.machine) (landed_in its (Preparing u.machine) refl refl l) (record { way = refl; still = refl; applied = refl; older = refl; stands = λ s. refl; held = λ v. tt; between = tt; some = tt }) seen g.after
       go (PreparesOn.sweeps_next none some g) = goes_on its Opening (landed_in its Opening refl refl l) (record { way = refl; still = refl; applied = refl; older = refl; stands = λ s. refl; held = λ v. tt; between = tt; some = tt }) (waits none) g.after
       go (PreparesOn.completes none free e) = completes its l (waits none) e.after
@@ -488,14 +490,14 @@ module _ (w : Core) (crossing words : List ℕ) (q : collectors.Private) (machin
           ap (λ n. (slice_index_or s.slots n fresh).count) at ∙ ap (λ (y : Slot). y.count) (get_or_default s.slots x fresh absent below)
 
   -- whatever follows a trial
-  pub tries_kept : (v : Parts) (u : trials.Work) (turn : Turn) → HasLanded w crossing words (still (record v { counts = u.counts })) → IsLoading (landed_pending w words u.counts) u.counts u.machine → TriesOn w.collector v u q turn → IsKept landed
+  pub tries_kept : (v : Parts) (u : trials.Work) (turn : Turn) → HasLanded w crossing words (still (record v { counts = u.counts })) → IsLoading (landed_pending w words u.counts) u.counts u.machine → TriesOn w.collector v u q turn → IsKept true landed
   tries_kept v u turn l loading (TriesOn.more some g) = goes_on (record v { counts = u.counts }) (Trying u.machine) (landed_in (record v { counts = u.counts }) (Trying u.machine) refl refl l) (record { way = refl; still = refl; applied = refl; older = refl; stands = λ s. refl; held = λ v. tt; between = tt; some = tt }) loading g.after
   tries_kept v u turn l loading (TriesOn.prepares over on) =
       let its : Parts = record v { counts = u.counts } in
       prepares_kept its (prep_started its) turn (prep_lands its l) (prep_seen its u.machine l loading over) on
 
   -- where nothing is left to release or to test, a trial begins
-  trial_begins_on : (v : Parts) (turn : Turn) → HasLanded w crossing words (still v) → IsReady v.counts → TriesOn w.collector v (trials.started_of v.fields v.counts) q turn → IsKept landed
+  trial_begins_on : (v : Parts) (turn : Turn) → HasLanded w crossing words (still v) → IsReady v.counts → TriesOn w.collector v (trials.started_of v.fields v.counts) q turn → IsKept true landed
   trial_begins_on v turn l ready on =
       let some : 1 ≤ w.config.fields = l.kept.config.some_fields in
       let same : v.fields ≡ w.config.fields = l.fields in
@@ -514,5 +516,5 @@ module _ (w : Core) (crossing words : List ℕ) (q : collectors.Private) (machin
       on
 
   -- once every slot was offered to it, where that was asked for
-  pub trial_begins : (v : Parts) (turn : Turn) → HasLanded w crossing words (still v) → IsReady v.counts → TriesOn w.collector (with_offers v) (trials.started_of v.fields (with_offers v).counts) q turn → IsKept landed
+  pub trial_begins : (v : Parts) (turn : Turn) → HasLanded w crossing words (still v) → IsReady v.counts → TriesOn w.collector (with_offers v) (trials.started_of v.fields (with_offers v).counts) q turn → IsKept true landed
   trial_begins v turn l ready on = trial_begins_on (with_offers v) turn (landed_offered l) (where_ready v.offers v.counts ready) on

@@ -7,7 +7,7 @@ use Rattle.std.proofs.lemmas.List.{set-get_or, get_or-set_other}
 use Rattle.std.proofs.lemmas.List.Elements.{Contains-append_left, Contains-append_right, Contains-get_or}
 use Rattle.std.proofs.lemmas.List.Sums.{sum_by-cons, sum_by-set}
 use Rattle.rec_mutator.specs.Step.{TakesBox}
-use Rattle.rec_core.proofs.Common.{has_left, noted, requested, crossing_word, Retired, place_of, Op, only_if, epoch_of, Write, Cleared, Contents, Private, is_busy, IsMachine, next_stamp, word_for, IsStore, probe_of, next_of, Step, Decides, GoesOn, LeavesBox, HasRoom, begun_of, left_of, took_of, whole_made, Parts, with_parts, Begun, cleared, Phase, Idle, Looking, Swapping, Returning, Turn, Cells, cell, with_cell, IsMutator, Core, cells_of, mutator, box, nobody, crossing_of, IsBufferOf, IsHandshake, IsKept, Handshake, stand_at, Fits, Move, after_move, begun_from, found_by, left_by, looked_at, offering, stepped, turned, turned_by, older_at, writes_in, writes_of, Config, header_word}
+use Rattle.rec_core.proofs.Common.{has_left, noted, requested, crossing_word, Retired, place_of, Op, only_if, epoch_of, Write, Cleared, Contents, Private, is_busy, IsMachine, next_stamp, word_for, IsStore, probe_of, next_of, Step, Decides, GoesOn, LeavesBox, HasRoom, begun_of, left_of, took_of, whole_made, Parts, with_parts, Begun, cleared, Phase, Idle, Looking, Swapping, Returning, Turn, Cells, cell, with_cell, IsMutator, Core, cells_of, mutator, box, nobody, crossing_of, IsBufferOf, IsHandshake, IsKept, Handshake, stand_at, Fits, Move, after_move, begun_from, found_by, left_by, looked_at, offering, stepped, turned, turned_by, older_at, writes_in, writes_of, Config, header_word, stamp_of}
 use Rattle.rec_word.specs.Op.{written}
 use Rattle.rec_word.specs.declared.op.Op.TheVariants as ops
 use Rattle.rec_model.specs.declared.command.Cmd.{Cmd}
@@ -28,8 +28,9 @@ use Rattle.rec_collector.proofs.Always.{names_word}
 use Rattle.rec_core.specs.Loads.{cleared_by, cleared_in, IsKnown, Loaded, tried_in}
 use Rattle.rec_core.proofs.Batches.{none_of}
 use Rattle.rec_core.proofs.Landings.{early_writes}
+use Rattle.rec_word.specs.declared.stamps.Stamp.{Stamp}
 use Rattle.rec_mutator.proofs.LogStamps.{word_stamp}
-use Rattle.rec_core.proofs.Rules.{epoch_of_stamp}
+use Rattle.rec_core.proofs.Rules.{epoch_of_put}
 use Rattle.rec_core.proofs.Runs.{rule_of}
 use Rattle.rec_core.proofs.Turning.{turn_case}
 use Rattle.rec_core.proofs.Actors.{busy_stays}
@@ -124,6 +125,7 @@ record IsPut (op : Op) (word : ℕ) (p q : Private) (box left : Contents) : Type
   pub new : ℕ
   pub operation : op ≡ ops.SwapField place new
   pub stamp : epoch_of new ≡ p.epoch
+  pub stamped : (stamp_of new).epoch ≡ p.epoch
   pub here : TakesBox p.phase → ⊥
   pub settled : p.phase ≢ at.Giving
   pub more : (g : Write → ℕ) → wrote g q.log + wrote g left ≡ wrote g p.log + wrote g box + g (record { place = place; new = new; old = word })
@@ -154,7 +156,7 @@ module _ {p q : Private} {word : ℕ} {box left : Contents} {op : Op} (leaves : 
 load_leaves : (place word : ℕ) → LeavesWords word (ops.LoadField place)
 load_leaves place word cells e = ap (slice_set cells.words place) (sym e) ∙ set-get_or cells.words place 0
 
-step_logs : {p q : Private} {word : ℕ} {box left : Contents} {op : Op} → 0 < p.number → IsMachine p → Step p word box op q → LeavesBox p box left → IsPlain op word p q box left ⊎ IsPut op word p q box left
+step_logs : {p q : Private} {word : ℕ} {box left : Contents} {op : Op} → p.dates ≡ true → IsMachine p → Step p word box op q → LeavesBox p box left → IsPlain op word p q box left ⊎ IsPut op word p q box left
 step_logs some m (Step.null reg d) b = inl (plain_decides b d (λ cells e. refl) (λ e. e))
 step_logs some m (Step.copy dst src d) b = inl (plain_decides b d (λ cells e. refl) (λ e. e))
 step_logs some m (Step.compare x y d) b = inl (plain_decides b d (λ cells e. refl) (λ e. e))
@@ -173,7 +175,8 @@ step_logs {p} {q} {word} {box} {left} some m (Step.put src f val slot d) b =
       place = place_of slot f p.fields;
       new = word_for p val;
       operation = d.operation;
-      stamp = epoch_of_stamp (word_for p val) (next_stamp p) some (word_stamp p val m store.stamp room);
+      stamp = epoch_of_put p val m store.stamp room some;
+      stamped = ap (λ (x : Stamp). x.epoch) (word_stamp p val m store.stamp room);
       here = other;
       settled = settled;
       more = λ g. omega (arith, ap (λ (x : Private). wrote g x.log) d.after, writes_more g p.log.entries (place_of slot f p.fields) (word_for p val) word, ap (wrote g) (box_stays b other));
@@ -240,7 +243,7 @@ late_at config requested t p crossing b left (Returning u) present h = own_late 
 late_at config requested t p crossing b left _ present h = omega (arith, home_late config requested p crossing b (has_left left t) present h)
 
 -- a step of a mutator
-module _ (w : Core) (t : ℕ) (kept : IsKept w) (is : IsMutator w.config t) (busy : is_busy (mutator w t) ≡ true) where
+module _ (w : Core) (t : ℕ) (kept : IsKept true w) (is : IsMutator w.config t) (busy : is_busy (mutator w t) ≡ true) where
   abbrev p : Private
   p = mutator w t
 
@@ -283,12 +286,22 @@ module _ (w : Core) (t : ℕ) (kept : IsKept w) (is : IsMutator w.config t) (bus
     writes = λ g early. omega (arith, step_sums g, put.more g);
   }
 
+  -- of what weighs nothing where the stamp's epoch is the date, a step adds nothing
+  pub step_less : (g : Write → ℕ) → ((place new old : ℕ) → epoch_of new ≡ (stamp_of new).epoch → g (record { place = place; new = new; old = old }) ≡ 0) → sum_by g (writes_of (stepped w t)) ≤ sum_by g (writes_of w)
+  step_less g none =
+      let actor = actor_of w t kept is in
+      let whole = whole_made p word own_box busy actor.own.between in
+      elim (step_logs actor.own.dates actor.own.machine whole.own whole.mailbox) [
+        | inl plain ↦ omega (arith, step_sums g, plain.same g)
+        | inr put ↦ omega (arith, step_sums g, put.more g, none put.place put.new word (put.stamp ∙ sym put.stamped))
+      ]
+
   step_keeps : Keeps w (stepped w t) [] (tried_in w)
   step_keeps =
       let actor = actor_of w t kept is in
       let whole = whole_made p word own_box busy actor.own.between in
       let numbered : 0 < p.number = omega (arith, actor.own.number, is.0) in
-      logged_keeps (step_logs numbered actor.own.machine whole.own whole.mailbox)
+      logged_keeps (step_logs actor.own.dates actor.own.machine whole.own whole.mailbox)
 
 -- what a turn of the collector does to its buffers: nothing, or the older ones are cleared and become the newer ones
 data Rows (p q : collectors.Private) : Type 0 where
@@ -345,7 +358,7 @@ op_goes w v ops.AddFreed epoch place slots fields mutators is names = Goes.stays
 op_goes w v _ epoch place slots fields mutators is names = absurd names
 
 -- a turn of the collector
-module _ (w : Core) (op : Op) (kept : IsKept w) (named : ◌≡◌ {A = Option Op} (collectors_next.next_of w.collector) (Some op)) where
+module _ (w : Core) (op : Op) (kept : IsKept true w) (named : ◌≡◌ {A = Option Op} (collectors_next.next_of w.collector) (Some op)) where
   open w use {collector as c}
 
   abbrev found : ℕ
@@ -370,12 +383,17 @@ module _ (w : Core) (op : Op) (kept : IsKept w) (named : ◌≡◌ {A = Option O
       let many : length c.newer ≡ w.config.mutators = kept.collector.mutators in
       none_of (wrote g) c.older (collectors.blank 0 0) (λ i below.
       let at : i + 1 - 1 ≡ i = omega arith in
-      let one : IsBufferOf w.config (older_at w.epoch c.phase) (slice_index_or c.older i (collectors.blank 0 0)) = subst (λ n. IsBufferOf w.config (older_at w.epoch c.phase) (slice_index_or c.older n (collectors.blank 0 0))) at (kept.collector.older (i + 1) (omega arith, omega (arith, below, both, many))) in
+      let one : IsBufferOf true w.config (older_at w.epoch c.phase) (slice_index_or c.older i (collectors.blank 0 0)) = subst (λ n. IsBufferOf true w.config (older_at w.epoch c.phase) (slice_index_or c.older n (collectors.blank 0 0))) at (kept.collector.older (i + 1) (omega arith, omega (arith, below, both, many))) in
       early_writes g (older_at w.epoch c.phase) (tried_in w) (slice_index_or c.older i (collectors.blank 0 0)).entries (older_early w.config.first_epoch c.collections w.epoch c.phase kept.config.some_epoch kept.collector.begun) early one.made)
 
   rows_keep : v.boxes ≡ w.boxes → Rows c q → (g : Write → ℕ) → ((x : Write) → epoch_of x.new < tried_in w → g x ≡ 0) → sum_by g (writes_of w) ≤ sum_by g (writes_of v)
   rows_keep boxes (Rows.kept_rows newer older) g early = omega (arith, writes_sum g v, writes_sum g w, ap (λ bs. sum_by (wrote_in_box g) (zip w.mutators bs)) boxes, ap (sum_by (wrote g)) newer, ap (sum_by (wrote g)) older)
   rows_keep boxes (Rows.turned_rows newer older) g early = omega (arith, writes_sum g v, writes_sum g w, ap (λ bs. sum_by (wrote_in_box g) (zip w.mutators bs)) boxes, ap (sum_by (wrote g)) newer, ap (sum_by (wrote g)) older, cleared_none g c.older, older_none g early)
+
+  -- and nothing more is written
+  rows_less : v.boxes ≡ w.boxes → Rows c q → (g : Write → ℕ) → sum_by g (writes_of v) ≤ sum_by g (writes_of w)
+  rows_less boxes (Rows.kept_rows newer older) g = omega (arith, writes_sum g v, writes_sum g w, ap (λ bs. sum_by (wrote_in_box g) (zip w.mutators bs)) boxes, ap (sum_by (wrote g)) newer, ap (sum_by (wrote g)) older)
+  rows_less boxes (Rows.turned_rows newer older) g = omega (arith, writes_sum g v, writes_sum g w, ap (λ bs. sum_by (wrote_in_box g) (zip w.mutators bs)) boxes, ap (sum_by (wrote g)) newer, ap (sum_by (wrote g)) older, cleared_none g c.older)
 
   -- a mailbox is gathered: its buffer is one of the newer ones, in the place of a spare
   gathered_keep : (t : ℕ) → c.phase ≡ Looking t → found ≡ crossing_word c.epoch Retired → q.newer ≡ slice_set c.newer (t - 1) its_box → q.older ≡ c.older → (g : Write → ℕ) → sum_by g (writes_of w) ≤ sum_by g (writes_of v)
@@ -419,6 +437,50 @@ module _ (w : Core) (op : Op) (kept : IsKept w) (named : ◌≡◌ {A = Option O
   writes_keep (collectors_step.Step.sweep due swept u next at is took follows g) = rows_keep (boxes_stay at refl) (Rows.kept_rows (ap (λ (x : collectors.Private). x.newer) g.after) (ap (λ (x : collectors.Private). x.older) g.after))
   writes_keep (collectors_step.Step.end_sweep swept at is e) = rows_keep (boxes_stay at refl) (Rows.turned_rows (ap (λ (x : collectors.Private). x.newer) e.after) (ap (λ (x : collectors.Private). x.older) e.after))
 
+  gathered_less : (t : ℕ) → c.phase ≡ Looking t → found ≡ crossing_word c.epoch Retired → q.newer ≡ slice_set c.newer (t - 1) its_box → q.older ≡ c.older → (g : Write → ℕ) → sum_by g (writes_of v) ≤ sum_by g (writes_of w)
+  gathered_less t at crossed newer older g =
+      let now = now_at w (Looking t) kept at in
+      let many : length c.newer ≡ w.config.mutators = kept.collector.mutators in
+      let all : length w.mutators ≡ w.config.mutators = kept.mutators.many in
+      let boxes : length w.boxes ≡ w.config.mutators = kept.mutators.mailboxes in
+      let first : 0 < t = now.first in
+      let there : t ≤ length c.newer = now.there in
+      let looked : looked_at c.phase ≡ t = ap looked_at at in
+      let b : its_box ≡ box w t = ap (box w) looked in
+      let left : left_by c found its_box c.phase ≡ collectors.spare c = ap (left_by c found its_box) at ∙ cond-true (found == crossing_word c.epoch Retired) _ _ (eq-eqb found (crossing_word c.epoch Retired) crossed) in
+      let filled : v.boxes ≡ slice_set w.boxes (t - 1) (collectors.spare c) = ap (λ n. slice_set w.boxes (n - 1) (left_by c found its_box c.phase)) looked ∙ ap (slice_set w.boxes (t - 1)) left in
+      let was : slice_index_or c.newer (t - 1) (collectors.blank 0 0) ≡ collectors.spare c = now.spares (t - 1) (omega arith) (omega (arith, first, there)) in
+      omega (
+        arith,
+        writes_sum g v,
+        writes_sum g w,
+        ap (λ bs. sum_by (wrote_in_box g) (zip w.mutators bs)) filled,
+        ap (sum_by (wrote g)) (newer ∙ ap (slice_set c.newer (t - 1)) b),
+        ap (sum_by (wrote g)) older,
+        zip_sum-set_second (wrote_in_box g) w.mutators w.boxes (t - 1) nobody (collectors.spare c) (collectors.blank 0 0) (omega (arith, first, there, many, all)) (omega (arith, first, there, many, boxes)),
+        sum_by-set (wrote g) c.newer (t - 1) (box w t) (collectors.blank 0 0) (omega (arith, first, there)),
+        ap (wrote g) was,
+      )
+
+  writes_less : {turn : Turn} → collectors_step.Step c found its_box (Some op) q turn → (g : Write → ℕ) → sum_by g (writes_of v) ≤ sum_by g (writes_of w)
+  writes_less (collectors_step.Step.spent at last none is turn) = let n : ◌≡◌ {A = Option Op} (Some op) None = none in absurd (cc)
+  writes_less (collectors_step.Step.request next at more is n g) = rows_less (boxes_stay at refl) (Rows.kept_rows (ap (λ (x : collectors.Private). x.newer) g.after) (ap (λ (x : collectors.Private). x.older) g.after))
+  writes_less (collectors_step.Step.request_alone at more is gone on) = rows_less (boxes_stay at refl) (rows_as refl refl (clears_rows (requested c) q _ on))
+  writes_less (collectors_step.Step.wait t at other is same turn) = rows_less (boxes_stay at (cond-false (found == crossing_word c.epoch Retired) _ _ (ne_eqb found (crossing_word c.epoch Retired) other))) (Rows.kept_rows (ap (λ (x : collectors.Private). x.newer) same) (ap (λ (x : collectors.Private). x.older) same))
+  writes_less (collectors_step.Step.gather t at crossed is g) = λ weight. gathered_less t at crossed (ap (λ (x : collectors.Private). x.newer) g.after) (ap (λ (x : collectors.Private). x.older) g.after) weight
+  writes_less (collectors_step.Step.give_back t next at is n g) = rows_less (boxes_stay at refl) (Rows.kept_rows (ap (λ (x : collectors.Private). x.newer) g.after) (ap (λ (x : collectors.Private). x.older) g.after))
+  writes_less (collectors_step.Step.apply t at is gone on) = rows_less (boxes_stay at refl) (rows_as refl refl (clears_rows (noted c t) q _ on))
+  writes_less (collectors_step.Step.release m at is on) = rows_less (boxes_stay at refl) (clears_rows c q _ on)
+  writes_less (collectors_step.Step.freeing m at is on) = rows_less (boxes_stay at refl) (clears_rows c q _ on)
+  writes_less (collectors_step.Step.trial m at is on) = rows_less (boxes_stay at refl) (tries_rows c q _ _ _ on)
+  writes_less (collectors_step.Step.preparation m at is on) = rows_less (boxes_stay at refl) (prepares_rows c q _ _ _ on)
+  writes_less (collectors_step.Step.begin_sweep at is g) = rows_less (boxes_stay at refl) (Rows.kept_rows (ap (λ (x : collectors.Private). x.newer) g.after) (ap (λ (x : collectors.Private). x.older) g.after))
+  writes_less (collectors_step.Step.sweep due swept u next at is took follows g) = rows_less (boxes_stay at refl) (Rows.kept_rows (ap (λ (x : collectors.Private). x.newer) g.after) (ap (λ (x : collectors.Private). x.older) g.after))
+  writes_less (collectors_step.Step.end_sweep swept at is e) = rows_less (boxes_stay at refl) (Rows.turned_rows (ap (λ (x : collectors.Private). x.newer) e.after) (ap (λ (x : collectors.Private). x.older) e.after))
+
+  pub op_less : (g : Write → ℕ) → sum_by g (writes_of v) ≤ sum_by g (writes_of w)
+  op_less = writes_less (rule_of w op kept named)
+
   pub op_keeps : Keeps w v (cleared_by w (Some op)) (tried_in w)
   op_keeps =
       let names : collectors_step.NamesWord (length c.counts.slots) c.fields (length c.newer) op = subst (λ (o : Option Op). IfSome o (collectors_step.NamesWord (length c.counts.slots) c.fields (length c.newer))) named (names_word c kept.collector.machine) in
@@ -431,15 +493,19 @@ module _ (w : Core) (op : Op) (kept : IsKept w) (named : ◌≡◌ {A = Option O
 same_keeps : (w v : Core) (epoch : ℕ) → v.words ≡ w.words → ((g : Write → ℕ) → sum_by g (writes_of w) ≤ sum_by g (writes_of v)) → Keeps w v [] epoch
 same_keeps w v epoch words writes = record { words = λ place. Goes.stays (ap (λ ws. slice_index_or ws place 0) words); writes = λ g _. writes g }
 
-turn_keeps : (w : Core) → IsKept w → Keeps w (turned w) (cleared_in w Move.Turns) (tried_in w)
+turn_keeps : (w : Core) → IsKept true w → Keeps w (turned w) (cleared_in w Move.Turns) (tried_in w)
 turn_keeps w kept = turn_case w (λ o v. Keeps w v (cleared_by w o) (tried_in w)) (λ none. same_keeps w w (tried_in w) refl (λ g. omega arith)) (λ op named. op_keeps w op kept named)
 
-begun_keeps : (w : Core) (t : ℕ) (work : Work) (from : ℕ) → IsKept w → IsMutator w.config t → Keeps w (begun_from w t work from) [] (tried_in w)
+begun_keeps : (w : Core) (t : ℕ) (work : Work) (from : ℕ) → IsKept true w → IsMutator w.config t → Keeps w (begun_from w t work from) [] (tried_in w)
 unfolding begun_of
 begun_keeps w t work from kept is = same_keeps w (begun_from w t work from) (tried_in w) refl (λ g. omega (arith, writes_sum g (begun_from w t work from), writes_sum g w, sum_by-set (λ (x : Private). wrote g x.log) w.mutators (t - 1) (begun_of (mutator w t) work from) nobody (in_list w t kept is), zip_sum-first_same (wrote_in_box g) w.mutators w.boxes (t - 1) (begun_of (mutator w t) work from) nobody (λ b. refl)))
 
+pub begun_less : (w : Core) (t : ℕ) (work : Work) (from : ℕ) → IsKept true w → IsMutator w.config t → (g : Write → ℕ) → sum_by g (writes_of (begun_from w t work from)) ≤ sum_by g (writes_of w)
+unfolding begun_of
+begun_less w t work from kept is g = omega (arith, writes_sum g (begun_from w t work from), writes_sum g w, sum_by-set (λ (x : Private). wrote g x.log) w.mutators (t - 1) (begun_of (mutator w t) work from) nobody (in_list w t kept is), zip_sum-first_same (wrote_in_box g) w.mutators w.boxes (t - 1) (begun_of (mutator w t) work from) nobody (λ b. refl))
+
 -- each move keeps what was loaded
-pub move_keeps : (w : Core) (m : Move) → IsKept w → Fits w m → Keeps w (after_move w m) (cleared_in w m) (tried_in w)
+pub move_keeps : (w : Core) (m : Move) → IsKept true w → Fits w m → Keeps w (after_move w m) (cleared_in w m) (tried_in w)
 move_keeps w (Move.Begins t work from) kept fits = begun_keeps w t work from kept fits.0
 move_keeps w (Move.Steps t) kept fits = step_keeps w t kept fits.0 fits.1
 move_keeps w Move.Turns kept fits = turn_keeps w kept

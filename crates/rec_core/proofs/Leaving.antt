@@ -1,5 +1,5 @@
 -- The steps of a mutator that leaves.
-use Rattle.std.proofs.Common.{◌≡◌, ◌⊎◌, inl, inr, ℕ, ◌+◌, ◌-◌, List, Option, None, Some, map, length, replicate, slice_set, refl, sym, ap, ◌∙◌}
+use Rattle.std.proofs.Common.{◌≡◌, ◌⊎◌, inl, inr, ℕ, ◌+◌, ◌-◌, List, Option, None, Some, map, length, replicate, slice_set, refl, sym, ap, ◌∙◌, Bool}
 use Rattle.std.proofs.lemmas.Bool.{false≢true}
 use Rattle.std.proofs.lemmas.List.{map-set}
 use Rattle.rec_model.specs.Heap.{registers_of as registers_in}
@@ -71,7 +71,7 @@ unfolding took_of took_at left_of left_at
 leaves_last p word b is = ap (λ x. left_of (took_at p word x) b) is
 
 -- The mailbox that is taken to leave is home with a spare, in the requested epoch or in the one before.
-pub leaving_of : (w : Core) (t : ℕ) → IsKept w → IsMutator w.config t → (mutator w t).phase ≡ at.Leaving
+pub leaving_of : {dated : Bool} → (w : Core) (t : ℕ) → IsKept dated w → IsMutator w.config t → (mutator w t).phase ≡ at.Leaving
     → (box w t ≡ spare_of w.config) × (crossing_of w t ≡ crossing_word (mutator w t).epoch Spare)
     × (((stand_of w t ≡ Handshake.Done) × ((mutator w t).epoch ≡ w.epoch)) ⊎ ((stand_of w t ≡ Handshake.Due) × ((mutator w t).epoch + 1 ≡ w.epoch)))
 leaving_of w t kept is phase =

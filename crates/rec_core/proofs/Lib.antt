@@ -2,6 +2,11 @@
 pub mod Actors
 pub mod Applying
 pub mod Asked
+pub mod Bare
+pub mod BareKept
+pub mod BareOpened
+pub mod BareRuns
+pub mod BareSeen
 pub mod Batches
 pub mod Begun
 pub mod Common
@@ -15,6 +20,7 @@ pub mod CyclesTest
 pub mod CyclesTrial
 pub mod CyclesWait
 pub mod Cycling
+pub mod Dated
 pub mod EarlyWords
 pub mod Freed
 pub mod Freeing
@@ -53,6 +59,7 @@ pub mod SetTests
 pub mod Shapes
 pub mod Showing
 pub mod Shows
+pub mod Stamped
 pub mod Step
 pub mod Steps
 pub mod Sums

@@ -1,5 +1,5 @@
 -- What the collector loaded stands in its field, was replaced, or was taken out, over the moves of a run.
-use Rattle.std.proofs.Common.{◌≡◌, inl, inr, ℕ, zero, suc, ◌-◌, ◌≤◌, Option, None, Some, List, [], ◌∷◌, ◌++◌, length, slice_index_or, refl, sym, ap, subst, ◌∙◌, arith}
+use Rattle.std.proofs.Common.{◌≡◌, inl, inr, ℕ, zero, suc, ◌-◌, ◌≤◌, Option, None, Some, List, [], ◌∷◌, ◌++◌, length, slice_index_or, refl, sym, ap, subst, ◌∙◌, arith, true}
 use Rattle.std.specs.List.{Contains}
 use Rattle.std.proofs.lemmas.Bool.{cases_lt}
 use Rattle.std.proofs.lemmas.List.{get_or_past}
@@ -23,7 +23,7 @@ lasts_more v first rest l (inr (inl some)) = inr (inl some)
 lasts_more v first rest l (inr (inr c)) = inr (inr (Contains-append_right first rest _ c))
 
 -- what was loaded lasts over all moves over which no other trial begins
-lasts_over : (w : Core) (ms : List Move) (l : Loaded) → IsKept w → AllFit w ms → BeginsNoTrial w ms → l.epoch ≡ tried_in w → Lasts w [] l → Lasts (after_moves w ms) (cleared_over w ms) l
+lasts_over : (w : Core) (ms : List Move) (l : Loaded) → IsKept true w → AllFit w ms → BeginsNoTrial w ms → l.epoch ≡ tried_in w → Lasts w [] l → Lasts (after_moves w ms) (cleared_over w ms) l
 lasts_over w [] l kept fit within epoch h = h
 lasts_over w (m ∷ ms) l kept fit within epoch h =
     go (λ later. lasts_over (after_move w m) ms l (move_kept w m kept fit.0) fit.1 within.1 (epoch ∙ sym within.0) later)
@@ -53,7 +53,7 @@ loads_tried w place (Freeing m) at named = go m.at named
 loads_tried w place _ at named = refl
 
 -- a word that is found in a field was put in the requested epoch or before
-put_early : (w : Core) (place : ℕ) → IsKept w → epoch_of (slice_index_or w.words place 0) ≤ w.epoch
+put_early : (w : Core) (place : ℕ) → IsKept true w → epoch_of (slice_index_or w.words place 0) ≤ w.epoch
 put_early w place kept = elim (cases_lt place (length w.words)) [
   | inl inside ↦ not_lt_from_none w.epoch (epoch_of (slice_index_or w.words place 0)) (omega (arith, kept.accounted.epochs.words, get_or-le-sum_at (is_late_word w.epoch) w.words place 0 inside))
   | inr past ↦ omega (arith, ap epoch_of (get_or_past w.words place 0 past), epoch_of_null)
@@ -65,7 +65,7 @@ record IsFresh (w : Core) (l : Loaded) : Type 0 where
   pub epoch : l.epoch ≡ tried_in w
   pub opened : epoch_of l.word ≤ l.epoch
 
-loaded_fresh : (w : Core) (m : Move) (l : Loaded) → IsKept w → Contains (loaded_in w m) l → IsFresh w l
+loaded_fresh : (w : Core) (m : Move) (l : Loaded) → IsKept true w → Contains (loaded_in w m) l → IsFresh w l
 unfolding collectors_next.next_of
 loaded_fresh w Move.Turns l kept held = go (collectors_next.next_of w.collector) refl held
   where
@@ -83,7 +83,7 @@ loaded_fresh w Move.Turns l kept held = go (collectors_next.next_of w.collector)
 loaded_fresh w _ l kept (k, below, is) = absurd (omega (arith, below))
 
 -- so is every word that is loaded over the moves
-pub all_known : (w : Core) (ms : List Move) (l : Loaded) → IsKept w → AllFit w ms → BeginsNoTrial w ms → Contains (loaded_over w ms) l → IsReferenceStill (after_moves w ms) (cleared_over w ms) l
+pub all_known : (w : Core) (ms : List Move) (l : Loaded) → IsKept true w → AllFit w ms → BeginsNoTrial w ms → Contains (loaded_over w ms) l → IsReferenceStill (after_moves w ms) (cleared_over w ms) l
 all_known w [] l kept fit within (k, below, is) = absurd (omega (arith, below))
 all_known w (m ∷ ms) l kept fit within c = elim (Contains-append_cases (loaded_in w m) (loaded_over (after_move w m) ms) l c) [
   | inl here ↦

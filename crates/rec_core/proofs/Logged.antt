@@ -1,8 +1,9 @@
 -- The buffers of every run are their mutators' own: through each step of a mutator.
-use Rattle.std.proofs.Common.{◌≡◌, ◌≢◌, inl, inr, Bool, ℕ, ◌+◌, ◌-◌, ◌*◌, ◌^◌, ◌<◌, ◌≤◌, Option, None, Some, List, [], ◌∷◌, ◌++◌, true, length, replicate, slice_index_or, slice_set, refl, sym, ap, subst, ◌∙◌, arith, length-append}
+use Rattle.std.proofs.Common.{◌≡◌, ◌≢◌, inl, inr, Bool, ℕ, ◌+◌, ◌-◌, ◌*◌, ◌^◌, ◌<◌, ◌≤◌, Option, None, Some, List, [], ◌∷◌, ◌++◌, true, length, replicate, slice_index_or, slice_set, refl, sym, ap, subst, ◌∙◌, arith, length-append, false}
 use Rattle.std.proofs.lemmas.Bool.{cases_eq, cases_lt}
 use Rattle.std.proofs.lemmas.List.{get_or-append_right, get_or-replicate, get_or-set_other, get_or-set_same, get_or_append_left, get_or_past, length-replicate, length-set}
 use Rattle.rec_core.proofs.Common.{header_word, target_bits, stamp_of, place_of, Op, Contents, Entry, Private, register, is_busy, Step, Decides, GoesOn, blank, IsMutator, Core, cells_of, mutator, box, nobody, IsKept, found_by, Config}
+use Rattle.rec_word.specs.Bare.{dated_word}
 use Rattle.rec_word.specs.Op.{cell_of, written}
 use Rattle.rec_word.specs.Word.{low_bits, packed, IsStamp}
 use Rattle.rec_word.specs.declared.cell.Cell.{Cell}
@@ -131,12 +132,12 @@ low_of config (Some slot) below = let h : slot < config.slots = below slot refl 
 
 -- what is known of a mutator whose step it is, and of the word that it finds
 record Acts (w : Core) (t : ℕ) : Type 0 where
-  kept : IsKept w
+  kept : IsKept false w
   is : IsMutator w.config t
   own : HasOwnBuffers w
 
 -- what a register names is a slot
-names_slot : (w : Core) (t r slot : ℕ) → IsKept w → register (mutator w t) r ≡ Some slot → slot < w.config.slots
+names_slot : (w : Core) (t r slot : ℕ) → IsKept false w → register (mutator w t) r ≡ Some slot → slot < w.config.slots
 names_slot w t r slot kept names = taken_slot w kept slot (register_taken w kept t r slot names)
 
 -- a write
@@ -151,7 +152,8 @@ put_does w t src f val slot word op q a found d =
     let log : length p.log.entries < p.log.capacity = store.room in
     let most : p.log.capacity ≤ 2 ^ 18 = actor.own.machine.capacity in
     let stamp : stamp_of (word_for p val) ≡ next_stamp p = word_stamp p val actor.own.machine store.stamp (λ full. absurd (omega arith)) in
-    let new : IsFieldWord w.config (word_for p val) = packed_word w.config (register p val) (next_stamp p) (record { writer = actor.own.machine.number; epoch = store.stamp; index = omega arith }) (low_of w.config (register p val) (λ s names. names_slot w t val s a.kept names)) few in
+    let packs : IsFieldWord w.config (packed (register p val) (next_stamp p)) = packed_word w.config (register p val) (next_stamp p) (record { writer = actor.own.machine.number; epoch = store.stamp; index = omega arith }) (low_of w.config (register p val) (λ s names. names_slot w t val s a.kept names)) few in
+    let new : IsFieldWord w.config (word_for p val) = subst (λ b. IsFieldWord w.config (dated_word b p.epoch (packed (register p val) (next_stamp p)))) (sym actor.own.dates) packs in
     decided {p = p} new
     (more_own w.config t p.log (entries.Put (place_of slot f p.fields) (word_for p val) word) (a.own.logs t a.is)
     (record {
@@ -226,7 +228,7 @@ each_set P config xs t x d is many all own = λ s there. elim (cases_eq s t) [
 ]
 
 -- a step of a mutator
-pub stepped_own : (w : Core) (t : ℕ) → IsKept w → HasOwnBuffers w → IsMutator w.config t → is_busy (mutator w t) ≡ true → HasOwnBuffers (stepped w t)
+pub stepped_own : (w : Core) (t : ℕ) → IsKept false w → HasOwnBuffers w → IsMutator w.config t → is_busy (mutator w t) ≡ true → HasOwnBuffers (stepped w t)
 stepped_own w t kept own is busy =
     let p : Private = mutator w t in
     let word : ℕ = found_by w t in

@@ -18,7 +18,8 @@ use Rattle.rec_core.specs.Cells.{cell}
 use Rattle.rec_core.specs.Logged.{HasOwnBuffers, IsFieldWord, IsOwnBuffer}
 use Rattle.rec_core.proofs.Logged.{WritesWord, blank_own, each_set, null_word, stepped_own, written_words}
 use Rattle.rec_core.proofs.OpenedMutators.{mutator_opened}
-use Rattle.rec_core.proofs.Runs.{looked_is, move_kept, rule_of}
+use Rattle.rec_core.proofs.BareRuns.{move_kept, rule_of}
+use Rattle.rec_core.proofs.Runs.{looked_is}
 use Rattle.rec_core.proofs.Turning.{turn_case}
 
 -- ---- the newer buffers
@@ -94,7 +95,7 @@ writes_none : (config : Config) (slots fields mutators : ℕ) (op : Op) → Name
 writes_none config slots fields mutators (ops.SwapField place word) names = absurd names
 writes_none config slots fields mutators op names = tt
 
-turned_own : (w : Core) → IsKept w → HasOwnBuffers w → HasOwnBuffers (turned w)
+turned_own : (w : Core) → IsKept false w → HasOwnBuffers w → HasOwnBuffers (turned w)
 turned_own w kept own = turn_case w (λ o v. IfSome o (NamesWord (length w.collector.counts.slots) w.collector.fields (length w.collector.newer)) → HasOwnBuffers v) (λ none names. own) by (collector_words.names_word w.collector kept.collector.machine)
   where
     c : collectors.Private
@@ -129,7 +130,7 @@ turned_own w kept own = turn_case w (λ o v. IfSome o (NamesWord (length w.colle
 
 -- ---- moves
 
-pub move_own : (w : Core) (m : Move) → IsKept w → Fits w m → HasOwnBuffers w → HasOwnBuffers (after_move w m)
+pub move_own : (w : Core) (m : Move) → IsKept false w → Fits w m → HasOwnBuffers w → HasOwnBuffers (after_move w m)
 unfolding mutators_took.begun_of
 move_own w (Move.Begins t work from) kept fits own = record {
   words = own.words;
@@ -141,7 +142,7 @@ move_own w (Move.Steps t) kept fits own = stepped_own w t kept own fits.0 fits.1
 move_own w Move.Turns kept fits own = turned_own w kept own
 move_own w Move.Offers kept fits own = record { words = own.words; logs = own.logs; boxes = own.boxes; newer = own.newer }
 
-pub moves_own : (w : Core) (ms : List Move) → IsKept w → AllFit w ms → HasOwnBuffers w → HasOwnBuffers (after_moves w ms)
+pub moves_own : (w : Core) (ms : List Move) → IsKept false w → AllFit w ms → HasOwnBuffers w → HasOwnBuffers (after_moves w ms)
 moves_own w [] kept fit own = own
 moves_own w (m ∷ ms) kept fit own = moves_own (after_move w m) ms (move_kept w m kept fit.0) fit.1 (move_own w m kept fit.0 own)
 

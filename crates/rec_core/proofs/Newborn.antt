@@ -115,7 +115,7 @@ step_moves spare (Step.take_box d) l = (let takes = subst TakesBox (sym d.phase)
 step_moves spare (Step.give_box d) l = keeps_as l _ d.operation (λ cells e s some. some) (subst TakesBox d.phase) (ap (λ (x : Private). x.log.entries) d.after)
 
 -- a mailbox that is taken has no entries
-spare_taken : (w : Core) (t : ℕ) → IsKept w → IsMutator w.config t → TakesBox (mutator w t).phase → (box w t).entries ≡ []
+spare_taken : {dated : Bool} → (w : Core) (t : ℕ) → IsKept dated w → IsMutator w.config t → TakesBox (mutator w t).phase → (box w t).entries ≡ []
 spare_taken w t kept is = go (mutator w t).phase refl
   where
     go : (phase : phases.Phase) → (mutator w t).phase ≡ phase → TakesBox phase → (box w t).entries ≡ []
@@ -130,7 +130,7 @@ nth row i = slice_index_or row i (blank 0 0)
 set_own : (row : List Contents) (i : ℕ) (b : Contents) → i < length row → nth (slice_set row i b) i ≡ b
 set_own row i b there = get_or-set_same row i b (blank 0 0) there
 
-module _ (w : Core) (t : ℕ) (kept : IsKept w) (is : IsMutator w.config t) (busy : is_busy (mutator w t) ≡ true) where
+module _ {dated : Bool} (w : Core) (t : ℕ) (kept : IsKept dated w) (is : IsMutator w.config t) (busy : is_busy (mutator w t) ≡ true) where
   abbrev q : Private
   q = step_of (mutator w t) (found_by w t) (box w t)
 

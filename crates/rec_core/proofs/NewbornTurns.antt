@@ -19,7 +19,7 @@ use Rattle.rec_core.proofs.Newborn.{IsUntold, none_in}
 use Rattle.rec_core.proofs.Runs.{looked_is}
 use Rattle.rec_core.proofs.Turns.{now_at}
 
-module _ (w : Core) (op : Op) (kept : IsKept w) where
+module _ {dated : Bool} (w : Core) (op : Op) (kept : IsKept dated w) where
   open w use {collector as c}
 
   abbrev found : ℕ
@@ -157,7 +157,7 @@ turned_taken w _ slots fields mutators names s some = absurd names
 -- ---- other moves
 
 -- a work that begins keeps them, and so does the offer of all slots
-pub begun_untold : (w : Core) (t : ℕ) (work : Work) (from : ℕ) → IsKept w → IsMutator w.config t → (slot : ℕ) → IsUntold w slot → IsUntold (begun_from w t work from) slot
+pub begun_untold : {dated : Bool} → (w : Core) (t : ℕ) (work : Work) (from : ℕ) → IsKept dated w → IsMutator w.config t → (slot : ℕ) → IsUntold w slot → IsUntold (begun_from w t work from) slot
 unfolding begun_of
 begun_untold w t work from kept is slot (IsUntold.in_log s leaf there c) = elim (cases_eq s t) [
   | inl same ↦

@@ -44,7 +44,7 @@ none_at f (x ∷ xs) none =
     omega (arith, first, none_at (λ i. f (suc i)) xs (λ i below. none (suc i) (omega arith)))
 
 -- A word that was put after the last batch stands in its field, or was replaced from its epoch on.
-pub put_lasts : (w : Core) (place new old : ℕ) → IsKept w → StandsIn w.collector.newer (entries.Put place new old) → applied_in w < epoch_of new → Lasts w [] (record { place = place; word = new; epoch = applied_in w })
+pub put_lasts : (w : Core) (place new old : ℕ) → IsKept true w → StandsIn w.collector.newer (entries.Put place new old) → applied_in w < epoch_of new → Lasts w [] (record { place = place; word = new; epoch = applied_in w })
 put_lasts w place new old kept stands after = elim (cases_lt 0 (sum_by (closes (record { place = place; word = new; epoch = applied_in w })) (writes_of w))) [
   | inl replaced ↦ inr (inl replaced)
   | inr none ↦ inl (elim (cases_eq (slice_index_or w.words place 0) new) [
@@ -77,7 +77,7 @@ put_lasts w place new old kept stands after = elim (cases_lt 0 (sum_by (closes (
     ]
 
 -- The slot that has a field which was written after the last batch is taken.
-pub home_taken : (w : Core) (place new old : ℕ) → IsKept w → StandsIn w.collector.newer (entries.Put place new old) → applied_in w < epoch_of new → 0 < slice_index_or w.headers (place / w.config.fields) 0
+pub home_taken : (w : Core) (place new old : ℕ) → IsKept true w → StandsIn w.collector.newer (entries.Put place new old) → applied_in w < epoch_of new → 0 < slice_index_or w.headers (place / w.config.fields) 0
 home_taken w place new old kept stands after = elim (cases_lt 0 (slice_index_or w.headers (place / w.config.fields) 0)) [
   | inl taken ↦ taken
   | inr none ↦

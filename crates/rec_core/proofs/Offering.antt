@@ -14,7 +14,7 @@ held_on w (Returning t) h = h
 held_on w _ h = tt
 
 -- That all slots are to be offered changes nothing of what a heap keeps.
-pub offering_kept : (w : Core) → IsKept w → IsKept (offering w)
+pub offering_kept : (w : Core) → IsKept true w → IsKept true (offering w)
 offering_kept w k = record {
   whole = record {
     config = k.config;
@@ -47,4 +47,5 @@ offering_kept w k = record {
     cycles = cycles_on (pending w) w.collector w.collector.phase k.cycles;
   };
   held = held_on w w.collector.phase k.held;
+  behind = tt;
 }

@@ -22,18 +22,18 @@ use Rattle.rec_collector.specs.Private as collectors
 use Rattle.rec_collector.proofs.Following.{none_released}
 use Rattle.rec_collector.proofs.Opening.{opened_from_keeps}
 use Rattle.rec_collector.proofs.Rows.{length-rows, row_width}
-use Rattle.rec_core.proofs.Common.{Config, Contents, Core, Dated, Filed, Handshake, HasCollector, HasLearnt, IsActor, IsBufferOf, IsConfig, IsHeader, IsKept, IsMachine, IsMadeIn, IsMutator, IsOwn, IsReached, IsTarget, Private, Slot, Spare, births_in, buffers, code, crossing_word, dated, dated_all, dated_names, dated_registers, fresh, is_green, is_late_snapshot, is_node, is_slot, is_wrong_register, names, nobody, one, one_if_same, only_if, pending, spare_of, sum_at, sum_by-flat_map, sum_by-map, sum_by_same, times-nil, writes_in}
+use Rattle.rec_core.proofs.Common.{Config, Contents, Core, Dated, Filed, Handshake, HasCollector, HasLearnt, IsActor, IsBufferOf, IsConfig, IsHeader, IsKept, IsMachine, IsMadeIn, IsMutator, IsOwn, IsReached, IsTarget, Private, Slot, Spare, births_in, buffers, code, crossing_word, dated, dated_all, dated_names, dated_registers, fresh, is_green, is_late_snapshot, is_node, is_slot, is_wrong_register, names, nobody, one, one_if_same, only_if, pending, spare_of, sum_at, sum_by-flat_map, sum_by-map, sum_by_same, times-nil, writes_in, sight, Sight, IsSound}
 use Rattle.rec_core.proofs.Actors.{spare_buffer}
 use Rattle.rec_core.proofs.Batches.{same_name}
 use Rattle.rec_core.proofs.CyclesWait.{sets_wait_none}
 use Rattle.rec_core.proofs.EarlyWords.{early_names, early_none_late, one_if_slot}
 use Rattle.rec_core.proofs.Opening.{all_done}
 use Rattle.rec_core.proofs.OpenedFromSeen.{all_targets, below_targets, below_taken, few_fields, free_past, header_at, headers_many, label_fits, seen_sound, taken_below}
-use Rattle.rec_core.proofs.Seated.{All-rows, holding_at, holding_sum, length-holding, rows_sum}
+use Rattle.rec_core.proofs.Seated.{All-rows, holding_at, holding_sum, length-holding, registers_held, rows_sum}
 use Rattle.rec_core.proofs.Sums.{buffers_sum, log_share, names_all, share}
 use Rattle.rec_core.proofs.Turns.{AddsNothing, births_nothing, snapshots_nothing, spare_boxes, spare_row, writes_nothing}
 use Rattle.rec_core.specs.Objects.{AreObjects, HaveLabels, IsOneOf, Objects, counts_of, fields_at, holders, node_at, rows_of}
-use Rattle.rec_core.specs.OpenedFrom.{holding_mutator, opened_from}
+use Rattle.rec_core.specs.OpenedFrom.{heap_from_by, holding_by}
 
 -- what is named is held,
 named_held : (n : ℕ) (xs : List (Option ℕ)) → is_in n (named_of xs) ≡ true → 0 < count_by (is_slot n) xs
@@ -67,7 +67,7 @@ one_is false = refl
 
 module _ (config : Config) (o : Objects) (is : IsConfig config) (are : AreObjects config o) (labels : HaveLabels o.nodes) where
   abbrev w : Core
-  w = opened_from config o
+  w = heap_from_by true config o
 
   abbrev many : ℕ
   many = length o.nodes
@@ -111,13 +111,13 @@ module _ (config : Config) (o : Objects) (is : IsConfig config) (are : AreObject
   row_long : (t : ℕ) → IsMutator config t → length (row t) ≡ config.registers
   row_long t there = row_width config.registers config.mutators o.registers are.registers (t - 1) (place_there t there)
 
-  pub one_of : (t : ℕ) → IsMutator config t → slice_index_or w.mutators (t - 1) nobody ≡ holding_mutator config t (row t)
-  one_of t there =
+  pub one_of : {dates : Bool} → (t : ℕ) → IsMutator config t → slice_index_or (heap_from_by dates config o).mutators (t - 1) nobody ≡ holding_by dates config t (row t)
+  one_of {dates = dates} t there =
       let number : 1 + (t - 1) ≡ t = omega (arith, there.0) in
-      holding_at config 1 rows (t - 1) (omega (arith, place_there t there, rows_many)) ∙ ap (λ n. holding_mutator config n (row t)) number
+      holding_at config 1 rows (t - 1) (omega (arith, place_there t there, rows_many)) ∙ ap (λ n. holding_by dates config n (row t)) number
 
   -- its machine,
-  machine_held : (t : ℕ) → IsMutator config t → IsMachine (holding_mutator config t (row t))
+  machine_held : (t : ℕ) → IsMutator config t → IsMachine (holding_by true config t (row t))
   machine_held t there =
       let stamped : config.first_epoch ≤ 16777215 = is.few_epochs in
       record {
@@ -134,7 +134,7 @@ module _ (config : Config) (o : Objects) (is : IsConfig config) (are : AreObject
         now = refl;
       }
 
-  own_held : (t : ℕ) → IsMutator config t → IsOwn config t (holding_mutator config t (row t))
+  own_held : (t : ℕ) → IsMutator config t → IsOwn true config t (holding_by true config t (row t))
   own_held t there = record {
     number = refl;
     slots = refl;
@@ -145,10 +145,11 @@ module _ (config : Config) (o : Objects) (is : IsConfig config) (are : AreObject
     between = tt;
     label = tt;
     idle = λ left. absurd (false≢true left);
+    dates = refl;
   }
 
   -- its crossing word and its mailbox
-  actor_held : (t : ℕ) → IsMutator config t → IsActor config config.first_epoch Handshake.Done t (holding_mutator config t (row t)) (crossing_word config.first_epoch Spare) (spare_of config)
+  actor_held : (t : ℕ) → IsMutator config t → IsActor true config config.first_epoch Handshake.Done t (holding_by true config t (row t)) (crossing_word config.first_epoch Spare) (spare_of config)
   actor_held t there = record {
     own = own_held t there;
     log = spare_buffer config config.first_epoch;
@@ -160,12 +161,12 @@ module _ (config : Config) (o : Objects) (is : IsConfig config) (are : AreObject
   }
 
   each_held : (t : ℕ) → IsMutator config t
-      → IsActor config config.first_epoch Handshake.Done t (slice_index_or w.mutators (t - 1) nobody) (slice_index_or w.crossing (t - 1) 0) (slice_index_or w.boxes (t - 1) (collectors.blank 0 0))
+      → IsActor true config config.first_epoch Handshake.Done t (slice_index_or w.mutators (t - 1) nobody) (slice_index_or w.crossing (t - 1) 0) (slice_index_or w.boxes (t - 1) (collectors.blank 0 0))
   each_held t there =
       let at = place_there t there in
-      subst (λ (p : Private). IsActor config config.first_epoch Handshake.Done t p (slice_index_or w.crossing (t - 1) 0) (slice_index_or w.boxes (t - 1) (collectors.blank 0 0))) (sym (one_of t there))
-      (subst (λ (n : ℕ). IsActor config config.first_epoch Handshake.Done t (holding_mutator config t (row t)) n (slice_index_or w.boxes (t - 1) (collectors.blank 0 0))) (sym (get_or-replicate config.mutators (t - 1) (crossing_word config.first_epoch Spare) 0 at))
-      (subst (λ (b : Contents). IsActor config config.first_epoch Handshake.Done t (holding_mutator config t (row t)) (crossing_word config.first_epoch Spare) b) (sym (get_or-replicate config.mutators (t - 1) (spare_of config) (collectors.blank 0 0) at))
+      subst (λ (p : Private). IsActor true config config.first_epoch Handshake.Done t p (slice_index_or w.crossing (t - 1) 0) (slice_index_or w.boxes (t - 1) (collectors.blank 0 0))) (sym (one_of t there))
+      (subst (λ (n : ℕ). IsActor true config config.first_epoch Handshake.Done t (holding_by true config t (row t)) n (slice_index_or w.boxes (t - 1) (collectors.blank 0 0))) (sym (get_or-replicate config.mutators (t - 1) (crossing_word config.first_epoch Spare) 0 at))
+      (subst (λ (b : Contents). IsActor true config config.first_epoch Handshake.Done t (holding_by true config t (row t)) (crossing_word config.first_epoch Spare) b) (sym (get_or-replicate config.mutators (t - 1) (spare_of config) (collectors.blank 0 0) at))
       (actor_held t there)))
 
   -- the collector
@@ -180,7 +181,7 @@ module _ (config : Config) (o : Objects) (is : IsConfig config) (are : AreObject
   older_row : (t : ℕ) → IsMutator config t → collectors.buffer_at w.collector.older (t - 1) ≡ collectors.retired (row t) config.log_entries
   older_row t there = get_or-map (λ own. collectors.retired own config.log_entries) rows (t - 1) [] (collectors.blank 0 0) (omega (arith, place_there t there, rows_many))
 
-  collector_from : HasCollector config config.first_epoch w.words w.collector
+  collector_from : HasCollector true config config.first_epoch w.words w.collector
   collector_from = record {
     machine = machine_from;
     between = tt;
@@ -192,8 +193,8 @@ module _ (config : Config) (o : Objects) (is : IsConfig config) (are : AreObject
     mutators = length-replicate config.mutators (spare_of config);
     epoch = refl;
     begun = omega arith;
-    newer = λ t there. subst (IsBufferOf config last) (sym (get_or-replicate config.mutators (t - 1) (spare_of config) (collectors.blank 0 0) (place_there t there))) (spare_buffer config last);
-    older = λ t there. subst (IsBufferOf config last) (sym (older_row t there)) (record { snapshot = row_long t there; capacity = refl; few = omega arith; made = All-nil (IsMadeIn last) });
+    newer = λ t there. subst (IsBufferOf true config last) (sym (get_or-replicate config.mutators (t - 1) (spare_of config) (collectors.blank 0 0) (place_there t there))) (spare_buffer config last);
+    older = λ t there. subst (IsBufferOf true config last) (sym (older_row t there)) (record { snapshot = row_long t there; capacity = refl; few = omega arith; made = All-nil (IsMadeIn last) });
     listed = λ x more. absurd (omega (arith, more, times-nil x));
     emptied = λ x f below within released. absurd (false≢true (sym (none_released machine_from.now.0 x (omega (arith, below, slots_many))) ∙ released));
   }
@@ -316,27 +317,32 @@ module _ (config : Config) (o : Objects) (is : IsConfig config) (are : AreObject
       subst IsTakenHeader (sym (header_at o.nodes (replicate (config.slots - many) 0) i below)) (header_taken (node_at o i).1 (node_at o i).0 (label_fits config o is are labels i below)))
 
   -- The heap that is opened from objects keeps it all.
-  pub opened_from_kept : IsKept w
+  -- the same is seen of dated words as of bare ones
+  same_seen : sight (heap_from_by false config o) ≡ sight w
+  same_seen = ap (λ (rss : List (List (Option ℕ))). let s : Sight = record (sight w) { registers = rss } in s) (registers_held false config 1 rows ∙ sym (registers_held true config 1 rows))
+
+  pub opened_from_kept : IsKept true w
   opened_from_kept = record {
     whole = record {
       config = is;
       headers = headers_many config o is are labels;
       labels = labels_held;
       mutators = record {
-        many = length-holding config 1 rows ∙ rows_many;
+        many = length-holding true config 1 rows ∙ rows_many;
         words = length-replicate config.mutators (crossing_word config.first_epoch Spare);
         mailboxes = length-replicate config.mutators (spare_of config);
-        each = λ t there. subst (λ (stand : Handshake). IsActor config config.first_epoch stand t (slice_index_or w.mutators (t - 1) nobody) (slice_index_or w.crossing (t - 1) 0) (slice_index_or w.boxes (t - 1) (collectors.blank 0 0))) (sym (all_done config t)) (each_held t there);
+        each = λ t there. subst (λ (stand : Handshake). IsActor true config config.first_epoch stand t (slice_index_or w.mutators (t - 1) nobody) (slice_index_or w.crossing (t - 1) 0) (slice_index_or w.boxes (t - 1) (collectors.blank 0 0))) (sym (all_done config t)) (each_held t there);
       };
       collector = collector_from;
       sweeps = record { odd = refl; few = omega arith; some = tt };
       learnt = λ t there. subst (λ (p : Private). HasLearnt config.slots w.headers 0 p.from p.phase) (sym (one_of t there)) tt;
       made = omega (arith, are.few);
       greens = λ x green. absurd (false≢true (sym (each_opened (λ (v : Slot). is_green v.colour ≡ false) (λ count. 0 < count) config.slots (counts_of o) (λ count _. refl) refl refl counts_some x) ∙ green));
-      sound = seen_sound config o is are labels;
+      sound = subst IsSound same_seen (seen_sound config o is are labels);
       accounted = beginning_accounted (pending w) pending_begins;
       uncounted = λ unfreed node pos gone. absurd (false≢true (sym (slot_unreleased (node - 1)) ∙ gone));
       cycles = sets_wait_none (pending w) w.collector.counts refl (each_opened (λ (v : Slot). v.set ≡ None) (λ count. 0 < count) config.slots (counts_of o) (λ count _. refl) refl refl counts_some);
     };
     held = tt;
+    behind = tt;
   }

@@ -170,7 +170,7 @@ module _ (config : Config) (o : Objects) (is : IsConfig config) (are : AreObject
 
   -- what registers name
   pub registers_are : (sight w).registers ≡ rows_of config.registers config.mutators o.registers
-  registers_are = registers_held config 1 (rows_of config.registers config.mutators o.registers)
+  registers_are = registers_held false config 1 (rows_of config.registers config.mutators o.registers)
 
   pub roots_are : roots (sight w).registers ≡ named o.registers
   roots_are = ap roots registers_are ∙ roots-rows config.registers config.mutators o.registers are.registers

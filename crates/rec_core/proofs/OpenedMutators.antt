@@ -1,9 +1,10 @@
 -- What every heap keeps holds as it is opened.
-use Rattle.std.proofs.Common.{◌≡◌, inl, inr, ℕ, ◌+◌, ◌-◌, ◌<◌, ◌≤◌, zero, suc, List, [], ◌∷◌, ◌++◌, Option, None, Some, slice_index_or, length, map, replicate, refl, sym, ap, subst, ◌∙◌, arith, lit≤, add-one, lit<, false, slice_set}
+use Rattle.std.proofs.Common.{◌≡◌, inl, inr, ℕ, ◌+◌, ◌-◌, ◌<◌, ◌≤◌, zero, suc, List, [], ◌∷◌, ◌++◌, Option, None, Some, slice_index_or, length, map, replicate, refl, sym, ap, subst, ◌∙◌, arith, lit≤, add-one, lit<, false, slice_set, Bool}
 use Rattle.std.proofs.lemmas.Bool.{cases_lt}
 use Rattle.std.proofs.lemmas.List.{get_or_append_left, get_or-append_right, length-replicate, length_push, map_push}
 use Rattle.std.proofs.lemmas.List.Elements.{All-cons, All-replicate}
 use Rattle.rec_core.proofs.Common.{IsTarget, Represents, opening_sight, Private, IsMachine, IsConfig, IsMutator, sight, mutator, nobody, opened, opened_mutator, opened_mutators, Config, IsHeader, is_green, absent, fresh, slot_at}
+use Rattle.rec_core.specs.Core.{mutator_by, mutators_by}
 use Rattle.rec_model.specs.Heap.{opening}
 use Rattle.rec_model.proofs.Opened.{opening_stands, nulls_at}
 
@@ -35,44 +36,6 @@ replicate_push : {X : Type 0} (n : ℕ) (x : X) → replicate n x ++ x ∷ [] �
 replicate_push zero x = refl
 replicate_push (suc n) x = ap (λ xs. x ∷ xs) (replicate_push n x)
 
--- all mutators have the same registers
-pub registers_opened : (config : Config) (n : ℕ) → map (λ (p : Private). p.registers) (opened_mutators config n) ≡ replicate n (own_opened config)
-registers_opened config zero = refl
-registers_opened config (suc n) =
-    map_push (λ (p : Private). p.registers) (opened_mutators config n) (opened_mutator config (suc n))
-    ∙ ap (λ rss. rss ++ own_opened config ∷ []) (registers_opened config n) ∙ replicate_push n (own_opened config)
-
--- so many mutators
-pub length-opened : (config : Config) (n : ℕ) → length (opened_mutators config n) ≡ n
-length-opened config zero = refl
-length-opened config (suc n) = length_push (opened_mutators config n) (opened_mutator config (suc n)) ∙ ap (λ m. m + 1) (length-opened config n) ∙ add-one n
-
--- what is seen at opening
-pub sight_opened : (config : Config) → sight (opened config) ≡ opening_sight config.slots config.fields config.registers config.mutators
-sight_opened config = rw (registers_opened config config.mutators) refl
-
--- one of the mutators
-pub opened_at : (config : Config) (n i : ℕ) → i < n → slice_index_or (opened_mutators config n) i nobody ≡ opened_mutator config (i + 1)
-opened_at config zero i below = absurd (omega arith)
-opened_at config (suc n) i below = elim (cases_lt i n) [
-  | inl before ↦
-      let own : slice_index_or (opened_mutators config n) i nobody ≡ opened_mutator config (i + 1) = opened_at config n i before in
-      get_or_append_left (opened_mutators config n) (opened_mutator config (suc n) ∷ []) nobody i (subst (λ m. i < m) (sym (length-opened config n)) before) ∙ own
-  | inr past ↦
-      let last : i - n ≡ 0 = omega arith in
-      let number : suc n ≡ i + 1 = omega arith in
-      get_or-append_right (opened_mutators config n) (opened_mutator config (suc n) ∷ []) n i nobody (length-opened config n) past
-      ∙ ap (λ k. slice_index_or (opened_mutator config (suc n) ∷ []) k nobody) last ∙ ap (opened_mutator config) number
-]
-
--- each of them, by its number
-pub mutator_opened : (config : Config) (t : ℕ) → IsMutator config t → mutator (opened config) t ≡ opened_mutator config t
-mutator_opened config t there =
-    let some : 1 ≤ t = there.0 in
-    let last : t ≤ config.mutators = there.1 in
-    let number : t - 1 + 1 ≡ t = omega arith in
-    opened_at config config.mutators (t - 1) (omega arith) ∙ ap (opened_mutator config) number
-
 -- its registers
 pub registers_many : (config : Config) (t : ℕ) → IsConfig config → length (opened_mutator config t).registers ≡ config.registers
 registers_many config t is =
@@ -80,30 +43,73 @@ registers_many config t is =
     let rest : length {A = Option ℕ} (replicate (config.registers - 1) None) ≡ config.registers - 1 = length-replicate (config.registers - 1) None in
     omega arith
 
--- its machine
-pub machine_opened : (config : Config) (t : ℕ) → IsConfig config → IsMutator config t → IsMachine (opened_mutator config t)
-machine_opened config t is there =
-    let few : config.mutators ≤ 63 = is.few_mutators in
+-- all mutators have the same registers, whether words are dated or not
+pub registers_by : (dates : Bool) (config : Config) (n : ℕ) → map (λ (p : Private). p.registers) (mutators_by dates config n) ≡ replicate n (own_opened config)
+registers_by dates config zero = refl
+registers_by dates config (suc n) =
+    map_push (λ (p : Private). p.registers) (mutators_by dates config n) (mutator_by dates config (suc n))
+    ∙ ap (λ rss. rss ++ own_opened config ∷ []) (registers_by dates config n) ∙ replicate_push n (own_opened config)
+
+-- so many mutators
+pub length_by : (dates : Bool) (config : Config) (n : ℕ) → length (mutators_by dates config n) ≡ n
+length_by dates config zero = refl
+length_by dates config (suc n) = length_push (mutators_by dates config n) (mutator_by dates config (suc n)) ∙ ap (λ m. m + 1) (length_by dates config n) ∙ add-one n
+
+module _ {dates : Bool} where
+  -- one of the mutators
+  pub one_by : (config : Config) (n i : ℕ) → i < n → slice_index_or (mutators_by dates config n) i nobody ≡ mutator_by dates config (i + 1)
+  one_by config zero i below = absurd (omega arith)
+  one_by config (suc n) i below = elim (cases_lt i n) [
+    | inl before ↦
+        let own : slice_index_or (mutators_by dates config n) i nobody ≡ mutator_by dates config (i + 1) = one_by config n i before in
+        get_or_append_left (mutators_by dates config n) (mutator_by dates config (suc n) ∷ []) nobody i (subst (λ m. i < m) (sym (length_by dates config n)) before) ∙ own
+    | inr past ↦
+        let last : i - n ≡ 0 = omega arith in
+        let number : suc n ≡ i + 1 = omega arith in
+        get_or-append_right (mutators_by dates config n) (mutator_by dates config (suc n) ∷ []) n i nobody (length_by dates config n) past
+        ∙ ap (λ k. slice_index_or (mutator_by dates config (suc n) ∷ []) k nobody) last ∙ ap (mutator_by dates config) number
+  ]
+
+  -- its machine
+  pub machine_by : (config : Config) (t : ℕ) → IsConfig config → IsMutator config t → IsMachine (mutator_by dates config t)
+  machine_by config t is there =
+      let few : config.mutators ≤ 63 = is.few_mutators in
+      let last : t ≤ config.mutators = there.1 in
+      let slots : 1 ≤ config.slots = is.some_slots in
+      let few_slots : config.slots ≤ 65535 = is.few_slots in
+      let epoch : config.first_epoch ≤ 16777215 = is.few_epochs in
+      let entries : config.log_entries ≤ 262143 = is.few_log_entries in
+      let many = registers_many config t is in
+      let first : IsTarget (Some 0) = omega arith in
+      record {
+        number = omega arith;
+        epoch = omega arith;
+        stamped = λ _. omega arith;
+        first_slot = omega arith;
+        last_slot = omega arith;
+        capacity = omega arith;
+        entries = omega arith;
+        registers = All-cons IsTarget (Some 0) (replicate (config.registers - 1) None) first (All-replicate IsTarget (config.registers - 1) None tt);
+        snapshot = length-replicate config.registers None ∙ sym many;
+        from = omega arith;
+        now = refl;
+      }
+
+-- so many mutators
+pub length-opened : (config : Config) (n : ℕ) → length (opened_mutators config n) ≡ n
+length-opened config n = length_by false config n
+
+-- what is seen at opening
+pub sight_opened : (config : Config) → sight (opened config) ≡ opening_sight config.slots config.fields config.registers config.mutators
+sight_opened config = rw (registers_by false config config.mutators) refl
+
+-- each of them, by its number
+pub mutator_opened : (config : Config) (t : ℕ) → IsMutator config t → mutator (opened config) t ≡ opened_mutator config t
+mutator_opened config t there =
+    let some : 1 ≤ t = there.0 in
     let last : t ≤ config.mutators = there.1 in
-    let slots : 1 ≤ config.slots = is.some_slots in
-    let few_slots : config.slots ≤ 65535 = is.few_slots in
-    let epoch : config.first_epoch ≤ 16777215 = is.few_epochs in
-    let entries : config.log_entries ≤ 262143 = is.few_log_entries in
-    let many = registers_many config t is in
-    let first : IsTarget (Some 0) = omega arith in
-    record {
-      number = omega arith;
-      epoch = omega arith;
-      stamped = λ _. omega arith;
-      first_slot = omega arith;
-      last_slot = omega arith;
-      capacity = omega arith;
-      entries = omega arith;
-      registers = All-cons IsTarget (Some 0) (replicate (config.registers - 1) None) first (All-replicate IsTarget (config.registers - 1) None tt);
-      snapshot = length-replicate config.registers None ∙ sym many;
-      from = omega arith;
-      now = refl;
-    }
+    let number : t - 1 + 1 ≡ t = omega arith in
+    one_by {dates = false} config config.mutators (t - 1) (omega arith) ∙ ap (opened_mutator config) number
 
 -- the opening heap stands for it
 pub opened_stands : (config : Config) → IsConfig config → Represents (opening config.fields config.registers config.mutators) (sight (opened config))

@@ -1,5 +1,5 @@
 -- What every heap with its collector keeps holds as it is opened.
-use Rattle.std.proofs.Common.{◌≡◌, inl, inr, ℕ, ◌+◌, ◌-◌, ◌*◌, ◌<◌, ◌≤◌, ◌==◌, zero, suc, false, List, [], ◌∷◌, Option, None, Some, slice_index_or, length, map, flat_map, replicate, refl, sym, ap, subst, ◌∙◌, arith}
+use Rattle.std.proofs.Common.{◌≡◌, inl, inr, ℕ, ◌+◌, ◌-◌, ◌*◌, ◌<◌, ◌≤◌, ◌==◌, zero, suc, false, List, [], ◌∷◌, Option, None, Some, slice_index_or, length, map, flat_map, replicate, refl, sym, ap, subst, ◌∙◌, arith, true}
 use Rattle.std.specs.List.{sum_by, zip}
 use Rattle.std.proofs.lemmas.Bool.{cases_lt, cond-false, false≢true}
 use Rattle.std.proofs.lemmas.Bool.Decides.{nat_tests}
@@ -7,7 +7,8 @@ use Rattle.std.proofs.lemmas.List.{get_or_past, get_or-replicate, get_or-set_sam
 use Rattle.std.proofs.lemmas.List.Elements.{All-nil, All-from_get_or}
 use Rattle.std.proofs.lemmas.List.Folds.{sum_by-replicate}
 use Rattle.std.proofs.lemmas.List.Sums.{sum_by-cons, sum_by-append}
-use Rattle.rec_core.proofs.Common.{crossing_word, Spare, is_wrong_register, is_late_snapshot, Write, Dated, dated, opening_uncounted, sum_at-replicate_none, sum_by-flat_map, Contents, State, slot_at, one, times, fresh, is_in, Slot, keep_open, one-same, times-nil, Private, has_left, Handshake, stand_at, IsConfig, IsMutator, Core, spare_of, opened, nobody, opened_mutator, opened_mutators, IsOwn, IsBufferOf, IsMadeIn, IsActor, HasCollector, HasLearnt, IsKept, IsHeader, Filed, buffers, writes_in, births_in, dated_names, dated_all, dated_registers, pending, Config}
+use Rattle.rec_core.proofs.Common.{crossing_word, Spare, is_wrong_register, is_late_snapshot, Write, Dated, dated, opening_uncounted, sum_at-replicate_none, sum_by-flat_map, Contents, State, slot_at, one, times, fresh, is_in, Slot, keep_open, one-same, times-nil, Private, has_left, Handshake, stand_at, IsConfig, IsMutator, Core, spare_of, nobody, IsOwn, IsBufferOf, IsMadeIn, IsActor, HasCollector, HasLearnt, IsKept, IsHeader, Filed, buffers, writes_in, births_in, dated_names, dated_all, dated_registers, pending, Config}
+use Rattle.rec_core.specs.Core.{heap_by, mutator_by, mutators_by}
 use Rattle.rec_model.specs.Opened.{IsOpening}
 use Rattle.rec_model.proofs.Beginning.{opening_accounted}
 use Rattle.rec_model.proofs.Opened.{opening_sound, named-nones, nulls_at}
@@ -19,12 +20,12 @@ use Rattle.rec_collector.proofs.Following.{none_released}
 use Rattle.rec_core.proofs.Actors.{spare_buffer}
 use Rattle.rec_core.proofs.Batches.{none_of}
 use Rattle.rec_core.proofs.CyclesWait.{sets_wait_none}
-use Rattle.rec_core.proofs.OpenedMutators.{small_header, registers_opened, length-opened, opened_at, registers_many, machine_opened as mutator_opened, opened_black}
+use Rattle.rec_core.proofs.OpenedMutators.{small_header, registers_by, length_by, one_by, registers_many, machine_by as mutator_opened, opened_black}
 use Rattle.rec_core.proofs.Sums.{share, log_share, box_share, buffers_sum}
 use Rattle.rec_core.proofs.Turns.{AddsNothing, spare_boxes, writes_nothing, births_nothing, snapshots_nothing}
 
 -- a mutator as it is opened
-own_kept : (config : Config) (t : ℕ) → IsConfig config → IsMutator config t → IsOwn config t (opened_mutator config t)
+own_kept : (config : Config) (t : ℕ) → IsConfig config → IsMutator config t → IsOwn true config t (mutator_by true config t)
 own_kept config t is there =
     record {
       number = refl;
@@ -36,10 +37,11 @@ own_kept config t is there =
       between = tt;
       label = tt;
       idle = λ left. absurd (false≢true left);
+      dates = refl;
     }
 
 -- its crossing word and its mailbox
-actor_kept : (config : Config) (t : ℕ) → IsConfig config → IsMutator config t → IsActor config config.first_epoch Handshake.Done t (opened_mutator config t) (crossing_word config.first_epoch Spare) (spare_of config)
+actor_kept : (config : Config) (t : ℕ) → IsConfig config → IsMutator config t → IsActor true config config.first_epoch Handshake.Done t (mutator_by true config t) (crossing_word config.first_epoch Spare) (spare_of config)
 actor_kept config t is there =
     record {
       own = own_kept config t is there;
@@ -58,23 +60,23 @@ place_there config t there =
     let last : t ≤ config.mutators = there.1 in
     omega arith
 
-one_of : (config : Config) (t : ℕ) → IsMutator config t → slice_index_or (opened_mutators config config.mutators) (t - 1) nobody ≡ opened_mutator config t
+one_of : (config : Config) (t : ℕ) → IsMutator config t → slice_index_or (mutators_by true config config.mutators) (t - 1) nobody ≡ mutator_by true config t
 one_of config t there =
     let first : 1 ≤ t = there.0 in
     let number : t - 1 + 1 ≡ t = omega arith in
-    opened_at config config.mutators (t - 1) (place_there config t there) ∙ ap (opened_mutator config) number
+    one_by config config.mutators (t - 1) (place_there config t there) ∙ ap (mutator_by true config) number
 
 each_kept : (config : Config) (t : ℕ) → IsConfig config → IsMutator config t
-    → IsActor config config.first_epoch Handshake.Done t (slice_index_or (opened config).mutators (t - 1) nobody) (slice_index_or (opened config).crossing (t - 1) 0) (slice_index_or (opened config).boxes (t - 1) (collectors.blank 0 0))
+    → IsActor true config config.first_epoch Handshake.Done t (slice_index_or (heap_by true config).mutators (t - 1) nobody) (slice_index_or (heap_by true config).crossing (t - 1) 0) (slice_index_or (heap_by true config).boxes (t - 1) (collectors.blank 0 0))
 each_kept config t is there =
     let at = place_there config t there in
-    subst (λ (p : Private). IsActor config config.first_epoch Handshake.Done t p (slice_index_or (opened config).crossing (t - 1) 0) (slice_index_or (opened config).boxes (t - 1) (collectors.blank 0 0))) (sym (one_of config t there))
-    (subst (λ (n : ℕ). IsActor config config.first_epoch Handshake.Done t (opened_mutator config t) n (slice_index_or (opened config).boxes (t - 1) (collectors.blank 0 0))) (sym (get_or-replicate config.mutators (t - 1) (crossing_word config.first_epoch Spare) 0 at))
-    (subst (λ (b : Contents). IsActor config config.first_epoch Handshake.Done t (opened_mutator config t) (crossing_word config.first_epoch Spare) b) (sym (get_or-replicate config.mutators (t - 1) (spare_of config) (collectors.blank 0 0) at))
+    subst (λ (p : Private). IsActor true config config.first_epoch Handshake.Done t p (slice_index_or (heap_by true config).crossing (t - 1) 0) (slice_index_or (heap_by true config).boxes (t - 1) (collectors.blank 0 0))) (sym (one_of config t there))
+    (subst (λ (n : ℕ). IsActor true config config.first_epoch Handshake.Done t (mutator_by true config t) n (slice_index_or (heap_by true config).boxes (t - 1) (collectors.blank 0 0))) (sym (get_or-replicate config.mutators (t - 1) (crossing_word config.first_epoch Spare) 0 at))
+    (subst (λ (b : Contents). IsActor true config config.first_epoch Handshake.Done t (mutator_by true config t) (crossing_word config.first_epoch Spare) b) (sym (get_or-replicate config.mutators (t - 1) (spare_of config) (collectors.blank 0 0) at))
     (actor_kept config t is there)))
 
 -- the collector
-machine_opened : (config : Config) → IsConfig config → collector_kept.IsMachine (opened config).collector
+machine_opened : (config : Config) → IsConfig config → collector_kept.IsMachine (heap_by true config).collector
 machine_opened config is =
     let slots : config.slots ≤ 65535 = is.few_slots in
     let some : 1 ≤ config.fields = is.some_fields in
@@ -89,16 +91,16 @@ machine_opened config is =
 abbrev first_snapshot : Config → Contents
 first_snapshot config = collectors.retired (collectors.first_registers config.registers) config.log_entries
 
-first_buffer : (config : Config) (epoch : ℕ) → IsConfig config → IsBufferOf config epoch (first_snapshot config)
+first_buffer : (config : Config) (epoch : ℕ) → IsConfig config → IsBufferOf true config epoch (first_snapshot config)
 first_buffer config epoch is =
     let some : 1 ≤ config.registers = is.some_registers in
     let rest : length {A = Option ℕ} (replicate (config.registers - 1) None) ≡ config.registers - 1 = length-replicate (config.registers - 1) None in
     record { snapshot = omega arith; capacity = refl; few = omega arith; made = All-nil (IsMadeIn epoch) }
 
-collector_opened : (config : Config) → IsConfig config → HasCollector config config.first_epoch (opened config).words (opened config).collector
+collector_opened : (config : Config) → IsConfig config → HasCollector true config config.first_epoch (heap_by true config).words (heap_by true config).collector
 collector_opened config is =
     let machine = machine_opened config is in
-    let slots : length (opened config).collector.counts.slots ≡ config.slots = length-set (replicate config.slots fresh) 0 (record fresh { count = config.mutators }) ∙ length-replicate config.slots fresh in
+    let slots : length (heap_by true config).collector.counts.slots ≡ config.slots = length-set (replicate config.slots fresh) 0 (record fresh { count = config.mutators }) ∙ length-replicate config.slots fresh in
     record {
       machine = machine;
       between = tt;
@@ -110,27 +112,27 @@ collector_opened config is =
       mutators = length-replicate config.mutators (spare_of config);
       epoch = refl;
       begun = omega arith;
-      newer = λ t there. subst (IsBufferOf config (config.first_epoch - 1)) (sym (get_or-replicate config.mutators (t - 1) (spare_of config) (collectors.blank 0 0) (place_there config t there))) (spare_buffer config (config.first_epoch - 1));
-      older = λ t there. subst (IsBufferOf config (config.first_epoch - 1)) (sym (get_or-replicate config.mutators (t - 1) (first_snapshot config) (collectors.blank 0 0) (place_there config t there))) (first_buffer config (config.first_epoch - 1) is);
+      newer = λ t there. subst (IsBufferOf true config (config.first_epoch - 1)) (sym (get_or-replicate config.mutators (t - 1) (spare_of config) (collectors.blank 0 0) (place_there config t there))) (spare_buffer config (config.first_epoch - 1));
+      older = λ t there. subst (IsBufferOf true config (config.first_epoch - 1)) (sym (get_or-replicate config.mutators (t - 1) (first_snapshot config) (collectors.blank 0 0) (place_there config t there))) (first_buffer config (config.first_epoch - 1) is);
       listed = λ x more. absurd (omega (arith, more, times-nil x));
       emptied = λ x f below within released. absurd (false≢true (sym (none_released machine.now.0 x (omega (arith, slots))) ∙ released));
     }
 
 -- sums over the buffers of the opened heap: only the older ones add anything
 older_sum : {Y : Type 0} (g : Y → ℕ) (f : Filed → List Y) (config : Config) → AddsNothing g f config
-    → sum_by g (flat_map f (buffers (opened config))) ≡ config.mutators * share g f (config.first_epoch - 1) (first_snapshot config)
+    → sum_by g (flat_map f (buffers (heap_by true config))) ≡ config.mutators * share g f (config.first_epoch - 1) (first_snapshot config)
 older_sum {Y} g f config nothing =
     let last : ℕ = config.first_epoch - 1 in
     let spares : List Contents = replicate config.mutators (spare_of config) in
-    let sums : sum_by g (flat_map f (buffers (opened config)))
-    ≡ sum_by (log_share g f) (opened_mutators config config.mutators)
-    + (sum_by (box_share g f) (zip (opened_mutators config config.mutators) spares) + (sum_by (share g f last) spares + sum_by (share g f last) (replicate config.mutators (first_snapshot config))))
-    = buffers_sum g f (opened config) in
-    let boxes : sum_by (box_share g f) (zip (opened_mutators config config.mutators) spares) ≡ 0
-    = spare_boxes g f config (opened_mutators config config.mutators) spares nothing (λ i below. get_or-replicate config.mutators i (spare_of config) (collectors.blank 0 0) (omega (arith, below, length-replicate config.mutators (spare_of config)))) in
-    let logs : sum_by (log_share g f) (opened_mutators config config.mutators) ≡ 0
-    = none_of (log_share g f) (opened_mutators config config.mutators) nobody (λ i below.
-    ap (log_share g f) (opened_at config config.mutators i (omega (arith, below, length-opened config config.mutators))) ∙ nothing.nothing config.first_epoch) in
+    let sums : sum_by g (flat_map f (buffers (heap_by true config)))
+    ≡ sum_by (log_share g f) (mutators_by true config config.mutators)
+    + (sum_by (box_share g f) (zip (mutators_by true config config.mutators) spares) + (sum_by (share g f last) spares + sum_by (share g f last) (replicate config.mutators (first_snapshot config))))
+    = buffers_sum g f (heap_by true config) in
+    let boxes : sum_by (box_share g f) (zip (mutators_by true config config.mutators) spares) ≡ 0
+    = spare_boxes g f config (mutators_by true config config.mutators) spares nothing (λ i below. get_or-replicate config.mutators i (spare_of config) (collectors.blank 0 0) (omega (arith, below, length-replicate config.mutators (spare_of config)))) in
+    let logs : sum_by (log_share g f) (mutators_by true config config.mutators) ≡ 0
+    = none_of (log_share g f) (mutators_by true config config.mutators) nobody (λ i below.
+    ap (log_share g f) (one_by config config.mutators i (omega (arith, below, length_by true config config.mutators))) ∙ nothing.nothing config.first_epoch) in
     let spare : sum_by (share g f last) spares ≡ 0 = sum_by-replicate (share g f last) config.mutators (spare_of config) ∙ ap (λ n. config.mutators * n) (nothing.nothing last) ∙ omega arith in
     omega (arith, sums, logs, boxes, spare, sum_by-replicate (share g f last) config.mutators (first_snapshot config))
 
@@ -147,12 +149,12 @@ null_registers g epoch zero = omega arith
 null_registers g epoch (suc n) = omega (arith, sum_by-cons g (dated epoch 0) (dated_all epoch (replicate n None)), null_registers g epoch n)
 
 -- a sum over the mutators, each of which adds the same
-each_sum : (config : Config) (h : Private → ℕ) (k n : ℕ) → ((t : ℕ) → h (opened_mutator config t) ≡ k) → sum_by h (opened_mutators config n) ≡ n * k
+each_sum : (config : Config) (h : Private → ℕ) (k n : ℕ) → ((t : ℕ) → h (mutator_by true config t) ≡ k) → sum_by h (mutators_by true config n) ≡ n * k
 each_sum config h k zero same = omega arith
 each_sum config h k (suc n) same = omega (
   arith,
-  sum_by-append h (opened_mutators config n) (opened_mutator config (suc n) ∷ []),
-  sum_by-cons h (opened_mutator config (suc n)) [],
+  sum_by-append h (mutators_by true config n) (mutator_by true config (suc n) ∷ []),
+  sum_by-cons h (mutator_by true config (suc n)) [],
   each_sum config h k n same,
   same (suc n),
 )
@@ -165,20 +167,20 @@ registers_weight config g = g (dated config.first_epoch 1) + (config.registers -
 first_alone : (g : Dated → ℕ) (config : Config) → g (dated config.first_epoch 0) ≡ 0 → registers_weight config g ≡ g (dated config.first_epoch 1)
 first_alone g config null = omega (arith, ap (λ n. (config.registers - 1) * n) null)
 
-own_registers : (g : Dated → ℕ) (config : Config) (t : ℕ) → sum_by g (dated_all config.first_epoch (opened_mutator config t).registers) ≡ registers_weight config g
+own_registers : (g : Dated → ℕ) (config : Config) (t : ℕ) → sum_by g (dated_all config.first_epoch (mutator_by true config t).registers) ≡ registers_weight config g
 own_registers g config t =
     sum_by-cons g (dated config.first_epoch 1) (dated_all config.first_epoch (replicate (config.registers - 1) None))
     ∙ ap (λ n. g (dated config.first_epoch 1) + n) (null_registers g config.first_epoch (config.registers - 1))
 
-opened_registers : (g : Dated → ℕ) (config : Config) → sum_by g (pending (opened config)).registers ≡ config.mutators * registers_weight config g
+opened_registers : (g : Dated → ℕ) (config : Config) → sum_by g (pending (heap_by true config)).registers ≡ config.mutators * registers_weight config g
 opened_registers g config =
-    sum_by-flat_map g dated_registers (opened_mutators config config.mutators)
+    sum_by-flat_map g dated_registers (mutators_by true config config.mutators)
     ∙ each_sum config (λ (p : Private). sum_by g (dated_registers p)) (registers_weight config g) config.mutators (own_registers g config)
 
 -- what the opened heap has to account for
 module _ (config : Config) (is : IsConfig config) where
   abbrev start : Core
-  start = opened config
+  start = heap_by true config
 
   abbrev last : ℕ
   last = config.first_epoch - 1
@@ -213,7 +215,7 @@ module _ (config : Config) (is : IsConfig config) where
   not_wrong : (x : ℕ) → is_wrong_register last config.first_epoch (dated config.first_epoch x) ≡ 0
   not_wrong x = grind (arith, nat_tests, some_epoch)
 
-  pending_opens : IsOpening (pending start) config.first_epoch config.mutators
+  pub pending_opens : IsOpening (pending start) config.first_epoch config.mutators
   pending_opens = record {
     applied = omega (arith, some_epoch);
     requested = refl;
@@ -256,8 +258,8 @@ in_no_set s k none x = go (slot_at s x).set refl
         absurd (omega (arith, k.numbers number x, in_it, out))
 
 -- none has left, and no gathering is under way
-pub all_done : (config : Config) (t : ℕ) → stand_at (opened config).collector.left (opened config).collector.phase t ≡ Handshake.Done
-all_done config t = cond-false (has_left (opened config).collector.left t) Handshake.Gone Handshake.Done (get_or_any config.mutators (t - 1))
+pub all_done : (config : Config) (t : ℕ) → stand_at (heap_by true config).collector.left (heap_by true config).collector.phase t ≡ Handshake.Done
+all_done config t = cond-false (has_left (heap_by true config).collector.left t) Handshake.Gone Handshake.Done (get_or_any config.mutators (t - 1))
   where
     get_or_any : (n i : ℕ) → slice_index_or (replicate n false) i false ≡ false
     get_or_any zero i = refl
@@ -265,7 +267,7 @@ all_done config t = cond-false (has_left (opened config).collector.left t) Hands
     get_or_any (suc n) (suc i) = get_or_any n i
 
 -- The opened heap keeps it all.
-pub opened_kept : (config : Config) → IsConfig config → IsKept (opened config)
+pub opened_kept : (config : Config) → IsConfig config → IsKept true (heap_by true config)
 opened_kept config is =
     let slots : 1 ≤ config.slots = is.some_slots in
     let free : length {A = ℕ} (replicate (config.slots - 1) 0) ≡ config.slots - 1 = length-replicate (config.slots - 1) 0 in
@@ -275,20 +277,21 @@ opened_kept config is =
         headers = omega arith;
         labels = All-from_get_or IsHeader (1 ∷ replicate (config.slots - 1) 0) 0 (λ i there. small_header config.slots i);
         mutators = record {
-          many = length-opened config config.mutators;
+          many = length_by true config config.mutators;
           words = length-replicate config.mutators (crossing_word config.first_epoch Spare);
           mailboxes = length-replicate config.mutators (spare_of config);
-          each = λ t there. subst (λ (stand : Handshake). IsActor config config.first_epoch stand t (slice_index_or (opened config).mutators (t - 1) nobody) (slice_index_or (opened config).crossing (t - 1) 0) (slice_index_or (opened config).boxes (t - 1) (collectors.blank 0 0))) (sym (all_done config t)) (each_kept config t is there);
+          each = λ t there. subst (λ (stand : Handshake). IsActor true config config.first_epoch stand t (slice_index_or (heap_by true config).mutators (t - 1) nobody) (slice_index_or (heap_by true config).crossing (t - 1) 0) (slice_index_or (heap_by true config).boxes (t - 1) (collectors.blank 0 0))) (sym (all_done config t)) (each_kept config t is there);
         };
         collector = collector_opened config is;
         sweeps = record { odd = refl; few = omega arith; some = tt };
-        learnt = λ t there. subst (λ (p : Private). HasLearnt config.slots (opened config).headers 0 p.from p.phase) (sym (one_of config t there)) tt;
+        learnt = λ t there. subst (λ (p : Private). HasLearnt config.slots (heap_by true config).headers 0 p.from p.phase) (sym (one_of config t there)) tt;
         made = omega arith;
         greens = λ x green. absurd (false≢true (sym (opened_black config x) ∙ green));
-        sound = rw (registers_opened config config.mutators) (opening_sound config.slots config.fields config.registers config.mutators slots);
-        accounted = opening_accounted (pending (opened config)) config.first_epoch config.mutators (pending_opens config is);
-        uncounted = λ unfreed. opening_uncounted (pending (opened config)) config.first_epoch config.mutators (pending_opens config is);
-        cycles = sets_wait_none (pending (opened config)) (opened config).collector.counts refl (in_no_set (opened config).collector.counts (machine_opened config is).counts refl);
+        sound = rw (registers_by true config config.mutators) (opening_sound config.slots config.fields config.registers config.mutators slots);
+        accounted = opening_accounted (pending (heap_by true config)) config.first_epoch config.mutators (pending_opens config is);
+        uncounted = λ unfreed. opening_uncounted (pending (heap_by true config)) config.first_epoch config.mutators (pending_opens config is);
+        cycles = sets_wait_none (pending (heap_by true config)) (heap_by true config).collector.counts refl (in_no_set (heap_by true config).collector.counts (machine_opened config is).counts refl);
       };
       held = tt;
+      behind = tt;
     }

@@ -36,7 +36,7 @@ use Rattle.rec_core.proofs.Trying.{loads_child, trying_lands}
 use Rattle.rec_core.proofs.Turns.{now_at}
 
 -- a turn with an operation, up to the next trial
-module _ (w : Core) (op : Op) (kept : IsKept w) (later : IsKept (turned_by w op (cell (cells_of w) op))) (named : ◌≡◌ {A = Option Op} (next_of w.collector) (Some op)) where
+module _ (w : Core) (op : Op) (kept : IsKept true w) (later : IsKept true (turned_by w op (cell (cells_of w) op))) (named : ◌≡◌ {A = Option Op} (next_of w.collector) (Some op)) where
   open w use {collector as c}
 
   abbrev found : ℕ
@@ -61,25 +61,25 @@ module _ (w : Core) (op : Op) (kept : IsKept w) (later : IsKept (turned_by w op 
   op_has has same = has_on c found its_box kept.collector.machine kept.collector.between its_given has (same_trial same)
 
 -- each turn
-turn_untouched : (w : Core) (number x : ℕ) → IsKept w → IsKept (turned w) → HasSets w.collector.phase → tried_in (turned w) ≡ tried_in w → IsOrangeIn (turned w).collector.counts number x → WasUntouched w.collector.counts (turned w).collector.counts number x (named_by_op w (next_of w.collector) x)
+turn_untouched : (w : Core) (number x : ℕ) → IsKept true w → IsKept true (turned w) → HasSets w.collector.phase → tried_in (turned w) ≡ tried_in w → IsOrangeIn (turned w).collector.counts number x → WasUntouched w.collector.counts (turned w).collector.counts number x (named_by_op w (next_of w.collector) x)
 turn_untouched w number x kept later has same o =
-    turn_case w (λ y v. IsKept v → tried_in v ≡ tried_in w → IsOrangeIn v.collector.counts number x → WasUntouched w.collector.counts v.collector.counts number x (named_by_op w y x)) (λ none later same o. untouched_same o)
+    turn_case w (λ y v. IsKept true v → tried_in v ≡ tried_in w → IsOrangeIn v.collector.counts number x → WasUntouched w.collector.counts v.collector.counts number x (named_by_op w y x)) (λ none later same o. untouched_same o)
     (λ op named later same o. op_untouched w op kept later named number x has same o) later same o
 
-turn_has : (w : Core) → IsKept w → IsKept (turned w) → HasSets w.collector.phase → tried_in (turned w) ≡ tried_in w → HasSets (turned w).collector.phase
-turn_has w kept later has same = turn_case w (λ o v. IsKept v → tried_in v ≡ tried_in w → HasSets v.collector.phase) (λ none later same. has) (λ op named later same. op_has w op kept later named has same) later same
+turn_has : (w : Core) → IsKept true w → IsKept true (turned w) → HasSets w.collector.phase → tried_in (turned w) ≡ tried_in w → HasSets (turned w).collector.phase
+turn_has w kept later has same = turn_case w (λ o v. IsKept true v → tried_in v ≡ tried_in w → HasSets v.collector.phase) (λ none later same. has) (λ op named later same. op_has w op kept later named has same) later same
 
 -- each move
-move_untouched : (w : Core) (m : Move) (number x : ℕ) → IsKept w → Fits w m → HasSets w.collector.phase → tried_in (after_move w m) ≡ tried_in w → IsOrangeIn (after_move w m).collector.counts number x → WasUntouched w.collector.counts (after_move w m).collector.counts number x (named_in w m x)
+move_untouched : (w : Core) (m : Move) (number x : ℕ) → IsKept true w → Fits w m → HasSets w.collector.phase → tried_in (after_move w m) ≡ tried_in w → IsOrangeIn (after_move w m).collector.counts number x → WasUntouched w.collector.counts (after_move w m).collector.counts number x (named_in w m x)
 move_untouched w Move.Turns number x kept fits has same o = turn_untouched w number x kept (move_kept w Move.Turns kept fits) has same o
 move_untouched w _ number x kept fits has same o = untouched_same o
 
-move_has : (w : Core) (m : Move) → IsKept w → Fits w m → HasSets w.collector.phase → tried_in (after_move w m) ≡ tried_in w → HasSets (after_move w m).collector.phase
+move_has : (w : Core) (m : Move) → IsKept true w → Fits w m → HasSets w.collector.phase → tried_in (after_move w m) ≡ tried_in w → HasSets (after_move w m).collector.phase
 move_has w Move.Turns kept fits has same = turn_has w kept (move_kept w Move.Turns kept fits) has same
 move_has w _ kept fits has same = has
 
 -- all moves
-pub all_untouched : (w : Core) (ms : List Move) (number x : ℕ) → IsKept w → HasSets w.collector.phase → AllFit w ms → BeginsNoTrial w ms → IsOrangeIn (after_moves w ms).collector.counts number x → WasUntouched w.collector.counts (after_moves w ms).collector.counts number x (named_over w ms x)
+pub all_untouched : (w : Core) (ms : List Move) (number x : ℕ) → IsKept true w → HasSets w.collector.phase → AllFit w ms → BeginsNoTrial w ms → IsOrangeIn (after_moves w ms).collector.counts number x → WasUntouched w.collector.counts (after_moves w ms).collector.counts number x (named_over w ms x)
 all_untouched w [] number x kept has fit within o = untouched_same o
 all_untouched w (m ∷ ms) number x kept has fit within o =
     let rest = all_untouched (after_move w m) ms number x (move_kept w m kept fit.0) (move_has w m kept fit.0 has within.0) fit.1 within.1 o in
@@ -159,7 +159,7 @@ load_same w op a fields its below =
     ∙ ap (λ o. fields_loaded fields (loaded_by w (Some o))) (sym its)
 
 -- a turn
-module _ (w : Core) (before : State) (loads : List Load) (tells : IsKeptCounts before) (kept : IsKept w) (later : IsKept (turned w)) (same : tried_in (turned w) ≡ tried_in w) where
+module _ (w : Core) (before : State) (loads : List Load) (tells : IsKeptCounts before) (kept : IsKept true w) (later : IsKept true (turned w)) (same : tried_in (turned w) ≡ tried_in w) where
   open w use {config.{fields}}
 
   abbrev more : List Load
@@ -201,12 +201,12 @@ alike_stage {fields} {before} {w} {v} {loads} phase counts (Stage.loading m at c
 alike_stage {fields} {before} {w} {v} {loads} phase counts (Stage.done has places members) =
     Stage.done (subst HasSets (sym phase) has) places (subst (λ s. (number x : ℕ) → IsOrangeIn s number x → IsOutside before s loads number x) (sym counts) members)
 
-move_stage : (w : Core) (m : Move) (before : State) (loads : List Load) → IsKeptCounts before → IsKept w → Fits w m → tried_in (after_move w m) ≡ tried_in w → Stage w.config.fields before w loads → Stage w.config.fields before (after_move w m) (loads ++ fields_loaded w.config.fields (loaded_in w m))
+move_stage : (w : Core) (m : Move) (before : State) (loads : List Load) → IsKeptCounts before → IsKept true w → Fits w m → tried_in (after_move w m) ≡ tried_in w → Stage w.config.fields before w loads → Stage w.config.fields before (after_move w m) (loads ++ fields_loaded w.config.fields (loaded_in w m))
 move_stage w Move.Turns before loads tells kept fits same s = turn_stage w before loads tells kept (move_kept w Move.Turns kept fits) same s
 move_stage w m before loads tells kept fits same s = still_stage w.config.fields before (after_move w m) loads (alike_stage refl refl s)
 
 -- all moves
-moves_stage : (w : Core) (ms : List Move) (before : State) (loads : List Load) → IsKeptCounts before → IsKept w → AllFit w ms → BeginsNoTrial w ms → Stage w.config.fields before w loads → Stage w.config.fields before (after_moves w ms) (loads ++ fields_loaded w.config.fields (loaded_over w ms))
+moves_stage : (w : Core) (ms : List Move) (before : State) (loads : List Load) → IsKeptCounts before → IsKept true w → AllFit w ms → BeginsNoTrial w ms → Stage w.config.fields before w loads → Stage w.config.fields before (after_moves w ms) (loads ++ fields_loaded w.config.fields (loaded_over w ms))
 moves_stage w [] before loads tells kept fit within s = still_stage w.config.fields before w loads s
 moves_stage w (m ∷ ms) before loads tells kept fit within s =
     let v : Core = after_move w m in
@@ -245,14 +245,14 @@ preparing_in : (phase : Phase) → IsPreparing phase → (m : preps.Machine) × 
 preparing_in (Preparing m) is = (m, refl)
 preparing_in _ is = absurd is
 
-begun_stage : (w : Core) → IsKept w → IsKept (turned w) → BeginsPreparing w → Stage w.config.fields (turned w).collector.counts (turned w) []
+begun_stage : (w : Core) → IsKept true w → IsKept true (turned w) → BeginsPreparing w → Stage w.config.fields (turned w).collector.counts (turned w) []
 unfolding next_of next_at
 begun_stage w kept later begins =
     let (m, at) = trying_in w.collector.phase begins.0 in
     let (prep, next) = preparing_in (turned w).collector.phase begins.1 in
     go m prep at (next_of w.collector) refl later next
   where
-    go : (m : trials.Machine) (prep : preps.Machine) → w.collector.phase ≡ Trying m → (y : Option Op) → next_of w.collector ≡ y → IsKept (turned_at w y) → (turned_at w y).collector.phase ≡ Preparing prep → Stage w.config.fields (turned_at w y).collector.counts (turned_at w y) []
+    go : (m : trials.Machine) (prep : preps.Machine) → w.collector.phase ≡ Trying m → (y : Option Op) → next_of w.collector ≡ y → IsKept true (turned_at w y) → (turned_at w y).collector.phase ≡ Preparing prep → Stage w.config.fields (turned_at w y).collector.counts (turned_at w y) []
     go m prep at None none later next = let e : Trying m ≡ Preparing prep = sym at ∙ next in absurd (cc)
     go m prep at (Some op) named later next =
         let c : collectors.Private = w.collector in
@@ -273,9 +273,9 @@ begun_stage w kept later begins =
         stage_of fields q.counts (turned_by w op word) [] u later.collector.machine.counts on (record { fields_kept = begun.fields_kept; work = begun.work; law = law })
 
 -- so it is of the moves since a preparation began
-since_begun : (w : Core) (ms : List Move) → IsKept w → BeginsPreparing w → AllFit (turned w) ms → BeginsNoTrial (turned w) ms → Stage w.config.fields (turned w).collector.counts (after_moves (turned w) ms) (fields_loaded w.config.fields (loaded_over (turned w) ms))
+since_begun : (w : Core) (ms : List Move) → IsKept true w → BeginsPreparing w → AllFit (turned w) ms → BeginsNoTrial (turned w) ms → Stage w.config.fields (turned w).collector.counts (after_moves (turned w) ms) (fields_loaded w.config.fields (loaded_over (turned w) ms))
 since_begun w ms kept begins fit within =
-    let later : IsKept (turned w) = move_kept w Move.Turns kept tt in
+    let later : IsKept true (turned w) = move_kept w Move.Turns kept tt in
     let same : (turned w).config.fields ≡ w.config.fields = ap (λ (c : Config). c.fields) (move_stays w Move.Turns) in
     subst (λ n. Stage n (turned w).collector.counts (after_moves (turned w) ms) (fields_loaded n (loaded_over (turned w) ms))) same
     (moves_stage (turned w) ms (turned w).collector.counts [] later.collector.machine.counts later fit within (subst (λ n. Stage n (turned w).collector.counts (turned w) []) (sym same) (begun_stage w kept later begins)))
@@ -287,7 +287,7 @@ load_place n (l ∷ loads) =
     let at : place_of (l.place / n) (l.place % n) n ≡ l.place = ap (λ k. k + l.place % n) (mul_comm (l.place / n) n) ∙ div-add-mod l.place n in
     ap (λ k. k ∷ map (place_loaded n) (fields_loaded n loads)) at ∙ ap (λ ks. l.place ∷ ks) (load_place n loads)
 
-module _ (w : Core) (ms : List Move) (kept : IsKept w) (begins : BeginsPreparing w) (fit : AllFit (turned w) ms) (within : BeginsNoTrial (turned w) ms) (has : HasSets (after_moves (turned w) ms).collector.phase) where
+module _ (w : Core) (ms : List Move) (kept : IsKept true w) (begins : BeginsPreparing w) (fit : AllFit (turned w) ms) (within : BeginsNoTrial (turned w) ms) (has : HasSets (after_moves (turned w) ms).collector.phase) where
   abbrev end : Core
   end = after_moves (turned w) ms
 
@@ -312,7 +312,7 @@ module _ (w : Core) (ms : List Move) (kept : IsKept w) (begins : BeginsPreparing
   pub run_passed : (number x : ℕ) → Passes end number → (slot_at end.collector.counts x).set ≡ Some number → (slot_at end.collector.counts x).count ≤ seen (turned w).collector.counts number all x
   run_passed number x p is =
       let s : State = end.collector.counts in
-      let later : IsKept end = moves_kept (turned w) ms (move_kept w Move.Turns kept tt) fit in
+      let later : IsKept true end = moves_kept (turned w) ms (move_kept w Move.Turns kept tt) fit in
       let there : 0 < times x (members_of s number) = omega (arith, later.collector.machine.counts.numbers number x, ap (λ o. one (is_in number o)) is, one-same number) in
       let i = run_outside number x (is, p.orange x there) in
       let none : (slot_at s x).cyclic ≡ 0 = none_of (λ y. (slot_at s y).cyclic) (members_of s number) x there p.none in

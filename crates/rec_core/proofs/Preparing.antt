@@ -1,6 +1,6 @@
 -- A preparation at work loads a field of the heap, whose word leads to a slot that is there. Where it has come to is as the landing
 -- of a turn wants it.
-use Rattle.std.proofs.Common.{◌≡◌, ℕ, ◌*◌, ◌<◌, Option, None, Some, ◌++◌, IfSome, length, slice_index_or, refl, sym, ap, subst, ◌∙◌, arith}
+use Rattle.std.proofs.Common.{◌≡◌, ℕ, ◌*◌, ◌<◌, Option, None, Some, ◌++◌, IfSome, length, slice_index_or, refl, sym, ap, subst, ◌∙◌, arith, true}
 use Rattle.rec_core.proofs.Common.{place_of, target_of, Op, Drops, Pending, KeepsOthers, LoadsWithin, loaded_at, parts_of, PreparesOn, Preparing, Turn, still, Core, AreFields, SetsStand, AreSeen, IsKept, freeing_due, release_due, pending}
 use Rattle.rec_word.specs.declared.op.Op.TheVariants.{LoadChild}
 use Rattle.rec_model.specs.Moves.AccountMove.{dropping}
@@ -40,7 +40,7 @@ due_within m a places e h = go (subst (λ (at : Option At). IfSome (op_at m.fiel
     go : LoadsWithin places (LoadChild (place_of a.member.slot a.member.field m.fields)) → place_of a.member.slot a.member.field m.fields < places
     go (place, is, below) = let same : place_of a.member.slot a.member.field m.fields ≡ place = cc in omega (arith, same, below)
 
-module _ (w : Core) (m : Machine) (kept : IsKept w) (phase : w.collector.phase ≡ Preparing m) where
+module _ (w : Core) (m : Machine) (kept : IsKept true w) (phase : w.collector.phase ≡ Preparing m) where
   open w use {collector as c}
 
   now : collector_kept.IsPreparing c m
@@ -109,5 +109,5 @@ module _ (w : Core) (m : Machine) (kept : IsKept w) (phase : w.collector.phase �
         }
 
     -- whatever follows
-    pub preparing_kept : (q : Private) (turn : Turn) → collector_kept.IsMachine q → PreparesOn c (parts_of c) after q turn → IsKept (record w { collector = q })
+    pub preparing_kept : (q : Private) (turn : Turn) → collector_kept.IsMachine q → PreparesOn c (parts_of c) after q turn → IsKept true (record w { collector = q })
     preparing_kept q turn machine on = prepares_kept w w.crossing w.words q machine (parts_of c) after turn preparing_lands preparing_seen on

@@ -42,15 +42,15 @@ some_epoch n (d ∷ ds) more = elim (cases_lt 0 (one_if_same n d.node)) [
 ]
 
 -- the accounts are those of what is seen
-pub sight_is : {stands : (t : ℕ) → Handshake} (w : Core) → IsKeptBy stands w → IsSightOf (sight w) (pending w)
+pub sight_is : {stands : (t : ℕ) → Handshake} (w : Core) → IsKeptBy true stands w → IsSightOf (sight w) (pending w)
 sight_is w kept = record { fields = refl; words = refl; registers = λ slot there. some_epoch (slot + 1) (pending w).registers (root_named w slot kept there) }
 
 -- what a register reaches is neither free nor given up
-alive : (w : Core) → IsKept w → (slot : ℕ) → Reaches (sight w) slot → is_dead (pending w) (slot + 1) ≡ false
+alive : (w : Core) → IsKept true w → (slot : ℕ) → Reaches (sight w) slot → is_dead (pending w) (slot + 1) ≡ false
 alive w kept = reached_taken (sight w) (pending w) kept.accounted (sight_is w kept.whole)
 
 -- what is taken is a slot that is there
-taken_there : (w : Core) (slot : ℕ) → IsKept w → IsTaken (sight w) slot → slot < w.config.slots
+taken_there : (w : Core) (slot : ℕ) → IsKept true w → IsTaken (sight w) slot → slot < w.config.slots
 taken_there w slot kept taken = elim (cases_lt slot w.config.slots) [
   | inl there ↦ there
   | inr past ↦
@@ -58,7 +58,7 @@ taken_there w slot kept taken = elim (cases_lt slot w.config.slots) [
       absurd (omega (arith, taken, get_or_past w.headers slot 0 (omega (arith, past, headers))))
 ]
 
-pub reached_stays : (w : Core) → IsKept w → (slot : ℕ) → Reaches (sight w) slot → IsTaken (sight w) slot × ((slot_at w.collector.counts slot).released ≡ false)
+pub reached_stays : (w : Core) → IsKept true w → (slot : ℕ) → Reaches (sight w) slot → IsTaken (sight w) slot × ((slot_at w.collector.counts slot).released ≡ false)
 reached_stays w kept slot from =
     let taken : IsTaken (sight w) slot = reached_is_taken (sight w) kept.sound slot from in
     let there = taken_there w slot kept taken in
@@ -69,7 +69,7 @@ reached_stays w kept slot from =
     unreleased false released is = is
 
 -- so what is released isn't reached
-pub released_unreached : (w : Core) (x slot : ℕ) → IsKept w → (slot_at w.collector.counts x).released ≡ true → Reaches (sight w) slot → slot ≢ x
+pub released_unreached : (w : Core) (x slot : ℕ) → IsKept true w → (slot_at w.collector.counts x).released ≡ true → Reaches (sight w) slot → slot ≢ x
 released_unreached w x slot kept released from same =
     let stays = (reached_stays w kept slot from).1 in
     true≢false (sym released ∙ ap (λ s. (slot_at w.collector.counts s).released) (sym same) ∙ stays)
@@ -79,7 +79,7 @@ keeps_all : (s : Sight) → KeepsReached s s
 keeps_all s = record { fields = refl; registers = refl; reached = λ slot from. (refl, refl); others = λ slot. inl refl }
 
 -- a field of a slot that isn't reached
-keeps_others_field : (w : Core) (x f : ℕ) → IsKept w → f < w.config.fields → (slot_at w.collector.counts x).released ≡ true → KeepsReached (sight w) (sight (record w { words = slice_set w.words (place_of x f w.config.fields) 0 }))
+keeps_others_field : (w : Core) (x f : ℕ) → IsKept true w → f < w.config.fields → (slot_at w.collector.counts x).released ≡ true → KeepsReached (sight w) (sight (record w { words = slice_set w.words (place_of x f w.config.fields) 0 }))
 keeps_others_field w x f kept within released =
     record {
       fields = refl;
@@ -89,7 +89,7 @@ keeps_others_field w x f kept within released =
     }
 
 -- the header of a slot that isn't reached
-keeps_others_header : (w : Core) (x : ℕ) → IsKept w → (slot_at w.collector.counts x).released ≡ true → KeepsReached (sight w) (sight (record w { headers = slice_set w.headers x 0 }))
+keeps_others_header : (w : Core) (x : ℕ) → IsKept true w → (slot_at w.collector.counts x).released ≡ true → KeepsReached (sight w) (sight (record w { headers = slice_set w.headers x 0 }))
 keeps_others_header w x kept released =
     record {
       fields = refl;
@@ -112,7 +112,7 @@ load_keeps : (w : Core) (op : Op) (place : ℕ) → op ≡ ops.LoadChild place �
 load_keeps w op place its = subst (λ o. KeepsReached (sight w) (sight (turned_at w (Some o)))) (sym its) (subst (λ ws. KeepsReached (sight w) (sight (record w { words = ws }))) (sym (set-get_or w.words place 0)) (keeps_all (sight w)))
 
 -- What the collector's next operation does to what is seen, by phase.
-turned_at_keeps : (w : Core) (op : Op) (phase : Phase) → IsKept w → w.collector.phase ≡ phase → ◌≡◌ {A = Option Op} (next_at w.collector phase) (Some op) → KeepsReached (sight w) (sight (turned_at w (Some op)))
+turned_at_keeps : (w : Core) (op : Op) (phase : Phase) → IsKept true w → w.collector.phase ≡ phase → ◌≡◌ {A = Option Op} (next_at w.collector phase) (Some op) → KeepsReached (sight w) (sight (turned_at w (Some op)))
 unfolding next_at release_next freeing_next sweep_next
 turned_at_keeps w op Idle kept is named = subst (λ o. KeepsReached (sight w) (sight (turned_at w (Some o)))) (sym (stored (is_spent w.collector) named)) (keeps_all (sight w))
   where
@@ -148,7 +148,7 @@ turned_at_keeps w op (Sweeping (Some x) n) kept is named =
 turned_at_keeps w op (Closing n) kept is named = subst (λ o. KeepsReached (sight w) (sight (turned_at w (Some o)))) (sym (some_op op ops.AddFreed (sym named))) (keeps_all (sight w))
 
 -- A turn of the collector keeps what registers reach.
-pub turned_keeps : (w : Core) → IsKept w → KeepsReached (sight w) (sight (turned w))
+pub turned_keeps : (w : Core) → IsKept true w → KeepsReached (sight w) (sight (turned w))
 unfolding next_of
 turned_keeps w kept = turn_case w (λ o v. KeepsReached (sight w) (sight v)) (λ none. keeps_all (sight w)) (λ op named. turned_at_keeps w op w.collector.phase kept refl named)
 
@@ -189,5 +189,5 @@ pub steps_keep_taken : (w : Core) (t slot : ℕ) → IsTaken (sight w) slot → 
 steps_keep_taken w t slot taken = taken_keeps w (mutator w t) (mutator_next (mutator w t)) slot (own_next (mutator w t)) taken
 
 -- The true count of a slot is the count formula of its node, at the epoch of the last batch.
-pub counted_so : (w : Core) (slot : ℕ) → IsKept w → slot < w.config.slots → (slot_at w.collector.counts slot).count ≡ count_formula (pending w) (pending w).applied (slot + 1)
+pub counted_so : (w : Core) (slot : ℕ) → IsKept true w → slot < w.config.slots → (slot_at w.collector.counts slot).count ≡ count_formula (pending w) (pending w).applied (slot + 1)
 counted_so w slot kept there = ap (λ s. s.count) (sym (slot_there w kept slot there)) ∙ counted_by_formula (pending w) kept.accounted (slot + 1) (omega arith)

@@ -16,7 +16,7 @@ use Rattle.rec_core.proofs.Taken as taken
 use Rattle.rec_core.proofs.Turns.{cycles_in, emptied_in, now_at}
 use Rattle.rec_core.proofs.Zeros.{HasCome, cleared, listed_come, next_come}
 
-module _ (w : Core) (m : Machine) (a : At) (kept : IsKept w) (phase : w.collector.phase ≡ Releasing m) (at : m.at ≡ Some a) where
+module _ (w : Core) (m : Machine) (a : At) (kept : IsKept true w) (phase : w.collector.phase ≡ Releasing m) (at : m.at ≡ Some a) where
   open w use {collector as c}
   open (taken.emptied_at w a.slot a.field) use {place, word, words}
 

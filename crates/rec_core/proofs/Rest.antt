@@ -1,4 +1,5 @@
 -- The lemmas on a heap at rest, in which no mutator asks anything: what turns make of it, and what two whole collections come to.
+pub mod BareRest
 pub mod FirstPreparing
 pub mod FirstRound
 pub mod FirstTrial

@@ -1,5 +1,5 @@
 -- Every move of a heap with its collector keeps what every such heap keeps, and so does every run.
-use Rattle.std.proofs.Common.{◌≡◌, ◌≢◌, ◌⊎◌, inl, inr, ℕ, ◌+◌, ◌-◌, ◌^◌, ◌<◌, ◌==◌, if◌then◌else◌, true, false, Option, None, Some, IfSome, List, [], ◌∷◌, ◌++◌, flat_map, length, slice_index_or, refl, sym, ap, subst, ◌∙◌, arith}
+use Rattle.std.proofs.Common.{◌≡◌, ◌≢◌, ◌⊎◌, inl, inr, ℕ, ◌+◌, ◌-◌, ◌^◌, ◌<◌, ◌==◌, if◌then◌else◌, true, false, Option, None, Some, IfSome, List, [], ◌∷◌, ◌++◌, flat_map, length, slice_index_or, refl, sym, ap, subst, ◌∙◌, arith, Bool}
 use Rattle.std.proofs.lemmas.Bool.{cond-true, cond-false, eq-eqb, eqb-false, ne_eqb}
 use Rattle.std.proofs.lemmas.Grind.{flat_map-append}
 use Rattle.std.proofs.lemmas.List.{get_or-set_other, length-set}
@@ -21,8 +21,6 @@ use Rattle.rec_core.proofs.Crossings.{step_kept, begun_kept}
 use Rattle.rec_core.proofs.Freeing as freeing
 use Rattle.rec_core.proofs.Gathering.{awaits_kept}
 use Rattle.rec_core.proofs.Offering.{offering_kept}
-use Rattle.rec_core.proofs.Opening.{opened_kept}
-use Rattle.rec_core.proofs.OpenedFrom.{opened_from_kept}
 use Rattle.rec_core.specs.Objects.{Objects, AreObjects, HaveLabels}
 use Rattle.rec_core.specs.OpenedFrom.{opened_from}
 use Rattle.rec_core.proofs.Preparing.{loads_due, seen_there}
@@ -34,12 +32,12 @@ use Rattle.rec_core.proofs.TurnCases.{Awaits, giving_back, requesting}
 use Rattle.rec_core.proofs.Turns.{now_at}
 
 -- the mailbox that the collector looks at next is that of a mutator
-pub looked_is : (w : Core) (phase : Phase) → IsKept w → w.collector.phase ≡ phase → IsMutator w.config (looked_at phase)
+pub looked_is : {dated : Bool} → (w : Core) (phase : Phase) → IsKept dated w → w.collector.phase ≡ phase → IsMutator w.config (looked_at phase)
 looked_is w (Looking t) kept is = let now = now_at w (Looking t) kept is in mutator_at w t (Looking t) kept is (now.first, now.there)
 looked_is w _ kept is = (omega arith, kept.config.some_mutators)
 
 -- and it is of this heap's size
-pub sized_is : (w : Core) → IsKept w → IsSized w.collector.registers w.collector.capacity (box w (looked_at w.collector.phase))
+pub sized_is : {dated : Bool} → (w : Core) → IsKept dated w → IsSized w.collector.registers w.collector.capacity (box w (looked_at w.collector.phase))
 sized_is w kept =
     let actor = kept.mutators.each (looked_at w.collector.phase) (looked_is w w.collector.phase kept refl) in
     (actor.mailbox.snapshot ∙ sym kept.collector.registers, actor.mailbox.capacity ∙ sym kept.collector.capacity)
@@ -51,7 +49,7 @@ still_gone w t some gone u behind there =
     ∙ gone u behind (omega (arith, there, length-set w.collector.left (t - 1) (buffer_at w.collector.newer (t - 1)).last))
 
 -- the word that the collector finds is one that it may be given, by phase
-given_at : (w : Core) (op : Op) (phase : Phase) → IsKept w → w.collector.phase ≡ phase → ◌≡◌ {A = Option Op} (next_at w.collector phase) (Some op) → IsGivenAt w.collector (cell (cells_of w) op) phase
+given_at : (w : Core) (op : Op) (phase : Phase) → IsKept true w → w.collector.phase ≡ phase → ◌≡◌ {A = Option Op} (next_at w.collector phase) (Some op) → IsGivenAt w.collector (cell (cells_of w) op) phase
 unfolding IsGivenAt next_at release_next freeing_next
 given_at w op (Swapping t) kept is named = subst IsBetween is kept.collector.between
 given_at w op Idle kept is named = λ gone. covered (requesting w) (length w.collector.newer) (awaits_kept w _ kept (Awaits.alone is more gone)) refl
@@ -97,12 +95,12 @@ given_at w op (Preparing m) kept is named =
     subst (λ n. IfSome (target_of n) (λ slot. slot < length w.collector.counts.slots)) (sym found) (seen_there w m kept is a at)
 given_at w op _ kept is named = tt
 
-pub given_is : (w : Core) (op : Op) → IsKept w → ◌≡◌ {A = Option Op} (next_of w.collector) (Some op) → IsGiven w.collector (cell (cells_of w) op)
+pub given_is : (w : Core) (op : Op) → IsKept true w → ◌≡◌ {A = Option Op} (next_of w.collector) (Some op) → IsGiven w.collector (cell (cells_of w) op)
 unfolding IsGiven next_of
 given_is w op kept named = given_at w op w.collector.phase kept refl named
 
 -- an operation of the collector is carried out by the rules of its step
-pub rule_of : (w : Core) (op : Op) → IsKept w → ◌≡◌ {A = Option Op} (next_of w.collector) (Some op)
+pub rule_of : (w : Core) (op : Op) → IsKept true w → ◌≡◌ {A = Option Op} (next_of w.collector) (Some op)
     → Step w.collector (cell (cells_of w) op) (box w (looked_at w.collector.phase)) (Some op) (step_of w.collector (cell (cells_of w) op) (box w (looked_at w.collector.phase))) (turn_of w.collector (cell (cells_of w) op))
 rule_of w op kept named =
     let word : ℕ = cell (cells_of w) op in
@@ -110,33 +108,24 @@ rule_of w op kept named =
     subst (λ (x : Option Op). Step w.collector word b x (step_of w.collector word b) (turn_of w.collector word)) named (step_made w.collector word b kept.collector.machine kept.collector.between (given_is w op kept named))
 
 -- the collector's turn
-pub turned_kept : (w : Core) → IsKept w → IsKept (turned w)
-turned_kept w kept = turn_case w (λ o v. IsKept v) (λ none. kept) (λ op named.
+pub turned_kept : (w : Core) → IsKept true w → IsKept true (turned w)
+turned_kept w kept = turn_case w (λ o v. IsKept true v) (λ none. kept) (λ op named.
     let word : ℕ = cell (cells_of w) op in
     let b : Contents = box w (looked_at w.collector.phase) in
     let machine : collector_kept.IsMachine (step_of w.collector word b) = machine_kept w.collector word b kept.collector.machine kept.collector.between (given_is w op kept named) (sized_is w kept) in
     rule_kept w op word (step_of w.collector word b) (turn_of w.collector word) (record { kept = kept; found = refl; machine = machine }) (rule_of w op kept named))
 
 -- a move
-pub move_kept : (w : Core) (m : Move) → IsKept w → Fits w m → IsKept (after_move w m)
+pub move_kept : (w : Core) (m : Move) → IsKept true w → Fits w m → IsKept true (after_move w m)
 move_kept w (Move.Begins t work from) kept fits = begun_kept w t work from kept fits.0 fits.1 fits.2 fits.3 fits.4 fits.5
 move_kept w (Move.Steps t) kept fits = step_kept w t kept fits.0 fits.1
 move_kept w Move.Turns kept fits = turned_kept w kept
 move_kept w Move.Offers kept fits = offering_kept w kept
 
 -- some moves
-pub moves_kept : (w : Core) (ms : List Move) → IsKept w → AllFit w ms → IsKept (after_moves w ms)
+pub moves_kept : (w : Core) (ms : List Move) → IsKept true w → AllFit w ms → IsKept true (after_moves w ms)
 moves_kept w [] kept fit = kept
 moves_kept w (m ∷ ms) kept fit = moves_kept (after_move w m) ms (move_kept w m kept fit.0) fit.1
-
--- so does every start
-start_kept : (start : Core) → IsConfig start.config → IsStart start → IsKept start
-start_kept start is (IsStart.opens opens) = subst IsKept (sym opens) (opened_kept start.config is)
-start_kept start is (IsStart.opens_from o are labels opens) = subst IsKept (sym opens) (opened_from_kept start.config o is are labels)
-
--- and the end of every run
-pub run_kept : (start : Core) (moves : List Move) (end : Core) → IsConfig start.config → IsRun start moves end → IsKept end
-run_kept start moves end is run = subst IsKept run.ends (moves_kept start moves (start_kept start is run.starts) run.fit)
 
 -- where the moves of two lists lead, one after the other
 pub after_both : (w : Core) (ms ns : List Move) → after_moves w (ms ++ ns) ≡ after_moves (after_moves w ms) ns
@@ -193,10 +182,6 @@ mutator_stays w (Move.Steps t) x fits is other = get_or-set_other w.mutators (t 
 mutator_stays w Move.Turns x fits is other = ap (λ ps. slice_index_or ps (x - 1) nobody) (turned_mutators w)
 mutator_stays w Move.Offers x fits is other = refl
 
--- a state that some run ends in keeps it, which has the numbers of its start
-pub end_kept : (w : Core) → IsConfig w.config → EndsRun w → IsKept w
-end_kept w is (start, moves, run) = run_kept start moves w (subst IsConfig (ap (λ (v : Core). v.config) (sym run.ends) ∙ config_after start moves) is) run
-
 -- a run that ends there goes on with a move that fits
 pub run_more : (w : Core) (m : Move) → EndsRun w → Fits w m → EndsRun (after_move w m)
 run_more w m (start, moves, run) fits = (
@@ -228,5 +213,5 @@ run_opens w (start, moves, run) = by run.starts
     from first same = (moves, subst (λ v. AllFit v moves) same run.fit, ap (λ v. after_moves v moves) (sym same) ∙ run.ends)
 
     by : IsStart start → RunsFrom (opened w.config) w ⊎ ((o : Objects) × AreObjects w.config o × HaveLabels o.nodes × RunsFrom (opened_from w.config o) w)
-    by (IsStart.opens opens) = inl (from (opened w.config) (opens ∙ ap opened numbers))
+    by (IsStart.opens opens) = inl (from (opened w.config) (opens ∙ ap (λ c. opened c) numbers))
     by (IsStart.opens_from o are labels opens) = inr (o, subst (λ (config : Config). AreObjects config o) numbers are, labels, from (opened_from w.config o) (opens ∙ ap (λ config. opened_from config o) numbers))

@@ -14,7 +14,8 @@ use Rattle.rec_mutator.specs.declared.work.Work.{Work}
 use Rattle.rec_mutator.specs.declared.work.Work.TheVariants as works
 use Rattle.rec_core.specs.Run.{maker}
 use Rattle.rec_core.specs.Scans.{op_of, ops_over, word_of, words_over, BeginsNone, BeginsNot, FailsByProbes}
-use Rattle.rec_core.proofs.Runs.{move_kept, move_stays, mutator_stays, other_gives, own_gives}
+use Rattle.rec_core.proofs.BareRuns.{move_kept}
+use Rattle.rec_core.proofs.Runs.{move_stays, mutator_stays, other_gives, own_gives}
 use Rattle.rec_core.proofs.Showing.{step_caused, stepped_mutator}
 use Rattle.rec_core.proofs.Steps.{actor_of}
 use Rattle.rec_core.proofs.Unfinished.{work_stays}
@@ -34,7 +35,8 @@ command_none reg label leaf _ e = tt
 
 -- what a mutator that works on an allocation has become over some moves: its steps alone have changed it
 record HasCome (w v : Core) (t reg label : ℕ) (leaf : Bool) (made : List Op) (words : List ℕ) : Type 0 where
-  pub kept : IsKept v
+  pub dated : Bool
+  pub kept : IsKept dated v
   pub config : v.config ≡ w.config
   pub came : mutator v t ≡ fold took_of (mutator w t) words
   pub along : made ≡ ops_along (mutator w t) words
@@ -43,15 +45,15 @@ record HasCome (w v : Core) (t reg label : ℕ) (leaf : Bool) (made : List Op) (
 -- it has not changed yet
 same_come : (w v z : Core) (t reg label : ℕ) (leaf : Bool) (made : List Op) (words : List ℕ) → mutator v t ≡ mutator w t → v.config ≡ w.config → HasCome v z t reg label leaf made words → HasCome w z t reg label leaf made words
 same_come w v z t reg label leaf made words e c h =
-    record { kept = h.kept; config = h.config ∙ c; came = h.came ∙ ap (λ p. fold took_of p words) e; along = h.along ∙ ap (λ p. ops_along p words) e; work = h.work }
+    record { dated = h.dated; kept = h.kept; config = h.config ∙ c; came = h.came ∙ ap (λ p. fold took_of p words) e; along = h.along ∙ ap (λ p. ops_along p words) e; work = h.work }
 
 -- by equal operations and words
 come_by : (w v : Core) (t reg label : ℕ) (leaf : Bool) {made its : List Op} {words found : List ℕ} → made ≡ its → words ≡ found → HasCome w v t reg label leaf made words → HasCome w v t reg label leaf its found
 come_by w v t reg label leaf {made = made} {its = its} {words = words} ops are h = subst (HasCome w v t reg label leaf its) are (subst (λ xs. HasCome w v t reg label leaf xs words) ops h)
 
-come : (ms : List Move) (w : Core) (t reg label : ℕ) (leaf : Bool) → IsKept w → IsMutator w.config t → work_of (mutator w t) ≡ Some (works.Command (allocation leaf reg label)) → AllFit w ms → BeginsNone t ms
+come : {dated : Bool} → (ms : List Move) (w : Core) (t reg label : ℕ) (leaf : Bool) → IsKept dated w → IsMutator w.config t → work_of (mutator w t) ≡ Some (works.Command (allocation leaf reg label)) → AllFit w ms → BeginsNone t ms
     → HasCome w (after_moves w ms) t reg label leaf (ops_over w t ms) (words_over w t ms)
-come [] w t reg label leaf kept is work fit none = record { kept = kept; config = refl; came = refl; along = refl; work = work }
+come [] w t reg label leaf kept is work fit none = record { dated = _; kept = kept; config = refl; came = refl; along = refl; work = work }
 come (m ∷ ms) w t reg label leaf kept is work fit none =
     let v : Core = after_move w m in
     let rest : work_of (mutator v t) ≡ Some (works.Command (allocation leaf reg label)) → HasCome v (after_moves v ms) t reg label leaf (ops_over v t ms) (words_over v t ms)
@@ -82,6 +84,7 @@ come (m ∷ ms) w t reg label leaf kept is work fit none =
         let so : HasCome v (after_moves v ms) t reg label leaf (ops_over v t ms) (words_over v t ms) = rest (stays ∙ work) in
         come_by w (after_moves v ms) t reg label leaf (ap (λ u. next_of (mutator w u) ∷ ops_over v t ms) (sym e)) (ap (λ u. u ∷ words_over v t ms) (sym mine))
         (record {
+          dated = so.dated;
           kept = so.kept;
           config = so.config;
           came = so.came ∙ ap (λ p. fold took_of p (words_over v t ms)) here;
@@ -91,7 +94,7 @@ come (m ∷ ms) w t reg label leaf kept is work fit none =
     own Move.Turns fits not e rest = absurd (omega (arith, e, is.0))
     own Move.Offers fits not e rest = absurd (omega (arith, e, is.0))
 
-pub fails_by_probes : (w : Core) (moves : List Move) (t reg label : ℕ) (leaf : Bool) (told : Told) → IsKept w → IsMutator w.config t → (mutator w t).phase ≡ Begun (works.Command (allocation leaf reg label)) → AllFit w moves → BeginsNone t moves
+pub fails_by_probes : {dated : Bool} → (w : Core) (moves : List Move) (t reg label : ℕ) (leaf : Bool) (told : Told) → IsKept dated w → IsMutator w.config t → (mutator w t).phase ≡ Begun (works.Command (allocation leaf reg label)) → AllFit w moves → BeginsNone t moves
     → is_busy (mutator (after_moves w moves) t) ≡ true → answer_of (mutator (stepped (after_moves w moves) t) t) ≡ Some (makes.Answered told) → FailsByProbes w t (header_word leaf label) moves (after_moves w moves) told.answer
 fails_by_probes w moves t reg label leaf told kept is begin fit none busy answer =
     let v : Core = after_moves w moves in

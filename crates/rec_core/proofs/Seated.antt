@@ -1,5 +1,5 @@
 -- Rows of registers, and the mutators that hold them.
-use Rattle.std.proofs.Common.{◌≡◌, inl, inr, ℕ, zero, suc, ◌+◌, ◌*◌, ◌<◌, true, Option, None, Some, List, [], ◌∷◌, ◌++◌, All, sum_by, length, map, take, drop, slice_index_or, refl, sym, ap, subst, ◌∙◌, arith, length-drop}
+use Rattle.std.proofs.Common.{◌≡◌, inl, inr, ℕ, zero, suc, ◌+◌, ◌*◌, ◌<◌, Bool, true, Option, None, Some, List, [], ◌∷◌, ◌++◌, All, sum_by, length, map, take, drop, slice_index_or, refl, sym, ap, subst, ◌∙◌, arith, length-drop}
 use Rattle.std.specs.Option.{IfSome}
 use Rattle.std.proofs.Math.Nat.{suc-mul}
 use Rattle.std.proofs.lemmas.Bool.{false≢true}
@@ -11,7 +11,7 @@ use Rattle.rec_model.specs.Reach.{is_in, named}
 use Rattle.rec_model.proofs.Members.{is_in-cons}
 use Rattle.rec_core.proofs.Common.{Config, Private, nobody}
 use Rattle.rec_core.specs.Objects.{rows_of}
-use Rattle.rec_core.specs.OpenedFrom.{holding_mutator, holding_mutators}
+use Rattle.rec_core.specs.OpenedFrom.{all_holding_by, holding_by}
 
 -- what two lists name, one behind the other
 named-append : (xs ys : List (Option ℕ)) → named (xs ++ ys) ≡ named xs ++ named ys
@@ -54,30 +54,31 @@ named_has P (Some m ∷ xs) all n there = elim (is_in-cons n m (named xs) there)
 ]
 
 -- so many mutators
-pub length-holding : (config : Config) (t : ℕ) (rows : List (List (Option ℕ))) → length (holding_mutators config t rows) ≡ length rows
-length-holding config t [] = refl
-length-holding config t (held ∷ rows) = ap suc (length-holding config (t + 1) rows)
-
--- each of them
-pub holding_at : (config : Config) (t : ℕ) (rows : List (List (Option ℕ))) (i : ℕ) → i < length rows → slice_index_or (holding_mutators config t rows) i nobody ≡ holding_mutator config (t + i) (slice_index_or rows i [])
-holding_at config t [] i there = absurd (omega arith)
-holding_at config t (held ∷ rows) zero there = let same : t ≡ t + 0 = omega arith in ap (λ n. holding_mutator config n held) same
-holding_at config t (held ∷ rows) (suc i) there =
-    let same : t + 1 + i ≡ t + suc i = omega arith in
-    holding_at config (t + 1) rows i (omega arith) ∙ ap (λ n. holding_mutator config n (slice_index_or rows i [])) same
+pub length-holding : (dates : Bool) (config : Config) (t : ℕ) (rows : List (List (Option ℕ))) → length (all_holding_by dates config t rows) ≡ length rows
+length-holding dates config t [] = refl
+length-holding dates config t (held ∷ rows) = ap suc (length-holding dates config (t + 1) rows)
 
 -- their registers
-pub registers_held : (config : Config) (t : ℕ) (rows : List (List (Option ℕ))) → map (λ (p : Private). p.registers) (holding_mutators config t rows) ≡ rows
-registers_held config t [] = refl
-registers_held config t (held ∷ rows) = ap (λ (rss : List (List (Option ℕ))). held ∷ rss) (registers_held config (t + 1) rows)
+pub registers_held : (dates : Bool) (config : Config) (t : ℕ) (rows : List (List (Option ℕ))) → map (λ (p : Private). p.registers) (all_holding_by dates config t rows) ≡ rows
+registers_held dates config t [] = refl
+registers_held dates config t (held ∷ rows) = ap (λ (rss : List (List (Option ℕ))). held ∷ rss) (registers_held dates config (t + 1) rows)
 
--- a sum over them, where each weighs what its registers do
-pub holding_sum : (config : Config) (h : Private → ℕ) (g : List (Option ℕ) → ℕ) → ((t : ℕ) (held : List (Option ℕ)) → h (holding_mutator config t held) ≡ g held) → (t : ℕ) (rows : List (List (Option ℕ))) → sum_by h (holding_mutators config t rows) ≡ sum_by g rows
-holding_sum config h g same t [] = refl
-holding_sum config h g same t (held ∷ rows) = omega (
-  arith,
-  sum_by-cons h (holding_mutator config t held) (holding_mutators config (t + 1) rows),
-  sum_by-cons g held rows,
-  same t held,
-  holding_sum config h g same (t + 1) rows,
-)
+module _ {dates : Bool} where
+  -- each of them
+  pub holding_at : (config : Config) (t : ℕ) (rows : List (List (Option ℕ))) (i : ℕ) → i < length rows → slice_index_or (all_holding_by dates config t rows) i nobody ≡ holding_by dates config (t + i) (slice_index_or rows i [])
+  holding_at config t [] i there = absurd (omega arith)
+  holding_at config t (held ∷ rows) zero there = let same : t ≡ t + 0 = omega arith in ap (λ n. holding_by dates config n held) same
+  holding_at config t (held ∷ rows) (suc i) there =
+      let same : t + 1 + i ≡ t + suc i = omega arith in
+      holding_at config (t + 1) rows i (omega arith) ∙ ap (λ n. holding_by dates config n (slice_index_or rows i [])) same
+
+  -- a sum over them, where each weighs what its registers do
+  pub holding_sum : (config : Config) (h : Private → ℕ) (g : List (Option ℕ) → ℕ) → ((t : ℕ) (held : List (Option ℕ)) → h (holding_by dates config t held) ≡ g held) → (t : ℕ) (rows : List (List (Option ℕ))) → sum_by h (all_holding_by dates config t rows) ≡ sum_by g rows
+  holding_sum config h g same t [] = refl
+  holding_sum config h g same t (held ∷ rows) = omega (
+    arith,
+    sum_by-cons h (holding_by dates config t held) (all_holding_by dates config (t + 1) rows),
+    sum_by-cons g held rows,
+    same t held,
+    holding_sum config h g same (t + 1) rows,
+  )

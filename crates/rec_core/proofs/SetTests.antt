@@ -182,7 +182,7 @@ begun_tests p c v (Freeing m) clearing tests = tests
 begun_tests p c v _ clearing tests = absurd clearing
 
 -- whatever follows a release, or the freeing of a set
-pub clears_kept : (w : Core) (crossing words : List ℕ) (q : collectors.Private) → collector_kept.IsMachine q → (turn : Turn) {b : Begun} → HasCleared w crossing words b → ClearsOn w.collector q turn b → IsKept (record w { crossing = crossing; words = words; collector = q })
+pub clears_kept : (w : Core) (crossing words : List ℕ) (q : collectors.Private) → collector_kept.IsMachine q → (turn : Turn) {b : Begun} → HasCleared w crossing words b → ClearsOn w.collector q turn b → IsKept true (record w { crossing = crossing; words = words; collector = q })
 clears_kept w crossing words q machine turn {b} h (ClearsOn.works phase is g) =
     let there : HasCleared w crossing words (record { parts = b.parts; phase = Some phase }) = subst (λ o. HasCleared w crossing words (record { parts = b.parts; phase = o })) is h in
     goes_on w crossing words q machine b.parts phase there.landed (begun_unswept w.epoch b.parts phase there.clears.clearing) (begun_tests (landed_pending w words b.parts.counts) w.collector b.parts phase there.clears.clearing there.tests) g.after

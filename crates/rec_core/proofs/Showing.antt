@@ -54,13 +54,14 @@ pub data Says (w : Core) (t : ℕ) (q : Private) (v : Core) : Type 0 where
 
 -- what is known of a step
 record Finds (w : Core) (t : ℕ) (word : ℕ) (op : Op) : Type 0 where
-  pub kept : IsKept w
+  pub dated : Bool
+  pub kept : IsKept dated w
   pub is : IsMutator w.config t
   pub stays : (mutator w t).left ≡ false
   pub found : word ≡ cell (cells_of w) op
 
 -- the mutator that made the step, whatever else it left
-pub mutator_left : (w : Core) (t : ℕ) (q : Private) → IsKept w → IsMutator w.config t → slice_index_or (slice_set w.mutators (t - 1) q) (t - 1) nobody ≡ q
+pub mutator_left : {dated : Bool} → (w : Core) (t : ℕ) (q : Private) → IsKept dated w → IsMutator w.config t → slice_index_or (slice_set w.mutators (t - 1) q) (t - 1) nobody ≡ q
 mutator_left w t q kept is = get_or-set_same w.mutators (t - 1) q nobody (in_list w t kept is)
 
 -- every other mutator
@@ -85,7 +86,7 @@ registers_left : {p : Private} {op : Op} {q : Private} {cmd : Cmd} {phase : phas
 registers_left d = ap (λ (x : Private). x.registers) d.after
 
 -- nothing but the work of a mutator changed, if nothing but the phase and the count of its steps did
-only_works : (w : Core) (t : ℕ) (q : Private) (phase : phases.Phase) → IsKept w → IsMutator w.config t → q ≡ moved (mutator w t) phase → OnlyWorks w (with_mutator w t q) t
+only_works : {dated : Bool} → (w : Core) (t : ℕ) (q : Private) (phase : phases.Phase) → IsKept dated w → IsMutator w.config t → q ≡ moved (mutator w t) phase → OnlyWorks w (with_mutator w t q) t
 only_works w t q phase kept is after =
     let here : mutator (with_mutator w t q) t ≡ q = mutator_left w t q kept is in
     let P : Private → Type 0 = λ x. x ≡ record (mutator w t) { from = x.from; phase = x.phase; steps = x.steps } in
@@ -207,7 +208,7 @@ one_more w slot taken lower s below = elim (cases_eq s slot) [
 ]
 
 -- a scan that began with slot 0 probes the slots in order
-pub in_order : (w : Core) (t reg label : ℕ) (leaf : Bool) (before probed : ℕ) → IsKept w → IsMutator w.config t → (mutator w t).phase ≡ at.Scanning reg label leaf before probed → (mutator w t).from ≡ 0 → probe_of (mutator w t) probed ≡ probed
+pub in_order : {dated : Bool} → (w : Core) (t reg label : ℕ) (leaf : Bool) (before probed : ℕ) → IsKept dated w → IsMutator w.config t → (mutator w t).phase ≡ at.Scanning reg label leaf before probed → (mutator w t).from ≡ 0 → probe_of (mutator w t) probed ≡ probed
 in_order w t reg label leaf before probed kept is phase first =
     ap (λ n. slot_behind (mutator w t).slots n probed) first ∙ behind_first (mutator w t).slots probed (at_phase (mutator w t) (at.Scanning reg label leaf before probed) (actor_of w t kept is).own.machine phase).1
 
@@ -366,7 +367,7 @@ says {w = w} {t = t} {word = word} {op = op} {q = q} stays m (Step.give_box c) =
     (Says.crossed (ap answer_of c.after) (ap work_at c.phase) c.phase (quiet w t q _ _ m.is.0 (ap (λ (x : Private). x.registers) c.after)) (ap (λ (x : Private). x.epoch) c.after) (ap (λ (x : Private). x.log) c.after))
 
 -- a step that takes the own mailbox
-takes_says : (w : Core) (t : ℕ) → IsKept w → IsMutator w.config t → (mutator w t).phase ≡ at.Crossing → Says w t (step_of (mutator w t) (found_by w t) (box w t)) (stepped w t)
+takes_says : {dated : Bool} → (w : Core) (t : ℕ) → IsKept dated w → IsMutator w.config t → (mutator w t).phase ≡ at.Crossing → Says w t (step_of (mutator w t) (found_by w t) (box w t)) (stepped w t)
 takes_says w t kept is phase =
     let p : Private = mutator w t in
     let q : Private = step_of p (found_by w t) (box w t) in
@@ -375,20 +376,20 @@ takes_says w t kept is phase =
     (Says.holding (ap answer_of c.after) (ap (λ (x : Private). x.phase) c.after) (quiet w t q _ _ is.0 (ap (λ (x : Private). x.registers) c.after)) (ap (λ (x : Private). x.epoch) c.after))
 
 -- a step that takes none
-here_says : (w : Core) (t : ℕ) → IsKept w → IsMutator w.config t → is_busy (mutator w t) ≡ true → IsStayingIn (mutator w t).phase → TakesNone (mutator w t).phase → Says w t (step_of (mutator w t) (found_by w t) (box w t)) (stepped w t)
+here_says : {dated : Bool} → (w : Core) (t : ℕ) → IsKept dated w → IsMutator w.config t → is_busy (mutator w t) ≡ true → IsStayingIn (mutator w t).phase → TakesNone (mutator w t).phase → Says w t (step_of (mutator w t) (found_by w t) (box w t)) (stepped w t)
 here_says w t kept is busy stays none =
     let p : Private = mutator w t in
     let word : ℕ = found_by w t in
     let between : IsBetween (took_of p word).phase = step_between (learnt_made p word (box w t) busy none) in
     subst (λ (b : Contents). Says w t (step_of p word (box w t)) (performed w t (next_of p) word (step_of p word (box w t)) b)) (sym (left_same (took_of p word) (box w t) between))
-    (says stays (record { kept = kept; is = is; stays = stays_here w t kept is busy; found = refl }) (step_made p word (box w t) busy (actor_of w t kept is).own.between))
+    (says stays (record { dated = _; kept = kept; is = is; stays = stays_here w t kept is busy; found = refl }) (step_made p word (box w t) busy (actor_of w t kept is).own.between))
 
 -- the mutator after its step
-pub stepped_mutator : (w : Core) (t : ℕ) → IsKept w → IsMutator w.config t → mutator (stepped w t) t ≡ step_of (mutator w t) (found_by w t) (box w t)
+pub stepped_mutator : {dated : Bool} → (w : Core) (t : ℕ) → IsKept dated w → IsMutator w.config t → mutator (stepped w t) t ≡ step_of (mutator w t) (found_by w t) (box w t)
 stepped_mutator w t kept is = mutator_left w t (step_of (mutator w t) (found_by w t) (box w t)) kept is
 
 -- What is said of the next step of a mutator, if it isn't one of leaving.
-pub step_says : (w : Core) (t : ℕ) → IsKept w → IsMutator w.config t → is_busy (mutator w t) ≡ true → IsStayingIn (mutator w t).phase → Says w t (mutator (stepped w t) t) (stepped w t)
+pub step_says : {dated : Bool} → (w : Core) (t : ℕ) → IsKept dated w → IsMutator w.config t → is_busy (mutator w t) ≡ true → IsStayingIn (mutator w t).phase → Says w t (mutator (stepped w t) t) (stepped w t)
 step_says w t kept is busy stays =
     subst (λ (q : Private). Says w t q (stepped w t)) (sym (stepped_mutator w t kept is)) (go (mutator w t).phase refl stays (actor_of w t kept is).own.between)
   where
@@ -410,7 +411,7 @@ step_says w t kept is busy stays =
     go (at.Finished work made) its staying between = here (at.Finished work made) its tt
 
 -- The step that takes the mailbox of a mutator that leaves decides that: its registers are null, and its log is the spare from there.
-pub leaving_decided : (w : Core) (t : ℕ) → IsKept w → IsMutator w.config t → (mutator w t).phase ≡ at.Leaving → IsDecided w t commands.Leave (plain answers.Done) (stepped w t)
+pub leaving_decided : {dated : Bool} → (w : Core) (t : ℕ) → IsKept dated w → IsMutator w.config t → (mutator w t).phase ≡ at.Leaving → IsDecided w t commands.Leave (plain answers.Done) (stepped w t)
 leaving_decided w t kept is phase =
     let p : Private = mutator w t in
     let word : ℕ = found_by w t in
@@ -429,12 +430,12 @@ leaving_decided w t kept is phase =
       entered = refl;
       stamp = tt;
     } in
-    let m : Finds w t word (next_of p) = record { kept = kept; is = is; stays = stays_here w t kept is (ap is_busy_at phase); found = refl } in
+    let m : Finds w t word (next_of p) = record { dated = _; kept = kept; is = is; stays = stays_here w t kept is (ap is_busy_at phase); found = refl } in
     after_take (IsDecided w t commands.Leave (plain answers.Done)) w t p.number (p.epoch + 1) word q (left_of (took_of p word) (box w t)) (next_of p) l.operation
     (decides _ m (record { mutators = refl; entries_left = entries; epoch = ap (λ (x : Private). x.epoch) l.after; requested = refl; freed = refl }) saw telling)
 
 -- It lets the registers go, and changes nothing else that is seen.
-pub leaving_says : (w : Core) (t : ℕ) → IsKept w → IsMutator w.config t → (mutator w t).phase ≡ at.Leaving → ((mutator (stepped w t) t).phase ≡ at.Parting) × HasLetGo w (stepped w t) t
+pub leaving_says : {dated : Bool} → (w : Core) (t : ℕ) → IsKept dated w → IsMutator w.config t → (mutator w t).phase ≡ at.Leaving → ((mutator (stepped w t) t).phase ≡ at.Parting) × HasLetGo w (stepped w t) t
 leaving_says w t kept is phase =
     let p : Private = mutator w t in
     let word : ℕ = found_by w t in
@@ -468,7 +469,7 @@ pub record Parts (w : Core) (t : ℕ) (q : Private) (v : Core) : Type 0 where
   pub left : q.left ≡ true
 
 -- it does
-pub parting_says : (w : Core) (t : ℕ) → IsKept w → IsMutator w.config t → (mutator w t).phase ≡ at.Parting → Parts w t (mutator (stepped w t) t) (stepped w t)
+pub parting_says : {dated : Bool} → (w : Core) (t : ℕ) → IsKept dated w → IsMutator w.config t → (mutator w t).phase ≡ at.Parting → Parts w t (mutator (stepped w t) t) (stepped w t)
 parting_says w t kept is phase =
     let p : Private = mutator w t in
     let word : ℕ = found_by w t in
@@ -487,7 +488,7 @@ parting_says w t kept is phase =
     })))
 
 -- why a step that answers a command refuses it, if it does
-pub step_caused : (w : Core) (t : ℕ) (cmd : Cmd) (told : Told) → IsKept w → IsMutator w.config t → is_busy (mutator w t) ≡ true → work_of (mutator w t) ≡ Some (works.Command cmd)
+pub step_caused : {dated : Bool} → (w : Core) (t : ℕ) (cmd : Cmd) (told : Told) → IsKept dated w → IsMutator w.config t → is_busy (mutator w t) ≡ true → work_of (mutator w t) ≡ Some (works.Command cmd)
     → answer_of (mutator (stepped w t) t) ≡ Some (makes.Answered told) → HasCause (mutator w t) (mutator (stepped w t) t) cmd (found_by w t) told.answer
 step_caused w t cmd told kept is busy work answer =
     let own = (actor_of w t kept is).own in
@@ -500,7 +501,7 @@ pub works_sight : (w v : Core) (t : ℕ) → OnlyWorks w v t → sight v ≡ sig
 works_sight w v t only = ap sight only.others ∙ saw_same w t (mutator v t) (ap (λ (p : Private). p.registers) only.own)
 
 -- A step of a mutator shows what it has to.
-pub step_shown : (w : Core) (t : ℕ) → IsKept w → IsMutator w.config t → is_busy (mutator w t) ≡ true → IsShown w t (answer_of (mutator (stepped w t) t)) (stepped w t)
+pub step_shown : {dated : Bool} → (w : Core) (t : ℕ) → IsKept dated w → IsMutator w.config t → is_busy (mutator w t) ≡ true → IsShown w t (answer_of (mutator (stepped w t) t)) (stepped w t)
 step_shown w t kept is busy = elim (leaves_or_stays (mutator w t).phase) [
   | inl leaving ↦ at_phase_shown leaving (leaving_decided w t kept is leaving)
   | inr (inl parting) ↦

@@ -1,5 +1,5 @@
 -- What a watch is shown of moves that follow one another, and of those of a work, of which it is shown nothing.
-use Rattle.std.proofs.Common.{◌≡◌, ℕ, false, List, [], ◌∷◌, ◌++◌, refl, sym, ap, subst, ◌∙◌}
+use Rattle.std.proofs.Common.{◌≡◌, ℕ, false, List, [], ◌∷◌, ◌++◌, refl, sym, ap, subst, ◌∙◌, true, Bool}
 use Rattle.std.proofs.lemmas.List.{append-nil}
 use Rattle.rec_mutator.specs.Private.{IsValid, is_busy}
 use Rattle.rec_mutator.specs.declared.work.Work.{Work}
@@ -33,8 +33,8 @@ pub shows_one : (w : Core) (m : Move) → Fits w m → Shows w (shown_in w m) (a
 shows_one w m fits = record { moves = m ∷ []; fit = (fits, tt); ends = refl; is = sym (append-nil (shown_in w m)) }
 
 -- what every heap keeps holds behind them
-pub shows_kept : (w v : Core) (shown : List Shown) → IsKept w → Shows w shown v → IsKept v
-shows_kept w v shown kept s = subst IsKept s.ends (moves_kept w s.moves kept s.fit)
+pub shows_kept : (w v : Core) (shown : List Shown) → IsKept true w → Shows w shown v → IsKept true v
+shows_kept w v shown kept s = subst (IsKept true) s.ends (moves_kept w s.moves kept s.fit)
 
 -- the steps of a work
 record AreSteps (w : Core) (v : Core) : Type 0 where
@@ -49,7 +49,7 @@ are_steps w t there _ (StepsTo.further u v path busy is) =
     subst (AreSteps w) (sym is) (record { shows = shows_then w u (stepped u t) [] [] so.shows step; config = move_stays u (Move.Steps t) ∙ so.config })
 
 -- a work that was made to its end
-pub shows_worked : (w v : Core) (t : ℕ) (work : Work) → IsKept w → IsMutator w.config t → is_busy (mutator w t) ≡ false → (mutator w t).left ≡ false → IsValid (mutator w t) work → HasLabel work → IsWorked w t work v → Shows w [] v
+pub shows_worked : {dated : Bool} → (w v : Core) (t : ℕ) (work : Work) → IsKept dated w → IsMutator w.config t → is_busy (mutator w t) ≡ false → (mutator w t).left ≡ false → IsValid (mutator w t) work → HasLabel work → IsWorked w t work v → Shows w [] v
 shows_worked w v t work kept there idle present valid label done =
     let begins : Shows w [] (begun w t work) = shows_one w (Move.Begins t work 0) (there, idle, present, valid, label, kept.config.some_slots) in
     let so : AreSteps (begun w t work) done.last = are_steps (begun w t work) t there done.last done.path in

@@ -1,13 +1,14 @@
 -- A step of a mutator that works is one, in a heap that keeps what every heap keeps.
-use Rattle.std.proofs.Common.{◌≡◌, ℕ, true, refl}
+use Rattle.std.proofs.Common.{◌≡◌, ℕ, true, refl, Bool}
 use Rattle.rec_core.proofs.Common.{is_busy, answer_of, IsMutator, Core, mutator, IsKept, Move, stepped, EndsRun}
 use Rattle.rec_core.specs.Step.{IsStep}
-use Rattle.rec_core.proofs.Runs.{move_kept, run_more}
+use Rattle.rec_core.proofs.BareRuns.{move_kept}
+use Rattle.rec_core.proofs.Runs.{run_more}
 use Rattle.rec_core.proofs.Showing.{step_shown}
 use Rattle.rec_core.proofs.Unfinished.{work_stays, step_busy, steps_counted, steps_limited}
 
 -- the step of a mutator of a heap that some run ends in
-pub step_is_one : (w : Core) (t : ℕ) → IsKept w → EndsRun w → IsMutator w.config t → is_busy (mutator w t) ≡ true → IsStep w t (answer_of (mutator (stepped w t) t)) (stepped w t)
+pub step_is_one : {dated : Bool} → (w : Core) (t : ℕ) → IsKept dated w → EndsRun w → IsMutator w.config t → is_busy (mutator w t) ≡ true → IsStep w t (answer_of (mutator (stepped w t) t)) (stepped w t)
 step_is_one w t kept run is busy = record {
   stepped = refl;
   answer = refl;

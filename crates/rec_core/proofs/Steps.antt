@@ -31,7 +31,7 @@ use Rattle.rec_mutator.proofs.Refusals.{at_phase}
 
 -- A step of mutator `t` that takes no mailbox, of a heap with its collector.
 pub record Makes (w : Core) (t : ℕ) (word : ℕ) (op : Op) (q : Private) : Type 0 where
-  pub kept : IsKept w
+  pub kept : IsKept true w
   pub is : IsMutator w.config t
   pub none : TakesNone (mutator w t).phase
   pub busy : is_busy (mutator w t) ≡ true
@@ -44,19 +44,19 @@ abbrev pub stand_of : Core → (t : ℕ) → Handshake
 stand_of w t = stand_at w.collector.left w.collector.phase t
 
 -- what is known of a mutator
-pub actor_of : (w : Core) (t : ℕ) → IsKept w → IsMutator w.config t → IsActor w.config w.epoch (stand_of w t) t (mutator w t) (crossing_of w t) (box w t)
+pub actor_of : {dated : Bool} → (w : Core) (t : ℕ) → IsKept dated w → IsMutator w.config t → IsActor dated w.config w.epoch (stand_of w t) t (mutator w t) (crossing_of w t) (box w t)
 actor_of w t kept is = kept.mutators.each t is
 
 -- one that isn't finished with its work hasn't left
-pub stays_here : (w : Core) (t : ℕ) → IsKept w → IsMutator w.config t → is_busy (mutator w t) ≡ true → (mutator w t).left ≡ false
+pub stays_here : {dated : Bool} → (w : Core) (t : ℕ) → IsKept dated w → IsMutator w.config t → is_busy (mutator w t) ≡ true → (mutator w t).left ≡ false
 stays_here w t kept is busy = busy_stays (actor_of w t kept is).own busy
 
 -- it is one of the list
-pub in_list : (w : Core) (t : ℕ) → IsKept w → IsMutator w.config t → t - 1 < length w.mutators
+pub in_list : {dated : Bool} → (w : Core) (t : ℕ) → IsKept dated w → IsMutator w.config t → t - 1 < length w.mutators
 in_list w t kept is = let many : length w.mutators ≡ w.config.mutators = kept.mutators.many in omega (arith, is.0, is.1)
 
 -- what its mailbox holds is as large as its log
-pub its_box : (w : Core) (t : ℕ) → IsKept w → IsMutator w.config t → IsBox (mutator w t) (box w t)
+pub its_box : {dated : Bool} → (w : Core) (t : ℕ) → IsKept dated w → IsMutator w.config t → IsBox (mutator w t) (box w t)
 its_box w t kept is =
     let a = actor_of w t kept is in
     record { snapshot = a.mailbox.snapshot ∙ sym a.own.registers; capacity = a.mailbox.capacity ∙ sym a.own.capacity; entries = a.mailbox.few }
@@ -69,16 +69,16 @@ pub own_register : (w : Core) (t r : ℕ) → register_in (sight w).registers t 
 own_register w t r = ap (λ (rs : List (Option ℕ)). slice_index_or rs r None) (own_registers w t)
 
 -- what a register names is taken
-pub register_taken : (w : Core) → IsKept w → (t r slot : ℕ) → register (mutator w t) r ≡ Some slot → IsTaken (sight w) slot
+pub register_taken : {dated : Bool} → (w : Core) → IsKept dated w → (t r slot : ℕ) → register (mutator w t) r ≡ Some slot → IsTaken (sight w) slot
 register_taken w kept t r slot is = kept.sound.registers slot (register_root (sight w).registers t r slot (own_register w t r ∙ is))
 
 -- what a field of a taken slot leads to is taken
-pub target_taken : (w : Core) → IsKept w → (slot f n : ℕ) → f < w.config.fields → IsTaken (sight w) slot → target_of (word_at (sight w) slot f) ≡ Some n → IsTaken (sight w) n
+pub target_taken : {dated : Bool} → (w : Core) → IsKept dated w → (slot f n : ℕ) → f < w.config.fields → IsTaken (sight w) slot → target_of (word_at (sight w) slot f) ≡ Some n → IsTaken (sight w) n
 target_taken w kept slot f n in_range taken is =
     kept.sound.fields slot n taken (named_at (map target_of (words_of (sight w) slot)) f n (get_or-map target_of (words_of (sight w) slot) f 0 ∙ ap target_of (word_in (sight w) slot f in_range) ∙ is))
 
 -- a taken slot is a slot
-pub taken_slot : (w : Core) → IsKept w → (slot : ℕ) → IsTaken (sight w) slot → slot < w.config.slots
+pub taken_slot : {dated : Bool} → (w : Core) → IsKept dated w → (slot : ℕ) → IsTaken (sight w) slot → slot < w.config.slots
 taken_slot w kept slot taken =
     let headers : length w.headers ≡ w.config.slots = kept.headers in
     elim (cases_lt slot (length w.headers)) [
@@ -87,20 +87,20 @@ taken_slot w kept slot taken =
     ]
 
 -- what is kept of a slot that is there, whatever stands past the last one
-pub slot_there : (w : Core) → IsKept w → (slot : ℕ) → slot < w.config.slots → slot_of w (slot + 1) ≡ slot_at w.collector.counts slot
+pub slot_there : {dated : Bool} → (w : Core) → IsKept dated w → (slot : ℕ) → slot < w.config.slots → slot_of w (slot + 1) ≡ slot_at w.collector.counts slot
 slot_there w kept slot below =
     let many : length w.collector.counts.slots ≡ w.config.slots = kept.collector.slots in
     let at : slot + 1 - 1 ≡ slot = omega arith in
     ap (λ (n : ℕ). slice_index_or w.collector.counts.slots n fresh) at ∙ get_or_default w.collector.counts.slots slot fresh absent (omega arith)
 
 -- the words of all fields
-pub fields_many : (w : Core) (slots fields : ℕ) → IsKept w → slots ≡ w.config.slots → fields ≡ w.config.fields → slots * fields ≡ length w.words
+pub fields_many : {dated : Bool} → (w : Core) (slots fields : ℕ) → IsKept dated w → slots ≡ w.config.slots → fields ≡ w.config.fields → slots * fields ≡ length w.words
 fields_many w slots fields kept s f =
     let headers : length w.headers ≡ w.config.slots = kept.headers in
     ap (λ n. n * fields) s ∙ ap (λ n. w.config.slots * n) f ∙ ap (λ n. n * w.config.fields) (sym headers) ∙ sym kept.sound.places
 
 -- what is held isn't given up
-pub held_stays : (w : Core) (t slot : ℕ) → IsKept w → slot < w.config.slots → Holds (pending w) (epoch_at (mutator w t)) (slot + 1) → (slot_at w.collector.counts slot).released ≡ false
+pub held_stays : (w : Core) (t slot : ℕ) → IsKept true w → slot < w.config.slots → Holds (pending w) (epoch_at (mutator w t)) (slot + 1) → (slot_at w.collector.counts slot).released ≡ false
 held_stays w t slot kept below holds =
     let alive : is_dead (pending w) (slot + 1) ≡ false = registers_name_the_taken (pending w) kept.accounted (epoch_at (mutator w t)) (slot + 1) (omega arith) holds in
     ap (λ (s : Slot). s.released) (sym (slot_there w kept slot below)) ∙ unreleased ((pending w).free (slot + 1)) ((pending w).released (slot + 1)) alive
@@ -110,7 +110,7 @@ held_stays w t slot kept below holds =
     unreleased false released is = is
 
 -- a field that is written isn't one that was emptied, as it is a held slot's
-pub emptied_stays : (w : Core) (slot f new : ℕ) → IsKept w → f < w.config.fields → (slot_at w.collector.counts slot).released ≡ false → HasCollector w.config w.epoch (slice_set w.words (place_of slot f w.config.fields) new) w.collector
+pub emptied_stays : (w : Core) (slot f new : ℕ) → IsKept true w → f < w.config.fields → (slot_at w.collector.counts slot).released ≡ false → HasCollector true w.config w.epoch (slice_set w.words (place_of slot f w.config.fields) new) w.collector
 emptied_stays w slot f new kept in_range unreleased =
     let c = kept.collector in
     record {
@@ -138,7 +138,7 @@ emptied_stays w slot f new kept in_range unreleased =
     }
 
 -- the scans of all mutators, where one goes on
-pub learnt_stays : (w : Core) (t : ℕ) (q : Private) (headers : List ℕ) → IsKept w → IsMutator w.config t → HasLearnt w.config.slots headers w.freed q.from q.phase
+pub learnt_stays : (w : Core) (t : ℕ) (q : Private) (headers : List ℕ) → IsKept true w → IsMutator w.config t → HasLearnt w.config.slots headers w.freed q.from q.phase
     → ((s : ℕ) → 0 < slice_index_or w.headers s 0 → slice_index_or headers s 0 ≡ slice_index_or w.headers s 0) → HaveLearnt w.config headers w.freed (slice_set w.mutators (t - 1) q)
 learnt_stays w t q headers kept is learnt still s there = elim (cases_eq s t) [
   | inl same ↦
@@ -162,12 +162,12 @@ learnt_stays w t q headers kept is learnt still s there = elim (cases_eq s t) [
     grown from _ here is = tt
 
 -- what the entries that were made come to, where one mutator goes on
-pub entries_stay : (w : Core) (t births : ℕ) (q : Private) → IsKept w → IsMutator w.config t → entries_made w.config (mutator w t) + births ≤ entries_made w.config q → w.made + births ≤ w.config.slots + sum_by (entries_made w.config) (slice_set w.mutators (t - 1) q)
+pub entries_stay : (w : Core) (t births : ℕ) (q : Private) → IsKept true w → IsMutator w.config t → entries_made w.config (mutator w t) + births ≤ entries_made w.config q → w.made + births ≤ w.config.slots + sum_by (entries_made w.config) (slice_set w.mutators (t - 1) q)
 entries_stay w t births q kept is more = omega (arith, kept.made, more, sum_by-set (entries_made w.config) w.mutators (t - 1) q nobody (in_list w t kept is))
 
 -- While a mailbox is held, the buffer that was taken from it is marked just where its mutator has left, whatever a mutator does that leaves
 -- at most where its own mailbox isn't held.
-pub held_after : (w v : Core) (t : ℕ) (q : Private) → IsKept w → IsMutator w.config t → v.collector ≡ w.collector → v.mutators ≡ slice_set w.mutators (t - 1) q → (w.collector.phase ≡ Returning t → q.left ≡ (mutator w t).left) → IsHeldAt v v.collector.phase
+pub held_after : (w v : Core) (t : ℕ) (q : Private) → IsKept true w → IsMutator w.config t → v.collector ≡ w.collector → v.mutators ≡ slice_set w.mutators (t - 1) q → (w.collector.phase ≡ Returning t → q.left ≡ (mutator w t).left) → IsHeldAt v v.collector.phase
 held_after w v t q kept is same mutators left =
     subst (λ (c : collectors.Private). IsHeldAt (record v { collector = c }) c.phase) (sym same) (go w.collector.phase refl kept.held)
   where
@@ -194,13 +194,13 @@ pub record HasAccounts (w : Core) (v : Pending) : Type 0 where
   pub cycles : HasCyclesAt v w.collector w.collector.phase
 
 -- A heap in which a mutator has moved, with headers, words and births, is kept where each part of it is.
-pub changed_kept : (w : Core) (t : ℕ) (q : Private) (headers words : List ℕ) (births : ℕ) → IsKept w → IsMutator w.config t → IsActor w.config w.epoch (stand_of w t) t q (crossing_of w t) (box w t)
-    → length headers ≡ length w.headers → All IsHeader headers → HasCollector w.config w.epoch words w.collector
+pub changed_kept : (w : Core) (t : ℕ) (q : Private) (headers words : List ℕ) (births : ℕ) → IsKept true w → IsMutator w.config t → IsActor true w.config w.epoch (stand_of w t) t q (crossing_of w t) (box w t)
+    → length headers ≡ length w.headers → All IsHeader headers → HasCollector true w.config w.epoch words w.collector
     → HasLearnt w.config.slots headers w.freed q.from q.phase → ((s : ℕ) → 0 < slice_index_or w.headers s 0 → slice_index_or headers s 0 ≡ slice_index_or w.headers s 0)
     → entries_made w.config (mutator w t) + births ≤ entries_made w.config q → q.left ≡ (mutator w t).left
     → IsSound (sight (record (with_mutator w t q) { headers = headers; words = words }))
     → HasAccounts w (pending (record (with_mutator w t q) { headers = headers; words = words; made = w.made + births }))
-    → IsKept (record (with_mutator w t q) { headers = headers; words = words; made = w.made + births })
+    → IsKept true (record (with_mutator w t q) { headers = headers; words = words; made = w.made + births })
 changed_kept w t q headers words births kept is actor same labels collector learnt still entries left sound accounts =
     record {
       whole = record {
@@ -219,6 +219,7 @@ changed_kept w t q headers words births kept is actor same labels collector lear
         cycles = accounts.cycles;
       };
       held = held_after w (record (with_mutator w t q) { headers = headers; words = words; made = w.made + births }) t q kept is refl refl (λ _. left);
+      behind = tt;
     }
 
 -- the registers of all mutators stay, if those of the one do
@@ -233,7 +234,7 @@ registers_set w t r x q is =
     map-set (λ (p : Private). p.registers) w.mutators (t - 1) q ∙ ap set_own (is ∙ ap (λ rs. slice_set rs r x) (sym (own_registers w t)))
 
 -- the accounts after a move
-pub moved_accounts : (w : Core) (v : Pending) → IsKept w → (move : AccountMove (pending w) v) → IsAfterLoads move → IsAmongTests move → HasAccounts w v
+pub moved_accounts : (w : Core) (v : Pending) → IsKept true w → (move : AccountMove (pending w) v) → IsAfterLoads move → IsAmongTests move → HasAccounts w v
 moved_accounts w v kept move after among = record {
   accounted = move_accounted move kept.accounted;
   uncounted = λ unfreed. move_uncounted move kept.accounted (kept.uncounted unfreed);
@@ -241,7 +242,7 @@ moved_accounts w v kept move after among = record {
 }
 
 -- all that is pending stayed
-pub stayed_accounts : (w : Core) (v : Pending) → IsKept w → v ≡ pending w → HasAccounts w v
+pub stayed_accounts : (w : Core) (v : Pending) → IsKept true w → v ≡ pending w → HasAccounts w v
 stayed_accounts w v kept same = subst (HasAccounts w) (sym same) (record { accounted = kept.accounted; uncounted = kept.uncounted; cycles = kept.cycles })
 
 -- no more entries where epoch and log stay
@@ -252,13 +253,13 @@ same_entries config p q epoch log =
     omega (arith, same)
 
 -- A step that changes nothing but how far a work has come.
-pub quiet_kept : (w : Core) (t : ℕ) (q : Private) → IsKept w → IsMutator w.config t → (mutator w t).left ≡ false → gives_back (mutator w t).phase ≡ false → gives_back q.phase ≡ false → q.epoch ≡ (mutator w t).epoch → q.left ≡ (mutator w t).left
-    → IsActor w.config w.epoch (stand_of w t) t q (crossing_of w t) (box w t) → q.log ≡ (mutator w t).log → q.registers ≡ (mutator w t).registers → HasLearnt w.config.slots w.headers w.freed q.from q.phase
-    → IsKept (with_mutator w t q)
+pub quiet_kept : (w : Core) (t : ℕ) (q : Private) → IsKept true w → IsMutator w.config t → (mutator w t).left ≡ false → gives_back (mutator w t).phase ≡ false → gives_back q.phase ≡ false → q.epoch ≡ (mutator w t).epoch → q.left ≡ (mutator w t).left
+    → IsActor true w.config w.epoch (stand_of w t) t q (crossing_of w t) (box w t) → q.log ≡ (mutator w t).log → q.registers ≡ (mutator w t).registers → HasLearnt w.config.slots w.headers w.freed q.from q.phase
+    → IsKept true (with_mutator w t q)
 quiet_kept w t q kept is stays here next epoch left actor log registers learnt =
     let same : epoch_at q ≡ epoch_at (mutator w t) = epoch_here q next ∙ epoch ∙ sym (epoch_here (mutator w t) here) in
     let held : has_let_go q ≡ has_let_go (mutator w t) = holds_registers q (left ∙ stays) (not_parting q.phase next) ∙ sym (holds_registers (mutator w t) stays (not_parting (mutator w t).phase here)) in
-    subst (λ (n : ℕ). IsKept (record (with_mutator w t q) { made = n })) (add-zero w.made)
+    subst (λ (n : ℕ). IsKept true (record (with_mutator w t q) { made = n })) (add-zero w.made)
     (changed_kept w t q w.headers w.words 0 kept is actor refl kept.labels kept.collector learnt (λ s taken. refl) (same_entries w.config (mutator w t) q same log) left
     (subst (λ (rss : List (List (Option ℕ))). IsSound (record (sight w) { registers = rss })) (sym (registers_stay w t q registers)) kept.sound)
     (stayed_accounts w _ kept (same_pending w t q log held registers same)))
@@ -279,7 +280,7 @@ pub record Answers {w : Core} {t word : ℕ} {op : Op} {q : Private} (m : Makes 
   pub next : gives_back q.phase ≡ false
   pub settled : (mailbox : Mailbox) → IsSettledIn mailbox q.phase
   pub learnt : (slots freed : ℕ) (headers : List ℕ) → HasLearnt slots headers freed q.from q.phase
-  pub own : IsOwn w.config t q
+  pub own : IsOwn true w.config t q
   pub epoch : q.epoch ≡ (mutator w t).epoch
   pub left : q.left ≡ (mutator w t).left
   pub same : epoch_at q ≡ epoch_at (mutator w t)
@@ -316,15 +317,15 @@ answers {w = w} {t = t} {q = q} gives m d =
 
 -- an actor after an answer that leaves its log
 pub answered_actor : {w : Core} {t word : ℕ} {op : Op} {q : Private} {m : Makes w t word op q} {registers : List (Option ℕ)} {entries : List Entry} → Answers m registers entries
-    → IsBufferOf w.config (epoch_at (mutator w t)) (record (mutator w t).log { entries = entries }) → IsActor w.config w.epoch (stand_of w t) t q (crossing_of w t) (box w t)
+    → IsBufferOf true w.config (epoch_at (mutator w t)) (record (mutator w t).log { entries = entries }) → IsActor true w.config w.epoch (stand_of w t) t q (crossing_of w t) (box w t)
 answered_actor {w = w} {t = t} {q = q} {m = m} a buffer =
     let actor = actor_of w t m.kept m.is in
-    actor_stays actor a.own a.stays a.here a.next (λ mailbox _. a.settled mailbox) a.epoch a.left (subst (IsBufferOf w.config (epoch_at (mutator w t))) (sym a.log) buffer)
+    actor_stays actor a.own a.stays a.here a.next (λ mailbox _. a.settled mailbox) a.epoch a.left (subst (IsBufferOf true w.config (epoch_at (mutator w t))) (sym a.log) buffer)
     (ap (λ (b : Contents). named b.snapshot) a.log ∙ actor.unwritten) (ap (λ (b : Contents). b.last) a.log ∙ actor.unmarked)
 
 -- an answer that changes no register and no log
 pub unchanged : {w : Core} {t word : ℕ} {op : Op} {q : Private} {cmd : Cmd} {at : phases.Phase} {its_op : Op} {told : Told}
-    → gives_back at ≡ false → (m : Makes w t word op q) → Decides (mutator w t) op q cmd at its_op (mutator w t).registers (mutator w t).log.entries told → IsKept (with_mutator w t q)
+    → gives_back at ≡ false → (m : Makes w t word op q) → Decides (mutator w t) op q cmd at its_op (mutator w t).registers (mutator w t).log.entries told → IsKept true (with_mutator w t q)
 unchanged {w = w} {t = t} {q = q} gives m d =
     let a = answers gives m d in
     let actor = actor_of w t m.kept m.is in
@@ -334,11 +335,11 @@ unchanged {w = w} {t = t} {q = q} gives m d =
 pub sets : {w : Core} {t word : ℕ} {op : Op} {q : Private} {cmd : Cmd} {at : phases.Phase} {its_op : Op} {told : Told} (r : ℕ) (x : Option ℕ)
     → gives_back at ≡ false → (m : Makes w t word op q) → r < length (mutator w t).registers → ((slot : ℕ) → x ≡ Some slot → IsTaken (sight w) slot)
     → (0 < code x → Holds (pending w) (epoch_at (mutator w t)) (code x) ⊎ Loads (pending w) (epoch_at (mutator w t)) (code x))
-    → Decides (mutator w t) op q cmd at its_op (slice_set (mutator w t).registers r x) (mutator w t).log.entries told → IsKept (with_mutator w t q)
+    → Decides (mutator w t) op q cmd at its_op (slice_set (mutator w t).registers r x) (mutator w t).log.entries told → IsKept true (with_mutator w t q)
 sets {w = w} {t = t} {q = q} r x gives m within may value d =
     let a = answers gives m d in
     let actor = actor_of w t m.kept m.is in
-    subst (λ (n : ℕ). IsKept (record (with_mutator w t q) { made = n })) (add-zero w.made)
+    subst (λ (n : ℕ). IsKept true (record (with_mutator w t q) { made = n })) (add-zero w.made)
     (changed_kept w t q w.headers w.words 0 m.kept m.is (answered_actor a actor.log) refl m.kept.labels m.kept.collector (a.learnt w.config.slots w.freed w.headers) (λ s taken. refl) (same_entries w.config (mutator w t) q a.same a.log) a.left
     (subst (λ (rss : List (List (Option ℕ))). IsSound (record (sight w) { registers = rss })) (sym (registers_set w t r x q a.registers_are)) (register_sound (sight w) t r x may m.kept.sound))
     (moved_accounts w _ m.kept (AccountMove.register (register_moves w t r x q (in_list w t m.kept m.is) a.held a.holds within a.registers_are a.log a.same value)) tt tt))
@@ -346,7 +347,7 @@ sets {w = w} {t = t} {q = q} r x gives m within may value d =
 -- a step after which the work goes on, in a phase that is settled wherever its crossing word says that the mailbox is
 pub goes_on : {w : Core} {t word : ℕ} {op : Op} {q : Private} {at : phases.Phase} {its_op : Op} {next_phase : phases.Phase}
     → gives_back at ≡ false → (m : Makes w t word op q) → gives_back next_phase ≡ false → ((mailbox : Mailbox) → crossing_of w t ≡ crossing_word w.epoch mailbox → IsSettledIn mailbox next_phase)
-    → HasLabelAt next_phase → HasLearnt w.config.slots w.headers w.freed (mutator w t).from next_phase → GoesOn (mutator w t) op q at its_op next_phase → IsKept (with_mutator w t q)
+    → HasLabelAt next_phase → HasLearnt w.config.slots w.headers w.freed (mutator w t).from next_phase → GoesOn (mutator w t) op q at its_op next_phase → IsKept true (with_mutator w t q)
 goes_on {w = w} {t = t} {q = q} gives m gives_none settled label learnt g =
     let stays : (mutator w t).left ≡ false = stays_here w t m.kept m.is m.busy in
     let here : gives_back (mutator w t).phase ≡ false = ap gives_back g.phase ∙ gives in
@@ -356,14 +357,14 @@ goes_on {w = w} {t = t} {q = q} gives m gives_none settled label learnt g =
     let left : q.left ≡ (mutator w t).left = ap (λ (x : Private). x.left) g.after in
     let log : q.log ≡ (mutator w t).log = ap (λ (x : Private). x.log) g.after in
     let actor = actor_of w t m.kept m.is in
-    let own : IsOwn w.config t q = own_stepped actor.own (its_box w t m.kept m.is) m.may m.step (subst HasLabelAt (sym phase) label) (idle_of (mutator w t) q stays left) in
+    let own : IsOwn true w.config t q = own_stepped actor.own (its_box w t m.kept m.is) m.may m.step (subst HasLabelAt (sym phase) label) (idle_of (mutator w t) q stays left) in
     quiet_kept w t q m.kept m.is stays here next epoch left
-    (actor_stays actor own stays here next (λ mailbox is. subst (IsSettledIn mailbox) (sym phase) (settled mailbox is)) epoch left (subst (IsBufferOf w.config (epoch_at (mutator w t))) (sym log) actor.log)
+    (actor_stays actor own stays here next (λ mailbox is. subst (IsSettledIn mailbox) (sym phase) (settled mailbox is)) epoch left (subst (IsBufferOf true w.config (epoch_at (mutator w t))) (sym log) actor.log)
     (ap (λ (b : Contents). named b.snapshot) log ∙ actor.unwritten) (ap (λ (b : Contents). b.last) log ∙ actor.unmarked))
     log (ap (λ (x : Private). x.registers) g.after) (subst (λ (x : Private). HasLearnt w.config.slots w.headers w.freed x.from x.phase) (sym g.after) learnt)
 
 -- a poll that found the next epoch: the mutator is about to cross, and its mailbox is home with a spare
-pub about_to_cross : {w : Core} {t word : ℕ} {op : Op} {q : Private} → (m : Makes w t word op q) → word ≢ (mutator w t).epoch → GoesOn (mutator w t) op q (at.Begun works.Poll) ops.LoadEpoch at.Crossing → IsKept (with_mutator w t q)
+pub about_to_cross : {w : Core} {t word : ℕ} {op : Op} {q : Private} → (m : Makes w t word op q) → word ≢ (mutator w t).epoch → GoesOn (mutator w t) op q (at.Begun works.Poll) ops.LoadEpoch at.Crossing → IsKept true (with_mutator w t q)
 about_to_cross {w = w} {t = t} {word = word} {q = q} m other g =
     let actor = actor_of w t m.kept m.is in
     let stays : (mutator w t).left ≡ false = stays_here w t m.kept m.is m.busy in
@@ -373,18 +374,18 @@ about_to_cross {w = w} {t = t} {word = word} {q = q} m other g =
     let left : q.left ≡ (mutator w t).left = ap (λ (x : Private). x.left) g.after in
     let log : q.log ≡ (mutator w t).log = ap (λ (x : Private). x.log) g.after in
     let next : gives_back q.phase ≡ false = ap gives_back phase in
-    let own : IsOwn w.config t q = own_stepped actor.own (its_box w t m.kept m.is) m.may m.step (subst HasLabelAt (sym phase) tt) (idle_of (mutator w t) q stays left) in
+    let own : IsOwn true w.config t q = own_stepped actor.own (its_box w t m.kept m.is) m.may m.step (subst HasLabelAt (sym phase) tt) (idle_of (mutator w t) q stays left) in
     let late : (mutator w t).epoch ≢ w.epoch = λ same. other (m.found ∙ ap (cell (cells_of w)) g.operation ∙ sym same) in
     let (due, behind) = behind_due w.config w.epoch (mutator w t) (crossing_of w t) (box w t) (stand_of w t) stays here late actor.handshake in
     let same : epoch_at q ≡ epoch_at (mutator w t) = epoch_here q next ∙ epoch ∙ sym (epoch_here (mutator w t) here) in
     quiet_kept w t q m.kept m.is stays here next epoch left
     (record {
       own = own;
-      log = subst (λ (e : ℕ). IsBufferOf w.config e q.log) (sym same) (subst (IsBufferOf w.config (epoch_at (mutator w t))) (sym log) actor.log);
+      log = subst (λ (e : ℕ). IsBufferOf true w.config e q.log) (sym same) (subst (IsBufferOf true w.config (epoch_at (mutator w t))) (sym log) actor.log);
       unwritten = ap (λ (b : Contents). named b.snapshot) log ∙ actor.unwritten;
       unmarked = ap (λ (b : Contents). b.last) log ∙ actor.unmarked;
       let_go = λ gone. absurd (false≢true (sym (holds_registers q (left ∙ stays) (not_parting q.phase next)) ∙ gone));
-      mailbox = subst (λ (e : ℕ). IsBufferOf w.config (e - 1) (box w t)) (sym same) actor.mailbox;
+      mailbox = subst (λ (e : ℕ). IsBufferOf true w.config (e - 1) (box w t)) (sym same) actor.mailbox;
       handshake = subst (IsHandshake w.config w.epoch q (crossing_of w t) (box w t)) (sym due)
           (inl (record { epoch = ap (λ n. n + 1) epoch ∙ behind.epoch; word = behind.word ∙ ap (λ n. crossing_word n Spare) (sym epoch); here = next; stays = left ∙ behind.stays; spare = behind.spare }));
     })

@@ -47,11 +47,11 @@ passed_more : (slots : ℕ) (headers : List ℕ) (freed from before probed : ℕ
 passed_more slots headers freed from before probed is = let up : before ≤ freed = is.0 in (omega arith, λ same. absurd (omega arith))
 
 -- A sweep begins.
-module _ (w : Core) (due : Option ℕ) (kept : IsKept w) (phase : w.collector.phase ≡ Opening) where
+module _ (w : Core) (due : Option ℕ) (kept : IsKept true w) (phase : w.collector.phase ≡ Opening) where
   abbrev began_by : collectors.Private
   began_by = record w.collector { phase = Sweeping due 0; turns = w.collector.turns + 1 }
 
-  pub began_kept : collector_kept.IsMachine began_by → IsKept (record w { freed = w.freed + 1; collector = began_by })
+  pub began_kept : collector_kept.IsMachine began_by → IsKept true (record w { freed = w.freed + 1; collector = began_by })
   began_kept machine =
       let k = kept.collector in
       let way : collector_kept.under_way w.collector.phase ≡ 1 = ap collector_kept.under_way phase in
@@ -76,7 +76,7 @@ module _ (w : Core) (due : Option ℕ) (kept : IsKept w) (phase : w.collector.ph
             epoch = k.epoch;
             begun = omega (arith, k.begun, way);
             newer = k.newer;
-            older = λ s there. subst (λ e. IsBufferOf w.config e (collectors.buffer_at w.collector.older (s - 1))) older (k.older s there);
+            older = λ s there. subst (λ e. IsBufferOf true w.config e (collectors.buffer_at w.collector.older (s - 1))) older (k.older s there);
             listed = k.listed;
             emptied = emptied_in w Opening kept.whole phase;
           };
@@ -90,17 +90,18 @@ module _ (w : Core) (due : Option ℕ) (kept : IsKept w) (phase : w.collector.ph
           cycles = subst (λ (p : Pending). SetsWait p w.collector.counts) (sym same) (cycles_in w Opening kept.whole phase);
         };
         held = tt;
+        behind = tt;
       }
     where
       odd_next : (n : ℕ) → n % 2 ≡ 0 → (n + 1) % 2 ≡ 1
       odd_next n even = grind arith
 
 -- A sweep ends, and with it the collection.
-module _ (w : Core) (swept_ : ℕ) (kept : IsKept w) (phase : w.collector.phase ≡ Closing swept_) where
+module _ (w : Core) (swept_ : ℕ) (kept : IsKept true w) (phase : w.collector.phase ≡ Closing swept_) where
   abbrev ended_by : collectors.Private
   ended_by = record w.collector { phase = Idle; turns = 0; collections = w.collector.collections + 1; newer = map cleared w.collector.older; older = w.collector.newer }
 
-  pub ended_kept : collector_kept.IsMachine ended_by → IsKept (record w { freed = w.freed + 1; collector = ended_by })
+  pub ended_kept : collector_kept.IsMachine ended_by → IsKept true (record w { freed = w.freed + 1; collector = ended_by })
   ended_kept machine =
       let k = kept.collector in
       let way : collector_kept.under_way w.collector.phase ≡ 1 = ap collector_kept.under_way phase in
@@ -109,8 +110,8 @@ module _ (w : Core) (swept_ : ℕ) (kept : IsKept w) (phase : w.collector.phase 
       let applied : applied_at w.epoch w.collector.phase ≡ w.epoch - 1 = ap (applied_at w.epoch) phase in
       let some : 2 ≤ w.epoch = (let first : 1 ≤ w.config.first_epoch = kept.config.some_epoch in omega (arith, k.begun, way)) in
       let both : length w.collector.older ≡ w.config.mutators = k.machine.both ∙ k.mutators in
-      let older : (t : ℕ) → IsMutator w.config t → IsBufferOf w.config (w.epoch - 2) (collectors.buffer_at w.collector.older (t - 1))
-      = λ s there. subst (λ e. IsBufferOf w.config e (collectors.buffer_at w.collector.older (s - 1))) last (k.older s there) in
+      let older : (t : ℕ) → IsMutator w.config t → IsBufferOf true w.config (w.epoch - 2) (collectors.buffer_at w.collector.older (t - 1))
+      = λ s there. subst (λ e. IsBufferOf true w.config e (collectors.buffer_at w.collector.older (s - 1))) last (k.older s there) in
       let drops = complete_drops w w.collector w.collector.phase some last both older w.words w.collector.counts 0 (w.collector.collections + 1) in
       let same : record (accounts_with (pending w) w.words w.collector.counts) { applied = w.epoch - 1 } ≡ pending w = ap (λ (n : ℕ). let q : Pending = record (pending w) { applied = n } in q) (sym applied) in
       let accounted : IsAccounted (record (accounts_with (pending w) w.words w.collector.counts) { applied = w.epoch - 1 }) = subst IsAccounted (sym same) kept.accounted in
@@ -133,7 +134,7 @@ module _ (w : Core) (swept_ : ℕ) (kept : IsKept w) (phase : w.collector.phase 
             begun = omega (arith, k.begun, way);
             newer = λ s there.
                 let at_ : slice_index_or (map cleared w.collector.older) (s - 1) (cleared (collectors.blank 0 0)) ≡ cleared (collectors.buffer_at w.collector.older (s - 1)) = get_or-map cleared w.collector.older (s - 1) (collectors.blank 0 0) in
-                subst (IsBufferOf w.config (w.epoch - 1)) (sym at_) (cleared_buffer w.config (w.epoch - 1) (w.epoch - 2) (collectors.buffer_at w.collector.older (s - 1)) (older s there));
+                subst (IsBufferOf true w.config (w.epoch - 1)) (sym at_) (cleared_buffer w.config (w.epoch - 1) (w.epoch - 2) (collectors.buffer_at w.collector.older (s - 1)) (older s there));
             older = k.newer;
             listed = k.listed;
             emptied = emptied_in w (Closing swept_) kept.whole phase;
@@ -148,6 +149,7 @@ module _ (w : Core) (swept_ : ℕ) (kept : IsKept w) (phase : w.collector.phase 
           cycles = sets_wait_moved w.collector.counts (AccountMove.dropping drops) tt accounted (alive_in w (Closing swept_) kept.whole phase) (subst (λ (p : Pending). SetsWait p w.collector.counts) (sym same) (cycles_in w (Closing swept_) kept.whole phase));
         };
         held = tt;
+        behind = tt;
       }
     where
       even_next : (n : ℕ) → n % 2 ≡ 1 → (n + 1) % 2 ≡ 0
@@ -176,7 +178,7 @@ roots_dated n (p ∷ ps) gone there =
     ]
 
 -- so what a register names is named by the accounts
-pub root_named : {stands : (t : ℕ) → Handshake} (w : Core) (n : ℕ) → IsKeptBy stands w → is_in n (roots (sight w).registers) ≡ true → 0 < sum_by (is_node (n + 1)) (registers_of w)
+pub root_named : {stands : (t : ℕ) → Handshake} (w : Core) (n : ℕ) → IsKeptBy true stands w → is_in n (roots (sight w).registers) ≡ true → 0 < sum_by (is_node (n + 1)) (registers_of w)
 root_named w n kept = roots_dated n w.mutators gone
   where
     gone : (i : ℕ) → i < length w.mutators → has_let_go (slice_index_or w.mutators i nobody) ≡ true → named (slice_index_or w.mutators i nobody).registers ≡ []
@@ -236,7 +238,7 @@ slot_freed p headers s x there header released none empty =
     }
 
 -- A slot of the free list is swept: its header is 0 and its count one.
-module _ (w : Core) (done : ℕ) (x : ℕ) (kept : IsKept w) (phase : w.collector.phase ≡ Sweeping (Some x) done) where
+module _ (w : Core) (done : ℕ) (x : ℕ) (kept : IsKept true w) (phase : w.collector.phase ≡ Sweeping (Some x) done) where
   open w use {collector as c}
   open kept use {headers, collector.{slots}}
 
@@ -405,7 +407,7 @@ module _ (w : Core) (done : ℕ) (x : ℕ) (kept : IsKept w) (phase : w.collecto
   still_members : KeepsMembers c.counts (swept c.counts x)
   still_members = slot_keeps_members c.counts (swept c.counts x) x (swept_clean (slot_at c.counts x)) refl refl in_no_set in_no_set
 
-  pub swept_kept : (next : Phase) → IsStillSweeping next → collector_kept.IsMachine (swept_by next) → IsKept (after_sweep next)
+  pub swept_kept : (next : Phase) → IsStillSweeping next → collector_kept.IsMachine (swept_by next) → IsKept true (after_sweep next)
   swept_kept next on machine =
       let k = kept.collector in
       let way : collector_kept.under_way c.phase ≡ 1 = ap collector_kept.under_way phase in
@@ -433,7 +435,7 @@ module _ (w : Core) (done : ℕ) (x : ℕ) (kept : IsKept w) (phase : w.collecto
             epoch = k.epoch;
             begun = omega (arith, k.begun, way, on.way);
             newer = k.newer;
-            older = λ s there. subst (λ e. IsBufferOf w.config e (collectors.buffer_at c.older (s - 1))) older (k.older s there);
+            older = λ s there. subst (λ e. IsBufferOf true w.config e (collectors.buffer_at c.older (s - 1))) older (k.older s there);
             listed = λ y there. ap (λ (v : Slot). v.released) (released_else y (gone y there)) ∙ k.listed y (omega (arith, there, times_rest y c.counts.free));
             emptied = λ y f below within is. elim (cases_eq y x) [
               | inl same_ ↦ absurd (false≢true (sym swept_unreleased ∙ ap (λ n. (slot_at (swept c.counts x) n).released) (sym same_) ∙ is))
@@ -454,4 +456,5 @@ module _ (w : Core) (done : ℕ) (x : ℕ) (kept : IsKept w) (phase : w.collecto
               (sets_wait_swept c.counts (swept c.counts x) (AccountMove.freeing freed) tt kept.accounted (alive_in w (Sweeping (Some x) done) kept.whole phase) still_members (cycles_in w (Sweeping (Some x) done) kept.whole phase)));
         };
         held = on.held (after_sweep next);
+        behind = tt;
       }

@@ -25,7 +25,7 @@ use Rattle.rec_core.proofs.Trying.{loads_child}
 use Rattle.rec_core.proofs.Turning.{some_op, freed_more, turn_case}
 
 -- a slot that was given up holds an object
-released_taken : (w : Core) (x : ℕ) → IsKept w → x < w.config.slots → (slot_at w.collector.counts x).released ≡ true → IsTaken (sight w) x
+released_taken : (w : Core) (x : ℕ) → IsKept true w → x < w.config.slots → (slot_at w.collector.counts x).released ≡ true → IsTaken (sight w) x
 released_taken w x kept below released = go (slice_index_or w.headers x 0) refl
   where
     one_less : x + 1 - 1 ≡ x
@@ -108,13 +108,13 @@ test_sweeps (ClearsOn.tests c none some tested on) = test_sweeps on
 test_sweeps (ClearsOn.tries none empty on) = trial_sweeps on
 
 -- the freed word goes up by one
-freed_by : (w : Core) (op : Op) (word : ℕ) → IsKept w → word ≡ cell (cells_of w) op → op ≡ ops.AddFreed → (with_cell (cells_of w) op (written op word)).freed ≡ w.freed + 1
+freed_by : (w : Core) (op : Op) (word : ℕ) → IsKept true w → word ≡ cell (cells_of w) op → op ≡ ops.AddFreed → (with_cell (cells_of w) op (written op word)).freed ≡ w.freed + 1
 freed_by w op word kept found its =
     let was : word ≡ w.freed = found ∙ ap (cell (cells_of w)) its in
     ap (λ i. (with_cell (cells_of w) i (written i word)).freed) its ∙ ap (λ n. (n + 1) % 2 ^ 64) was ∙ freed_more w kept
 
 -- each rule
-rule_sweeps : (w : Core) (op : Op) (word : ℕ) (q : Private) (turn : Turn) (left : Contents) → IsKept w → next_of w.collector ≡ Some op → word ≡ cell (cells_of w) op → Step w.collector word (box w (looked_at w.collector.phase)) (Some op) q turn
+rule_sweeps : (w : Core) (op : Op) (word : ℕ) (q : Private) (turn : Turn) (left : Contents) → IsKept true w → next_of w.collector ≡ Some op → word ≡ cell (cells_of w) op → Step w.collector word (box w (looked_at w.collector.phase)) (Some op) q turn
     → IsSweep w (collected w op word q left)
 unfolding release_next freeing_next sweeps.next_of
 rule_sweeps w op word q turn left kept names found (Step.spent idle last none same answer) = let not_so : ◌≡◌ {A = Option Op} (Some op) None = none in absurd (cc)
@@ -172,7 +172,7 @@ rule_sweeps w op word q turn left kept names found (Step.end_sweep swept closing
     IsSweep.marks (names ∙ ap (λ i. Some i) its) (ap (λ i. (with_cell (cells_of w) i (written i word)).headers) its) (freed_by w op word kept found its) (λ odd. omega (arith, some, told)) (ap (λ c. swept_at c.phase) e.after)
 
 -- A turn frees nothing, or begins or ends a sweep, or frees a slot.
-pub turned_sweeps : (w : Core) → IsKept w → IsSweep w (turned w)
+pub turned_sweeps : (w : Core) → IsKept true w → IsSweep w (turned w)
 turned_sweeps w kept = turn_case w (λ o v. IsSweep w v) (λ none. IsSweep.rests (subst SweepsNothing (sym none) tt) refl refl (λ more. more)) (λ op named.
     let word : ℕ = cell (cells_of w) op in
     rule_sweeps w op word (step_of w.collector word (box w (looked_at w.collector.phase))) (turn_of w.collector word) _ kept named refl (rule_of w op kept named))

@@ -29,7 +29,7 @@ emptied_at w slot field = record { place = place_of slot field w.config.fields; 
 
 -- a field may be emptied: it is one of a slot that was given up, and no sweep runs
 pub record MayEmpty (w : Core) (slot field : ℕ) : Type 0 where
-  pub kept : IsKept w
+  pub kept : IsKept true w
   pub unswept : IsUnswept w.epoch w.collector.phase
   pub below : slot < w.config.slots
   pub within : field < w.config.fields

@@ -16,11 +16,11 @@ BeginsNoTrial w [] = Unit {0}
 BeginsNoTrial w (m ∷ ms) = (tried_in (after_move w m) ≡ tried_in w) × BeginsNoTrial (after_move w m) ms
 
 -- the requested epoch of the collector is that of its heap
-pub tried_of : (w : Core) → IsKept w → tried_at w.collector.epoch w.collector.phase ≡ tried_in w
+pub tried_of : (w : Core) → IsKept true w → tried_at w.collector.epoch w.collector.phase ≡ tried_in w
 tried_of w kept = ap (λ n. tried_at n w.collector.phase) kept.collector.epoch
 
 -- a step of a mutator leaves it
-step_tried : (w : Core) (t : ℕ) → IsKept w → IsMutator w.config t → is_busy (mutator w t) ≡ true → tried_in (stepped w t) ≡ tried_in w
+step_tried : (w : Core) (t : ℕ) → IsKept true w → IsMutator w.config t → is_busy (mutator w t) ≡ true → tried_in (stepped w t) ≡ tried_in w
 step_tried w t kept is busy = sym (tried_of (stepped w t) (move_kept w (Move.Steps t) kept (is, busy))) ∙ tried_of w kept
 
 -- what goes on to a phase
@@ -61,21 +61,21 @@ step_rises {p} (collectors_step.Step.begin_sweep at is g) = omega (arith, ap (tr
 step_rises {p} (collectors_step.Step.sweep due swept u next at is took follows g) = omega (arith, ap (tried_at p.epoch) at, goes_tried g, swept_tried {requested = p.epoch} follows)
 step_rises {p} (collectors_step.Step.end_sweep swept at is e) = omega (arith, ap (tried_at p.epoch) at, ends_tried e)
 
-turn_rises : (w : Core) → IsKept w → IsKept (turned w) → tried_in w ≤ tried_in (turned w)
-turn_rises w kept later = turn_case w (λ o v. IsKept v → tried_in w ≤ tried_in v) (λ none later. omega arith)
+turn_rises : (w : Core) → IsKept true w → IsKept true (turned w) → tried_in w ≤ tried_in (turned w)
+turn_rises w kept later = turn_case w (λ o v. IsKept true v → tried_in w ≤ tried_in v) (λ none later. omega arith)
     (λ op named later. omega (arith, step_rises (rule_of w op kept named), tried_of w kept, tried_of (turned_by w op (cell (cells_of w) op)) later)) later
 
-move_rises : (w : Core) (m : Move) → IsKept w → Fits w m → tried_in w ≤ tried_in (after_move w m)
+move_rises : (w : Core) (m : Move) → IsKept true w → Fits w m → tried_in w ≤ tried_in (after_move w m)
 move_rises w (Move.Steps t) kept fits = omega (arith, step_tried w t kept fits.0 fits.1)
 move_rises w Move.Turns kept fits = turn_rises w kept (move_kept w Move.Turns kept fits)
 move_rises w _ kept fits = omega arith
 
-moves_rise : (w : Core) (ms : List Move) → IsKept w → AllFit w ms → tried_in w ≤ tried_in (after_moves w ms)
+moves_rise : (w : Core) (ms : List Move) → IsKept true w → AllFit w ms → tried_in w ≤ tried_in (after_moves w ms)
 moves_rise w [] kept fit = omega arith
 moves_rise w (m ∷ ms) kept fit = omega (arith, move_rises w m kept fit.0, moves_rise (after_move w m) ms (move_kept w m kept fit.0) fit.1)
 
 -- so where it is the same at the end, no move begins another trial
-pub no_trial : (w : Core) (ms : List Move) → IsKept w → AllFit w ms → IsSameTrial w (after_moves w ms) → BeginsNoTrial w ms
+pub no_trial : (w : Core) (ms : List Move) → IsKept true w → AllFit w ms → IsSameTrial w (after_moves w ms) → BeginsNoTrial w ms
 no_trial w [] kept fit same = tt
 no_trial w (m ∷ ms) kept fit same =
     let v : Core = after_move w m in

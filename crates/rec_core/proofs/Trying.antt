@@ -40,7 +40,7 @@ loads_child m op named = go m.phase named
 
 -- A word of the heap leads to no slot that was given up, where no release is at work: the fields of those that were given up are
 -- empty, and no other field names one.
-module _ (w : Core) (place : ℕ) (kept : IsKept w) (unreleased : release_due w.collector.phase ≡ None) (unfreed : freeing_due w.collector.phase ≡ None) (inside : place < length w.words) where
+module _ (w : Core) (place : ℕ) (kept : IsKept true w) (unreleased : release_due w.collector.phase ≡ None) (unfreed : freeing_due w.collector.phase ≡ None) (inside : place < length w.words) where
   abbrev word : ℕ
   word = slice_index_or w.words place 0
 
@@ -110,7 +110,7 @@ module _ (w : Core) (place : ℕ) (kept : IsKept w) (unreleased : release_due w.
       go (Some slot) is = let many : length w.collector.counts.slots ≡ w.config.slots = kept.collector.slots in omega (arith, (live_target slot is).0, many)
 
 -- A trial is at work: the field that it loads is one of the heap.
-module _ (w : Core) (m : Machine) (kept : IsKept w) (phase : w.collector.phase ≡ Trying m) where
+module _ (w : Core) (m : Machine) (kept : IsKept true w) (phase : w.collector.phase ≡ Trying m) where
   open w use {collector as c}
 
   now : collector_kept.IsTrying c m
@@ -164,5 +164,5 @@ module _ (w : Core) (m : Machine) (kept : IsKept w) (phase : w.collector.phase �
         }
 
     -- whatever follows
-    pub trying_kept : (q : Private) (turn : Turn) → collector_kept.IsMachine q → TriesOn c (parts_of c) after q turn → IsKept (record w { collector = q })
+    pub trying_kept : (q : Private) (turn : Turn) → collector_kept.IsMachine q → TriesOn c (parts_of c) after q turn → IsKept true (record w { collector = q })
     trying_kept q turn machine on = tries_kept w w.crossing w.words q machine (parts_of c) after turn trying_lands trying_loads on

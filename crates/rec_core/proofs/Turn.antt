@@ -1,5 +1,5 @@
 -- A turn of a heap that keeps what every heap keeps is one, with the answer that its machine gives.
-use Rattle.std.proofs.Common.{◌≡◌, ◌≢◌, ℕ, ◌+◌, ◌-◌, ◌^◌, ◌≤◌, ◌==◌, if◌then◌else◌, List, Option, None, Some, Bool, false, IsNone, slice_set, refl, sym, ap, subst, ◌∙◌, arith}
+use Rattle.std.proofs.Common.{◌≡◌, ◌≢◌, ℕ, ◌+◌, ◌-◌, ◌^◌, ◌≤◌, ◌==◌, if◌then◌else◌, List, Option, None, Some, Bool, false, IsNone, map, slice_set, refl, sym, ap, subst, ◌∙◌, arith, true}
 use Rattle.std.proofs.lemmas.Bool.{eq-eqb, ne_eqb}
 use Rattle.std.proofs.lemmas.List.{set-get_or}
 use Rattle.rec_core.proofs.Common.{crossing_word, Retired, WithCollector, Op, Contents, step_of, turn_of, turn_at, Phase, Idle, Looking, Swapping, Turn, cell, IsMutator, Core, cells_of, box, crossing_of, sight, IsKept, Move, looked_at, left_by, collected, turned, turned_at, EndsRun, Config}
@@ -21,6 +21,18 @@ use Rattle.rec_core.proofs.Runs.{looked_is, move_stays, run_more, turned_kept}
 use Rattle.rec_core.proofs.Shapes.{same_boxes}
 use Rattle.rec_core.proofs.Swept.{turned_sweeps}
 use Rattle.rec_core.proofs.Turning.{some_op, turned_mutators}
+use Rattle.rec_word.specs.Bare.{bare_in, bare_op}
+use Rattle.rec_word.specs.Op.{cell_of}
+use Rattle.rec_mutator.specs.Bare as mutators_bare
+use Rattle.rec_mutator.specs.Private.{Private}
+use Rattle.rec_collector.specs.Bare as collectors_bare
+use Rattle.rec_collector.proofs.Bare as collecting
+use Rattle.rec_core.specs.Bare.{bare_core}
+use Rattle.rec_core.specs.Config.{IsConfig}
+use Rattle.rec_core.specs.Reach.{KeepsReached}
+use Rattle.rec_core.proofs.Bare.{found_bare, mutator_bare}
+use Rattle.rec_core.proofs.BareSeen.{keeps_bare, sweep_bare, turned_behind}
+use Rattle.rec_core.proofs.Dated.{end_explained}
 
 -- the swap of a mailbox changes no number of the collector
 record KeepsNumbers (p q : collectors.Private) : Type 0 where
@@ -88,7 +100,7 @@ collector_left : (w : Core) (op : Op) → ◌≡◌ {A = Option Op} (next_of w.c
 collector_left w op named = ap (λ (x : Option Op). (turned_at w x).collector) named
 
 -- why a turn with an operation answers this
-caused : (w : Core) (op : Op) (taken : collectors.Private) (turn : Turn) → IsKept w → IsKept (turned w) → ◌≡◌ {A = Option Op} (next_of w.collector) (Some op) → taken ≡ took_of w.collector (cell (cells_of w) op)
+caused : (w : Core) (op : Op) (taken : collectors.Private) (turn : Turn) → IsKept true w → IsKept true (turned w) → ◌≡◌ {A = Option Op} (next_of w.collector) (Some op) → taken ≡ took_of w.collector (cell (cells_of w) op)
     → HasCause w.collector (cell (cells_of w) op) taken turn → (turn ≡ turns.EpochsSpent → ⊥) → TurnHasCause w (turned w) turn
 unfolding step_of
 caused w op taken turns.Moved kept later named learns cause none =
@@ -106,7 +118,7 @@ caused w op taken (turns.Collected epoch freed) kept later named learns cause no
 caused w op taken turns.EpochsSpent kept later named learns cause none = absurd (none refl)
 
 -- one epoch more is requested at most
-requests_few : (w v : Core) (turn : Turn) → IsKept w → IsKept v → v.config ≡ w.config → TurnHasCause w v turn → v.epoch ≤ w.epoch + 1
+requests_few : (w v : Core) (turn : Turn) → IsKept true w → IsKept true v → v.config ≡ w.config → TurnHasCause w v turn → v.epoch ≤ w.epoch + 1
 requests_few w v turns.Moved kept later same cause =
     let before : w.config.first_epoch + w.collector.collections + under_way w.collector.phase ≡ w.epoch = kept.collector.begun in
     let after : v.config.first_epoch + v.collector.collections + under_way v.collector.phase ≡ v.epoch = later.collector.begun in
@@ -123,7 +135,7 @@ requests_few w v (turns.Collected epoch freed) kept later same cause =
 requests_few w v turns.EpochsSpent kept later same cause = subst (λ n. n ≤ w.epoch + 1) (sym (ap (λ (x : Core). x.epoch) cause.2)) (omega arith)
 
 -- with or without an operation
-told_cause : (w : Core) → IsKept w → IsKept (turned w) → TurnHasCause w (turned w) (turn_told w)
+told_cause : (w : Core) → IsKept true w → IsKept true (turned w) → TurnHasCause w (turned w) (turn_told w)
 unfolding next_of next_at
 told_cause w kept later = go (next_of w.collector) refl
   where
@@ -145,7 +157,7 @@ told_cause w kept later = go (next_of w.collector) refl
         subst (λ (x : Core). TurnHasCause w x (turn_of c word)) (ap (turned_at w) named) (caused w op (took_of c word) (turn_of c word) kept later named refl cause more)
 
 -- who hasn't crossed is waited for
-told_waiting : (w : Core) (t : ℕ) → IsKept w → w.collector.phase ≡ Looking t → crossing_of w t ≢ crossing_word w.epoch Retired → turn_told w ≡ turns.Waiting t
+told_waiting : (w : Core) (t : ℕ) → IsKept true w → w.collector.phase ≡ Looking t → crossing_of w t ≢ crossing_word w.epoch Retired → turn_told w ≡ turns.Waiting t
 unfolding next_of next_at turn_of turn_at
 told_waiting w t kept looks other =
     let c : collectors.Private = w.collector in
@@ -153,7 +165,7 @@ told_waiting w t kept looks other =
     ap (λ (phase : Phase). told_at w (next_at c phase)) looks ∙ ap (turn_at c (crossing_of w t)) looks ∙ ap (λ (b : Bool). if b then turns.Moved else turns.Waiting t) no
 
 -- where the epochs are spent, that is told
-told_spent : (w : Core) → IsKept w → w.collector.phase ≡ Idle → w.epoch + 1 ≡ 2 ^ 24 → turn_told w ≡ turns.EpochsSpent
+told_spent : (w : Core) → IsKept true w → w.collector.phase ≡ Idle → w.epoch + 1 ≡ 2 ^ 24 → turn_told w ≡ turns.EpochsSpent
 unfolding next_of next_at
 told_spent w kept idle last =
     let c : collectors.Private = w.collector in
@@ -168,31 +180,59 @@ turned_made w = go (next_of w.collector)
     go None = refl
     go (Some op) = refl
 
--- The turn of a heap that some run ends in.
-pub turn_is_one : (w : Core) → IsKept w → EndsRun w → IsTurn w (turned w) (turn_told w)
-turn_is_one w kept run =
-    let after : IsKept (turned w) = turned_kept w kept in
-    let same : (turned w).config ≡ w.config = move_stays w Move.Turns in
-    let cause : TurnHasCause w (turned w) (turn_told w) = told_cause w kept after in
+-- ---- the turn of a heap, by that of the heap of dated words behind it
+
+cause_bare : (w v : Core) (turn : Turn) → TurnHasCause w v turn → TurnHasCause (bare_core w) (bare_core v) turn
+cause_bare w v turns.Moved cause = cause
+cause_bare w v (turns.Waiting t) cause = (cause.0, cause.1, ap bare_core cause.2)
+cause_bare w v (turns.Collected epoch freed) cause = cause
+cause_bare w v turns.EpochsSpent cause = (cause.0, cause.1, ap bare_core cause.2)
+
+told_bare : (v : Core) → turn_told (bare_core v) ≡ turn_told v
+told_bare v = ap (told_at (bare_core v)) (collecting.next_bare v.collector) ∙ go (next_of v.collector) refl
+  where
+    go : (x : Option Op) → ◌≡◌ {A = Option Op} (next_of v.collector) x → told_at (bare_core v) x ≡ told_at v x
+    go None named = refl
+    go (Some op) named =
+        let none : bare_op op ≡ op = collecting.puts_none v.collector op named in
+        let finds : cell (cells_of (bare_core v)) op ≡ bare_in (cell_of op) (cell (cells_of v) op) = ap (cell (cells_of (bare_core v))) (sym none) ∙ found_bare (cells_of v) op in
+        ap (turn_of (collectors_bare.bare_private v.collector)) finds ∙ collecting.turn_bare v.collector (cell (cells_of v) op) op named
+
+turn_behind : (v : Core) → IsKept true v → EndsRun (bare_core (turned v)) → bare_core (turned v) ≡ turned (bare_core v) → IsTurn (bare_core v) (bare_core (turned v)) (turn_told v)
+turn_behind v kept run is =
+    let after : IsKept true (turned v) = turned_kept v kept in
+    let same : (turned v).config ≡ v.config = move_stays v Move.Turns in
+    let cause : TurnHasCause v (turned v) (turn_told v) = told_cause v kept after in
+    let keeps : KeepsReached (sight (bare_core v)) (sight (bare_core (turned v))) = keeps_bare v (turned v) (turned_keeps v kept) in
     record {
-      turned = refl;
-      cause = cause;
-      waiting = λ t. told_waiting w t kept;
-      spent = told_spent w kept;
+      turned = is;
+      cause = cause_bare v (turned v) (turn_told v) cause;
+      waiting = λ t. told_waiting v t kept;
+      spent = told_spent v kept;
       awaited = λ t is.
-          let waits : TurnHasCause w (turned w) (turns.Waiting t) = subst (TurnHasCause w (turned w)) is cause in
-          subst (λ (c : Config). IsMutator c t) (sym same) (looked_is w (Looking t) kept waits.0);
+          let waits : TurnHasCause v (turned v) (turns.Waiting t) = subst (TurnHasCause v (turned v)) is cause in
+          subst (λ (c : Config). IsMutator c t) (sym same) (looked_is v (Looking t) kept waits.0);
       present = λ t is.
-          let waits : TurnHasCause w (turned w) (turns.Waiting t) = subst (TurnHasCause w (turned w)) is cause in
-          awaited_stays w t kept (looked_is w (Looking t) kept waits.0) (record { looks = waits.0; behind = waits.1 });
-      reached = turned_keeps w kept;
-      stands = λ heap number. keeps_stands_by heap (sight w) (sight (turned w)) number (turned_keeps w kept);
-      sweep = turned_sweeps w kept;
-      gone = given_up_are_gone (turned w) after;
-      forgotten = λ slot. freed_is_forgotten w slot kept;
-      requested = requests_few w (turned w) (turn_told w) kept after same cause;
-      mutators = turned_mutators w;
+          let waits : TurnHasCause v (turned v) (turns.Waiting t) = subst (TurnHasCause v (turned v)) is cause in
+          ap (λ (p : Private). p.left) (mutator_bare v t) ∙ awaited_stays v t kept (looked_is v (Looking t) kept waits.0) (record { looks = waits.0; behind = waits.1 });
+      reached = keeps;
+      stands = λ heap number. keeps_stands_by heap (sight (bare_core v)) (sight (bare_core (turned v))) number keeps;
+      sweep = sweep_bare v (turned v) (turned_sweeps v kept);
+      gone = (turned v, refl, given_up_are_gone (turned v) after);
+      forgotten = (v, refl, λ slot. freed_is_forgotten v slot kept);
+      requested = requests_few v (turned v) (turn_told v) kept after same cause;
+      mutators = ap (map mutators_bare.bare_private) (turned_mutators v);
       config = same;
-      made = turned_made w;
-      run = run_more w Move.Turns run tt;
+      made = turned_made v;
+      run = run;
     }
+
+-- The turn of a heap that some run ends in.
+pub turn_is_one : (w : Core) → IsConfig w.config → EndsRun w → IsTurn w (turned w) (turn_told w)
+turn_is_one w config run =
+    let (v, e) = end_explained w config run in
+    let next : EndsRun (turned w) = run_more w Move.Turns run tt in
+    let is : bare_core (turned v) ≡ turned w = turned_behind v w e in
+    let one : IsTurn (bare_core v) (bare_core (turned v)) (turn_told v) = turn_behind v e.kept (subst EndsRun (sym is) next) (is ∙ ap turned (sym e.bare)) in
+    let told : turn_told v ≡ turn_told w = sym (told_bare v) ∙ ap turn_told e.bare in
+    subst (IsTurn w (turned w)) told (subst (λ (u : Core). IsTurn w u (turn_told v)) is (subst (λ (u : Core). IsTurn u (bare_core (turned v)) (turn_told v)) e.bare one))

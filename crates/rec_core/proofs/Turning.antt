@@ -32,11 +32,11 @@ pub some_op : (x y : Op) → ◌≡◌ {A = Option Op} (Some x) (Some y) → x �
 some_op x y is = cc
 
 -- a mutator whose mailbox is looked at, or given back, is there
-pub mutator_at : (w : Core) (t : ℕ) (phase : Phase) → IsKept w → w.collector.phase ≡ phase → (0 < t) × (t ≤ length w.collector.newer) → IsMutator w.config t
+pub mutator_at : {dated : Bool} → (w : Core) (t : ℕ) (phase : Phase) → IsKept dated w → w.collector.phase ≡ phase → (0 < t) × (t ≤ length w.collector.newer) → IsMutator w.config t
 mutator_at w t phase kept is there = let many : length w.collector.newer ≡ w.config.mutators = kept.collector.mutators in (omega (arith, there.0), omega (arith, there.1, many))
 
 -- the freed word rises by one: it is far from its greatest value
-pub freed_more : (w : Core) → IsKept w → (w.freed + 1) % 2 ^ 64 ≡ w.freed + 1
+pub freed_more : {dated : Bool} → (w : Core) → IsKept dated w → (w.freed + 1) % 2 ^ 64 ≡ w.freed + 1
 freed_more w kept =
     let most : w.freed ≤ 2 * w.collector.collections + one_if_sweeping w.collector.phase = kept.sweeps.few in
     let few : w.collector.collections + collector_kept.under_way w.collector.phase ≤ w.collector.epoch = kept.collector.machine.collections in
@@ -53,7 +53,7 @@ freed_more w kept =
 
 -- A turn of a kept heap, with its operation and the word that it finds.
 pub record Turns (w : Core) (op : Op) (word : ℕ) (q : collectors.Private) : Type 0 where
-  pub kept : IsKept w
+  pub kept : IsKept true w
   pub found : word ≡ cell (cells_of w) op
   pub machine : collector_kept.IsMachine q
 
@@ -67,33 +67,33 @@ plain_left w op word q phase is same =
 
 -- each rule
 pub rule_kept : (w : Core) (op : Op) (word : ℕ) (q : collectors.Private) (turn : Turn) → Turns w op word q → Step w.collector word (box w (looked_at w.collector.phase)) (Some op) q turn
-    → IsKept (collected w op word q (left_by w.collector word (box w (looked_at w.collector.phase)) w.collector.phase))
+    → IsKept true (collected w op word q (left_by w.collector word (box w (looked_at w.collector.phase)) w.collector.phase))
 unfolding release_next freeing_next sweeps.started_of sweeps.next_of sweeps.took_of
 rule_kept w op word q turn m (Step.spent idle last none same answer) = let not_so : ◌≡◌ {A = Option Op} (Some op) None = none in absurd (cc)
 rule_kept w op word q turn m (Step.request next idle more named found g) =
     let its : op ≡ ops.StoreEpoch (w.collector.epoch + 1) = some_op op (ops.StoreEpoch (w.collector.epoch + 1)) named in
     let whole = next_kept (requesting w) 0 (requesting_kept w m.kept idle more) (length w.collector.newer) refl next found (subst collector_kept.IsMachine g.after m.machine) in
     let epoch : w.collector.epoch + 1 ≡ w.epoch + 1 = ap (λ n. n + 1) m.kept.collector.epoch in
-    subst IsKept (sym (plain_left w op word q Idle idle refl))
-    (subst (λ o. IsKept (record (collected w o word q (box w 1)) { boxes = w.boxes })) (sym its)
-    (subst (λ n. IsKept (record w { epoch = n; collector = q })) (sym epoch) (subst (λ x. IsKept (record w { epoch = w.epoch + 1; collector = x })) (sym g.after) whole)))
+    subst (IsKept true) (sym (plain_left w op word q Idle idle refl))
+    (subst (λ o. IsKept true (record (collected w o word q (box w 1)) { boxes = w.boxes })) (sym its)
+    (subst (λ n. IsKept true (record w { epoch = n; collector = q })) (sym epoch) (subst (λ x. IsKept true (record w { epoch = w.epoch + 1; collector = x })) (sym g.after) whole)))
 rule_kept w op word q turn m (Step.request_alone idle more named gone on) =
     let its : op ≡ ops.StoreEpoch (w.collector.epoch + 1) = some_op op (ops.StoreEpoch (w.collector.epoch + 1)) named in
     let u : Core = requesting w in
     let epoch : w.collector.epoch + 1 ≡ w.epoch + 1 = ap (λ n. n + 1) m.kept.collector.epoch in
     let home = awaits_kept w u m.kept (Awaits.alone idle (λ last. more (epoch ∙ last)) gone) in
     let whole = clears_kept u u.crossing u.words q m.machine turn (applied_lands u (length w.collector.newer) home refl) (clears_in u.collector.phase on) in
-    subst IsKept (sym (plain_left w op word q Idle idle refl))
-    (subst (λ o. IsKept (record (collected w o word q (box w 1)) { boxes = w.boxes })) (sym its) (subst (λ n. IsKept (record w { epoch = n; collector = q })) (sym epoch) whole))
+    subst (IsKept true) (sym (plain_left w op word q Idle idle refl))
+    (subst (λ o. IsKept true (record (collected w o word q (box w 1)) { boxes = w.boxes })) (sym its) (subst (λ n. IsKept true (record w { epoch = n; collector = q })) (sym epoch) whole))
 rule_kept w op word q turn m (Step.wait t looking other named same answer) =
     let its : op ≡ ops.LookBox t w.collector.epoch = some_op op (ops.LookBox t w.collector.epoch) named in
     let at : word ≡ slice_index_or w.crossing (t - 1) 0 = m.found ∙ ap (cell (cells_of w)) its in
     let left : left_by w.collector word (box w t) (Looking t) ≡ box w t = cond-false (word == crossing_word w.collector.epoch Retired) (collectors.spare w.collector) (box w t) (ne_eqb word (crossing_word w.collector.epoch Retired) other) in
     let stays : written (ops.LookBox t w.collector.epoch) word ≡ word = cond-false (word == crossing_word w.collector.epoch Retired) (crossing_word w.collector.epoch WithCollector) word (ne_eqb word (crossing_word w.collector.epoch Retired) other) in
     let crossing : slice_set w.crossing (t - 1) (written (ops.LookBox t w.collector.epoch) word) ≡ w.crossing = ap (slice_set w.crossing (t - 1)) (stays ∙ at) ∙ set-get_or w.crossing (t - 1) 0 in
-    subst IsKept (sym (plain_left w op word q (Looking t) looking left))
-    (subst (λ o. IsKept (record (collected w o word q (box w 1)) { boxes = w.boxes })) (sym its)
-    (subst (λ cs. IsKept (record w { crossing = cs; collector = q })) (sym crossing) (subst (λ x. IsKept (record w { collector = x })) (sym same) m.kept)))
+    subst (IsKept true) (sym (plain_left w op word q (Looking t) looking left))
+    (subst (λ o. IsKept true (record (collected w o word q (box w 1)) { boxes = w.boxes })) (sym its)
+    (subst (λ cs. IsKept true (record w { crossing = cs; collector = q })) (sym crossing) (subst (λ x. IsKept true (record w { collector = x })) (sym same) m.kept)))
 rule_kept w op word q turn m (Step.gather t looking crossed named g) =
     let its : op ≡ ops.LookBox t w.collector.epoch = some_op op (ops.LookBox t w.collector.epoch) named in
     let at : word ≡ slice_index_or w.crossing (t - 1) 0 = m.found ∙ ap (cell (cells_of w)) its in
@@ -108,21 +108,21 @@ rule_kept w op word q turn m (Step.gather t looking crossed named g) =
     = g.after ∙ ap (λ (phase : Phase). record w.collector { newer = slice_set w.collector.newer (t - 1) (box w (looked_at phase)); phase = Returning t; turns = w.collector.turns + 1 }) looking in
     let whole = gathered_kept w t m.kept looking is has (subst collector_kept.IsMachine after m.machine) in
     let leaves : Phase → Core = λ f. collected (record w { collector = record w.collector { phase = f } }) op word q (left_by w.collector word (box w (looked_at f)) f) in
-    subst IsKept (sym (ap leaves looking))
-    (subst (λ o. IsKept (collected (record w { collector = record w.collector { phase = Looking t } }) o word q (left_by w.collector word (box w t) (Looking t)))) (sym its)
-    (subst (λ (x : Contents). IsKept (record w { crossing = slice_set w.crossing (t - 1) (written (ops.LookBox t w.collector.epoch) word); boxes = slice_set w.boxes (t - 1) x; collector = q })) (sym (cond-true b (collectors.spare w.collector) (box w t) yes))
-    (subst (λ (n : ℕ). IsKept (record w { crossing = slice_set w.crossing (t - 1) n; boxes = slice_set w.boxes (t - 1) (collectors.spare w.collector); collector = q })) (sym next)
-    (subst (λ x. IsKept (record w { crossing = slice_set w.crossing (t - 1) (crossing_word w.epoch WithCollector); boxes = slice_set w.boxes (t - 1) (collectors.spare w.collector); collector = x })) (sym after) whole))))
+    subst (IsKept true) (sym (ap leaves looking))
+    (subst (λ o. IsKept true (collected (record w { collector = record w.collector { phase = Looking t } }) o word q (left_by w.collector word (box w t) (Looking t)))) (sym its)
+    (subst (λ (x : Contents). IsKept true (record w { crossing = slice_set w.crossing (t - 1) (written (ops.LookBox t w.collector.epoch) word); boxes = slice_set w.boxes (t - 1) x; collector = q })) (sym (cond-true b (collectors.spare w.collector) (box w t) yes))
+    (subst (λ (n : ℕ). IsKept true (record w { crossing = slice_set w.crossing (t - 1) n; boxes = slice_set w.boxes (t - 1) (collectors.spare w.collector); collector = q })) (sym next)
+    (subst (λ x. IsKept true (record w { crossing = slice_set w.crossing (t - 1) (crossing_word w.epoch WithCollector); boxes = slice_set w.boxes (t - 1) (collectors.spare w.collector); collector = x })) (sym after) whole))))
 rule_kept w op word q turn m (Step.give_back t next returning named found g) =
     let its : op ≡ ops.ReturnBox t w.collector.epoch = some_op op (ops.ReturnBox t w.collector.epoch) named in
     let epoch : w.collector.epoch ≡ w.epoch = m.kept.collector.epoch in
     let now = now_at w (Returning t) m.kept returning in
     let is : IsMutator w.config t = mutator_at w t (Returning t) m.kept returning (now.first, now.there) in
     let whole = next_kept (giving_back w t) t (giving_back_kept w t m.kept returning is) (length w.collector.newer) refl next found (subst collector_kept.IsMachine g.after m.machine) in
-    subst IsKept (sym (plain_left w op word q (Returning t) returning refl))
-    (subst (λ o. IsKept (record (collected w o word q (box w 1)) { boxes = w.boxes })) (sym its)
-    (subst (λ n. IsKept (record w { crossing = slice_set w.crossing (t - 1) (crossing_word n Spare); collector = q })) (sym epoch)
-    (subst (λ x. IsKept (record w { crossing = slice_set w.crossing (t - 1) (crossing_word w.epoch Spare); collector = x })) (sym g.after) whole)))
+    subst (IsKept true) (sym (plain_left w op word q (Returning t) returning refl))
+    (subst (λ o. IsKept true (record (collected w o word q (box w 1)) { boxes = w.boxes })) (sym its)
+    (subst (λ n. IsKept true (record w { crossing = slice_set w.crossing (t - 1) (crossing_word n Spare); collector = q })) (sym epoch)
+    (subst (λ x. IsKept true (record w { crossing = slice_set w.crossing (t - 1) (crossing_word w.epoch Spare); collector = x })) (sym g.after) whole)))
 rule_kept w op word q turn m (Step.apply t returning named gone on) =
     let its : op ≡ ops.ReturnBox t w.collector.epoch = some_op op (ops.ReturnBox t w.collector.epoch) named in
     let epoch : w.collector.epoch ≡ w.epoch = m.kept.collector.epoch in
@@ -131,12 +131,12 @@ rule_kept w op word q turn m (Step.apply t returning named gone on) =
     let u : Core = giving_back w t in
     let home = awaits_kept w u m.kept (Awaits.last t is returning gone) in
     let whole = clears_kept u u.crossing u.words q m.machine turn (applied_lands u (length w.collector.newer) home refl) (clears_in u.collector.phase on) in
-    subst IsKept (sym (plain_left w op word q (Returning t) returning refl))
-    (subst (λ o. IsKept (record (collected w o word q (box w 1)) { boxes = w.boxes })) (sym its)
-    (subst (λ n. IsKept (record w { crossing = slice_set w.crossing (t - 1) (crossing_word n Spare); collector = q })) (sym epoch) whole))
+    subst (IsKept true) (sym (plain_left w op word q (Returning t) returning refl))
+    (subst (λ o. IsKept true (record (collected w o word q (box w 1)) { boxes = w.boxes })) (sym its)
+    (subst (λ n. IsKept true (record w { crossing = slice_set w.crossing (t - 1) (crossing_word n Spare); collector = q })) (sym epoch) whole))
 rule_kept w op word q turn m (Step.release release releasing named on) = go release.at refl
   where
-    go : (x : Option At) → release.at ≡ x → IsKept (collected w op word q (left_by w.collector word (box w (looked_at w.collector.phase)) w.collector.phase))
+    go : (x : Option At) → release.at ≡ x → IsKept true (collected w op word q (left_by w.collector word (box w (looked_at w.collector.phase)) w.collector.phase))
     go None at = let not_so : ◌≡◌ {A = Option Op} (Some op) None = named ∙ ap (release_op_at release.fields) at in absurd (cc)
     go (Some a) at =
         let place : ℕ = place_of a.slot a.field w.config.fields in
@@ -144,10 +144,10 @@ rule_kept w op word q turn m (Step.release release releasing named on) = go rele
         let its : op ≡ ops.ClearField place = some_op op (ops.ClearField place) (named ∙ ap (release_op_at release.fields) at ∙ ap (λ n. Some (ops.ClearField (place_of a.slot a.field n))) fields) in
         let found : word ≡ slice_index_or w.words place 0 = m.found ∙ ap (cell (cells_of w)) its in
         let whole = clears_kept w w.crossing (slice_set w.words place 0) q m.machine turn (released_lands w release a m.kept releasing at) (subst (λ n. ClearsOn w.collector q turn (with_released release (parts_of w.collector) n)) found on) in
-        subst IsKept (sym (plain_left w op word q (Releasing release) releasing refl)) (subst (λ o. IsKept (record (collected w o word q (box w 1)) { boxes = w.boxes })) (sym its) whole)
+        subst (IsKept true) (sym (plain_left w op word q (Releasing release) releasing refl)) (subst (λ o. IsKept true (record (collected w o word q (box w 1)) { boxes = w.boxes })) (sym its) whole)
 rule_kept w op word q turn m (Step.freeing freeing is_freeing named on) = go freeing.at refl
   where
-    go : (x : Option Member) → freeing.at ≡ x → IsKept (collected w op word q (left_by w.collector word (box w (looked_at w.collector.phase)) w.collector.phase))
+    go : (x : Option Member) → freeing.at ≡ x → IsKept true (collected w op word q (left_by w.collector word (box w (looked_at w.collector.phase)) w.collector.phase))
     go None at = let not_so : ◌≡◌ {A = Option Op} (Some op) None = named ∙ ap (freeing_op_at freeing.fields) at in absurd (cc)
     go (Some a) at =
         let place : ℕ = place_of a.slot a.field w.config.fields in
@@ -155,14 +155,14 @@ rule_kept w op word q turn m (Step.freeing freeing is_freeing named on) = go fre
         let its : op ≡ ops.ClearField place = some_op op (ops.ClearField place) (named ∙ ap (freeing_op_at freeing.fields) at ∙ ap (λ n. Some (ops.ClearField (place_of a.slot a.field n))) fields) in
         let found : word ≡ slice_index_or w.words place 0 = m.found ∙ ap (cell (cells_of w)) its in
         let whole = clears_kept w w.crossing (slice_set w.words place 0) q m.machine turn (freed_lands w freeing a m.kept is_freeing at) (subst (λ n. ClearsOn w.collector q turn (with_freed freeing (parts_of w.collector) n)) found on) in
-        subst IsKept (sym (plain_left w op word q (Freeing freeing) is_freeing refl)) (subst (λ o. IsKept (record (collected w o word q (box w 1)) { boxes = w.boxes })) (sym its) whole)
+        subst (IsKept true) (sym (plain_left w op word q (Freeing freeing) is_freeing refl)) (subst (λ o. IsKept true (record (collected w o word q (box w 1)) { boxes = w.boxes })) (sym its) whole)
 rule_kept w op word q turn m (Step.trial trial trying named on) =
     let (place, its) = loads_child trial op named in
     let found : word ≡ slice_index_or w.words place 0 = m.found ∙ ap (cell (cells_of w)) its in
     let stays : slice_set w.words place word ≡ w.words = ap (slice_set w.words place) found ∙ set-get_or w.words place 0 in
     let whole = trying_kept w trial m.kept trying place (sym named ∙ ap (λ o. Some o) its) q turn m.machine (subst (λ n. TriesOn w.collector (parts_of w.collector) (tried_of (record { machine = trial; counts = w.collector.counts }) (visible w.collector.counts n)) q turn) found on) in
-    subst IsKept (sym (plain_left w op word q (Trying trial) trying refl))
-    (subst (λ o. IsKept (record (collected w o word q (box w 1)) { boxes = w.boxes })) (sym its) (subst (λ ws. IsKept (record w { words = ws; collector = q })) (sym stays) whole))
+    subst (IsKept true) (sym (plain_left w op word q (Trying trial) trying refl))
+    (subst (λ o. IsKept true (record (collected w o word q (box w 1)) { boxes = w.boxes })) (sym its) (subst (λ ws. IsKept true (record w { words = ws; collector = q })) (sym stays) whole))
 rule_kept w op word q turn m (Step.preparation prep preparing named on) =
     let (a, at, due) = loads_due prep op (sym named) in
     let place : ℕ = place_of a.member.slot a.member.field w.config.fields in
@@ -171,16 +171,16 @@ rule_kept w op word q turn m (Step.preparation prep preparing named on) =
     let found : word ≡ slice_index_or w.words place 0 = m.found ∙ ap (cell (cells_of w)) its in
     let stays : slice_set w.words place word ≡ w.words = ap (slice_set w.words place) found ∙ set-get_or w.words place 0 in
     let whole = preparing_kept w prep m.kept preparing a at q turn m.machine (subst (λ n. PreparesOn w.collector (parts_of w.collector) (loaded_of (record { machine = prep; counts = w.collector.counts }) n) q turn) found on) in
-    subst IsKept (sym (plain_left w op word q (Preparing prep) preparing refl))
-    (subst (λ o. IsKept (record (collected w o word q (box w 1)) { boxes = w.boxes })) (sym its) (subst (λ ws. IsKept (record w { words = ws; collector = q })) (sym stays) whole))
+    subst (IsKept true) (sym (plain_left w op word q (Preparing prep) preparing refl))
+    (subst (λ o. IsKept true (record (collected w o word q (box w 1)) { boxes = w.boxes })) (sym its) (subst (λ ws. IsKept true (record w { words = ws; collector = q })) (sym stays) whole))
 rule_kept w op word q turn m (Step.begin_sweep opening named g) =
     let its : op ≡ ops.AddFreed = some_op op ops.AddFreed named in
     let found : word ≡ w.freed = m.found ∙ ap (cell (cells_of w)) its in
     let more : (word + 1) % 2 ^ 64 ≡ w.freed + 1 = ap (λ n. (n + 1) % 2 ^ 64) found ∙ freed_more w m.kept in
     let whole = began_kept w _ m.kept opening (subst collector_kept.IsMachine (begun_after g.after) m.machine) in
-    subst IsKept (sym (plain_left w op word q Opening opening refl))
-    (subst (λ o. IsKept (record (collected w o word q (box w 1)) { boxes = w.boxes })) (sym its)
-    (subst (λ n. IsKept (record w { freed = n; collector = q })) (sym more) (subst (λ x. IsKept (record w { freed = w.freed + 1; collector = x })) (sym (begun_after g.after)) whole)))
+    subst (IsKept true) (sym (plain_left w op word q Opening opening refl))
+    (subst (λ o. IsKept true (record (collected w o word q (box w 1)) { boxes = w.boxes })) (sym its)
+    (subst (λ n. IsKept true (record w { freed = n; collector = q })) (sym more) (subst (λ x. IsKept true (record w { freed = w.freed + 1; collector = x })) (sym (begun_after g.after)) whole)))
   where
     begun_after : q ≡ record w.collector { counts = (sweeps.started_of w.collector.counts).counts; phase = Sweeping (sweeps.started_of w.collector.counts).due 0; turns = w.collector.turns + 1 }
         → q ≡ record w.collector { phase = Sweeping (sweeps.started_of w.collector.counts).due 0; turns = w.collector.turns + 1 }
@@ -191,9 +191,9 @@ rule_kept w op word q turn m (Step.sweep (Some x) swept u next sweeping named to
     let after : q ≡ record w.collector { counts = sweeps.swept w.collector.counts x; freed = w.collector.freed + 1; phase = next; turns = w.collector.turns + 1 }
     = g.after ∙ ap (λ (v : sweeps.Work). record w.collector { counts = v.counts; freed = w.collector.freed + 1; phase = next; turns = w.collector.turns + 1 }) took in
     let whole = swept_kept w swept x m.kept sweeping next (still next follows) (subst collector_kept.IsMachine after m.machine) in
-    subst IsKept (sym (plain_left w op word q (Sweeping (Some x) swept) sweeping refl))
-    (subst (λ o. IsKept (record (collected w o word q (box w 1)) { boxes = w.boxes })) (sym its)
-    (subst (λ y. IsKept (record w { headers = slice_set w.headers x 0; collector = y })) (sym after) whole))
+    subst (IsKept true) (sym (plain_left w op word q (Sweeping (Some x) swept) sweeping refl))
+    (subst (λ o. IsKept true (record (collected w o word q (box w 1)) { boxes = w.boxes })) (sym its)
+    (subst (λ y. IsKept true (record w { headers = slice_set w.headers x 0; collector = y })) (sym after) whole))
   where
     still : (n : Phase) → IsNext swept u n → IsStillSweeping w swept x m.kept sweeping n
     still n (IsNext.more some is) = subst (IsStillSweeping w swept x m.kept sweeping) (sym is) (record { sweeping = refl; way = refl; applied = λ e. refl; older = λ e. refl; stands = λ s. refl; held = λ v. tt; between = tt; some = tt; waits = λ p d h. h })
@@ -203,9 +203,9 @@ rule_kept w op word q turn m (Step.end_sweep swept closing named e) =
     let found : word ≡ w.freed = m.found ∙ ap (cell (cells_of w)) its in
     let more : (word + 1) % 2 ^ 64 ≡ w.freed + 1 = ap (λ n. (n + 1) % 2 ^ 64) found ∙ freed_more w m.kept in
     let whole = ended_kept w swept m.kept closing (subst collector_kept.IsMachine e.after m.machine) in
-    subst IsKept (sym (plain_left w op word q (Closing swept) closing refl))
-    (subst (λ o. IsKept (record (collected w o word q (box w 1)) { boxes = w.boxes })) (sym its)
-    (subst (λ n. IsKept (record w { freed = n; collector = q })) (sym more) (subst (λ x. IsKept (record w { freed = w.freed + 1; collector = x })) (sym e.after) whole)))
+    subst (IsKept true) (sym (plain_left w op word q (Closing swept) closing refl))
+    (subst (λ o. IsKept true (record (collected w o word q (box w 1)) { boxes = w.boxes })) (sym its)
+    (subst (λ n. IsKept true (record w { freed = n; collector = q })) (sym more) (subst (λ x. IsKept true (record w { freed = w.freed + 1; collector = x })) (sym e.after) whole)))
 
 -- what holds of a turn without an operation, and of each with one, holds of the turn that comes next
 pub turn_case : (w : Core) (P : Option Op → Core → Type 0) → (collector_next.next_of w.collector ≡ None → P None w) → ((op : Op) → ◌≡◌ {A = Option Op} (collector_next.next_of w.collector) (Some op) → P (Some op) (turned_by w op (cell (cells_of w) op)))

@@ -13,7 +13,7 @@ use Rattle.rec_core.proofs.Moves.{spare_names}
 use Rattle.rec_core.proofs.Sums.{share, box_share, zip_sum-none}
 
 -- a spare of the collector is one of the heap
-pub its_spare : {config : Config} {requested : ℕ} {words : List ℕ} {c : collectors.Private} → HasCollector config requested words c → collectors.spare c ≡ spare_of config
+pub its_spare : {dated : Bool} → {config : Config} {requested : ℕ} {words : List ℕ} {c : collectors.Private} → HasCollector dated config requested words c → collectors.spare c ≡ spare_of config
 its_spare {config = config} {c = c} k = ap (λ (n : ℕ). collectors.blank n c.capacity) k.registers ∙ ap (collectors.blank config.registers) k.capacity
 
 -- what a spare adds to sums
@@ -42,28 +42,28 @@ spare_boxes g f config mutators boxes nothing spares = zip_sum-none (box_share g
     none i _ here = let epoch : ℕ = epoch_at (slice_index_or mutators i nobody) - 1 in ap (share g f epoch) (spares i here) ∙ nothing.nothing epoch
 
 -- the collector's machine in its phase
-pub now_in : {stands : (t : ℕ) → Handshake} (w : Core) (phase : Phase) → IsKeptBy stands w → w.collector.phase ≡ phase → collector_kept.IsAt w.collector phase
+pub now_in : {dated : Bool} → {stands : (t : ℕ) → Handshake} (w : Core) (phase : Phase) → IsKeptBy dated stands w → w.collector.phase ≡ phase → collector_kept.IsAt w.collector phase
 now_in w phase kept is = subst (collector_kept.IsAt w.collector) is kept.collector.machine.now
 
-pub now_at : (w : Core) (phase : Phase) → IsKept w → w.collector.phase ≡ phase → collector_kept.IsAt w.collector phase
+pub now_at : {dated : Bool} → (w : Core) (phase : Phase) → IsKept dated w → w.collector.phase ≡ phase → collector_kept.IsAt w.collector phase
 now_at w phase kept is = now_in w phase kept.whole is
 
 -- what is known of the sets in that phase
-pub cycles_in : {stands : (t : ℕ) → Handshake} (w : Core) (phase : Phase) → IsKeptBy stands w → w.collector.phase ≡ phase → HasCyclesAt (pending w) w.collector phase
+pub cycles_in : {stands : (t : ℕ) → Handshake} (w : Core) (phase : Phase) → IsKeptBy true stands w → w.collector.phase ≡ phase → HasCyclesAt (pending w) w.collector phase
 cycles_in w phase kept is = subst (HasCyclesAt (pending w) w.collector) is kept.cycles
 
 -- and that no member of theirs is given up before the next batch
-pub alive_in : {stands : (t : ℕ) → Handshake} (w : Core) (phase : Phase) → IsKeptBy stands w → w.collector.phase ≡ phase → AreAliveAt (λ node. (slot_of w node).released) w.collector.counts phase
+pub alive_in : {stands : (t : ℕ) → Handshake} (w : Core) (phase : Phase) → IsKeptBy true stands w → w.collector.phase ≡ phase → AreAliveAt (λ node. (slot_of w node).released) w.collector.counts phase
 alive_in w phase kept is = machine_alive w.collector phase kept.collector.machine (now_in w phase kept is)
 
 -- which fields of slots that were given up are still to be emptied, in that phase
-pub emptied_in : {stands : (t : ℕ) → Handshake} (w : Core) (phase : Phase) → IsKeptBy stands w → w.collector.phase ≡ phase → (x f : ℕ) → x < w.config.slots → f < w.config.fields → (slot_at w.collector.counts x).released ≡ true
+pub emptied_in : {dated : Bool} → {stands : (t : ℕ) → Handshake} (w : Core) (phase : Phase) → IsKeptBy dated stands w → w.collector.phase ≡ phase → (x f : ℕ) → x < w.config.slots → f < w.config.fields → (slot_at w.collector.counts x).released ≡ true
     → IsLeft (release_due phase) x f ⊎ (IsLeftOf w.collector.counts.work (freeing_due phase) x f ⊎ (slice_index_or w.words (place_of x f w.config.fields) 0 ≡ 0))
 emptied_in w phase kept is x f below within released =
     subst (λ (p : Phase). IsLeft (release_due p) x f ⊎ (IsLeftOf w.collector.counts.work (freeing_due p) x f ⊎ (slice_index_or w.words (place_of x f w.config.fields) 0 ≡ 0))) is (kept.collector.emptied x f below within released)
 
 -- a mutator's number, by its place
-pub numbered : (w : Core) (i : ℕ) → IsKept w → i < w.config.mutators → IsMutator w.config (i + 1)
+pub numbered : {dated : Bool} → (w : Core) (i : ℕ) → IsKept dated w → i < w.config.mutators → IsMutator w.config (i + 1)
 numbered w i kept below = (omega arith, omega arith)
 
 -- a turn that moves what is pending and loses nothing
@@ -81,10 +81,10 @@ same_drops p q writes births snapshots = record {
 
 -- all mutators, where the collector changes one's crossing word and mailbox, and each other one stands where it stood
 pub collector_moves : {config : Config} {requested : ℕ} {stands next : (t : ℕ) → Handshake} {mutators : List Private} {crossing : List ℕ} {boxes : List Contents} (t word : ℕ) (b : Contents)
-    → HasMutators config requested stands mutators crossing boxes → IsMutator config t
-    → IsActor config requested (next t) t (slice_index_or mutators (t - 1) nobody) word b
+    → HasMutators true config requested stands mutators crossing boxes → IsMutator config t
+    → IsActor true config requested (next t) t (slice_index_or mutators (t - 1) nobody) word b
     → ((s : ℕ) → IsMutator config s → s ≢ t → next s ≡ stands s)
-    → HasMutators config requested next mutators (slice_set crossing (t - 1) word) (slice_set boxes (t - 1) b)
+    → HasMutators true config requested next mutators (slice_set crossing (t - 1) word) (slice_set boxes (t - 1) b)
 collector_moves {config = config} {requested = requested} {stands = stands} {next = next} {mutators = mutators} {crossing = crossing} {boxes = boxes} t word b m is own others =
     let words : length crossing ≡ config.mutators = m.words in
     let mailboxes : length boxes ≡ config.mutators = m.mailboxes in
@@ -96,14 +96,14 @@ collector_moves {config = config} {requested = requested} {stands = stands} {nex
         | inl same ↦
             let word_is : slice_index_or (slice_set crossing (t - 1) word) (s - 1) 0 ≡ word = ap (λ n. slice_index_or (slice_set crossing (t - 1) word) (n - 1) 0) same ∙ get_or-set_same crossing (t - 1) word 0 (omega (arith, is.0, is.1)) in
             let box_is : slice_index_or (slice_set boxes (t - 1) b) (s - 1) (collectors.blank 0 0) ≡ b = ap (λ n. slice_index_or (slice_set boxes (t - 1) b) (n - 1) (collectors.blank 0 0)) same ∙ get_or-set_same boxes (t - 1) b (collectors.blank 0 0) (omega (arith, is.0, is.1)) in
-            subst (λ (x : ℕ). IsActor config requested (next s) s (slice_index_or mutators (s - 1) nobody) x (slice_index_or (slice_set boxes (t - 1) b) (s - 1) (collectors.blank 0 0))) (sym word_is)
-            (subst (λ (x : Contents). IsActor config requested (next s) s (slice_index_or mutators (s - 1) nobody) word x) (sym box_is)
-            (subst (λ (n : ℕ). IsActor config requested (next n) n (slice_index_or mutators (n - 1) nobody) word b) (sym same) own))
+            subst (λ (x : ℕ). IsActor true config requested (next s) s (slice_index_or mutators (s - 1) nobody) x (slice_index_or (slice_set boxes (t - 1) b) (s - 1) (collectors.blank 0 0))) (sym word_is)
+            (subst (λ (x : Contents). IsActor true config requested (next s) s (slice_index_or mutators (s - 1) nobody) word x) (sym box_is)
+            (subst (λ (n : ℕ). IsActor true config requested (next n) n (slice_index_or mutators (n - 1) nobody) word b) (sym same) own))
         | inr other ↦
             let apart : (s - 1) ≢ (t - 1) = λ e. other (omega (arith, is.0, there.0)) in
             let a = m.each s there in
-            subst (λ (x : ℕ). IsActor config requested (next s) s (slice_index_or mutators (s - 1) nobody) x (slice_index_or (slice_set boxes (t - 1) b) (s - 1) (collectors.blank 0 0))) (sym (get_or-set_other crossing (t - 1) (s - 1) word 0 apart))
-            (subst (λ (x : Contents). IsActor config requested (next s) s (slice_index_or mutators (s - 1) nobody) (slice_index_or crossing (s - 1) 0) x) (sym (get_or-set_other boxes (t - 1) (s - 1) b (collectors.blank 0 0) apart))
+            subst (λ (x : ℕ). IsActor true config requested (next s) s (slice_index_or mutators (s - 1) nobody) x (slice_index_or (slice_set boxes (t - 1) b) (s - 1) (collectors.blank 0 0))) (sym (get_or-set_other crossing (t - 1) (s - 1) word 0 apart))
+            (subst (λ (x : Contents). IsActor true config requested (next s) s (slice_index_or mutators (s - 1) nobody) (slice_index_or crossing (s - 1) 0) x) (sym (get_or-set_other boxes (t - 1) (s - 1) b (collectors.blank 0 0) apart))
             (record {
               own = a.own;
               log = a.log;
@@ -122,7 +122,7 @@ stands_as left s same = ap (λ stand. if has_left left s then Handshake.Gone els
 
 -- all mutators, where each stands where it stood
 pub phase_moves : {config : Config} {requested : ℕ} {stands next : (t : ℕ) → Handshake} {mutators : List Private} {crossing : List ℕ} {boxes : List Contents}
-    → HasMutators config requested stands mutators crossing boxes → ((s : ℕ) → IsMutator config s → next s ≡ stands s) → HasMutators config requested next mutators crossing boxes
+    → HasMutators true config requested stands mutators crossing boxes → ((s : ℕ) → IsMutator config s → next s ≡ stands s) → HasMutators true config requested next mutators crossing boxes
 phase_moves {config = config} {requested = requested} {mutators = mutators} {crossing = crossing} {boxes = boxes} m same =
     record {
       many = m.many;

@@ -1,5 +1,5 @@
 -- Steps of a mutator that finish nothing: what they leave, how many they are, and that each comes nearer to the end.
-use Rattle.std.proofs.Common.{◌≡◌, ◌≢◌, inl, inr, ℕ, ◌+◌, ◌-◌, ◌<◌, ◌≤◌, Option, None, Some, IfSome, true, false, refl, sym, ap, subst, ◌∙◌, arith}
+use Rattle.std.proofs.Common.{◌≡◌, ◌≢◌, inl, inr, ℕ, ◌+◌, ◌-◌, ◌<◌, ◌≤◌, Option, None, Some, IfSome, true, false, refl, sym, ap, subst, ◌∙◌, arith, Bool}
 use Rattle.std.specs.Option.{is_none}
 use Rattle.std.proofs.lemmas.Bool.{false≢true}
 use Rattle.std.proofs.lemmas.List.{set-set, set-get_or}
@@ -92,7 +92,7 @@ works_found : (w v : Core) (t from : ℕ) (phase : Phase) → OnlyWorks w v t �
 works_found w v t from phase only is = subst (λ (x : Core). HasFound x from phase) (sym only.others) (found_same w t (mutator v t) from phase is)
 
 -- the begin of a work changes nothing but the work
-pub begun_works : (w : Core) (t : ℕ) (work : Work) (from : ℕ) → IsKept w → IsMutator w.config t → OnlyWorks w (begun_from w t work from) t
+pub begun_works : {dated : Bool} → (w : Core) (t : ℕ) (work : Work) (from : ℕ) → IsKept dated w → IsMutator w.config t → OnlyWorks w (begun_from w t work from) t
 unfolding begun_of
 begun_works w t work from kept is =
     let here : mutator (begun_from w t work from) t ≡ begun_of (mutator w t) work from = mutator_left w t (begun_of (mutator w t) work from) kept is in
@@ -150,21 +150,21 @@ answered_idle (Finished its other) made is = refl
 answered_idle _ made is = let not_so : ◌≡◌ {A = Option Made} None (Some made) = is in (cc)
 
 -- the step that a mutator makes
-pub its_step : (w : Core) (t : ℕ) → IsKept w → IsMutator w.config t → is_busy (mutator w t) ≡ true → Step (mutator w t) (found_by w t) (box w t) (next_of (mutator w t)) (step_of (mutator w t) (found_by w t) (box w t))
+pub its_step : {dated : Bool} → (w : Core) (t : ℕ) → IsKept dated w → IsMutator w.config t → is_busy (mutator w t) ≡ true → Step (mutator w t) (found_by w t) (box w t) (next_of (mutator w t)) (step_of (mutator w t) (found_by w t) (box w t))
 its_step w t kept is busy = step_made (mutator w t) (found_by w t) (box w t) busy (actor_of w t kept is).own.between
 
 -- the work of a mutator stays the same in its step
-pub work_stays : (w : Core) (t : ℕ) → IsKept w → IsMutator w.config t → is_busy (mutator w t) ≡ true → work_of (mutator (stepped w t) t) ≡ work_of (mutator w t)
+pub work_stays : {dated : Bool} → (w : Core) (t : ℕ) → IsKept dated w → IsMutator w.config t → is_busy (mutator w t) ≡ true → work_of (mutator (stepped w t) t) ≡ work_of (mutator w t)
 work_stays w t kept is busy = ap work_of (stepped_mutator w t kept is) ∙ (step_keeps (its_box w t kept is).capacity (its_step w t kept is busy)).1
 
 -- after a step a mutator is busy just where nothing was answered
-pub step_busy : (w : Core) (t : ℕ) → IsKept w → IsMutator w.config t → is_busy (mutator w t) ≡ true → is_busy (mutator (stepped w t) t) ≡ is_none (answer_of (mutator (stepped w t) t))
+pub step_busy : {dated : Bool} → (w : Core) (t : ℕ) → IsKept dated w → IsMutator w.config t → is_busy (mutator w t) ≡ true → is_busy (mutator (stepped w t) t) ≡ is_none (answer_of (mutator (stepped w t) t))
 step_busy w t kept is busy =
     let (work, its) = busy_work (mutator w t).phase busy in
     busy_told (mutator (stepped w t) t).phase work (work_stays w t kept is busy ∙ its)
 
 -- a step counts
-pub steps_counted : (w : Core) (t : ℕ) → IsKept w → IsMutator w.config t → is_busy (mutator w t) ≡ true → (mutator (stepped w t) t).steps ≡ (mutator w t).steps + 1
+pub steps_counted : {dated : Bool} → (w : Core) (t : ℕ) → IsKept dated w → IsMutator w.config t → is_busy (mutator w t) ≡ true → (mutator (stepped w t) t).steps ≡ (mutator w t).steps + 1
 steps_counted w t kept is busy = ap (λ (p : Private). p.steps) (stepped_mutator w t kept is) ∙ step_counts (its_step w t kept is busy)
 
 -- the steps of a work are within its limit
@@ -183,7 +183,7 @@ limit_at p Parting is = let two : p.steps ≡ 2 = is.0 in omega arith
 limit_at p (Finished work made) is = is
 
 -- those of a mutator
-pub steps_limited : (w : Core) (t : ℕ) → IsKept w → IsMutator w.config t → IfSome (work_of (mutator w t)) (λ work. (mutator w t).steps ≤ limit_of w.config.slots work)
+pub steps_limited : {dated : Bool} → (w : Core) (t : ℕ) → IsKept dated w → IsMutator w.config t → IfSome (work_of (mutator w t)) (λ work. (mutator w t).steps ≤ limit_of w.config.slots work)
 steps_limited w t kept is =
     let own = (actor_of w t kept is).own in
     subst (λ n. IfSome (work_of (mutator w t)) (λ work. (mutator w t).steps ≤ limit_of n work)) own.slots (limit_at (mutator w t) (mutator w t).phase own.machine.now)
@@ -198,13 +198,13 @@ most_at slots steps (Some (works.Command commands.Leave)) work some is few = let
 most_at slots steps (Some works.Poll) work some is few = let three : steps ≤ 3 = few in omega arith
 most_at slots steps _ work some is few = let one : steps ≤ 1 = few in omega arith
 
-most_steps : (w : Core) (t : ℕ) → IsKept w → IsMutator w.config t → is_busy (mutator w t) ≡ true → (mutator w t).steps ≤ w.config.slots + 2
+most_steps : {dated : Bool} → (w : Core) (t : ℕ) → IsKept dated w → IsMutator w.config t → is_busy (mutator w t) ≡ true → (mutator w t).steps ≤ w.config.slots + 2
 most_steps w t kept is busy =
     let (work, its) = busy_work (mutator w t).phase busy in
     most_at w.config.slots (mutator w t).steps (work_of (mutator w t)) work kept.config.some_slots its (steps_limited w t kept is)
 
 -- a loop of steps comes nearer to its end
-pub nearer : (before w v : Core) (t : ℕ) → IsKept w → IsMutator w.config t → is_busy (mutator w t) ≡ true → Waits before w t → v ≡ stepped w t
+pub nearer : {dated : Bool} → (before w v : Core) (t : ℕ) → IsKept dated w → IsMutator w.config t → is_busy (mutator w t) ≡ true → Waits before w t → v ≡ stepped w t
     → before.config.slots + 3 - (mutator v t).steps < before.config.slots + 3 - (mutator w t).steps
 nearer before w v t kept is busy waits steps =
     let slots : w.config.slots ≡ before.config.slots = ap (λ (c : Config). c.slots) (waits_config before w t waits) in
@@ -213,13 +213,13 @@ nearer before w v t kept is busy waits steps =
     omega arith
 
 -- a mutator that gives its mailbox back finishes its poll
-giving_answers : (w : Core) (t : ℕ) → IsKept w → IsMutator w.config t → is_busy (mutator w t) ≡ true → (mutator w t).phase ≡ Giving → answer_of (mutator (stepped w t) t) ≡ Some (makes.Crossed (Some ((mutator w t).epoch + 1)))
+giving_answers : {dated : Bool} → (w : Core) (t : ℕ) → IsKept dated w → IsMutator w.config t → is_busy (mutator w t) ≡ true → (mutator w t).phase ≡ Giving → answer_of (mutator (stepped w t) t) ≡ Some (makes.Crossed (Some ((mutator w t).epoch + 1)))
 giving_answers w t kept is busy phase =
     ap answer_of (stepped_mutator w t kept is)
     ∙ ((poll_has_cause (mutator w t) (found_by w t) (box w t) busy (actor_of w t kept is).own.between).some ((mutator w t).epoch + 1)).1 (phase, refl)
 
 -- Steps that finished nothing, and one more that finishes nothing either.
-pub waited : (before w v : Core) (t : ℕ) → IsKept w → IsMutator w.config t → is_busy (mutator w t) ≡ true → Waits before w t → v ≡ stepped w t → answer_of (mutator v t) ≡ None → Waits before v t
+pub waited : {dated : Bool} → (before w v : Core) (t : ℕ) → IsKept dated w → IsMutator w.config t → is_busy (mutator w t) ≡ true → Waits before w t → v ≡ stepped w t → answer_of (mutator v t) ≡ None → Waits before v t
 waited before w v t kept is busy waits steps none = go waits
   where
     told : (made : Made) → answer_of (mutator v t) ≡ Some made → Waits before v t

@@ -1,7 +1,7 @@
 -- Each operation that a heap with its collector carries out names one of its words, and finds what its machine may find.
 use Rattle.std.proofs.Common.{◌≡◌, ℕ, ◌<◌, ◌≤◌, true, false, Bool, if◌then◌else◌, Option, None, Some, IfSome, [], length, replicate, refl, sym, ap, subst, ◌∙◌, arith}
 use Rattle.std.proofs.lemmas.List.{length-replicate}
-use Rattle.rec_core.proofs.Common.{Op, Contents, own_word, read_op, write_op, label_op, first_op, begun_op, next_of, next_at, Private, register, is_busy, is_full, NamesSlots, NamesWord, took_of, took_at, retiring, IsSwapping, TakesNone, learnt_made, step_between, IsWithin, IsMutator, Core, cells_of, mutator, box, spare_of, IsKept, found_by}
+use Rattle.rec_core.proofs.Common.{Op, Contents, own_word, read_op, write_op, label_op, first_op, begun_op, next_of, next_at, Private, register, is_busy, is_full, NamesSlots, NamesWord, took_of, took_at, retiring, IsSwapping, TakesNone, learnt_made, step_between, IsWithin, IsMutator, Core, cells_of, mutator, box, spare_of, IsKept, found_by, cell}
 use Rattle.rec_word.specs.declared.op.Op.TheVariants as ops
 use Rattle.rec_model.specs.declared.command.Cmd.{Cmd}
 use Rattle.rec_model.specs.declared.command.Cmd.TheVariants as commands
@@ -11,13 +11,14 @@ use Rattle.rec_mutator.specs.declared.phase.Phase.TheVariants as at
 use Rattle.rec_mutator.specs.declared.work.Work.{Work}
 use Rattle.rec_mutator.specs.declared.work.Work.TheVariants as works
 use Rattle.rec_mutator.proofs.Words.{names_word}
+use Rattle.rec_collector.specs.Given.{IsGiven}
 use Rattle.rec_collector.specs.Next as collector_next
 use Rattle.rec_collector.specs.Step as collector_step
 use Rattle.rec_collector.proofs.Always as collector_words
 use Rattle.rec_core.specs.Preconditions.{MayStep, MayTurn}
 use Rattle.rec_core.proofs.Crossings.{behind_of, next_found}
 use Rattle.rec_core.proofs.Leaving.{leaving_of}
-use Rattle.rec_core.proofs.Runs.{given_is, sized_is}
+use Rattle.rec_core.proofs.Runs.{sized_is}
 use Rattle.rec_core.proofs.Turning.{turn_case}
 use Rattle.rec_core.proofs.Steps.{actor_of, fields_many, register_taken, taken_slot}
 
@@ -77,11 +78,11 @@ own_next p = by p.phase
     by _ = refl
 
 -- the own crossing word
-crossing_within : (w : Core) (t n : ℕ) → IsKept w → IsMutator w.config t → n ≡ t → (1 ≤ n) × (n ≤ length w.crossing)
+crossing_within : {dated : Bool} → (w : Core) (t n : ℕ) → IsKept dated w → IsMutator w.config t → n ≡ t → (1 ≤ n) × (n ≤ length w.crossing)
 crossing_within w t n kept is own = let all : length w.crossing ≡ w.config.mutators = kept.mutators.words in (omega (arith, is.0, own), omega (arith, is.1, own))
 
 -- what a mutator names is there
-pub own_within : (w : Core) (t : ℕ) (op : Op) → IsKept w → IsMutator w.config t → IsOwnOp (mutator w t) op → NamesWord (mutator w t).slots (mutator w t).fields op → IsWithin (cells_of w) op
+pub own_within : {dated : Bool} → (w : Core) (t : ℕ) (op : Op) → IsKept dated w → IsMutator w.config t → IsOwnOp (mutator w t) op → NamesWord (mutator w t).slots (mutator w t).fields op → IsWithin (cells_of w) op
 own_within w t (ops.LoadField place) kept is own names = let o = (actor_of w t kept is).own in subst (λ n. place < n) (fields_many w (mutator w t).slots (mutator w t).fields kept o.slots o.fields) names
 own_within w t (ops.SwapField place word) kept is own names = let o = (actor_of w t kept is).own in subst (λ n. place < n) (fields_many w (mutator w t).slots (mutator w t).fields kept o.slots o.fields) names
 own_within w t (ops.LoadHeader slot) kept is own names = subst (λ n. slot < n) ((actor_of w t kept is).own.slots ∙ sym kept.headers) names
@@ -94,7 +95,7 @@ own_within w t ops.LoadFreed kept is own names = tt
 own_within w t _ kept is own names = absurd own
 
 -- registers name slots of the heap
-pub names_slots : (w : Core) (t : ℕ) → IsKept w → IsMutator w.config t → NamesSlots (mutator w t)
+pub names_slots : {dated : Bool} → (w : Core) (t : ℕ) → IsKept dated w → IsMutator w.config t → NamesSlots (mutator w t)
 names_slots w t kept is = λ r slot names. subst (λ n. slot < n) (sym (actor_of w t kept is).own.slots) (taken_slot w kept slot (register_taken w kept t r slot names))
 
 -- a mailbox that waits to be swapped isn't one that doesn't
@@ -104,7 +105,7 @@ not_both at.Retiring between swaps = between
 not_both _ between swaps = swaps
 
 -- a spare of this heap is one of each of its mutators
-spare_own : (w : Core) (t : ℕ) → IsKept w → IsMutator w.config t → spare_of w.config ≡ spare (retiring (mutator w t))
+spare_own : {dated : Bool} → (w : Core) (t : ℕ) → IsKept dated w → IsMutator w.config t → spare_of w.config ≡ spare (retiring (mutator w t))
 spare_own w t kept is =
     let own = (actor_of w t kept is).own in
     let make : ℕ → ℕ → Contents = λ n capacity. record { entries = []; snapshot = replicate n None; capacity = capacity; last = false } in
@@ -127,7 +128,7 @@ nulled p =
     ap make (sym (length-replicate (length p.registers) None))
 
 -- A mutator may make its next step.
-pub may_step : (w : Core) (t : ℕ) → IsKept w → IsMutator w.config t → is_busy (mutator w t) ≡ true → MayStep w t
+pub may_step : {dated : Bool} → (w : Core) (t : ℕ) → IsKept dated w → IsMutator w.config t → is_busy (mutator w t) ≡ true → MayStep w t
 may_step w t kept is busy =
     let p : Private = mutator w t in
     let own = (actor_of w t kept is).own in
@@ -149,7 +150,7 @@ may_step w t kept is busy =
     spared _ here between = none (subst TakesNone (sym here) tt)
 
 -- what the collector names is there
-pub collector_within : (w : Core) (op : Op) → IsKept w → collector_step.NamesWord (length w.collector.counts.slots) w.collector.fields (length w.collector.newer) op → IsWithin (cells_of w) op
+pub collector_within : {dated : Bool} → (w : Core) (op : Op) → IsKept dated w → collector_step.NamesWord (length w.collector.counts.slots) w.collector.fields (length w.collector.newer) op → IsWithin (cells_of w) op
 collector_within w (ops.StoreEpoch e) kept names = tt
 collector_within w (ops.LookBox t e) kept names = (names.0, subst (λ n. t ≤ n) (kept.collector.mutators ∙ sym kept.mutators.words) names.1)
 collector_within w (ops.ReturnBox t e) kept names = (names.0, subst (λ n. t ≤ n) (kept.collector.mutators ∙ sym kept.mutators.words) names.1)
@@ -159,7 +160,7 @@ collector_within w (ops.FreeHeader slot) kept names = subst (λ n. slot < n) (ke
 collector_within w ops.AddFreed kept names = tt
 collector_within w _ kept names = absurd names
 
--- The collector may make its next turn.
-pub may_turn : (w : Core) → IsKept w → IfSome (collector_next.next_of w.collector) (MayTurn w)
-may_turn w kept = turn_case w (λ o v. IfSome o (collector_step.NamesWord (length w.collector.counts.slots) w.collector.fields (length w.collector.newer)) → IfSome o (MayTurn w)) (λ none names. tt)
-    (λ op named names. record { within = collector_within w op kept names; given = given_is w op kept named; sized = sized_is w kept }) (collector_words.names_word w.collector kept.collector.machine)
+-- The collector may make its next turn, where it may be given the word that it finds.
+pub may_turn_given : {dated : Bool} → (w : Core) → IsKept dated w → ((op : Op) → ◌≡◌ {A = Option Op} (collector_next.next_of w.collector) (Some op) → IsGiven w.collector (cell (cells_of w) op)) → IfSome (collector_next.next_of w.collector) (MayTurn w)
+may_turn_given w kept given = turn_case w (λ o v. IfSome o (collector_step.NamesWord (length w.collector.counts.slots) w.collector.fields (length w.collector.newer)) → IfSome o (MayTurn w)) (λ none names. tt)
+    (λ op named names. record { within = collector_within w op kept names; given = given op named; sized = sized_is w kept }) (collector_words.names_word w.collector kept.collector.machine)

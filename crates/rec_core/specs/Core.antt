@@ -1,10 +1,10 @@
 -- The core of a heap with its collector: the shared words, the mailboxes, and the private record of each actor.
-use Rattle.std.specs.Prelude.{ℕ, false, ◌-◌, zero, suc, List, [], ◌∷◌, ◌++◌, length, map, replicate, slice_index_or, slice_set}
+use Rattle.std.specs.Prelude.{ℕ, false, ◌-◌, zero, suc, List, [], ◌∷◌, ◌++◌, length, map, replicate, slice_index_or, slice_set, Bool, Some, Option, None}
 use Rattle.rec_word.specs.Mailbox.{crossing_word}
 use Rattle.rec_word.specs.declared.mailbox.Mailbox.TheVariants.{Spare}
 use Rattle.rec_model.specs.Sight.{Sight, opening_sight}
 use Rattle.rec_log.specs.declared.contents.Contents.{Contents}
-use Rattle.rec_mutator.specs.Private.{Private, opened as opened_machine}
+use Rattle.rec_mutator.specs.Private.{Private, opened_by}
 use Rattle.rec_mutator.specs.declared.phase.Phase.TheVariants.{Idle}
 use Rattle.rec_collector.specs.Private as collectors
 use Rattle.rec_core.specs.Cells.{Cells}
@@ -38,7 +38,7 @@ sight w = record { fields = w.config.fields; headers = w.headers; words = w.word
 
 -- a mutator that isn't there
 abbrev pub nobody : Private
-nobody = record { number = 0; epoch = 0; slots = 0; fields = 0; registers = []; log = record { entries = []; snapshot = []; capacity = 0; last = false }; from = 0; phase = Idle; steps = 0; left = false }
+nobody = record { number = 0; epoch = 0; slots = 0; fields = 0; registers = []; log = record { entries = []; snapshot = []; capacity = 0; last = false }; from = 0; phase = Idle; steps = 0; left = false; dates = false }
 
 -- the private record of a mutator, numbered from 1
 abbrev pub mutator : Core → ℕ → Private
@@ -64,18 +64,18 @@ crossing_of w t = slice_index_or w.crossing (t - 1) 0
 abbrev pub spare_of : Config → Contents
 spare_of config = collectors.blank config.registers config.log_entries
 
--- a mutator as it is opened
-abbrev pub opened_mutator : Config → ℕ → Private
-opened_mutator config t = opened_machine t config.first_epoch config.slots config.fields config.registers config.log_entries
+-- a mutator as it is opened, whose words are dated or not
+abbrev pub mutator_by : (dates : Bool) → Config → ℕ → Private
+mutator_by dates config t = opened_by dates t config.first_epoch config.slots config.fields (Some 0 ∷ replicate (config.registers - 1) None) config.registers config.log_entries
 
 -- the first so many mutators as they are opened, numbered from 1
-abbrev pub opened_mutators : Config → ℕ → List Private
-opened_mutators config zero = []
-opened_mutators config (suc n) = opened_mutators config n ++ opened_mutator config (suc n) ∷ []
+abbrev pub mutators_by : (dates : Bool) → Config → ℕ → List Private
+mutators_by dates config zero = []
+mutators_by dates config (suc n) = mutators_by dates config n ++ mutator_by dates config (suc n) ∷ []
 
--- a heap as it is opened
-abbrev pub opened : Config → Core
-opened config =
+-- a heap as it is opened, of bare words or of dated ones
+abbrev pub heap_by : (dates : Bool) → Config → Core
+heap_by dates config =
     record {
       config = config;
       headers = (opening_sight config.slots config.fields config.registers config.mutators).headers;
@@ -84,7 +84,19 @@ opened config =
       freed = 0;
       crossing = replicate config.mutators (crossing_word config.first_epoch Spare);
       boxes = replicate config.mutators (spare_of config);
-      mutators = opened_mutators config config.mutators;
+      mutators = mutators_by dates config config.mutators;
       collector = collectors.opened config.slots config.fields config.registers config.mutators config.log_entries config.first_epoch config.steady;
       made = 1;
     }
+
+-- a mutator of a heap as it is opened
+abbrev pub opened_mutator : Config → ℕ → Private
+opened_mutator config t = mutator_by false config t
+
+-- the first so many of them, numbered from 1
+abbrev pub opened_mutators : Config → ℕ → List Private
+opened_mutators config n = mutators_by false config n
+
+-- a heap as it is opened
+abbrev pub opened : Config → Core
+opened config = heap_by false config

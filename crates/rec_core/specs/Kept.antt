@@ -29,6 +29,7 @@ use Rattle.rec_collector.specs.Kept as collector_kept
 use Rattle.rec_collector.specs.Step as collector_step
 use Rattle.rec_collector.specs.declared.phase.Phase.{Phase}
 use Rattle.rec_collector.specs.declared.phase.Phase.TheVariants.{Looking, Swapping, Returning, Releasing, Freeing, Sweeping, Closing}
+use Rattle.rec_core.specs.Bare.{Behind}
 use Rattle.rec_core.specs.Config.{IsConfig, IsMutator, HasLabel}
 use Rattle.rec_core.specs.Core.{Core, mutator, sight, spare_of, nobody}
 use Rattle.rec_core.specs.CyclesAt.{HasCyclesAt}
@@ -51,8 +52,8 @@ HasLabelAt (at.Begun work) = HasLabel work
 HasLabelAt (at.Scanning reg label leaf before probed) = label < 2 ^ 32
 HasLabelAt _ = Unit {0}
 
--- what is known of a mutator of a heap with these numbers
-pub record IsOwn (config : Config) (t : ℕ) (p : Private) : Type 0 where
+-- what is known of a mutator of a heap with these numbers, whose words are dated or not
+pub record IsOwn (dated : Bool) (config : Config) (t : ℕ) (p : Private) : Type 0 where
   pub number : p.number ≡ t
   pub slots : p.slots ≡ config.slots
   pub fields : p.fields ≡ config.fields
@@ -63,18 +64,25 @@ pub record IsOwn (config : Config) (t : ℕ) (p : Private) : Type 0 where
   pub label : HasLabelAt p.phase
   -- one that has left does nothing
   pub idle : p.left ≡ true → is_busy p ≡ false
+  -- whether it dates the words that it puts
+  pub dates : p.dates ≡ dated
+
+-- said of heaps whose words are dated alone
+abbrev pub OfDated : (dated : Bool) → Type 0 → Type 0
+OfDated true P = P
+OfDated false P = Unit {0}
 
 -- A write was made in this epoch. A birth bears no stamp.
 abbrev pub IsMadeIn : (epoch : ℕ) → Entry → Type 0
 IsMadeIn epoch (entries.Put place new old) = epoch_of new ≡ epoch
 IsMadeIn epoch (entries.Born slot leaf) = Unit {0}
 
--- a buffer of this heap: of its size, within its capacity, with the entries of one epoch
-pub record IsBufferOf (config : Config) (epoch : ℕ) (b : Contents) : Type 0 where
+-- a buffer of this heap: of its size, within its capacity, with the entries of one epoch where words are dated
+pub record IsBufferOf (dated : Bool) (config : Config) (epoch : ℕ) (b : Contents) : Type 0 where
   pub snapshot : length b.snapshot ≡ config.registers
   pub capacity : b.capacity ≡ config.log_entries
   pub few : length b.entries ≤ b.capacity
-  pub made : All (IsMadeIn epoch) b.entries
+  pub made : OfDated dated (All (IsMadeIn epoch) b.entries)
 
 -- the mutator of this number is past its turn in a gathering, its mailbox is held, its turn is still to come, or it has left and its
 -- last buffer was gathered
@@ -150,22 +158,22 @@ pub record LetGo (config : Config) (p : Private) : Type 0 where
   pub log : p.log ≡ spare_of config
 
 -- What is known of a mutator that stands so, of its crossing word and of its mailbox, at this epoch.
-pub record IsActor (config : Config) (requested : ℕ) (stand : Handshake) (t : ℕ) (p : Private) (crossing : ℕ) (box : Contents) : Type 0 where
-  pub own : IsOwn config t p
-  pub log : IsBufferOf config (epoch_at p) p.log
+pub record IsActor (dated : Bool) (config : Config) (requested : ℕ) (stand : Handshake) (t : ℕ) (p : Private) (crossing : ℕ) (box : Contents) : Type 0 where
+  pub own : IsOwn dated config t p
+  pub log : IsBufferOf dated config (epoch_at p) p.log
   -- its snapshot and its mark are written as it is retired
   pub unwritten : named p.log.snapshot ≡ []
   pub unmarked : p.log.last ≡ false
   pub let_go : has_let_go p ≡ true → LetGo config p
-  pub mailbox : IsBufferOf config (epoch_at p - 1) box
+  pub mailbox : IsBufferOf dated config (epoch_at p - 1) box
   pub handshake : IsHandshake config requested p crossing box stand
 
 -- what is known of all mutators, each of which stands so
-pub record HasMutators (config : Config) (requested : ℕ) (stands : (t : ℕ) → Handshake) (mutators : List Private) (crossing : List ℕ) (boxes : List Contents) : Type 0 where
+pub record HasMutators (dated : Bool) (config : Config) (requested : ℕ) (stands : (t : ℕ) → Handshake) (mutators : List Private) (crossing : List ℕ) (boxes : List Contents) : Type 0 where
   pub many : length mutators ≡ config.mutators
   pub words : length crossing ≡ config.mutators
   pub mailboxes : length boxes ≡ config.mutators
-  pub each : (t : ℕ) → IsMutator config t → IsActor config requested (stands t) t (slice_index_or mutators (t - 1) nobody) (slice_index_or crossing (t - 1) 0) (slice_index_or boxes (t - 1) (collectors.blank 0 0))
+  pub each : (t : ℕ) → IsMutator config t → IsActor dated config requested (stands t) t (slice_index_or mutators (t - 1) nobody) (slice_index_or crossing (t - 1) 0) (slice_index_or boxes (t - 1) (collectors.blank 0 0))
 
 -- a field of this slot that is still to be emptied by the release at work
 abbrev pub IsLeft : Option At → (slot f : ℕ) → Type 0
@@ -188,7 +196,7 @@ freeing_due _ = None
 
 -- what is known of the collector: its machine is one, of the sizes of this heap; its buffers are of the last two epochs; its free
 -- list has released slots, and the fields of released slots are emptied, but for those that are still to be
-pub record HasCollector (config : Config) (requested : ℕ) (words : List ℕ) (c : collectors.Private) : Type 0 where
+pub record HasCollector (dated : Bool) (config : Config) (requested : ℕ) (words : List ℕ) (c : collectors.Private) : Type 0 where
   pub machine : collector_kept.IsMachine c
   pub between : collector_step.IsBetween c.phase
   pub slots : length c.counts.slots ≡ config.slots
@@ -199,8 +207,8 @@ pub record HasCollector (config : Config) (requested : ℕ) (words : List ℕ) (
   pub mutators : length c.newer ≡ config.mutators
   pub epoch : c.epoch ≡ requested
   pub begun : config.first_epoch + c.collections + collector_kept.under_way c.phase ≡ requested
-  pub newer : (t : ℕ) → IsMutator config t → IsBufferOf config (requested - 1) (collectors.buffer_at c.newer (t - 1))
-  pub older : (t : ℕ) → IsMutator config t → IsBufferOf config (older_at requested c.phase) (collectors.buffer_at c.older (t - 1))
+  pub newer : (t : ℕ) → IsMutator config t → IsBufferOf dated config (requested - 1) (collectors.buffer_at c.newer (t - 1))
+  pub older : (t : ℕ) → IsMutator config t → IsBufferOf dated config (older_at requested c.phase) (collectors.buffer_at c.older (t - 1))
   pub listed : (x : ℕ) → 0 < times x c.counts.free → (slot_at c.counts x).released ≡ true
   pub emptied : (x f : ℕ) → x < config.slots → f < config.fields → (slot_at c.counts x).released ≡ true → IsLeft (release_due c.phase) x f ⊎ (IsLeftOf c.counts.work (freeing_due c.phase) x f ⊎ (slice_index_or words (place_of x f config.fields) 0 ≡ 0))
 
@@ -253,22 +261,23 @@ IsHeader header = 0 < header → IsTakenHeader header
 abbrev pub HasGreens : (headers : List ℕ) → State → Type 0
 HasGreens headers s = (x : ℕ) → is_green (slot_at s x).colour ≡ true → is_leaf (slice_index_or headers x 0) ≡ true
 
--- What every heap with its collector keeps, where its mutators stand so.
-pub record IsKeptBy (stands : (t : ℕ) → Handshake) (w : Core) : Type 0 where
+-- What every heap with its collector keeps, where its mutators stand so. Of epochs of words, and so of what is counted late, it speaks
+-- only where words are dated.
+pub record IsKeptBy (dated : Bool) (stands : (t : ℕ) → Handshake) (w : Core) : Type 0 where
   pub config : IsConfig w.config
   pub headers : length w.headers ≡ w.config.slots
   pub labels : All IsHeader w.headers
-  pub mutators : HasMutators w.config w.epoch stands w.mutators w.crossing w.boxes
-  pub collector : HasCollector w.config w.epoch w.words w.collector
+  pub mutators : HasMutators dated w.config w.epoch stands w.mutators w.crossing w.boxes
+  pub collector : HasCollector dated w.config w.epoch w.words w.collector
   pub sweeps : HasSweeps w.freed w.collector.collections w.collector.phase
   pub learnt : HaveLearnt w.config w.headers w.freed w.mutators
   pub made : w.made ≤ w.config.slots + sum_by (entries_made w.config) w.mutators
   pub sound : IsSound (sight w)
   pub greens : HasGreens w.headers w.collector.counts
-  pub accounted : IsAccounted (pending w)
+  pub accounted : OfDated dated (IsAccounted (pending w))
   -- what was given up has no count, but while a set is freed
-  pub uncounted : freeing_due w.collector.phase ≡ None → HasUncountedReleased (pending w)
-  pub cycles : HasCyclesAt (pending w) w.collector w.collector.phase
+  pub uncounted : OfDated dated (freeing_due w.collector.phase ≡ None → HasUncountedReleased (pending w))
+  pub cycles : OfDated dated (HasCyclesAt (pending w) w.collector w.collector.phase)
 
 -- While a mailbox is held, the collector doesn't know yet whether its mutator has left, and the buffer that it took from there is marked
 -- just where it has.
@@ -276,8 +285,19 @@ abbrev pub IsHeldAt : Core → Phase → Type 0
 IsHeldAt w (Returning t) = (has_left w.collector.left t ≡ false) × ((collectors.buffer_at w.collector.newer (t - 1)).last ≡ (mutator w t).left)
 IsHeldAt w _ = Unit {0}
 
--- What every heap with its collector keeps.
-pub record IsKept (w : Core) : Type 0 where
-  pub whole : IsKeptBy (stand_at w.collector.left w.collector.phase) w
+-- what a heap of dated words keeps
+pub record IsDated (w : Core) : Type 0 where
+  pub dated_whole : IsKeptBy true (stand_at w.collector.left w.collector.phase) w
+  pub dated_held : IsHeldAt w w.collector.phase
+
+-- behind a heap of bare words stands one of dated words that keeps all of this
+abbrev pub HasBehind : (dated : Bool) → Core → Type 0
+HasBehind true w = Unit {0}
+HasBehind false w = Behind w IsDated
+
+-- What every heap with its collector keeps: a heap of dated words, which the laws of counting late are said of, or one of bare words.
+pub record IsKept (dated : Bool) (w : Core) : Type 0 where
+  pub whole : IsKeptBy dated (stand_at w.collector.left w.collector.phase) w
   pub open whole use *
   pub held : IsHeldAt w w.collector.phase
+  pub behind : HasBehind dated w

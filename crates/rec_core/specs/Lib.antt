@@ -1,4 +1,5 @@
 -- The modules of the definitions.
+pub mod Bare
 pub mod Cells
 pub mod Config
 pub mod Core

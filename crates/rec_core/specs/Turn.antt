@@ -11,6 +11,7 @@ use Rattle.rec_collector.specs.Took.{turn_of}
 use Rattle.rec_collector.specs.declared.phase.Phase.TheVariants.{Idle, Looking}
 use Rattle.rec_collector.specs.declared.turn.Turn.{Turn}
 use Rattle.rec_collector.specs.declared.turn.Turn.TheVariants as turns
+use Rattle.rec_core.specs.Bare.{Behind}
 use Rattle.rec_core.specs.Cells.{cell}
 use Rattle.rec_core.specs.Config.{IsMutator}
 use Rattle.rec_core.specs.Core.{Core, cells_of, sight, mutator, crossing_of}
@@ -62,8 +63,8 @@ pub record IsTurn (before after : Core) (answer : Turn) : Type 0 where
   pub sweep : IsSweep before after
   -- What was given up, the members of a set that passed both tests among it, is in no reach, and nothing names it. A header is set to
   -- 0 only where nothing at all names the slot.
-  pub gone : AreGone after
-  pub forgotten : (slot : ℕ) → next_of before.collector ≡ Some (FreeHeader slot) → IsForgotten before slot
+  pub gone : Behind after AreGone
+  pub forgotten : Behind before (λ v. (slot : ℕ) → next_of v.collector ≡ Some (FreeHeader slot) → IsForgotten v slot)
   -- one epoch more is requested at most, and no mutator changes
   pub requested : after.epoch ≤ before.epoch + 1
   pub mutators : after.mutators ≡ before.mutators

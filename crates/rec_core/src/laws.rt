@@ -19,6 +19,7 @@ ghost use Rattle.rec_counts.specs.Lists.{times};
 ghost use Rattle.rec_collector.specs.Touched.{IsOrangeIn, WasUntouched};
 ghost use Rattle.rec_collector.specs.Zeros.{AreTheZeros};
 ghost use Rattle.rec_sigma.specs.Prepared.{seen};
+ghost use Rattle.rec_core.specs.Bare.{Behind};
 ghost use Rattle.rec_core.specs.Config.{IsConfig, IsMutator};
 ghost use Rattle.rec_core.specs.Core.{Core, sight, mutator, opened};
 ghost use Rattle.rec_word.specs.declared.op.Op.TheVariants.{FreeHeader};
@@ -39,9 +40,10 @@ ghost use Rattle.rec_core.specs.StepAnswers.{IsShown};
 ghost use Rattle.rec_core.specs.Turn.{IsTurn, turn_told};
 ghost use Rattle.rec_core.specs.declared.config.Config.{Config};
 
-/// What every heap keeps holds at the end of every run.
+/// What every heap keeps holds at the end of every run: behind it stands a heap of dated words, whose bare words are those of the end,
+/// and which keeps what is said of epochs too.
 pub fn runs_keep()
-    ensures { (start : Core) (moves : List Move) (end : Core) → IsConfig start.config → IsRun start moves end → IsKept end }
+    ensures { (start : Core) (moves : List Move) (end : Core) → IsConfig start.config → IsRun start moves end → IsKept false end }
 {}
 
 /// Where a run ends, one from an opening with its numbers ends too: from the opening with one object, or from one from objects.
@@ -76,20 +78,20 @@ pub fn turns_keep_their_promises()
 /// such a set are at once, is in the reach of no epoch from that one on, and is named by no register, by no field of a slot that
 /// isn't given up and by nothing that is pending, until its slot is freed.
 pub fn sets_that_pass_are_garbage()
-    ensures passed { (w : Core) (number : ℕ) → IsConfig w.config → EndsRun w → TestsSets w.collector.phase → Passes w number → IsProvenGarbage w number }
-    ensures gone { (w : Core) → IsConfig w.config → EndsRun w → AreGone w }
+    ensures passed { (w : Core) → IsConfig w.config → EndsRun w → Behind w (λ v. (number : ℕ) → TestsSets v.collector.phase → Passes v number → IsProvenGarbage v number) }
+    ensures gone { (w : Core) → IsConfig w.config → EndsRun w → Behind w AreGone }
 {}
 
 /// A header is set to 0, in any state of any run of a heap with its collector, only where no register, no field of any slot and
 /// nothing that is pending names the slot, and the slot stands in no list of the collector but the free list.
 pub fn freed_slots_are_forgotten()
-    ensures { (w : Core) (slot : ℕ) → IsConfig w.config → EndsRun w → collector_next w.collector ≡ Some (FreeHeader slot) → IsForgotten w slot }
+    ensures { (w : Core) → IsConfig w.config → EndsRun w → Behind w (λ v. (slot : ℕ) → collector_next v.collector ≡ Some (FreeHeader slot) → IsForgotten v slot) }
 {}
 
 /// The true count of every slot is the count formula of its node at the epoch of the last batch, in every state of every run
 /// of a heap with its collector.
 pub fn true_counts_are_the_formula()
-    ensures { (w : Core) → IsConfig w.config → EndsRun w → (slot : ℕ) → slot < w.config.slots → (slot_at w.collector.counts slot).count ≡ count_formula (pending w) (pending w).applied (slot + 1) }
+    ensures { (w : Core) → IsConfig w.config → EndsRun w → Behind w (λ v. (slot : ℕ) → slot < v.config.slots → (slot_at v.collector.counts slot).count ≡ count_formula (pending v) (pending v).applied (slot + 1)) }
 {}
 
 /// Where an allocation is answered Full or Busy, over whatever moves of whatever run its steps were made, its first step found the
@@ -104,14 +106,14 @@ pub fn failed_allocations_probed_every_slot()
 /// loaded was put in the epoch requested then, or before. At their end it stands in its field, or a write of that epoch or of a later
 /// one replaced it there, or the collector took it out.
 pub fn loaded_words_stay_references()
-    ensures { (w : Core) (moves : List Move) (l : Loaded) → IsConfig w.config → EndsRun w → AllFit w moves → IsSameTrial w (after_moves w moves) → Contains (loaded_over w moves) l → IsReferenceStill (after_moves w moves) (cleared_over w moves) l }
+    ensures { (w : Core) → IsConfig w.config → EndsRun w → Behind w (λ v. (moves : List Move) (l : Loaded) → AllFit v moves → IsSameTrial v (after_moves v moves) → Contains (loaded_over v moves) l → IsReferenceStill (after_moves v moves) (cleared_over v moves) l) }
 {}
 
 /// A member of a prepared set that is Orange still was touched by nothing since. Take any moves of mutators and collector over which no
 /// trial begins. The member was Orange in the same set before them. No increment, decrement or snapshot of a batch named it, and no
 /// decrement since; but in a steady heap a register may have named it that named it in both snapshots of a batch. Each reference that was lowered came off its true count and off its cyclic count, not below zero.
 pub fn orange_members_stay_untouched()
-    ensures { (w : Core) (moves : List Move) (number x : ℕ) → IsConfig w.config → EndsRun w → HasSets w.collector.phase → AllFit w moves → IsSameTrial w (after_moves w moves) → IsOrangeIn (after_moves w moves).collector.counts number x → WasUntouched w.collector.counts (after_moves w moves).collector.counts number x (named_over w moves x) }
+    ensures { (w : Core) → IsConfig w.config → EndsRun w → Behind w (λ v. (moves : List Move) (number x : ℕ) → HasSets v.collector.phase → AllFit v moves → IsSameTrial v (after_moves v moves) → IsOrangeIn (after_moves v moves).collector.counts number x → WasUntouched v.collector.counts (after_moves v moves).collector.counts number x (named_over v moves x)) }
 {}
 
 /// The outside count of a member is read off the run. Take the turn with which the preparation of sets begins, and any moves behind it
@@ -120,9 +122,9 @@ pub fn orange_members_stay_untouched()
 /// fields of its set's members that lead to it. Each reference that was lowered since took one more off, not below zero. So a member of
 /// a set that passes both tests has no more references than there are such words.
 pub fn outside_counts_are_of_the_run()
-    ensures places { (w : Core) (moves : List Move) → IsConfig w.config → EndsRun w → BeginsPreparing w → AllFit (turned w) moves → IsSameTrial (turned w) (after_moves (turned w) moves) → HasSets (after_moves (turned w) moves).collector.phase → map (λ (l : Loaded). l.place) (loaded_over (turned w) moves) ≡ places_of w.config.fields (concat (turned w).collector.counts.sets) }
-    ensures passed { (w : Core) (moves : List Move) (number x : ℕ) → IsConfig w.config → EndsRun w → BeginsPreparing w → AllFit (turned w) moves → IsSameTrial (turned w) (after_moves (turned w) moves) → HasSets (after_moves (turned w) moves).collector.phase → Passes (after_moves (turned w) moves) number → (slot_at (after_moves (turned w) moves).collector.counts x).set ≡ Some number → (slot_at (after_moves (turned w) moves).collector.counts x).count ≤ seen (turned w).collector.counts number (fields_loaded w.config.fields (loaded_over (turned w) moves)) x }
-    ensures members { (w : Core) (moves : List Move) (number x : ℕ) → IsConfig w.config → EndsRun w → BeginsPreparing w → AllFit (turned w) moves → IsSameTrial (turned w) (after_moves (turned w) moves) → HasSets (after_moves (turned w) moves).collector.phase → IsOrangeIn (after_moves (turned w) moves).collector.counts number x → IsOutside (turned w).collector.counts (after_moves (turned w) moves).collector.counts (fields_loaded w.config.fields (loaded_over (turned w) moves)) number x }
+    ensures places { (w : Core) → IsConfig w.config → EndsRun w → Behind w (λ v. (moves : List Move) → BeginsPreparing v → AllFit (turned v) moves → IsSameTrial (turned v) (after_moves (turned v) moves) → HasSets (after_moves (turned v) moves).collector.phase → map (λ (l : Loaded). l.place) (loaded_over (turned v) moves) ≡ places_of v.config.fields (concat (turned v).collector.counts.sets)) }
+    ensures passed { (w : Core) → IsConfig w.config → EndsRun w → Behind w (λ v. (moves : List Move) (number x : ℕ) → BeginsPreparing v → AllFit (turned v) moves → IsSameTrial (turned v) (after_moves (turned v) moves) → HasSets (after_moves (turned v) moves).collector.phase → Passes (after_moves (turned v) moves) number → (slot_at (after_moves (turned v) moves).collector.counts x).set ≡ Some number → (slot_at (after_moves (turned v) moves).collector.counts x).count ≤ seen (turned v).collector.counts number (fields_loaded v.config.fields (loaded_over (turned v) moves)) x) }
+    ensures members { (w : Core) → IsConfig w.config → EndsRun w → Behind w (λ v. (moves : List Move) (number x : ℕ) → BeginsPreparing v → AllFit (turned v) moves → IsSameTrial (turned v) (after_moves (turned v) moves) → HasSets (after_moves (turned v) moves).collector.phase → IsOrangeIn (after_moves (turned v) moves).collector.counts number x → IsOutside (turned v).collector.counts (after_moves (turned v) moves).collector.counts (fields_loaded v.config.fields (loaded_over (turned v) moves)) number x) }
 {}
 
 /// In every state of every run of a heap with its collector, the zeros are exactly the slots without a count that are neither
@@ -150,7 +152,7 @@ pub fn conditions_are_met()
 /// The set of which a watch is shown that it passed both tests is garbage. Behind that step, in any state of any run of a heap with its
 /// collector, each member is in the reach of no epoch from that of the last batch on, and nothing names it.
 pub fn shown_sets_are_garbage()
-    ensures { (w : Core) (members : List ℕ) (slot : ℕ) → IsConfig w.config → EndsRun w → passed_of w.collector ≡ Some members → 0 < times slot members → IsGone w slot }
+    ensures { (w : Core) → IsConfig w.config → EndsRun w → Behind w (λ v. (members : List ℕ) (slot : ℕ) → passed_of v.collector ≡ Some members → 0 < times slot members → IsGone v slot) }
 {}
 
 /// Over every run from an opening with one object, each buffer holds what its own mutator did: places and slots of the heap, and each

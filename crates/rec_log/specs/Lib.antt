@@ -1,2 +1,3 @@
 -- The modules of the definitions.
 pub mod Buffer
+pub mod Words

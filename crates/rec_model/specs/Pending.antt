@@ -1,7 +1,8 @@
 -- What a heap that counts late has to account for: its field words, its registers, and what is not counted yet.
 use Rattle.std.specs.Prelude.{ℕ, ◌+◌, ◌/◌, ◌<◌, ◌==◌, if◌then◌else◌, Bool, false, List, slice_index_or}
 use Rattle.std.specs.List.{sum_by}
-use Rattle.rec_word.specs.Word.{stamp_of, target_bits}
+use Rattle.rec_word.specs.Bare.{date_of}
+use Rattle.rec_word.specs.Word.{target_bits}
 use Rattle.rec_model.specs.Sums.{only_if, one_if_same}
 
 -- A node is the object that a slot holds, from its birth to its freeing. It is numbered by its slot plus one; 0 is null.
@@ -9,9 +10,9 @@ use Rattle.rec_model.specs.Sums.{only_if, one_if_same}
 unfoldable pub node_of : (word : ℕ) → ℕ
 node_of word = target_bits word
 
--- The epoch in which a field word was put: that of its stamp. A word of writer 0 was put by no mutator, and before all epochs.
+-- The epoch in which a field word was put: its date. A word without one was put by no mutator, and before all epochs.
 unfoldable pub epoch_of : (word : ℕ) → ℕ
-epoch_of word = if (stamp_of word).writer == 0 then 0 else (stamp_of word).epoch
+epoch_of word = date_of word
 
 -- the node that has a field, by the place of the field and the number of fields of an object
 abbrev pub home : (fields place : ℕ) → ℕ

@@ -1,5 +1,7 @@
 -- The modules of the proofs.
 pub mod Around
+pub mod Bare
+pub mod BareKept
 pub mod Found
 pub mod Leaving
 pub mod LogStamps

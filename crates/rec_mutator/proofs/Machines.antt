@@ -280,8 +280,8 @@ step_machine {p = p} m sized found (Step.give_box c) =
 
 -- a machine with an empty log is as it is opened
 pub opened_as : (number epoch slots fields : ℕ) {registers held : List (Option ℕ)} {log : Contents} (regs cap : ℕ) → registers ≡ held → log ≡ record { entries = []; snapshot = replicate regs None; capacity = cap; last = false }
-    → let p : Private = record { number = number; epoch = epoch; slots = slots; fields = fields; registers = registers; log = log; from = 0; phase = Idle; steps = 0; left = false } in p ≡ opened_with number epoch slots fields held regs cap
-opened_as number epoch slots fields regs cap same empty i = record { number = number; epoch = epoch; slots = slots; fields = fields; registers = same i; log = empty i; from = 0; phase = Idle; steps = 0; left = false }
+    → let p : Private = record { number = number; epoch = epoch; slots = slots; fields = fields; registers = registers; log = log; from = 0; phase = Idle; steps = 0; left = false; dates = false } in p ≡ opened_with number epoch slots fields held regs cap
+opened_as number epoch slots fields regs cap same empty i = record { number = number; epoch = epoch; slots = slots; fields = fields; registers = same i; log = empty i; from = 0; phase = Idle; steps = 0; left = false; dates = false }
 
 -- and is one
 pub opened_machine : (number epoch slots fields : ℕ) (held : List (Option ℕ)) (regs cap : ℕ) → number < 2 ^ 6 → epoch < 2 ^ 24 → 0 < slots → slots < 2 ^ 16 → cap ≤ 2 ^ 18 → All IsTarget held → regs ≡ length held

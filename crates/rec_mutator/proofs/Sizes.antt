@@ -125,6 +125,36 @@ step_counts (Step.poll_crosses other g) = ap (λ (x : Private). x.steps) g.after
 step_counts (Step.take_box c) = ap (λ (x : Private). x.steps) c.after
 step_counts (Step.give_box c) = ap (λ (x : Private). x.steps) c.after
 
+-- no step changes whether words are dated
+pub step_dates : {p : Private} {word : ℕ} {box : Contents} {op : Op} {q : Private} → Step p word box op q → q.dates ≡ p.dates
+step_dates (Step.null reg d) = ap (λ (x : Private). x.dates) d.after
+step_dates (Step.copy dst src d) = ap (λ (x : Private). x.dates) d.after
+step_dates (Step.compare a b d) = ap (λ (x : Private). x.dates) d.after
+step_dates (Step.get_of_null dst src f names d) = ap (λ (x : Private). x.dates) d.after
+step_dates (Step.get dst src f slot names d) = ap (λ (x : Private). x.dates) d.after
+step_dates (Step.put_of_null src f val names d) = ap (λ (x : Private). x.dates) d.after
+step_dates (Step.put_refused src f val slot names full d) = ap (λ (x : Private). x.dates) d.after
+step_dates (Step.put_into_leaf src f val slot names room leaf d) = ap (λ (x : Private). x.dates) d.after
+step_dates (Step.put_begins src f val slot names room leaf g) = ap (λ (x : Private). x.dates) g.after
+step_dates (Step.put src f val slot d) = ap (λ (x : Private). x.dates) d.after
+step_dates (Step.value_of_null reg names d) = ap (λ (x : Private). x.dates) d.after
+step_dates (Step.value reg slot names d) = ap (λ (x : Private). x.dates) d.after
+step_dates (Step.new_refused reg label leaf full d) = ap (λ (x : Private). x.dates) d.after
+step_dates (Step.new_begins reg label leaf room g) = ap (λ (x : Private). x.dates) g.after
+step_dates (Step.new_wins reg label leaf before probed free d) = ap (λ (x : Private). x.dates) d.after
+step_dates (Step.new_goes_on reg label leaf before probed taken more g) = ap (λ (x : Private). x.dates) g.after
+step_dates (Step.new_finds_none reg label leaf before probed taken last g) = ap (λ (x : Private). x.dates) g.after
+step_dates (Step.new_is_full reg label leaf before still d) = ap (λ (x : Private). x.dates) d.after
+step_dates (Step.new_is_busy reg label leaf before moves d) = ap (λ (x : Private). x.dates) d.after
+step_dates (Step.leave_refused uncollected d) = ap (λ (x : Private). x.dates) d.after
+step_dates (Step.leave_begins collected g) = ap (λ (x : Private). x.dates) g.after
+step_dates (Step.leave l) = ap (λ (x : Private). x.dates) l.after
+step_dates (Step.leave_ends l) = ap (λ (x : Private). x.dates) l.after
+step_dates (Step.poll_stays own g) = ap (λ (x : Private). x.dates) g.after
+step_dates (Step.poll_crosses other g) = ap (λ (x : Private). x.dates) g.after
+step_dates (Step.take_box c) = ap (λ (x : Private). x.dates) c.after
+step_dates (Step.give_box c) = ap (λ (x : Private). x.dates) c.after
+
 pub first_counts : (p q : Private) (word : ℕ) (work : Work) → p.phase ≡ Begun work → q ≡ begun_by p word work → q.steps ≡ p.steps + 1
 unfolding took_of took_at
 first_counts p q word work begun is =

@@ -1,4 +1,5 @@
 -- The private record that the fields of a machine make up.
+use Rattle.std.specs.Prelude.{false}
 use Rattle.rec_mutator.specs.Private.{Private, IsMachine}
 use Rattle.rec_mutator.specs.declared.machine.Machine.TheInside.{Inside}
 
@@ -16,6 +17,7 @@ private inside =
       phase = inside.phase;
       steps = inside.steps;
       left = inside.left;
+      dates = false;
     }
 
 -- what the fields of every machine keep

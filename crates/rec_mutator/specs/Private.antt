@@ -1,5 +1,6 @@
 -- A mutator's machine as a whole: plain data, and what every machine keeps.
 use Rattle.std.specs.Prelude.{◌≡◌, ℕ, ◌+◌, ◌-◌, ◌%◌, ◌^◌, ◌<◌, ◌≤◌, ◌==◌, Bool, true, false, Option, None, Some, List, [], ◌∷◌, All, length, replicate, slice_index_or}
+use Rattle.rec_word.specs.Bare.{dated_word}
 use Rattle.rec_word.specs.Word.{packed, IsTarget}
 use Rattle.rec_word.specs.declared.stamps.Stamp.{Stamp}
 use Rattle.rec_model.specs.declared.command.Cmd.{Cmd}
@@ -14,7 +15,8 @@ use Rattle.rec_mutator.specs.declared.work.Work.{Work}
 use Rattle.rec_mutator.specs.declared.work.Work.TheVariants as works
 
 -- the mutator's number and epoch, slots of the heap and fields of an object, its registers, its log, the slot with which a scan begins,
--- how far its work has come, how many steps that took, and whether it has left
+-- how far its work has come, how many steps that took, whether it has left, and whether the words that it puts are dated: those of a
+-- heap are not
 pub record Private : Type 0 where
   pub number : ℕ
   pub epoch : ℕ
@@ -26,10 +28,12 @@ pub record Private : Type 0 where
   pub phase : Phase
   pub steps : ℕ
   pub left : Bool
+  pub dates : Bool
 
--- a machine as it is opened with these registers: its log is empty, and so is the snapshot of `regs` registers in it
-abbrev pub opened_with : (number epoch slots fields : ℕ) (registers : List (Option ℕ)) (regs cap : ℕ) → Private
-opened_with number epoch slots fields registers regs cap =
+-- a mutator as it is opened with these registers: its log is empty, and so is the snapshot of `regs` registers in it; and its words are
+-- dated or not
+abbrev pub opened_by : (dates : Bool) → (number epoch slots fields : ℕ) (registers : List (Option ℕ)) (regs cap : ℕ) → Private
+opened_by dates number epoch slots fields registers regs cap =
     record {
       number = number;
       epoch = epoch;
@@ -41,7 +45,12 @@ opened_with number epoch slots fields registers regs cap =
       phase = Idle;
       steps = 0;
       left = false;
+      dates = dates;
     }
+
+-- a machine as it is opened with these registers, as heaps have them
+abbrev pub opened_with : (number epoch slots fields : ℕ) (registers : List (Option ℕ)) (regs cap : ℕ) → Private
+opened_with number epoch slots fields registers regs cap = opened_by false number epoch slots fields registers regs cap
 
 -- a machine as it is opened: register 0 names slot 0, all else is null or empty
 abbrev pub opened : (number epoch slots fields regs cap : ℕ) → Private
@@ -59,9 +68,9 @@ is_full p = length p.log.entries == p.log.capacity
 abbrev pub next_stamp : Private → Stamp
 next_stamp p = record { writer = p.number; epoch = p.epoch; index = length p.log.entries }
 
--- the word that leads where a register does, with that stamp
+-- the word that leads where a register does, with that stamp, and with the own epoch as its date where words are dated
 abbrev pub word_for : Private → ℕ → ℕ
-word_for p r = packed (register p r) (next_stamp p)
+word_for p r = dated_word p.dates p.epoch (packed (register p r) (next_stamp p))
 
 -- the slot that comes so many behind this one, where the first one follows the last
 abbrev pub slot_behind : (slots from count : ℕ) → ℕ

@@ -66,7 +66,7 @@ no_lines (suc many) zero = refl
 no_lines (suc many) (suc i) = no_lines many i
 
 -- The order before the first move.
-starts : (w : Core) (heap : Heap) (number : ℕ → ℕ) (unfreed : List ℕ) → IsKept w → AreIdle w → StandsBy heap (sight w) number → AreUnfreed (sight w) number unfreed
+starts : (w : Core) (heap : Heap) (number : ℕ → ℕ) (unfreed : List ℕ) → IsKept false w → AreIdle w → StandsBy heap (sight w) number → AreUnfreed (sight w) number unfreed
     → HasOrder (limits_of w.config) (moment_of w heap unfreed) [] w (naming_of heap number)
 starts w heap number unfreed kept idle stands are =
     let (home, homes) = has_homes (sight w) number stands.one_to_one (length w.headers) in (
@@ -127,7 +127,7 @@ same_journals limits start events lines journals many first second own legal =
     }
 
 -- The order of a run.
-pub run_legal : (w : Core) (heap : Heap) (number : ℕ → ℕ) (unfreed : List ℕ) (moves : List Move) (journals : List (List Line)) → IsKept w → AreIdle w → StandsBy heap (sight w) number → AreUnfreed (sight w) number unfreed
+pub run_legal : (w : Core) (heap : Heap) (number : ℕ → ℕ) (unfreed : List ℕ) (moves : List Move) (journals : List (List Line)) → IsKept false w → AreIdle w → StandsBy heap (sight w) number → AreUnfreed (sight w) number unfreed
     → AllFit w moves → AreJournals w moves journals → HasLegalOrder w heap number unfreed moves journals
 run_legal w heap number unfreed moves journals kept idle stands are fit told =
     let limits : Limits = limits_of w.config in

@@ -74,7 +74,7 @@ stamp_is : (cmd : Cmd) (told : Told) (P : ℕ → Type 0) (v : ℕ) → IfSome (
 stamp_is cmd told P v held leaves = subst (λ o. IfSome o P) leaves held
 
 module _ (limits : Limits) (start : Moment) (lines : List (List Line)) (events : List Event) (w : Core) (n : Naming) (home : ℕ → ℕ) (t : ℕ) (cmd : Cmd) (told : Told)
-    (numbers : limits ≡ limits_of w.config) (kept : IsKept w) (is : IsMutator w.config t) (here : gives_back (mutator w t).phase ≡ false) (said : IsDecided w t cmd told (stepped w t)) (cause : HasCause (mutator w t) (mutator (stepped w t) t) cmd (found_by w t) told.answer)
+    (numbers : limits ≡ limits_of w.config) (kept : IsKept false w) (is : IsMutator w.config t) (here : gives_back (mutator w t).phase ≡ false) (said : IsDecided w t cmd told (stepped w t)) (cause : HasCause (mutator w t) (mutator (stepped w t) t) cmd (found_by w t) told.answer)
     (so : Stands w (after_all limits start events) n home) where
   slots_are : limits.slots ≡ w.config.slots
   slots_are = ap (λ (l : Limits). l.slots) numbers

@@ -40,12 +40,12 @@ use Rattle.rec_core.specs.Swept.IsSweep.{rests, marks, frees}
 use Rattle.rec_core.specs.declared.config.Config.{Config}
 use Rattle.rec_core.proofs.Actors.{epoch_here}
 use Rattle.rec_core.proofs.Asked.{begun_sight}
-use Rattle.rec_core.proofs.Reach.{turned_keeps, keeps_stands_by}
-use Rattle.rec_core.proofs.Runs.{move_kept, move_stays}
+use Rattle.rec_core.proofs.Reach.{keeps_stands_by}
+use Rattle.rec_core.proofs.Runs.{move_stays}
 use Rattle.rec_core.proofs.Leaving.{IsStayingIn, leaves_or_stays, told_as}
 use Rattle.rec_core.proofs.Showing.{IsStaying, Says, step_says, step_caused, leaving_decided, mutator_other}
 use Rattle.rec_core.proofs.Steps.{in_list}
-use Rattle.rec_core.proofs.Swept.{turned_sweeps}
+use Rattle.rec_core.proofs.BareRuns.{move_kept, turned_keeps, turned_sweeps}
 use Rattle.rec_core.proofs.Turning.{turned_mutators}
 use Rattle.rec_order.specs.Naming.{Naming, named_after, named_after_all}
 use Rattle.rec_order.specs.Events.{swept_by, events_in, events_of}
@@ -125,7 +125,7 @@ module _ (limits : Limits) (start : Moment) where
   swept_nothing n _ nothing = refl
 
   -- the order over a turn: as the sweep goes
-  turn_order : (lines : List (List Line)) (events : List Event) (w : Core) (n : Naming) (home : ℕ → ℕ) → IsKept w → Ordered limits start lines events w n home
+  turn_order : (lines : List (List Line)) (events : List Event) (w : Core) (n : Naming) (home : ℕ → ℕ) → IsKept false w → Ordered limits start lines events w n home
       → Ordered limits start lines (events ++ swept_by n (next_of w.collector)) (turned w) n home
   turn_order lines events w n home kept so = go (turned_sweeps w kept)
     where
@@ -167,7 +167,7 @@ module _ (limits : Limits) (start : Moment) where
           (stands_freed limits w (turned w) (after_all limits start events) n home slot stands taken headers freed was so.stands) so)
 
   -- A work that begins.
-  begun_order : (lines : List (List Line)) (events : List Event) (w : Core) (n : Naming) (home : ℕ → ℕ) (t : ℕ) (work : Work) (from : ℕ) → IsKept w → IsMutator w.config t → is_busy (mutator w t) ≡ false
+  begun_order : (lines : List (List Line)) (events : List Event) (w : Core) (n : Naming) (home : ℕ → ℕ) (t : ℕ) (work : Work) (from : ℕ) → IsKept false w → IsMutator w.config t → is_busy (mutator w t) ≡ false
       → Ordered limits start lines events w n home → Ordered limits start lines events (begun_from w t work from) n home
   unfolding begun_of
   begun_order lines events w n home t work from kept is idle so =
@@ -185,7 +185,7 @@ module _ (limits : Limits) (start : Moment) where
 
   -- A step of a mutator.
   -- one that decides no command
-  silent_order : (lines : List (List Line)) (events : List Event) (w : Core) (n : Naming) (home : ℕ → ℕ) (t : ℕ) → limits ≡ limits_of w.config → IsKept w → IsMutator w.config t → is_busy (mutator w t) ≡ true → IsSilent w t
+  silent_order : (lines : List (List Line)) (events : List Event) (w : Core) (n : Naming) (home : ℕ → ℕ) (t : ℕ) → limits ≡ limits_of w.config → IsKept false w → IsMutator w.config t → is_busy (mutator w t) ≡ true → IsSilent w t
       → Ordered limits start lines events w n home → HasOrder (events ++ events_in n w (Move.Steps t)) (stepped w t) (named_after n w (Move.Steps t))
   silent_order lines events w n home t numbers kept is busy done so =
       let P : List Event → Type 0 = λ es. HasOrder es (stepped w t) (named_after n w (Move.Steps t)) in
@@ -272,7 +272,7 @@ module _ (limits : Limits) (start : Moment) where
     pub here : (word : ℕ) → word_left cmd told ≡ Some word → epoch_at (mutator (stepped w t) t) ≡ (mutator w t).epoch
 
   -- one that answers a command
-  answered_decides : (w : Core) (t : ℕ) (cmd : Cmd) (told : Told) → IsKept w → IsMutator w.config t → is_busy (mutator w t) ≡ true → IsStayingIn (mutator w t).phase
+  answered_decides : (w : Core) (t : ℕ) (cmd : Cmd) (told : Told) → IsKept false w → IsMutator w.config t → is_busy (mutator w t) ≡ true → IsStayingIn (mutator w t).phase
       → work_of (mutator w t) ≡ Some (works.Command cmd) → answer_of (mutator (stepped w t) t) ≡ Some (makes.Answered told) → IsDecided w t cmd told (stepped w t) → IsStaying cmd told.answer → Decides w t cmd told
   answered_decides w t cmd told kept is busy stays work answer said staying =
       let v : Core = stepped w t in
@@ -290,7 +290,7 @@ module _ (limits : Limits) (start : Moment) where
       }
 
   -- one that takes the mailbox of a mutator that leaves
-  leaving_decides : (w : Core) (t : ℕ) → IsKept w → IsMutator w.config t → is_busy (mutator w t) ≡ true → (mutator w t).phase ≡ at.Leaving → Decides w t commands.Leave (plain answers.Done)
+  leaving_decides : (w : Core) (t : ℕ) → IsKept false w → IsMutator w.config t → is_busy (mutator w t) ≡ true → (mutator w t).phase ≡ at.Leaving → Decides w t commands.Leave (plain answers.Done)
   leaving_decides w t kept is busy phase =
       let v : Core = stepped w t in
       let parting : (mutator v t).phase ≡ at.Parting = leaving_parts w t kept is phase in
@@ -305,7 +305,7 @@ module _ (limits : Limits) (start : Moment) where
       }
 
   -- the order over a step that decides a command
-  decided_order : (lines : List (List Line)) (events : List Event) (w : Core) (n : Naming) (home : ℕ → ℕ) (t : ℕ) (cmd : Cmd) (told : Told) → limits ≡ limits_of w.config → IsKept w → IsKept (stepped w t) → IsMutator w.config t
+  decided_order : (lines : List (List Line)) (events : List Event) (w : Core) (n : Naming) (home : ℕ → ℕ) (t : ℕ) (cmd : Cmd) (told : Told) → limits ≡ limits_of w.config → IsKept false w → IsKept false (stepped w t) → IsMutator w.config t
       → is_busy (mutator w t) ≡ true → Decides w t cmd told → Ordered limits start lines events w n home → HasOrder (events ++ events_in n w (Move.Steps t)) (stepped w t) (named_after n w (Move.Steps t))
   decided_order lines events w n home t cmd told numbers kept kept_after is busy d so =
       let e : Event = Answers t (cmd, told) in
@@ -368,7 +368,7 @@ module _ (limits : Limits) (start : Moment) where
       )
 
   -- one step, of whatever kind
-  step_order : (lines : List (List Line)) (events : List Event) (w : Core) (n : Naming) (home : ℕ → ℕ) (t : ℕ) → limits ≡ limits_of w.config → IsKept w → IsKept (stepped w t) → IsMutator w.config t → is_busy (mutator w t) ≡ true
+  step_order : (lines : List (List Line)) (events : List Event) (w : Core) (n : Naming) (home : ℕ → ℕ) (t : ℕ) → limits ≡ limits_of w.config → IsKept false w → IsKept false (stepped w t) → IsMutator w.config t → is_busy (mutator w t) ≡ true
       → Ordered limits start lines events w n home → HasOrder (events ++ events_in n w (Move.Steps t)) (stepped w t) (named_after n w (Move.Steps t))
   step_order lines events w n home t numbers kept kept_after is busy so = elim (leaves_or_stays (mutator w t).phase) [
     | inl leaving ↦ decided_order lines events w n home t commands.Leave (plain answers.Done) numbers kept kept_after is busy (leaving_decides w t kept is busy leaving) so
@@ -385,7 +385,7 @@ module _ (limits : Limits) (start : Moment) where
       go stays (Says.crossed answer work phase still epoch log) = silent_order lines events w n home t numbers kept is busy (crossed_silent w t kept is busy stays ((mutator w t).epoch + 1) answer still log) so
 
   -- One move more.
-  move_order : (events : List Event) (w : Core) (n : Naming) (m : Move) → limits ≡ limits_of w.config → IsKept w → Fits w m → HasOrder events w n → HasOrder (events ++ events_in n w m) (after_move w m) (named_after n w m)
+  move_order : (events : List Event) (w : Core) (n : Naming) (m : Move) → limits ≡ limits_of w.config → IsKept false w → Fits w m → HasOrder events w n → HasOrder (events ++ events_in n w m) (after_move w m) (named_after n w m)
   move_order events w n (Move.Begins t work from) numbers kept fits (lines, home, so) =
       let P : List Event → Type 0 = λ es. HasOrder es (begun_from w t work from) n in
       subst P (sym (append-nil events)) (lines, home, begun_order lines events w n home t work from kept fits.0 fits.1 so)
@@ -400,7 +400,7 @@ module _ (limits : Limits) (start : Moment) where
       )
 
   -- Some moves more.
-  pub moves_order : (events : List Event) (w : Core) (n : Naming) (ms : List Move) → limits ≡ limits_of w.config → IsKept w → AllFit w ms → HasOrder events w n
+  pub moves_order : (events : List Event) (w : Core) (n : Naming) (ms : List Move) → limits ≡ limits_of w.config → IsKept false w → AllFit w ms → HasOrder events w n
       → HasOrder (events ++ events_of n w ms) (after_moves w ms) (named_after_all n w ms)
   moves_order events w n [] numbers kept fit so =
       let P : List Event → Type 0 = λ es. HasOrder es w n in

@@ -30,8 +30,9 @@ use Rattle.rec_core.specs.Kept.{IsKept}
 use Rattle.rec_core.specs.Moves.{Move, Fits, AllFit, after_move, after_moves, begun, stepped, turned, found_by}
 use Rattle.rec_core.specs.StepAnswers.{IsDecided}
 use Rattle.rec_core.specs.Worked.{StepsTo, IsWorked}
+use Rattle.rec_core.proofs.BareRuns.{move_kept}
 use Rattle.rec_core.proofs.Asked.{begun_sight}
-use Rattle.rec_core.proofs.Runs.{after_both, fit_both, move_kept}
+use Rattle.rec_core.proofs.Runs.{after_both, fit_both}
 use Rattle.rec_core.proofs.Leaving.{IsStayingIn, leaves_or_stays, polls_stay, told_as}
 use Rattle.rec_core.proofs.Showing.{Says, step_says, leaving_decided, parting_says, mutator_left, stepped_mutator}
 use Rattle.rec_core.proofs.Turning.{turn_case}
@@ -123,7 +124,7 @@ runs_unborn w v t n told is busy steps tells made =
     subst (Runs w v told n) (same_names n w t made) so
 
 -- a step that answers no command, and isn't one of leaving, decides none
-undecided_silent : (w : Core) (t : ℕ) → IsKept w → IsMutator w.config t → is_busy (mutator w t) ≡ true → IsStayingIn (mutator w t).phase
+undecided_silent : (w : Core) (t : ℕ) → IsKept false w → IsMutator w.config t → is_busy (mutator w t) ≡ true → IsStayingIn (mutator w t).phase
     → ((cmd : Cmd) (told : Told) → work_of (mutator w t) ≡ Some (works.Command cmd) → answer_of (mutator (stepped w t) t) ≡ Some (makes.Answered told) → ⊥) → IsSilent w t
 undecided_silent w t kept is busy stays undecided = go (step_says w t kept is busy stays)
   where
@@ -151,7 +152,7 @@ none_so_far t _ other = refl
 -- Steps that finish nothing are a run that nobody sees and that tells nothing, until a mutator that leaves has let go.
 record StepsOn (w v : Core) (t : ℕ) (n : Naming) : Type 0 where
   run : Runs w v (told_so_far t (mutator v t).phase) n n
-  kept : IsKept v
+  kept : IsKept false v
   is : IsMutator v.config t
   work : work_of (mutator v t) ≡ work_of (mutator w t)
   seen : ((mutator v t).phase ≡ at.Parting → ⊥) → sight v ≡ sight w
@@ -186,7 +187,7 @@ steps_further w u t n so busy later = elim (leaves_or_stays (mutator u t).phase)
     goes_on run seen = record { run = run; kept = move_kept u (Move.Steps t) so.kept (so.is, busy); is = so.is; work = work_stays u t so.kept so.is busy ∙ so.work; seen = seen }
 
 -- a path of steps is one
-steps_on : (w : Core) (t : ℕ) (n : Naming) (v : Core) → IsKept w → IsMutator w.config t → ((mutator w t).phase ≡ at.Parting → ⊥) → StepsTo w t v → is_busy (mutator v t) ≡ true → StepsOn w v t n
+steps_on : (w : Core) (t : ℕ) (n : Naming) (v : Core) → IsKept false w → IsMutator w.config t → ((mutator w t).phase ≡ at.Parting → ⊥) → StepsTo w t v → is_busy (mutator v t) ≡ true → StepsOn w v t n
 steps_on w t n v kept is other (StepsTo.here x same) busy =
     subst (λ y. StepsOn w y t n) (sym same)
     (record { run = subst (λ es. Runs w w es n n) (sym (none_so_far t (mutator w t).phase other)) (runs_none w w n refl); kept = kept; is = is; work = refl; seen = λ _. refl })
@@ -197,7 +198,7 @@ steps_on w t n v kept is other (StepsTo.further u x path u_busy steps) busy =
 -- A work up to its last step is a run that nobody sees and that tells nothing, until a mutator that leaves has let go.
 record WorksOn (w last : Core) (t : ℕ) (work : Work) (n : Naming) : Type 0 where
   run : Runs w last (told_so_far t (mutator last t).phase) n n
-  kept : IsKept last
+  kept : IsKept false last
   is : IsMutator last.config t
   its : work_of (mutator last t) ≡ Some work
   seen : ((mutator last t).phase ≡ at.Parting → ⊥) → sight last ≡ sight w
@@ -207,7 +208,7 @@ works_untold : {w last : Core} {t : ℕ} {work : Work} {n : Naming} → WorksOn 
 works_untold {w = w} {last = last} {t = t} {n = n} so other = subst (λ es. Runs w last es n n) (none_so_far t (mutator last t).phase other) so.run
 
 -- a work that was made to its end has come to its last step so
-works_on : (w v : Core) (t : ℕ) (work : Work) (n : Naming) → IsKept w → IsMutator w.config t → is_busy (mutator w t) ≡ false → (mutator w t).left ≡ false → IsValid (mutator w t) work → HasLabel work
+works_on : (w v : Core) (t : ℕ) (work : Work) (n : Naming) → IsKept false w → IsMutator w.config t → is_busy (mutator w t) ≡ false → (mutator w t).left ≡ false → IsValid (mutator w t) work → HasLabel work
     → (done : IsWorked w t work v) → WorksOn w done.last t work n
 unfolding begun_of
 works_on w v t work n kept is idle present valid label done =
@@ -224,7 +225,7 @@ works_on w v t work n kept is idle present valid label done =
     }
 
 -- A poll made to its end is a run that tells nothing, and nobody sees it.
-pub polled_runs : (w v : Core) (t : ℕ) (n : Naming) → IsKept w → IsMutator w.config t → is_busy (mutator w t) ≡ false → (mutator w t).left ≡ false → IsWorked w t works.Poll v → Runs w v [] n n × (sight v ≡ sight w)
+pub polled_runs : (w v : Core) (t : ℕ) (n : Naming) → IsKept false w → IsMutator w.config t → is_busy (mutator w t) ≡ false → (mutator w t).left ≡ false → IsWorked w t works.Poll v → Runs w v [] n n × (sight v ≡ sight w)
 polled_runs w v t n kept is idle present done =
     let u : Core = done.last in
     let so : WorksOn w u t works.Poll n = works_on w v t works.Poll n kept is idle present tt tt done in
@@ -246,7 +247,7 @@ names_go_on u w v t cmd told n home k homes seen headers (NamesOn.born slot birt
 names_go_on u w v t cmd told n home k homes seen headers (NamesOn.same unborn) = NamesGoOn.same unborn
 
 -- a step that answers a command, and isn't one of leaving, decides it
-decided_so : (u : Core) (t : ℕ) (cmd : Cmd) (told : Told) → IsKept u → IsMutator u.config t → is_busy (mutator u t) ≡ true → IsStayingIn (mutator u t).phase → work_of (mutator u t) ≡ Some (works.Command cmd)
+decided_so : (u : Core) (t : ℕ) (cmd : Cmd) (told : Told) → IsKept false u → IsMutator u.config t → is_busy (mutator u t) ≡ true → IsStayingIn (mutator u t).phase → work_of (mutator u t) ≡ Some (works.Command cmd)
     → answer_of (mutator (stepped u t) t) ≡ Some (makes.Answered told) → IsDecided u t cmd told (stepped u t)
 decided_so u t cmd told kept is busy stays its answer = go (step_says u t kept is busy stays)
   where
@@ -261,7 +262,7 @@ decided_so u t cmd told kept is busy stays its answer = go (step_says u t kept i
     go (Says.crossed none work phase still epoch log) = absurd (let no : ◌≡◌ {A = Option Made} (Some (makes.Crossed (Some ((mutator u t).epoch + 1)))) (Some (makes.Answered told)) = sym none ∙ answer in cc)
 
 -- A command made to its end is a run that tells its answer, at its last step, or, where the mutator leaves, at the one before that.
-pub commanded_runs : (w v : Core) (t : ℕ) (cmd : Cmd) (told : Told) (n : Naming) → IsKept w → IsMutator w.config t → is_busy (mutator w t) ≡ false → (mutator w t).left ≡ false
+pub commanded_runs : (w v : Core) (t : ℕ) (cmd : Cmd) (told : Told) (n : Naming) → IsKept false w → IsMutator w.config t → is_busy (mutator w t) ≡ false → (mutator w t).left ≡ false
     → IsValid (mutator w t) (works.Command cmd) → HasLabel (works.Command cmd) → IsWorked w t (works.Command cmd) v → answer_of (mutator v t) ≡ Some (makes.Answered told)
     → (k : Naming) × NamesGoOn w v (cmd, told) n k × Runs w v (Event.Answers t (cmd, told) ∷ []) n k
 commanded_runs w v t cmd told n kept is idle present valid label done answered =

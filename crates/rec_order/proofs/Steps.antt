@@ -106,7 +106,7 @@ module _ (limits : Limits) (start : Moment) (events : List Event) (w : Core) (n 
 
 -- the mutator's own scan, over a step of the world
 pub own_meets : (limits : Limits) (start : Moment) (events : List Event) (w : Core) (n : Naming) (home : ℕ → ℕ) (t : ℕ) → limits.slots ≡ w.config.slots → Stands w (after_all limits start events) n home
-    → IsKept w → IsMutator w.config t → is_busy (mutator w t) ≡ true → Meets limits start events home n.next t (mutator w t).from (mutator w t).phase → Meets limits start events home n.next t (mutator (stepped w t) t).from (mutator (stepped w t) t).phase
+    → IsKept false w → IsMutator w.config t → is_busy (mutator w t) ≡ true → Meets limits start events home n.next t (mutator w t).from (mutator w t).phase → Meets limits start events home n.next t (mutator (stepped w t) t).from (mutator (stepped w t) t).phase
 own_meets limits start events w n home t same_slots so kept is busy has =
     let own = (actor_of w t kept is).own in
     subst (λ (x : Private). Meets limits start events home n.next t x.from x.phase) (sym (stepped_mutator w t kept is))

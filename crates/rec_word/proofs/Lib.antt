@@ -1,4 +1,5 @@
 -- The modules of the proofs.
+pub mod Bare
 pub mod FieldPlaces
 pub mod Headers
 pub mod Packing

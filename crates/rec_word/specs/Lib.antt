@@ -1,7 +1,9 @@
 -- The modules of the definitions.
 pub mod Atom
+pub mod Bare
 pub mod Header
 pub mod Mailbox
 pub mod Op
 pub mod Place
+pub mod Wide
 pub mod Word

@@ -30,7 +30,7 @@ is_slot x (Some y) = x == y
 
 -- the stamp in a field word
 abbrev pub stamp_of : ℕ → Stamp
-stamp_of word = record { writer = (word / 2 ^ 40) % 2 ^ 6; epoch = (word / 2 ^ 16) % 2 ^ 24; index = word / 2 ^ 46 }
+stamp_of word = record { writer = (word / 2 ^ 40) % 2 ^ 6; epoch = (word / 2 ^ 16) % 2 ^ 24; index = (word / 2 ^ 46) % 2 ^ 18 }
 
 -- null, or a slot that a heap may have
 abbrev pub IsTarget : Option ℕ → Type 0

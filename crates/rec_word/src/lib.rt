@@ -15,6 +15,7 @@ mod mailbox;
 mod op;
 mod places;
 mod stamps;
+mod wide;
 mod word;
 
 pub use atom::Atom;
@@ -24,4 +25,5 @@ pub use mailbox::{Mailbox, crossing};
 pub use op::Op;
 pub use places::place;
 pub use stamps::Stamp;
+pub use wide::{pack_wide, value, wide_target};
 pub use word::{LAST_EPOCH, pack, stamp, target};

@@ -27,8 +27,8 @@ pub fn pack(target: Option<u16>, stamp: Stamp) -> u64
     ensures gives_target { target_of result ≡ target }
     ensures gives_stamp { stamp_of result ≡ stamp }
 
-    // No other word has these parts.
-    ensures only { (word : ℕ) → target_of word ≡ target → stamp_of word ≡ stamp → word ≡ result }
+    // No other word of 64 bits has these parts.
+    ensures only { (word : ℕ) → word < 2 ^ 64 → target_of word ≡ target → stamp_of word ≡ stamp → word ≡ result }
 {
     let low = match target {
         None => 0,

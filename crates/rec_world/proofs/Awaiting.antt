@@ -1,5 +1,5 @@
 -- Leaving is answered NotYet exactly where the own mailbox isn't home with a spare.
-use Rattle.std.proofs.Common.{◌≡◌, ◌↔◌, inl, inr, ℕ, Bool, true, Option, Some, refl, sym, ap, subst, ◌∙◌}
+use Rattle.std.proofs.Common.{◌≡◌, ◌↔◌, inl, inr, ℕ, Bool, true, Option, Some, refl, sym, ap, subst, ◌∙◌, false}
 use Rattle.std.proofs.lemmas.Bool.{false≢true}
 use Rattle.rec_world.proofs.Common.{next_of, next_at, is_busy, is_busy_at, work_at, work_of, cell, IsMutator, Core, cells_of, mutator, found_by, AwaitsCollector, IsBetween}
 use Rattle.rec_word.specs.Mailbox.{crossing_word, mailbox_of}
@@ -37,12 +37,12 @@ not_allocates : (reg label : ℕ) (leaf : Bool) → ◌≡◌ {A = Option Work} 
 not_allocates reg label leaf work = false≢true (sym (ap is_new (same_command (allocation leaf reg label) commands.Leave work)) ∙ allocates reg label leaf)
 
 -- the first step of leaving looks at the own crossing word
-leaving_finds : (w : Core) (t : ℕ) → IsKept w → IsMutator w.config t → (mutator w t).phase ≡ Begun (works.Command commands.Leave) → found_by w t ≡ crossing_of w t
+leaving_finds : (w : Core) (t : ℕ) → IsKept false w → IsMutator w.config t → (mutator w t).phase ≡ Begun (works.Command commands.Leave) → found_by w t ≡ crossing_of w t
 unfolding next_of next_at
 leaving_finds w t kept is phase = ap (cell (cells_of w)) (ap (next_at (mutator w t)) phase) ∙ ap (crossing_of w) (actor_of w t kept is).own.number
 
 -- leaving that isn't done yet is at its first step
-at_first : (w : Core) (t : ℕ) → IsKept w → IsMutator w.config t → is_busy (mutator w t) ≡ true → IsStayingIn (mutator w t).phase → work_of (mutator w t) ≡ Some (works.Command commands.Leave)
+at_first : (w : Core) (t : ℕ) → IsKept false w → IsMutator w.config t → is_busy (mutator w t) ≡ true → IsStayingIn (mutator w t).phase → work_of (mutator w t) ≡ Some (works.Command commands.Leave)
     → (mutator w t).phase ≡ Begun (works.Command commands.Leave)
 at_first w t kept is busy stays work = go (mutator w t).phase refl busy stays (actor_of w t kept is).own.between work
   where
@@ -59,7 +59,7 @@ at_first w t kept is busy stays work = go (mutator w t).phase refl busy stays (a
     go (Finished done made) its busy stays between work = absurd (false≢true busy)
     go _ its busy stays between work = cc
 
-pub awaits_collector : (w : Core) (t : ℕ) (cmd : Cmd) → IsKept w → IsMutator w.config t → is_busy (mutator w t) ≡ true → IsStayingIn (mutator w t).phase → work_of (mutator w t) ≡ Some (works.Command cmd)
+pub awaits_collector : (w : Core) (t : ℕ) (cmd : Cmd) → IsKept false w → IsMutator w.config t → is_busy (mutator w t) ≡ true → IsStayingIn (mutator w t).phase → work_of (mutator w t) ≡ Some (works.Command cmd)
     → IsAwaited (mutator w t) (found_by w t) cmd ↔ AwaitsCollector w t cmd
 awaits_collector w t commands.Leave kept is busy stays work = (
   λ (phase, awaits). subst IsUncollected (leaving_finds w t kept is phase) awaits,

@@ -18,15 +18,15 @@ use Rattle.rec_world.proofs.OneStep.{made_step_is}
 use Rattle.rec_world.proofs.Skipping.{GoesOn, goes_on, path_both, path_waits}
 
 -- the mutator that began
-began : (w : Core) (t : ℕ) (work : Work) → IsKept w → IsMutator w.config t → mutator (begun w t work) t ≡ begun_of (mutator w t) work 0
+began : (w : Core) (t : ℕ) (work : Work) → IsKept false w → IsMutator w.config t → mutator (begun w t work) t ≡ begun_of (mutator w t) work 0
 began w t work kept is = mutator_left w t (begun_of (mutator w t) work 0) kept is
 
 -- it is busy, with this work
-began_busy : (w : Core) (t : ℕ) (work : Work) → IsKept w → IsMutator w.config t → is_busy (mutator (begun w t work) t) ≡ true
+began_busy : (w : Core) (t : ℕ) (work : Work) → IsKept false w → IsMutator w.config t → is_busy (mutator (begun w t work) t) ≡ true
 unfolding begun_of
 began_busy w t work kept is = ap is_busy (began w t work kept is)
 
-pub began_work : (w : Core) (t : ℕ) (work : Work) → IsKept w → IsMutator w.config t → work_of (mutator (begun w t work) t) ≡ Some work
+pub began_work : (w : Core) (t : ℕ) (work : Work) → IsKept false w → IsMutator w.config t → work_of (mutator (begun w t work) t) ≡ Some work
 unfolding begun_of
 began_work w t work kept is = ap work_of (began w t work kept is)
 
@@ -34,7 +34,7 @@ began_work w t work kept is = ap work_of (began w t work kept is)
 pub record MayBegin (inside : Inside) (t : ℕ) (work : Work) : Type 0 where
   pub was : Ready inside t
   pub world : IsWorld (begun (core inside) t work)
-  pub kept : IsKept (begun (core inside) t work)
+  pub kept : IsKept false (begun (core inside) t work)
   pub busy : is_busy (mutator (begun (core inside) t work) t) ≡ true
   pub began : mutator (begun (core inside) t work) t ≡ begun_of (mutator (core inside) t) work 0
   pub may : MayStep (begun (core inside) t work) t
@@ -47,7 +47,7 @@ may_begin inside old t work whole view is present fits idle label =
     let its_work : IsWork w.config work = subst (λ (x : Core). IsWork x.config work) (sym view) fits in
     let may : Fits w (Move.Begins t work 0) = (was.is, ap (λ (x : Core). is_busy (mutator x t)) view ∙ idle, ap (λ (x : Core). (mutator x t).left) view ∙ present, own_work w t work was.kept was.is its_work, label, was.kept.config.some_slots) in
     let world : IsWorld (begun w t work) = moved_world w (Move.Begins t work 0) whole.world may in
-    let kept : IsKept (begun w t work) = world_kept (begun w t work) world in
+    let kept : IsKept false (begun w t work) = world_kept (begun w t work) world in
     let busy : is_busy (mutator (begun w t work) t) ≡ true = began_busy w t work was.kept was.is in
     record { was = was; world = world; kept = kept; busy = busy; began = began w t work was.kept was.is; may = may_step (begun w t work) t kept was.is busy; fits = may }
 
@@ -78,25 +78,25 @@ first_step_is inside t i births work q new mailbox left cells may at read its_bo
     ∙ made_step_is (begun w t work) t i births inside.boxes.items q new mailbox left cells may.world.shaped may.was.is refl may.was.boxed at (began_again inside t i work q may at read) its_box makes leaves gives counts
 
 -- a work that was finished by its first step
-pub finished_first : (w v : Core) (t : ℕ) (work : Work) (made : Made) → IsKept w → IsMutator w.config t → IsWorld (begun w t work) → v ≡ stepped (begun w t work) t → answer_of (mutator v t) ≡ Some made → IsFinished (begun w t work) t made v
+pub finished_first : (w v : Core) (t : ℕ) (work : Work) (made : Made) → IsKept false w → IsMutator w.config t → IsWorld (begun w t work) → v ≡ stepped (begun w t work) t → answer_of (mutator v t) ≡ Some made → IsFinished (begun w t work) t made v
 finished_first w v t work made kept is world steps answer =
     let b : Core = begun w t work in
     record { last = b; path = StepsTo.here b refl; waits = waits_none b t (begun_found w t work kept is); busy = began_busy w t work kept is; work = refl; world = world; steps = steps; answer = answer }
 
 -- a work whose first step finished nothing
-pub first_goes_on : (w v : Core) (t : ℕ) (work : Work) → IsKept w → IsMutator w.config t → IsWorld (begun w t work) → v ≡ stepped (begun w t work) t → answer_of (mutator v t) ≡ None → GoesOn (begun w t work) v t
+pub first_goes_on : (w v : Core) (t : ℕ) (work : Work) → IsKept false w → IsMutator w.config t → IsWorld (begun w t work) → v ≡ stepped (begun w t work) t → answer_of (mutator v t) ≡ None → GoesOn (begun w t work) v t
 first_goes_on w v t work kept is world steps none =
     let b : Core = begun w t work in
     goes_on b b v t world is (waits_none b t (begun_found w t work kept is)) (began_busy w t work kept is) steps none
 
 -- it goes on
-pub first_busy : (w v : Core) (t : ℕ) (work : Work) → IsKept w → IsMutator w.config t → IsWorld (begun w t work) → v ≡ stepped (begun w t work) t → answer_of (mutator v t) ≡ None → is_busy (mutator v t) ≡ true
+pub first_busy : (w v : Core) (t : ℕ) (work : Work) → IsKept false w → IsMutator w.config t → IsWorld (begun w t work) → v ≡ stepped (begun w t work) t → answer_of (mutator v t) ≡ None → is_busy (mutator v t) ≡ true
 first_busy w v t work kept is world steps none =
     let b : Core = begun w t work in
     ap (λ (x : Core). is_busy (mutator x t)) steps ∙ step_busy b t (world_kept b world) is (began_busy w t work kept is) ∙ ap (λ (x : Core). is_none (answer_of (mutator x t))) (sym steps) ∙ ap is_none none
 
 -- and is finished by later ones
-pub finished_later : (w v u : Core) (t : ℕ) (work : Work) (made : Made) → IsKept w → IsMutator w.config t → IsWorld (begun w t work) → v ≡ stepped (begun w t work) t → GoesOn (begun w t work) v t
+pub finished_later : (w v u : Core) (t : ℕ) (work : Work) (made : Made) → IsKept false w → IsMutator w.config t → IsWorld (begun w t work) → v ≡ stepped (begun w t work) t → GoesOn (begun w t work) v t
     → IsFinished v t made u → IsFinished (begun w t work) t made u
 finished_later w v u t work made kept is world steps on f =
     let b : Core = begun w t work in

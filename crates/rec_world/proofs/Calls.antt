@@ -28,19 +28,19 @@ use Rattle.rec_core.specs.Pending.{epoch_at}
 use Rattle.rec_core.specs.Unfinished.{HasFound}
 use Rattle.rec_core.specs.Worked.{StepsTo, IsWorked}
 use Rattle.rec_core.specs.declared.config.Config.{Config}
-use Rattle.rec_core.proofs.Opening.{opened_kept}
-use Rattle.rec_core.proofs.Runs.{looked_is, move_kept, end_kept, run_more, run_opened}
+use Rattle.rec_core.proofs.BareRuns.{end_kept, move_kept}
+use Rattle.rec_core.proofs.Runs.{looked_is, run_more, run_opened}
 use Rattle.rec_core.proofs.Showing.{mutator_left}
 use Rattle.rec_core.proofs.Steps.{actor_of}
 use Rattle.rec_core.proofs.Turns.{numbered}
 use Rattle.rec_world.specs.declared.world.World.TheInside.{Inside}
 
 -- a world keeps what every heap with its collector keeps
-pub world_kept : (w : Core) → IsWorld w → IsKept w
+pub world_kept : (w : Core) → IsWorld w → IsKept false w
 world_kept w world = end_kept w world.shaped.config world.run
 
 -- what such a heap keeps tells of its words and registers
-pub shaped_of : (w : Core) → IsKept w → IsShaped w
+pub shaped_of : (w : Core) → IsKept false w → IsShaped w
 shaped_of w kept =
     record {
       config = kept.config;
@@ -64,7 +64,7 @@ mutator_read w t i p shaped is at read =
     read ∙ ap (λ n. slice_index_or w.mutators (n - 1) p) at ∙ get_or_default w.mutators (t - 1) p nobody (omega (arith, is.0, is.1))
 
 -- a work that fits the heap fits the mutator
-pub own_work : (w : Core) (t : ℕ) (work : Work) → IsKept w → IsMutator w.config t → IsWork w.config work → IsValid (mutator w t) work
+pub own_work : (w : Core) (t : ℕ) (work : Work) → IsKept false w → IsMutator w.config t → IsWork w.config work → IsValid (mutator w t) work
 own_work w t (works.Command cmd) kept is fits = let own = (actor_of w t kept is).own in operands_same cmd (sym own.registers) (sym own.fields) fits
 own_work w t works.Poll kept is fits = tt
 
@@ -94,13 +94,13 @@ home_again boxes i x some home j there =
     ]
 
 -- there is a mailbox for each mutator
-boxes_many : (w : Core) (t : ℕ) (boxes : List (Option Contents)) → IsKept w → IsMutator w.config t → w.boxes ≡ map held boxes → t - 1 < length boxes
+boxes_many : (w : Core) (t : ℕ) (boxes : List (Option Contents)) → IsKept false w → IsMutator w.config t → w.boxes ≡ map held boxes → t - 1 < length boxes
 boxes_many w t boxes kept is same =
     let many : length boxes ≡ w.config.mutators = sym (ap (λ (bs : List Contents). length bs) same ∙ rw length-map refl) ∙ kept.mutators.mailboxes in
     omega (arith, is.0, is.1)
 
 -- a mutator has made no more entries than fit all epochs
-few_entries : (w : Core) (t : ℕ) → IsKept w → IsMutator w.config t → entries_made w.config (mutator w t) ≤ 2 ^ 58
+few_entries : (w : Core) (t : ℕ) → IsKept false w → IsMutator w.config t → entries_made w.config (mutator w t) ≤ 2 ^ 58
 few_entries w t kept is =
     let a = actor_of w t kept is in
     let p : Private = mutator w t in
@@ -119,7 +119,7 @@ few_entries w t kept is =
         go false few = omega arith
 
 -- so a birth more is counted
-pub made_small : (w : Core) → IsKept w → w.made + 1 < 2 ^ 64
+pub made_small : (w : Core) → IsKept false w → w.made + 1 < 2 ^ 64
 made_small w kept =
     let each : All (λ (p : Private). entries_made w.config p ≤ 2 ^ 58) w.mutators
     = All-from_get_or (λ (p : Private). entries_made w.config p ≤ 2 ^ 58) w.mutators nobody (λ i there. subst (λ n. entries_made w.config (slice_index_or w.mutators n nobody) ≤ 2 ^ 58) (let same : i + 1 - 1 ≡ i = omega arith in same) (few_entries w (i + 1) kept (numbered w i kept (subst (λ n. i < n) kept.mutators.many there)))) in
@@ -171,7 +171,7 @@ stepped_is w t i boxes op found births p q mailbox left taken new cells shaped i
 
 -- the opened heap is a world
 pub opened_world : (config : Config) → IsConfig config → IsWorld (opened config)
-opened_world config is = record { shaped = shaped_of (opened config) (opened_kept config is); run = run_opened config }
+opened_world config is = record { shaped = shaped_of (opened config) (end_kept (opened config) is (run_opened config)); run = run_opened config }
 
 -- every mailbox is home
 pub opened_home : (config : Config) (boxes : List (Option Contents)) → boxes ≡ replicate config.mutators (Some (spare_of config)) → (i : ℕ) → i < length boxes → IsSome (slice_index_or boxes i None)
@@ -196,19 +196,19 @@ opened_parts config cells boxes mutators collector is are own counts =
     ∙ ap (λ c. make first (replicate config.mutators (spare_of config)) (opened_mutators config config.mutators) c) counts
 
 -- a work that was begun has found nothing yet
-pub begun_found : (w : Core) (t : ℕ) (work : Work) → IsKept w → IsMutator w.config t → HasFound (begun w t work) (mutator (begun w t work) t).from (mutator (begun w t work) t).phase
+pub begun_found : (w : Core) (t : ℕ) (work : Work) → IsKept false w → IsMutator w.config t → HasFound (begun w t work) (mutator (begun w t work) t).from (mutator (begun w t work) t).phase
 unfolding begun_of
 begun_found w t work kept is = subst (λ (p : Private). HasFound (begun w t work) p.from p.phase) (sym (mutator_left w t (begun_of (mutator w t) work 0) kept is)) refl
 
 -- nor taken a mailbox
-pub begun_takes_none : (w : Core) (t : ℕ) (work : Work) → IsKept w → IsMutator w.config t → (mutator (begun w t work) t).phase ≢ Parting
+pub begun_takes_none : (w : Core) (t : ℕ) (work : Work) → IsKept false w → IsMutator w.config t → (mutator (begun w t work) t).phase ≢ Parting
 unfolding begun_of
 begun_takes_none w t work kept is parts =
     let not_so : ◌≡◌ {A = phases.Phase} (Begun work) Parting = sym (ap (λ (p : Private). p.phase) (mutator_left w t (begun_of (mutator w t) work 0) kept is)) ∙ parts in
     (cc)
 
 -- what the last state before the end of a work keeps
-pub finished_kept : (w b v : Core) (t : ℕ) (work : Work) (made : Made) → b ≡ begun w t work → (f : IsFinished b t made v) → IsKept f.last
+pub finished_kept : (w b v : Core) (t : ℕ) (work : Work) (made : Made) → b ≡ begun w t work → (f : IsFinished b t made v) → IsKept false f.last
 finished_kept w b v t work made begins f = world_kept f.last f.world
 
 -- a work that was begun and finished was made to its end
@@ -216,29 +216,29 @@ pub worked : (w b v : Core) (t : ℕ) (work : Work) (made : Made) → b ≡ begu
 worked w b v t work made begins f idle = record { last = f.last; path = subst (λ (x : Core). StepsTo x t f.last) begins f.path; busy = f.busy; steps = f.steps; idle = idle }
 
 -- the machine that was replaced is the mutator then
-pub machine_left : (w : Core) (t i : ℕ) (q : Private) → IsKept w → IsMutator w.config t → i ≡ t → slice_index_or (slice_set w.mutators (i - 1) q) (t - 1) nobody ≡ q
+pub machine_left : (w : Core) (t i : ℕ) (q : Private) → IsKept false w → IsMutator w.config t → i ≡ t → slice_index_or (slice_set w.mutators (i - 1) q) (t - 1) nobody ≡ q
 machine_left w t i q kept is at = ap (λ n. slice_index_or (slice_set w.mutators (n - 1) q) (t - 1) nobody) at ∙ mutator_left w t q kept is
 
 -- what is known of a world, and of a mutator of it
 pub record Ready (inside : Inside) (t : ℕ) : Type 0 where
-  pub kept : IsKept (core inside)
+  pub kept : IsKept false (core inside)
   pub is : IsMutator (core inside).config t
   pub boxed : t - 1 < length inside.boxes.items
 
 pub ready : (inside : Inside) (old : Core) (t : ℕ) → IsWhole inside → core inside ≡ old → IsMutator old.config t → Ready inside t
 ready inside old t whole view is =
     let its : IsMutator (core inside).config t = subst (λ (x : Core). IsMutator x.config t) (sym view) is in
-    let kept : IsKept (core inside) = world_kept (core inside) whole.world in
+    let kept : IsKept false (core inside) = world_kept (core inside) whole.world in
     record { kept = kept; is = its; boxed = boxes_many (core inside) t inside.boxes.items kept its refl }
 
 -- the same of a world of which no mutator is asked
 pub record ReadyToTurn (inside : Inside) : Type 0 where
-  pub kept : IsKept (core inside)
+  pub kept : IsKept false (core inside)
   pub is : IsMutator (core inside).config (looked_at (core inside).collector.phase)
   pub boxed : looked_at (core inside).collector.phase - 1 < length inside.boxes.items
 
 pub ready_to_turn : (inside : Inside) → IsWhole inside → ReadyToTurn inside
 ready_to_turn inside whole =
-    let kept : IsKept (core inside) = world_kept (core inside) whole.world in
+    let kept : IsKept false (core inside) = world_kept (core inside) whole.world in
     let is : IsMutator (core inside).config (looked_at (core inside).collector.phase) = looked_is (core inside) (core inside).collector.phase kept refl in
     record { kept = kept; is = is; boxed = boxes_many (core inside) (looked_at (core inside).collector.phase) inside.boxes.items kept is refl }

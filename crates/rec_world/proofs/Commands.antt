@@ -41,7 +41,7 @@ use Rattle.rec_world.proofs.IntoLeaves.{allocates, into_leaf}
 
 -- A step that answers a command, and isn't one of leaving, in a heap in which nothing else moved since its begin.
 record Answering (w : Core) (t : ℕ) (cmd : Cmd) (told : Told) (v : Core) : Type 0 where
-  pub kept : IsKept w
+  pub kept : IsKept false w
   pub is : IsMutator w.config t
   pub busy : is_busy (mutator w t) ≡ true
   pub work : work_of (mutator w t) ≡ Some (works.Command cmd)
@@ -196,7 +196,7 @@ none_leaves commands.Leave answers.Done stays = absurd stays
 none_leaves _ _ stays = refl
 
 -- nor by a step that isn't one of leaving
-pub stays_after : (w v : Core) (t : ℕ) → IsKept w → IsMutator w.config t → is_busy (mutator w t) ≡ true → IsStayingIn (mutator w t).phase → v ≡ stepped w t → (mutator v t).left ≡ false
+pub stays_after : (w v : Core) (t : ℕ) → IsKept false w → IsMutator w.config t → is_busy (mutator w t) ≡ true → IsStayingIn (mutator w t).phase → v ≡ stepped w t → (mutator v t).left ≡ false
 stays_after w v t kept is busy stays steps =
     ap (λ (x : Core). (mutator x t).left) steps ∙ ap (λ (p : Private). p.left) (stepped_mutator w t kept is)
     ∙ step_left (λ parts. subst IsStayingIn parts stays) (its_step w t kept is busy) ∙ stays_here w t kept is busy
@@ -231,7 +231,7 @@ writes_along w v t (commands.Put src f val) registers entries config headers (sl
 writes_along w v t _ registers entries config headers writes = absurd writes
 
 -- each slot below the one that a scan has come to is taken
-probed_lower : (w : Core) (t : ℕ) (phase : Phase) (slot : ℕ) → IsKept w → IsMutator w.config t → (mutator w t).phase ≡ phase → HasFound w (mutator w t).from phase → probed_at (mutator w t) phase ≡ Some slot → (s : ℕ) → s < slot → IsTaken (sight w) s
+probed_lower : (w : Core) (t : ℕ) (phase : Phase) (slot : ℕ) → IsKept false w → IsMutator w.config t → (mutator w t).phase ≡ phase → HasFound w (mutator w t).from phase → probed_at (mutator w t) phase ≡ Some slot → (s : ℕ) → s < slot → IsTaken (sight w) s
 probed_lower w t (Scanning reg label leaf before at) slot kept there phase found is s below =
     let same : ◌≡◌ {A = Option ℕ} (Some (probe_of (mutator w t) at)) (Some slot) = is in
     let comes : probe_of (mutator w t) at ≡ slot = cc in
@@ -247,7 +247,7 @@ lowest {w = w} {t = t} slot a place =
     record { there = omega arith; free = place.free; lower = probed_lower w t (mutator w t).phase slot a.kept a.is refl a.found place.probed }
 
 -- what is said of the command, from its last step
-answers_all : (w last v : Core) (t : ℕ) (cmd : Cmd) (told : Told) → IsKept w → IsMutator w.config t → OnlyWorks w last t → v ≡ stepped last t → answer_of (mutator v t) ≡ Some (makes.Answered told)
+answers_all : (w last v : Core) (t : ℕ) (cmd : Cmd) (told : Told) → IsKept false w → IsMutator w.config t → OnlyWorks w last t → v ≡ stepped last t → answer_of (mutator v t) ≡ Some (makes.Answered told)
     → Answering last t cmd told v → IsAnswered w v t cmd told
 answers_all w last v t cmd told kept is only steps answer a =
     let p : Private = mutator w t in
@@ -396,7 +396,7 @@ has_let_go before w t other parts (Waits.holds phase still epoch) =
 has_let_go before w t other parts (Waits.parts phase gone) = gone
 
 -- what the last step of a work says that doesn't leave
-end_says : (before v : Core) (t : ℕ) (made : Made) → IsMutator before.config t → (f : IsFinished before t made v) → IsKept f.last → IsStayingIn (mutator f.last t).phase → Says f.last t (mutator v t) v
+end_says : (before v : Core) (t : ℕ) (made : Made) → IsMutator before.config t → (f : IsFinished before t made v) → IsKept false f.last → IsStayingIn (mutator f.last t).phase → Says f.last t (mutator v t) v
 end_says before v t made is f kept stays = subst (λ (x : Core). Says f.last t (mutator x t) x) (sym f.steps) (step_says f.last t kept (mutator_there before f.last t f.waits is) f.busy stays)
 
 -- what the last step of any work says: it isn't one of leaving, or the mutator has left by it
@@ -404,7 +404,7 @@ data Ends (last v : Core) (t : ℕ) (q : Private) : Type 0 where
   remains : IsStayingIn (mutator last t).phase → Says last t q v → Ends last v t q
   departs : (mutator last t).phase ≡ Parting → Parts last t q v → Ends last v t q
 
-ends_so : (before v : Core) (t : ℕ) (made : Made) → IsMutator before.config t → (f : IsFinished before t made v) → IsKept f.last → Ends f.last v t (mutator v t)
+ends_so : (before v : Core) (t : ℕ) (made : Made) → IsMutator before.config t → (f : IsFinished before t made v) → IsKept false f.last → Ends f.last v t (mutator v t)
 ends_so before v t made is f kept = elim (leaves_or_stays (mutator f.last t).phase) [
   | inl leaving ↦
       absurd (unfinished made (sym (ap answer_at (leaving_says f.last t kept there leaving).0) ∙ ap (λ (x : Core). answer_of (mutator x t)) (sym f.steps) ∙ f.answer))
@@ -416,8 +416,8 @@ ends_so before v t made is f kept = elim (leaves_or_stays (mutator f.last t).pha
     there = mutator_there before f.last t f.waits is
 
 -- What a command is told whose work was begun and finished.
-pub command_said : (w b v : Core) (t : ℕ) (cmd : Cmd) (told : Told) → IsKept w → IsMutator w.config t → b ≡ begun w t (works.Command cmd) → work_of (mutator b t) ≡ Some (works.Command cmd)
-    → (f : IsFinished b t (makes.Answered told) v) → IsKept f.last → IsAnswered w v t cmd told
+pub command_said : (w b v : Core) (t : ℕ) (cmd : Cmd) (told : Told) → IsKept false w → IsMutator w.config t → b ≡ begun w t (works.Command cmd) → work_of (mutator b t) ≡ Some (works.Command cmd)
+    → (f : IsFinished b t (makes.Answered told) v) → IsKept false f.last → IsAnswered w v t cmd told
 command_said w b v t cmd told kept is begins its f last_kept = go (ends_so b v t (makes.Answered told) there f last_kept)
   where
     here : OnlyWorks w b t
@@ -449,8 +449,8 @@ command_said w b v t cmd told kept is begins its f last_kept = go (ends_so b v t
         (record { kept = last_kept; is = last_there; busy = f.busy; work = work; found = waited.1; stays = stays; said = said; staying = staying; cause = cause; refused = refused })
 
 -- a command never ends as a poll does
-pub command_crosses : (w b v : Core) (t : ℕ) (cmd : Cmd) (crossed : Option ℕ) → IsKept w → IsMutator w.config t → b ≡ begun w t (works.Command cmd) → work_of (mutator b t) ≡ Some (works.Command cmd)
-    → (f : IsFinished b t (makes.Crossed crossed) v) → IsKept f.last → ⊥
+pub command_crosses : (w b v : Core) (t : ℕ) (cmd : Cmd) (crossed : Option ℕ) → IsKept false w → IsMutator w.config t → b ≡ begun w t (works.Command cmd) → work_of (mutator b t) ≡ Some (works.Command cmd)
+    → (f : IsFinished b t (makes.Crossed crossed) v) → IsKept false f.last → ⊥
 command_crosses w b v t cmd crossed kept is begins its f last_kept =
     let there : IsMutator b.config t = subst (λ (x : Core). IsMutator x.config t) (sym begins) is in
     go (f.work ∙ its) f.answer (ends_so b v t (makes.Crossed crossed) there f last_kept)
@@ -464,8 +464,8 @@ command_crosses w b v t cmd crossed kept is begins its f last_kept =
     go work answer (Ends.remains stays (Says.crossed its_answer poll phase still epoch log)) = absurd (not_polled cmd (sym work ∙ poll))
 
 -- nor a poll as a command
-pub poll_answers : (w b v : Core) (t : ℕ) (told : Told) → IsKept w → IsMutator w.config t → b ≡ begun w t works.Poll → work_of (mutator b t) ≡ Some works.Poll
-    → (f : IsFinished b t (makes.Answered told) v) → IsKept f.last → ⊥
+pub poll_answers : (w b v : Core) (t : ℕ) (told : Told) → IsKept false w → IsMutator w.config t → b ≡ begun w t works.Poll → work_of (mutator b t) ≡ Some works.Poll
+    → (f : IsFinished b t (makes.Answered told) v) → IsKept false f.last → ⊥
 poll_answers w b v t told kept is begins its f last_kept =
     let there : IsMutator b.config t = subst (λ (x : Core). IsMutator x.config t) (sym begins) is in
     go (f.work ∙ its) f.answer (end_says b v t (makes.Answered told) there f last_kept (polls_stay (mutator f.last t).phase (f.work ∙ its)))
@@ -493,13 +493,13 @@ unfolding next_of next_at
 poll_finds w t is = ap (cell (cells_of w)) (ap (next_at (mutator w t)) is)
 
 -- a poll that ends with no crossing found its own epoch requested
-stayed_epoch : (w : Core) (t : ℕ) → IsKept w → IsMutator w.config t → is_busy (mutator w t) ≡ true → answer_of (mutator (stepped w t) t) ≡ Some (makes.Crossed None) → w.epoch ≡ (mutator w t).epoch
+stayed_epoch : (w : Core) (t : ℕ) → IsKept false w → IsMutator w.config t → is_busy (mutator w t) ≡ true → answer_of (mutator (stepped w t) t) ≡ Some (makes.Crossed None) → w.epoch ≡ (mutator w t).epoch
 stayed_epoch w t kept is busy answer =
     let cause = (poll_has_cause (mutator w t) (found_by w t) (box w t) busy (actor_of w t kept is).own.between).none.0 (ap answer_of (sym (stepped_mutator w t kept is)) ∙ answer) in
     sym (poll_finds w t cause.0) ∙ cause.1
 
 -- a mutator that holds its mailbox isn't in the requested epoch, and has an empty log
-holds_next : (w : Core) (t : ℕ) → IsKept w → IsMutator w.config t → (mutator w t).phase ≡ Giving → ((mutator w t).epoch + 1 ≡ w.epoch) × (log_length w t ≡ 0)
+holds_next : (w : Core) (t : ℕ) → IsKept false w → IsMutator w.config t → (mutator w t).phase ≡ Giving → ((mutator w t).epoch + 1 ≡ w.epoch) × (log_length w t ≡ 0)
 holds_next w t kept is phase =
     let crosses = (giving_of w t kept is phase).1 in
     (crosses.epoch, ap (λ (b : Contents). length b.entries) crosses.spare)
@@ -543,8 +543,8 @@ waits_log before w t (Waits.holds phase still epoch) here = absurd (false≢true
 waits_log before w t (Waits.parts phase gone) here = absurd (false≢true (sym here ∙ ap gives_back phase))
 
 -- What a poll is told whose work was begun and finished.
-pub poll_said : (w b v : Core) (t : ℕ) (crossed : Option ℕ) → IsKept w → IsMutator w.config t → (mutator w t).left ≡ false → b ≡ begun w t works.Poll → work_of (mutator b t) ≡ Some works.Poll
-    → (f : IsFinished b t (makes.Crossed crossed) v) → IsKept f.last → IsPolled w v t crossed
+pub poll_said : (w b v : Core) (t : ℕ) (crossed : Option ℕ) → IsKept false w → IsMutator w.config t → (mutator w t).left ≡ false → b ≡ begun w t works.Poll → work_of (mutator b t) ≡ Some works.Poll
+    → (f : IsFinished b t (makes.Crossed crossed) v) → IsKept false f.last → IsPolled w v t crossed
 poll_said w b v t crossed kept is present begins its f last_kept =
     let there : IsMutator b.config t = subst (λ (x : Core). IsMutator x.config t) (sym begins) is in
     go (f.work ∙ its) (end_says b v t (makes.Crossed crossed) there f last_kept staying)

@@ -35,7 +35,7 @@ looks w t src f val slot phase names room =
     (ap (next_at p) phase ∙ ap (λ (x : Option ℕ). write_op p x (is_full p)) names ∙ ap (write_op p (Some slot)) (ne_eqb (length p.log.entries) p.log.capacity room))
 
 -- a write into a leaf is at its first step
-first_step : (w : Core) (t src f val slot : ℕ) → IsKept w → IsMutator w.config t → is_busy (mutator w t) ≡ true → work_of (mutator w t) ≡ Some (works.Command (commands.Put src f val)) → register (mutator w t) src ≡ Some slot
+first_step : (w : Core) (t src f val slot : ℕ) → IsKept false w → IsMutator w.config t → is_busy (mutator w t) ≡ true → work_of (mutator w t) ≡ Some (works.Command (commands.Put src f val)) → register (mutator w t) src ≡ Some slot
     → is_leaf (slice_index_or w.headers slot 0) ≡ true → (mutator w t).phase ≡ Begun (works.Command (commands.Put src f val))
 first_step w t src f val slot kept is busy work names leaf = go (mutator w t).phase refl busy work
   where
@@ -56,7 +56,7 @@ first_step w t src f val slot kept is busy work names leaf = go (mutator w t).ph
     go (Finished done made) its busy work = absurd (false≢true busy)
     go _ its busy work = cc
 
-pub into_leaf : (w : Core) (t : ℕ) (cmd : Cmd) → IsKept w → IsMutator w.config t → is_busy (mutator w t) ≡ true → work_of (mutator w t) ≡ Some (works.Command cmd) → FindsLeaf (mutator w t) (found_by w t) cmd ↔ WritesLeaf w t cmd
+pub into_leaf : (w : Core) (t : ℕ) (cmd : Cmd) → IsKept false w → IsMutator w.config t → is_busy (mutator w t) ≡ true → work_of (mutator w t) ≡ Some (works.Command cmd) → FindsLeaf (mutator w t) (found_by w t) cmd ↔ WritesLeaf w t cmd
 into_leaf w t (commands.Put src f val) kept is busy work = (
   λ (phase, (slot, names), room, leaf).
       let own = (actor_of w t kept is).own in

@@ -9,7 +9,8 @@ use Rattle.rec_core.specs.OpenedFrom.{holding_mutators, opened_from}
 use Rattle.rec_core.specs.Row.{cells_of_row, row}
 use Rattle.rec_core.specs.Worked.{AreIdle}
 use Rattle.rec_core.specs.declared.config.Config.{Config}
-use Rattle.rec_core.proofs.OpenedFrom.{one_of, opened_from_kept}
+use Rattle.rec_core.proofs.BareRuns.{end_kept}
+use Rattle.rec_core.proofs.OpenedFrom.{one_of}
 use Rattle.rec_core.proofs.OpenedFromSeen.{headers_many, words_many}
 use Rattle.rec_core.proofs.Row.{cells_row}
 use Rattle.rec_core.proofs.Runs.{run_opened_from}
@@ -56,7 +57,7 @@ module _ (config : Config) (o : Objects) (is : IsConfig config) (are : AreObject
 
   -- it is a world,
   pub objects_world : IsWorld w
-  objects_world = record { shaped = shaped_of w (opened_from_kept config o is are labels); run = run_opened_from config o are labels }
+  objects_world = record { shaped = shaped_of w (end_kept w is (run_opened_from config o are labels)); run = run_opened_from config o are labels }
 
   -- in which no mutator works
   pub objects_idle : AreIdle w

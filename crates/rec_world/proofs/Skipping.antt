@@ -1,5 +1,5 @@
 -- A scan that skips slots which are taken makes the steps that probe them.
-use Rattle.std.proofs.Common.{◌≡◌, ◌≢◌, inl, inr, None, ℕ, zero, suc, ◌+◌, ◌-◌, ◌<◌, ◌≤◌, if◌then◌else◌, Bool, true, List, length, slice_index_or, slice_set, arith, refl, sym, ap, subst, ◌∙◌}
+use Rattle.std.proofs.Common.{◌≡◌, ◌≢◌, inl, inr, None, ℕ, zero, suc, ◌+◌, ◌-◌, ◌<◌, ◌≤◌, if◌then◌else◌, Bool, true, List, length, slice_index_or, slice_set, arith, refl, sym, ap, subst, ◌∙◌, false}
 use Rattle.std.proofs.lemmas.Bool.{cases_lt, ne_eqb}
 use Rattle.std.proofs.lemmas.List.{set-set, set-get_or}
 use Rattle.rec_world.proofs.Common.{Contents, next_of, Private, is_busy, work_of, answer_of, slot_behind, took_of, step_of, swapped_of, left_of, skipped_to, skipped_at, IsAhead, cell, IsMutator, Core, cells_of, sight, mutator, with_mutator, box, nobody, Move, stepped, performed, found_by, IsShaped, IsWorld}
@@ -41,7 +41,7 @@ claim_fails w t slot claimed q r taken =
     ∙ ap (λ bs. make w.headers (slice_set w.mutators (t - 1) r) bs (w.made + 0)) (set-get_or w.boxes (t - 1) _)
     ∙ ap (make w.headers (slice_set w.mutators (t - 1) r) w.boxes) (omega arith)
 
-module _ (w : Core) (t : ℕ) (kept : IsKept w) (is : IsMutator w.config t) (reg label : ℕ) (leaf : Bool) (before at : ℕ) (scans : (mutator w t).phase ≡ Scanning reg label leaf before at) (first : (mutator w t).from ≡ 0) where
+module _ (w : Core) (t : ℕ) (kept : IsKept false w) (is : IsMutator w.config t) (reg label : ℕ) (leaf : Bool) (before at : ℕ) (scans : (mutator w t).phase ≡ Scanning reg label leaf before at) (first : (mutator w t).from ≡ 0) where
   many : (mutator w t).slots ≡ w.config.slots
   many = (actor_of w t kept is).own.slots
 
@@ -90,7 +90,7 @@ module _ (w : Core) (t : ℕ) (kept : IsKept w) (is : IsMutator w.config t) (reg
 stays : (w : Core) (t slot : ℕ) → skipped_to (mutator w t) slot ≡ mutator w t → StepsTo w t (skipping w t slot)
 stays w t slot same = StepsTo.here (skipping w t slot) (ap (with_mutator w t) same ∙ ap (λ ms. let x : Core = record w { mutators = ms } in x) (set-get_or w.mutators (t - 1) nobody))
 
-skip_path_at : (w : Core) (t slot : ℕ) (phase : Phase) → IsKept w → IsMutator w.config t → (mutator w t).phase ≡ phase → HasFound w (mutator w t).from phase → IsAhead phase slot → slot ≤ w.config.slots
+skip_path_at : (w : Core) (t slot : ℕ) (phase : Phase) → IsKept false w → IsMutator w.config t → (mutator w t).phase ≡ phase → HasFound w (mutator w t).from phase → IsAhead phase slot → slot ≤ w.config.slots
     → ((s : ℕ) → s < slot → IsTaken (sight w) s) → StepsTo w t (skipping w t slot)
 unfolding skipped_to skipped_at
 skip_path_at w t slot (Scanning reg label leaf before at) kept is scans found ahead few taken =
@@ -112,12 +112,12 @@ skip_path_at w t slot Parting kept is phase found ahead few taken = stays w t sl
 skip_path_at w t slot (Finished work made) kept is phase found ahead few taken = stays w t slot (ap (skipped_at (mutator w t) slot) phase)
 
 -- skips past taken slots are steps
-skip_path : (w : Core) (t slot : ℕ) → IsKept w → IsMutator w.config t → HasFound w (mutator w t).from (mutator w t).phase → IsAhead (mutator w t).phase slot → slot ≤ w.config.slots
+skip_path : (w : Core) (t slot : ℕ) → IsKept false w → IsMutator w.config t → HasFound w (mutator w t).from (mutator w t).phase → IsAhead (mutator w t).phase slot → slot ≤ w.config.slots
     → ((s : ℕ) → s < slot → IsTaken (sight w) s) → StepsTo w t (skipping w t slot)
 skip_path w t slot kept is found ahead few taken = skip_path_at w t slot (mutator w t).phase kept is refl found ahead few taken
 
 -- a scan has passed taken slots alone, so a free slot is ahead of it, and so is the end
-free_ahead : (w : Core) (t slot : ℕ) → IsKept w → IsMutator w.config t → HasFound w (mutator w t).from (mutator w t).phase → slot ≤ w.config.slots
+free_ahead : (w : Core) (t slot : ℕ) → IsKept false w → IsMutator w.config t → HasFound w (mutator w t).from (mutator w t).phase → slot ≤ w.config.slots
     → (slot < w.config.slots → slice_index_or w.headers slot 0 ≡ 0) → IsAhead (mutator w t).phase slot
 free_ahead w t slot kept is found few free = go (mutator w t).phase refl found
   where
@@ -180,7 +180,7 @@ pub record MaySkip (w : Core) (t slot : ℕ) : Type 0 where
   pub ahead : IsAhead (mutator w t).phase slot
   pub path : StepsTo w t (skipping w t slot)
 
-pub may_skip : (w : Core) (t slot : ℕ) → IsKept w → IsMutator w.config t → HasFound w (mutator w t).from (mutator w t).phase → slot ≤ length w.headers → ((s : ℕ) → s < slot → 0 < slice_index_or w.headers s 0)
+pub may_skip : (w : Core) (t slot : ℕ) → IsKept false w → IsMutator w.config t → HasFound w (mutator w t).from (mutator w t).phase → slot ≤ length w.headers → ((s : ℕ) → s < slot → 0 < slice_index_or w.headers s 0)
     → (slot < length w.headers → slice_index_or w.headers slot 0 ≡ 0) → MaySkip w t slot
 may_skip w t slot kept is found few taken free =
     let own = (actor_of w t kept is).own in

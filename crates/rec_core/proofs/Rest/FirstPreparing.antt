@@ -1,5 +1,5 @@
 -- The preparation of the sets that the first collection found: from load to load, and what it leaves.
-use Rattle.std.proofs.Common.{◌≡◌, ℕ, ◌*◌, ◌<◌, Option, None, Some, List, [], ◌++◌, IfSome, length, refl, sym, ap, subst, ◌∙◌}
+use Rattle.std.proofs.Common.{◌≡◌, ℕ, ◌*◌, ◌<◌, Option, None, Some, List, [], ◌++◌, IfSome, length, refl, sym, ap, subst, ◌∙◌, true}
 use Rattle.rec_core.proofs.Common.{Slot, State, PreparedTo, loaded_at, Parts, Preparing, still, Core, IsKept, PrepRests, SetsRest, AreLoadsOf, is_green}
 use Rattle.rec_sigma.specs.declared.at.At as loads
 use Rattle.rec_sigma.specs.Prepare.{Machine, Work, took_of}
@@ -13,7 +13,7 @@ use Rattle.rec_core.proofs.Rest.SettlingTests.{unheld_prepared}
 use Rattle.rec_core.proofs.Turns.{now_at}
 
 -- A field was loaded for the preparation, and the word that stands there was found.
-pub prep_rests_more : (w : Core) (m : Machine) (a : loads.At) → IsKept w → w.collector.phase ≡ Preparing m → m.at ≡ Some a → PrepRests w w.words (record { machine = m; counts = w.collector.counts })
+pub prep_rests_more : (w : Core) (m : Machine) (a : loads.At) → IsKept true w → w.collector.phase ≡ Preparing m → m.at ≡ Some a → PrepRests w w.words (record { machine = m; counts = w.collector.counts })
     → PrepRests w w.words (took_of (record { machine = m; counts = w.collector.counts }) (word_at w a.member.slot a.member.field))
 prep_rests_more w m a kept phase at h =
     let fields : ℕ = w.config.fields in

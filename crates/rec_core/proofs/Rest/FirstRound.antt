@@ -103,7 +103,7 @@ asked_awaited w u (Awaits.last t is returns left) h = known_in w (Returning t) r
 
 -- So it is over a whole turn, but for the sweep of a slot, which changes what is held. Counts are to be true once all mailboxes are
 -- gathered.
-pub first_turned : (w v : Core) → IsKept w → TurnCase w v → ((x : Core) → (x ≡ w) ⊎ Awaits w x → AreGathered x → (crossing words : List ℕ) (u : Begun) → HasLanded x crossing words u → AreCounted x words u.parts.counts)
+pub first_turned : (w v : Core) → IsKept true w → TurnCase w v → ((x : Core) → (x ≡ w) ⊎ Awaits w x → AreGathered x → (crossing words : List ℕ) (u : Begun) → HasLanded x crossing words u → AreCounted x words u.parts.counts)
     → ((due : Option ℕ) (n : ℕ) → w.collector.phase ≡ Sweeping due n → ⊥) → RestsIn Round.First w w.words w.collector w.collector.phase → (words : List ℕ) × (v.words ≡ words) × ComesTo Round.First w words v.collector
 first_turned w v kept turn counted unswept h = (v.words, refl, go turn)
   where

@@ -186,7 +186,7 @@ module _ (word : ℕ → ℕ → ℕ) (r : Run) (found : ℕ) (is : found ≡ wo
   still_finds _ h = h
 
 -- A field was loaded: each word that was loaded stands still.
-pub trial_rests_more : (w : Core) (m : Machine) (place : ℕ) → IsKept w → w.collector.phase ≡ Trying m → ◌≡◌ {A = Option Op} (trial_next m) (Some (LoadChild place))
+pub trial_rests_more : (w : Core) (m : Machine) (place : ℕ) → IsKept true w → w.collector.phase ≡ Trying m → ◌≡◌ {A = Option Op} (trial_next m) (Some (LoadChild place))
     → TrialRests w w.words (record { machine = m; counts = w.collector.counts }) → TrialRests w w.words (took_of (record { machine = m; counts = w.collector.counts }) (visible w.collector.counts (slice_index_or w.words place 0)))
 trial_rests_more w m place kept phase named h =
     let s : State = w.collector.counts in

@@ -78,7 +78,7 @@ pub stands_over : (left : List Bool) (phase : Phase) (t : ℕ) → stand_in phas
 stands_over left phase t done = elim (has_left left t) as (λ (b : Bool). IsOver (if b then Handshake.Gone else stand_in phase t)) [ true ↦ inr refl | false ↦ inl done ]
 
 -- A mutator at rest is home then: the last buffer of one that has left is gathered.
-home_of : (first : ℕ) (w : Core) {stands : ℕ → Handshake} {crossing : List ℕ} → HasMutators w.config w.epoch stands w.mutators crossing w.boxes → ((t : ℕ) → IsOver (stands t))
+home_of : (first : ℕ) (w : Core) {stands : ℕ → Handshake} {crossing : List ℕ} → HasMutators true w.config w.epoch stands w.mutators crossing w.boxes → ((t : ℕ) → IsOver (stands t))
     → AreQuiet first w → first < w.epoch → (i : ℕ) → i < w.config.mutators → IsHome w i
 home_of first w {stands = stands} {crossing = crossing} mutators over quiet early = by_place w.config (IsHome w) (λ t is. go t is (stands t) (over t) (mutators.each t is).handshake)
   where
@@ -131,7 +131,7 @@ home_snapshots w g all =
 
 -- retired buffers of this epoch name what the registers do
 retired_names : (w : Core) (epoch x : ℕ) (row : List Contents) → length w.mutators ≡ w.config.mutators → length row ≡ w.config.mutators
-    → ((t : ℕ) → IsMutator w.config t → IsBufferOf w.config epoch (buffer_at row (t - 1))) → ((t : ℕ) → IsMutator w.config t → IsRetired (mutator w t).registers (buffer_at row (t - 1)))
+    → ((t : ℕ) → IsMutator w.config t → IsBufferOf true w.config epoch (buffer_at row (t - 1))) → ((t : ℕ) → IsMutator w.config t → IsRetired (mutator w t).registers (buffer_at row (t - 1)))
     → sum_by (snapshot_by (is_at epoch (x + 1)) epoch) row ≡ registers_named w x
 retired_names w epoch x row many long buffers retired =
     let here : ℕ → Type 0 = λ i. snapshot_by (is_at epoch (x + 1)) epoch (buffer_at row i) ≡ named x (mutator_at w i).registers in
@@ -141,7 +141,7 @@ retired_names w epoch x row many long buffers retired =
 
 -- The batch of an epoch without writes was applied: the newer buffers are its, and the older ones those of the epoch before. So it is
 -- with these words and counts, as long as they are accounted for.
-pub accounted_count : (first : ℕ) (w : Core) (words : List ℕ) (s : State) {stands standing : ℕ → Handshake} {crossing : List ℕ} → IsKeptBy stands w → HasMutators w.config w.epoch standing w.mutators crossing w.boxes → ((t : ℕ) → IsOver (standing t))
+pub accounted_count : (first : ℕ) (w : Core) (words : List ℕ) (s : State) {stands standing : ℕ → Handshake} {crossing : List ℕ} → IsKeptBy true stands w → HasMutators true w.config w.epoch standing w.mutators crossing w.boxes → ((t : ℕ) → IsOver (standing t))
     → under_way w.collector.phase ≡ 1 → older_at w.epoch w.collector.phase ≡ w.epoch - 2 → IsAccounted (landed_pending w words s) → length s.slots ≡ w.config.slots → AreQuiet first w → AreGathered w → first < w.epoch → AreCounted w words s
 accounted_count first w words s kept mutators over way behind accounted slots quiet done early x below =
     let c = kept.collector in
@@ -176,7 +176,7 @@ pub landed_count : (first : ℕ) {w : Core} {crossing words : List ℕ} {b : Beg
 landed_count first {w} {crossing} {words} {b} k quiet done early = accounted_count first w words b.parts.counts k.kept k.mutators (λ t. stands_over w.collector.left Opening t refl) k.way k.older k.accounted k.slots quiet done early
 
 -- Between two collections the older buffers are those of the last batch, and the newer ones spares.
-pub idle_count : (first : ℕ) (w : Core) → IsKept w → AreQuiet first w → w.collector.phase ≡ Idle → first < w.epoch → AreCounted w w.words w.collector.counts
+pub idle_count : (first : ℕ) (w : Core) → IsKept true w → AreQuiet first w → w.collector.phase ≡ Idle → first < w.epoch → AreCounted w w.words w.collector.counts
 idle_count first w kept quiet idle early x below =
     let c = kept.collector in
     let m = kept.mutators in

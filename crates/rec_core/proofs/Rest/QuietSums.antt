@@ -1,5 +1,5 @@
 -- In a heap at rest nothing is left to count, once the batch of an epoch without writes is applied, but what the snapshots name.
-use Rattle.std.proofs.Common.{◌≡◌, ◌⊎◌, inl, inr, ℕ, ◌+◌, ◌-◌, ◌<◌, suc, List, [], ◌∷◌, length, map, slice_index_or, refl, ap, subst, arith}
+use Rattle.std.proofs.Common.{◌≡◌, ◌⊎◌, inl, inr, ℕ, ◌+◌, ◌-◌, ◌<◌, suc, List, [], ◌∷◌, length, map, slice_index_or, refl, ap, subst, arith, true}
 use Rattle.std.specs.List.{All, sum_by, zip}
 use Rattle.std.proofs.lemmas.Bool.{lt-leb}
 use Rattle.std.proofs.lemmas.List.Elements.{All-head, All-tail}
@@ -111,11 +111,11 @@ pub null_names : (g : Dated → ℕ) (of : ℕ) (b : Contents) → named_slots b
 null_names g of b null = ap (λ ns. sum_by g (map (λ slot. dated of (slot + 1)) ns)) null
 
 -- one of another epoch names nothing in this one
-pub other_names : (config : Config) (epoch node of : ℕ) (b : Contents) → of < epoch → IsBufferOf config of b → snapshot_by (is_at epoch node) of b ≡ 0
+pub other_names : (config : Config) (epoch node of : ℕ) (b : Contents) → of < epoch → IsBufferOf true config of b → snapshot_by (is_at epoch node) of b ≡ 0
 other_names config epoch node of b before is = omega (arith, gain_none config epoch of node b (λ same. omega (arith, same, before)) is)
 
 -- one of this epoch names what stands in it
-pub own_names : (config : Config) (epoch x : ℕ) (b : Contents) → b.entries ≡ [] → IsBufferOf config epoch b → snapshot_by (is_at epoch (x + 1)) epoch b ≡ named x b.snapshot
+pub own_names : (config : Config) (epoch x : ℕ) (b : Contents) → b.entries ≡ [] → IsBufferOf true config epoch b → snapshot_by (is_at epoch (x + 1)) epoch b ≡ named x b.snapshot
 own_names config epoch x b none is =
     omega (
       arith,

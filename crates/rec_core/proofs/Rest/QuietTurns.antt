@@ -1,5 +1,5 @@
 -- A turn of the collector leaves the mutators of a heap at rest.
-use Rattle.std.proofs.Common.{◌≡◌, ◌≢◌, ◌⊎◌, inl, inr, ℕ, ◌+◌, ◌-◌, ◌<◌, ◌≤◌, true, false, Option, None, Some, List, [], ◌∷◌, length, replicate, slice_get, slice_index_or, slice_set, refl, sym, ap, subst, ◌∙◌, arith}
+use Rattle.std.proofs.Common.{◌≡◌, ◌≢◌, ◌⊎◌, inl, inr, ℕ, ◌+◌, ◌-◌, ◌<◌, ◌≤◌, true, false, Option, None, Some, List, [], ◌∷◌, length, replicate, slice_get, slice_index_or, slice_set, refl, sym, ap, subst, ◌∙◌, arith, Bool}
 use Rattle.std.proofs.lemmas.Bool.{cases_eq, cases_lt, cond-true, false≢true, ltb-true, lt-ltb, leb-true, le-leb}
 use Rattle.std.proofs.lemmas.List.{length-set, get_or-set_same, get_or-set_other}
 use Rattle.rec_core.proofs.Common.{crossing_word, Retired, Spare, WithCollector, WithMutator, Contents, is_busy, IsClearingIn, Parts, blank, buffer_at, spare, with_parts, PreparesOn, TriesOn, ClearsOn, Begun, batched, ended, has_left, moved, noted, requested, zeros_released, Phase, Idle, Looking, Swapping, Returning, Releasing, Freeing, Trying, Preparing, Opening, Sweeping, Closing, Turn, IsMutator, Core, mutator, box, crossing_of, spare_of, Handshake, stand_at, stand_in, IsHandshake, IsKept, IsKeptBy, older_at, Config}
@@ -53,7 +53,7 @@ older_most requested (Returning t) = omega arith
 older_most requested _ = omega arith
 
 -- Where nobody works, nothing of a later epoch than the requested one is there.
-pub quiet_begun : (w : Core) → IsKept w → ((t : ℕ) → IsMutator w.config t → is_busy (mutator w t) ≡ false) → AreQuiet (w.epoch + 1) w
+pub quiet_begun : {dated : Bool} → (w : Core) → IsKept dated w → ((t : ℕ) → IsMutator w.config t → is_busy (mutator w t) ≡ false) → AreQuiet (w.epoch + 1) w
 quiet_begun w kept idle t is =
     let actor = kept.mutators.each t is in
     let stand : Handshake = stand_at w.collector.left w.collector.phase t in
@@ -77,7 +77,7 @@ all_null (None ∷ registers) none = ap (λ (rs : List (Option ℕ)). None ∷ r
 all_null (Some x ∷ registers) none = let not_so : ◌≡◌ {A = List ℕ} (x ∷ named registers) [] = none in absurd (cc)
 
 -- where the collector knows that a mutator has left, a spare has what its registers name
-gone_retired : (w : Core) (t : ℕ) (b : Contents) → IsKept w → IsMutator w.config t → has_left w.collector.left t ≡ true → b ≡ spare_of w.config → IsRetired (mutator w t).registers b
+gone_retired : (w : Core) (t : ℕ) (b : Contents) → IsKept true w → IsMutator w.config t → has_left w.collector.left t ≡ true → b ≡ spare_of w.config → IsRetired (mutator w t).registers b
 gone_retired w t b kept is left same =
     let actor = kept.mutators.each t is in
     let stands : Handshake → Type 0 = IsHandshake w.config w.epoch (mutator w t) (crossing_of w t) (box w t) in
@@ -140,7 +140,7 @@ clears_comes h (ClearsOn.tries none left on) = tries_comes on
 
 -- Where every mailbox was gathered, and the collection goes on or is complete, the mutators rest. Headers, words and the freed word don't
 -- matter.
-comes_quiet : (first : ℕ) (w : Core) (headers words : List ℕ) (freed : ℕ) (q : Private) {stands : ℕ → Handshake} → IsKeptBy stands w → AreGathered w → older_at w.epoch w.collector.phase ≡ w.epoch - 2 → GoesOrEnds w.collector q
+comes_quiet : (first : ℕ) (w : Core) (headers words : List ℕ) (freed : ℕ) (q : Private) {stands : ℕ → Handshake} → IsKeptBy true stands w → AreGathered w → older_at w.epoch w.collector.phase ≡ w.epoch - 2 → GoesOrEnds w.collector q
     → AreQuiet first w → AreQuiet first (record w { headers = headers; words = words; freed = freed; collector = q })
 comes_quiet first w headers words freed q kept all last (GoesOrEnds.goes newer older past) quiet t is =
     let k = quiet t is in
@@ -167,15 +167,15 @@ comes_quiet first w headers words freed q kept all last (GoesOrEnds.ends older i
     }
 
 -- whether they have left is known of all mutators
-many_left : (w : Core) → IsKept w → length w.collector.left ≡ w.config.mutators
+many_left : (w : Core) → IsKept true w → length w.collector.left ≡ w.config.mutators
 many_left w kept = let many : length w.collector.newer ≡ w.config.mutators = kept.collector.mutators in kept.collector.machine.left ∙ many
 
 -- what isn't gathered yet is a spare of the heap
-spare_there : (w : Core) (from t : ℕ) → IsKept w → IsMutator w.config t → AreSpare w.collector from → from < t → buffer_at w.collector.newer (t - 1) ≡ spare_of w.config
+spare_there : (w : Core) (from t : ℕ) → IsKept true w → IsMutator w.config t → AreSpare w.collector from → from < t → buffer_at w.collector.newer (t - 1) ≡ spare_of w.config
 spare_there w from t kept is spares behind = let many : length w.collector.newer ≡ w.config.mutators = kept.collector.mutators in spares (t - 1) (omega (arith, behind)) (omega (arith, many, is.0, is.1)) ∙ its_spare kept.collector
 
 -- a crossing word that was replaced by one of no waiting mailbox: a word of a waiting one is another mutator's, and was there
-other_waits : (w : Core) (t : ℕ) (mailbox : Mailbox) (s into : ℕ) → IsKept w → IsMutator w.config t → IsMutator w.config s → mailbox ≢ Retired
+other_waits : (w : Core) (t : ℕ) (mailbox : Mailbox) (s into : ℕ) → IsKept true w → IsMutator w.config t → IsMutator w.config s → mailbox ≢ Retired
     → slice_index_or (crossing_with w t mailbox) (s - 1) 0 ≡ crossing_word into Retired → (s ≢ t) × (crossing_of w s ≡ crossing_word into Retired)
 other_waits w t mailbox s into kept is there differs waits = elim (cases_eq s t) [
   | inl same ↦
@@ -195,7 +195,7 @@ other_waits w t mailbox s into kept is there differs waits = elim (cases_eq s t)
     only WithCollector epoch same = absurd (omega (arith, same))
 
 -- The next epoch is requested: no mailbox is gathered of it, and those that are passed over have spares.
-requested_quiet : (first : ℕ) (w : Core) (phase : Phase) (turns : ℕ) → IsKept w → w.collector.phase ≡ Idle → older_at (w.epoch + 1) phase ≡ w.epoch - 1
+requested_quiet : (first : ℕ) (w : Core) (phase : Phase) (turns : ℕ) → IsKept true w → w.collector.phase ≡ Idle → older_at (w.epoch + 1) phase ≡ w.epoch - 1
     → ((t : ℕ) → IsMutator w.config t → gathered phase t ≡ true → has_left w.collector.left t ≡ true) → AreQuiet first w
     → AreQuiet first (record w { epoch = w.epoch + 1; collector = record (requested w.collector) { phase = phase; turns = turns } })
 requested_quiet first w phase turns kept idle older passed quiet t is =
@@ -211,7 +211,7 @@ requested_quiet first w phase turns kept idle older passed quiet t is =
     }
 
 -- A mailbox is gathered: the buffer in it is one of the newer ones.
-gathers_quiet : (first : ℕ) (w : Core) (t : ℕ) → IsKept w → IsMutator w.config t → w.collector.phase ≡ Looking t → crossing_of w t ≡ crossing_word w.epoch Retired → AreQuiet first w
+gathers_quiet : (first : ℕ) (w : Core) (t : ℕ) → IsKept true w → IsMutator w.config t → w.collector.phase ≡ Looking t → crossing_of w t ≡ crossing_word w.epoch Retired → AreQuiet first w
     → AreQuiet first (record w {
       crossing = crossing_with w t WithCollector;
       boxes = slice_set w.boxes (t - 1) (spare w.collector);
@@ -244,7 +244,7 @@ gathers_quiet first w t kept is looks crossed quiet s there =
     }
 
 -- It is given back. Those that are passed over behind it have spares.
-returned_quiet : (first : ℕ) (w : Core) (t : ℕ) (phase : Phase) (turns : ℕ) → IsKept w → IsMutator w.config t → w.collector.phase ≡ Returning t → older_at w.epoch phase ≡ w.epoch - 2
+returned_quiet : (first : ℕ) (w : Core) (t : ℕ) (phase : Phase) (turns : ℕ) → IsKept true w → IsMutator w.config t → w.collector.phase ≡ Returning t → older_at w.epoch phase ≡ w.epoch - 2
     → ((s : ℕ) → IsMutator w.config s → t < s → gathered phase s ≡ true → has_left (noted w.collector t).left s ≡ true) → AreQuiet first w
     → AreQuiet first (record w { crossing = crossing_with w t Spare; collector = record (noted w.collector t) { phase = phase; turns = turns } })
 returned_quiet first w t phase turns kept is returns older passed quiet s there =
@@ -266,14 +266,14 @@ returned_quiet first w t phase turns kept is returns older passed quiet s there 
     }
 
 -- Where a turn is to apply the batch, the mutators rest, and nothing is left to gather.
-pub awaits_quiet : (first : ℕ) (w u : Core) → IsKept w → Awaits w u → AreQuiet first w → AreQuiet first u
+pub awaits_quiet : (first : ℕ) (w u : Core) → IsKept true w → Awaits w u → AreQuiet first w → AreQuiet first u
 awaits_quiet first w u kept (Awaits.alone idle more left) quiet =
     requested_quiet first w (Returning (length w.collector.newer)) w.collector.turns kept idle (omega arith) (λ t is _. left t (omega (arith, is.0)) (omega (arith, is.1, many_left w kept))) quiet
 awaits_quiet first w u kept (Awaits.last t is returns left) quiet =
     returned_quiet first w t (Returning (length w.collector.newer)) w.collector.turns kept is returns refl
     (λ s there behind _. left s behind (omega (arith, there.1, length-set w.collector.left (t - 1) (buffer_at w.collector.newer (t - 1)).last, many_left w kept))) quiet
 
-pub awaits_gathered : (w u : Core) → IsKept w → Awaits w u → AreGathered u
+pub awaits_gathered : (w u : Core) → IsKept true w → Awaits w u → AreGathered u
 awaits_gathered w u kept (Awaits.alone idle more left) t is = le-leb t (length w.collector.newer) (omega (arith, is.1, kept.collector.mutators))
 awaits_gathered w u kept (Awaits.last s there returns left) t is = le-leb t (length w.collector.newer) (omega (arith, is.1, kept.collector.mutators))
 
@@ -288,7 +288,7 @@ awaits_epoch w u (Awaits.alone idle more left) = omega (arith, ap under_way idle
 awaits_epoch w u (Awaits.last t is returns left) = omega (arith, ap under_way returns)
 
 -- A turn of the collector leaves the mutators at rest.
-pub quiet_turned : (first : ℕ) (w v : Core) → IsKept w → IsKept v → TurnCase w v → AreQuiet first w → AreQuiet first v
+pub quiet_turned : (first : ℕ) (w v : Core) → IsKept true w → IsKept true v → TurnCase w v → AreQuiet first w → AreQuiet first v
 quiet_turned first w v kept after turn quiet = go turn
   where
     becomes : (x : Core) → v ≡ x → AreQuiet first x → AreQuiet first v

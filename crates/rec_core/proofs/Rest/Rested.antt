@@ -39,7 +39,7 @@ named_root x (rs ∷ registers) some = elim (cases_lt 0 (named x rs)) [
 ]
 
 -- What is within reach is reached from a register, or is free: fields of free slots lead nowhere.
-held_reached : (w : Core) → IsKept w → (x : ℕ) → IsHeldIn w w.words x → Reaches (sight w) x ⊎ (slice_index_or w.headers x 1 ≡ 0)
+held_reached : (w : Core) → IsKept true w → (x : ℕ) → IsHeldIn w w.words x → Reaches (sight w) x ⊎ (slice_index_or w.headers x 1 ≡ 0)
 held_reached w kept x (IsReachable.held some) = elim (eqb_tells (slice_index_or w.headers x 1) 0) [
   | inl free ↦ inr free.1
   | inr taken ↦
@@ -75,7 +75,7 @@ unfolding named
 registers_sum x registers = refl
 
 -- Where no collection is under way, nothing is released: then the heap is settled.
-pub settled : (w : Core) → IsKept w → w.collector.phase ≡ Idle → AreWithinReach w w.words w.collector.counts → AreCounted w w.words w.collector.counts → IsSettled w
+pub settled : (w : Core) → IsKept true w → w.collector.phase ≡ Idle → AreWithinReach w w.words w.collector.counts → AreCounted w w.words w.collector.counts → IsSettled w
 settled w kept idle within counted = record {
   collected = λ x. (reached x, reached_is_taken (sight w) kept.sound x);
   counted = λ x taken.

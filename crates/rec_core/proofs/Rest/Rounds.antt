@@ -1,5 +1,5 @@
 -- A heap at rest, over the turns of the collection whose trial is offered every slot and of the one that frees its sets.
-use Rattle.std.proofs.Common.{◌≡◌, ◌⊎◌, inl, inr, ℕ, ◌+◌, ◌≤◌, Option, Some, List, drop, slice_get, slice_set, refl, sym, ap, subst, ◌∙◌, arith}
+use Rattle.std.proofs.Common.{◌≡◌, ◌⊎◌, inl, inr, ℕ, ◌+◌, ◌≤◌, Option, Some, List, drop, slice_get, slice_set, refl, sym, ap, subst, ◌∙◌, arith, true}
 use Rattle.std.proofs.lemmas.Bool.{false≢true}
 use Rattle.rec_core.proofs.Common.{AreCounted, Begun, Phase, Idle, Looking, Returning, Releasing, Freeing, Trying, Preparing, Opening, Sweeping, Closing, Core, sight, IsKept, turned, holds, Round, RestsIn, ComesTo, TurnsTo, epochs_before}
 use Rattle.rec_collector.specs.Kept.{under_way}
@@ -19,17 +19,17 @@ abbrev FollowsSweep : Core → (n : ℕ) → (next : Phase) → Type 0
 FollowsSweep w n next = (next ≡ Sweeping (slice_get (drop 1 w.collector.counts.free) 0) (n + 1)) ⊎ (next ≡ Closing (n + 1))
 
 -- in a phase in which a slot is swept, whatever the round
-swept_first : (w : Core) (n slot : ℕ) (next : Phase) → IsKept w → w.collector.phase ≡ Sweeping (Some slot) n → FollowsSweep w n next → RestsIn Round.First w w.words w.collector (Sweeping (Some slot) n)
+swept_first : (w : Core) (n slot : ℕ) (next : Phase) → IsKept true w → w.collector.phase ≡ Sweeping (Some slot) n → FollowsSweep w n next → RestsIn Round.First w w.words w.collector (Sweeping (Some slot) n)
     → RestsIn Round.First (header_freed w slot) w.words (swept_by w.collector slot next) next
 swept_first w n slot next kept phase (inl is) h = subst (RestsIn Round.First (header_freed w slot) w.words (swept_by w.collector slot next)) (sym is) (sets_swept w n slot kept phase h)
 swept_first w n slot next kept phase (inr is) h = subst (RestsIn Round.First (header_freed w slot) w.words (swept_by w.collector slot next)) (sym is) (sets_swept w n slot kept phase h)
 
-swept_second : (w : Core) (n slot : ℕ) (next : Phase) → IsKept w → w.collector.phase ≡ Sweeping (Some slot) n → FollowsSweep w n next → RestsIn Round.Second w w.words w.collector (Sweeping (Some slot) n)
+swept_second : (w : Core) (n slot : ℕ) (next : Phase) → IsKept true w → w.collector.phase ≡ Sweeping (Some slot) n → FollowsSweep w n next → RestsIn Round.Second w w.words w.collector (Sweeping (Some slot) n)
     → RestsIn Round.Second (header_freed w slot) w.words (swept_by w.collector slot next) next
 swept_second w n slot next kept phase (inl is) h = subst (RestsIn Round.Second (header_freed w slot) w.words (swept_by w.collector slot next)) (sym is) (within_swept w n slot kept phase h)
 swept_second w n slot next kept phase (inr is) h = subst (RestsIn Round.Second (header_freed w slot) w.words (swept_by w.collector slot next)) (sym is) (within_swept w n slot kept phase h)
 
-swept_rests : (r : Round) (w : Core) (n slot : ℕ) (next : Phase) → IsKept w → w.collector.phase ≡ Sweeping (Some slot) n → FollowsSweep w n next → RestsIn r w w.words w.collector (Sweeping (Some slot) n)
+swept_rests : (r : Round) (w : Core) (n slot : ℕ) (next : Phase) → IsKept true w → w.collector.phase ≡ Sweeping (Some slot) n → FollowsSweep w n next → RestsIn r w w.words w.collector (Sweeping (Some slot) n)
     → RestsIn r (header_freed w slot) w.words (swept_by w.collector slot next) next
 swept_rests Round.First w n slot next kept phase which h = swept_first w n slot next kept phase which h
 swept_rests Round.Second w n slot next kept phase which h = swept_second w n slot next kept phase which h
@@ -81,7 +81,7 @@ pub busy_way : (phase : Phase) → (phase ≡ Idle → ⊥) → under_way phase 
 busy_way Idle busy = absurd (busy refl)
 busy_way _ busy = refl
 
-module _ (first : ℕ) (w : Core) (kept : IsKept w) (quiet : AreQuiet first w) where
+module _ (first : ℕ) (w : Core) (kept : IsKept true w) (quiet : AreQuiet first w) where
   -- a collection that has gathered all mailboxes is under way
   way : AreGathered w → under_way w.collector.phase ≡ 1
   way all = busy_way w.collector.phase (λ idle. false≢true (sym (ap (λ phase. gathered phase 1) idle) ∙ all 1 (omega arith, kept.config.some_mutators)))

@@ -105,7 +105,7 @@ added_by x registers b retired none = omega (arith, ap (λ (es : List Entry). na
 taken_by : (x : ℕ) (registers : List (Option ℕ)) (b : Contents) → IsRetired registers b → named x registers ≡ 0 → named x (map old_target b.entries) + named x b.snapshot ≡ 0
 taken_by x registers b retired none = omega (arith, ap (λ (es : List Entry). named x (map old_target es)) retired.entries, named-nil x, ap (named x) retired.snapshot, none)
 
-module _ (w : Core) (t : ℕ) (kept : IsKeptBy (stand_at w.collector.left Opening) w) (phase : w.collector.phase ≡ Returning t)
+module _ (w : Core) (t : ℕ) (kept : IsKeptBy true (stand_at w.collector.left Opening) w) (phase : w.collector.phase ≡ Returning t)
     (retired : (s : ℕ) → IsMutator w.config s → IsRetired (mutator w s).registers (buffer_at w.collector.newer (s - 1)) × IsRetired (mutator w s).registers (buffer_at w.collector.older (s - 1)))
     (rested : SetsRest w w.words [] w.collector.counts) where
   open w use {collector as c}

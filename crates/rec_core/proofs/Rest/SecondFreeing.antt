@@ -22,7 +22,7 @@ use Rattle.rec_release.proofs.Freeing.{off_work}
 use Rattle.rec_collector.proofs.Freeing.{listed_ready}
 
 -- no field of a Green slot leads anywhere
-leaves_kept : (w : Core) → IsKept w → AreLeaves w.config.fields w.words w.collector.counts
+leaves_kept : (w : Core) → IsKept true w → AreLeaves w.config.fields w.words w.collector.counts
 leaves_kept w kept place inside green =
     let fields : ℕ = w.config.fields in
     let wide : 0 < fields = kept.config.some_fields in
@@ -42,7 +42,7 @@ rest_listed w words s rested = record {
   unnamed = rested.unnamed;
 }
 
-module _ (w : Core) (m : Machine) (a : Member) (kept : IsKept w) (phase : w.collector.phase ≡ Freeing m) (at : m.at ≡ Some a)
+module _ (w : Core) (m : Machine) (a : Member) (kept : IsKept true w) (phase : w.collector.phase ≡ Freeing m) (at : m.at ≡ Some a)
     (counted : AreCounted w (words_without w a.slot a.field) (taken_off true w.collector.counts (target_of (word_at w a.slot a.field)))) (rested : FreesRest w w.words (record { machine = m; counts = w.collector.counts })) where
   open w use {collector as c}
   open (taken.emptied_at w a.slot a.field) use {place, word, words}

@@ -40,7 +40,7 @@ reached_counted w words s x counted below reached = elim (cases_lt 0 (slot_at s 
   | inr none ↦ absurd (reached (λ h. omega (arith, none, held_counted w words s x counted below h)))
 ]
 
-module _ (w : Core) (kept : IsKept w) where
+module _ (w : Core) (kept : IsKept true w) where
   open kept use {headers}
 
   -- a slot that is there, and was not given up

@@ -35,7 +35,7 @@ tries_on : {w : Core} {crossing words : List ℕ} {q : Private} {turn : Turn} �
     → TriesOn w.collector (with_offers u) (started_of u.fields (with_offers u).counts) q turn → ComesTo Round.Second w words q
 tries_on counted u h none found on = within_tries (within_begun h.landed (clear_ready u h.landed.counts h.clears.clearing none) (within_all h.landed h.clears.clearing none (counted u h.landed) found)) on
 
-module _ (first : ℕ) (w : Core) (kept : IsKept w) (quiet : AreQuiet first w) where
+module _ (first : ℕ) (w : Core) (kept : IsKept true w) (quiet : AreQuiet first w) where
   -- what is known in this phase
   known_in : (phase : Phase) → w.collector.phase ≡ phase → RestsIn Round.Second w w.words w.collector w.collector.phase → RestsIn Round.Second w w.words w.collector phase
   known_in phase is h = subst (RestsIn Round.Second w w.words w.collector) is h

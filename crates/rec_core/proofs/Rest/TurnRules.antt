@@ -31,21 +31,21 @@ plain : (w : Core) (op its : Op) (word : ℕ) (q : Private) (phase : Phase) → 
 plain w op its word q phase is same named = plain_left w op word q phase is same ∙ ap (λ o. let v : Core = record (collected w o word q (box w 1)) { boxes = w.boxes } in v) named
 
 -- a turn that requests the next epoch
-requests_as : (w : Core) (op : Op) (word : ℕ) (q : Private) → w.collector.phase ≡ Idle → IsKept w → op ≡ ops.StoreEpoch (w.collector.epoch + 1)
+requests_as : {dated : Bool} → (w : Core) (op : Op) (word : ℕ) (q : Private) → w.collector.phase ≡ Idle → IsKept dated w → op ≡ ops.StoreEpoch (w.collector.epoch + 1)
     → collected w op word q (left_by w.collector word (box w (looked_at w.collector.phase)) w.collector.phase) ≡ record w { epoch = w.epoch + 1; collector = q }
 requests_as w op word q idle kept its =
     plain w op (ops.StoreEpoch (w.collector.epoch + 1)) word q Idle idle refl its
     ∙ ap (λ (n : ℕ). let v : Core = record w { epoch = n + 1; collector = q } in v) kept.collector.epoch
 
 -- one that gives a mailbox back
-returns_as : (w : Core) (t : ℕ) (op : Op) (word : ℕ) (q : Private) → w.collector.phase ≡ Returning t → IsKept w → op ≡ ops.ReturnBox t w.collector.epoch
+returns_as : {dated : Bool} → (w : Core) (t : ℕ) (op : Op) (word : ℕ) (q : Private) → w.collector.phase ≡ Returning t → IsKept dated w → op ≡ ops.ReturnBox t w.collector.epoch
     → collected w op word q (left_by w.collector word (box w (looked_at w.collector.phase)) w.collector.phase) ≡ record w { crossing = crossing_with w t Spare; collector = q }
 returns_as w t op word q returning kept its =
     plain w op (ops.ReturnBox t w.collector.epoch) word q (Returning t) returning refl its
     ∙ ap (λ (n : ℕ). let v : Core = record w { crossing = slice_set w.crossing (t - 1) (crossing_word n Spare); collector = q } in v) kept.collector.epoch
 
 -- each rule
-rule_is : (w : Core) (op : Op) (word : ℕ) (q : Private) (turn : Turn) → IsKept w → word ≡ cell (cells_of w) op → Step w.collector word (box w (looked_at w.collector.phase)) (Some op) q turn
+rule_is : {dated : Bool} → (w : Core) (op : Op) (word : ℕ) (q : Private) (turn : Turn) → IsKept dated w → word ≡ cell (cells_of w) op → Step w.collector word (box w (looked_at w.collector.phase)) (Some op) q turn
     → TurnCase w (collected w op word q (left_by w.collector word (box w (looked_at w.collector.phase)) w.collector.phase))
 unfolding release_next freeing_next sweeps.started_of sweeps.next_of sweeps.took_of
 rule_is w op word q turn kept found (Step.spent idle last none same answer) = let not_so : ◌≡◌ {A = Option Op} (Some op) None = none in absurd (cc)
@@ -169,13 +169,20 @@ rule_is w op word q turn kept found (Step.end_sweep n closing named e) =
     ∙ ap (λ (c : Private). let v : Core = record w { freed = w.freed + 1; collector = c } in v) e.after
     )
 
--- Every turn of a kept heap's collector is one of the rules.
-pub turn_is : (w : Core) → IsKept w → TurnCase w (turned w)
-turn_is w kept = turn_case w (λ o v. TurnCase w v)
+-- Every turn is one of the rules, where its operation is carried out by one.
+pub turn_by : {dated : Bool} → (w : Core) → IsKept dated w
+    → ((op : Op) → ◌≡◌ {A = Option Op} (next_of w.collector) (Some op)
+        → Step w.collector (cell (cells_of w) op) (box w (looked_at w.collector.phase)) (Some op) (step_of w.collector (cell (cells_of w) op) (box w (looked_at w.collector.phase))) (turn_of w.collector (cell (cells_of w) op)))
+    → TurnCase w (turned w)
+turn_by w kept rule = turn_case w (λ o v. TurnCase w v)
     (λ none.
     let last : IsNone (next_of w.collector) = subst (λ (o : Option Op). IsNone o) (sym none) refl in
     let is = subst (HasCause w.collector 0 (took_of w.collector 0)) (spends w.collector 0 kept.collector.machine last) (has_cause w.collector 0 kept.collector.machine) in
     TurnCase.spent is.0 (ap (λ n. n + 1) (sym kept.collector.epoch) ∙ is.1) refl)
     (λ op named.
     let word : ℕ = cell (cells_of w) op in
-    rule_is w op word (step_of w.collector word (box w (looked_at w.collector.phase))) (turn_of w.collector word) kept refl (rule_of w op kept named))
+    rule_is w op word (step_of w.collector word (box w (looked_at w.collector.phase))) (turn_of w.collector word) kept refl (rule op named))
+
+-- Every turn of a kept heap's collector is one of the rules.
+pub turn_is : (w : Core) → IsKept true w → TurnCase w (turned w)
+turn_is w kept = turn_by w kept (λ op named. rule_of w op kept named)

@@ -47,7 +47,7 @@ within_tries {w} {words} {u} {v} within (TriesOn.prepares none on) =
     within_prepares (within_same w words v.counts (prep_started its).counts (λ x. ap (λ (y : Slot). y.released) ((prep_others its).slots x)) within) on
 
 -- A released slot is swept: then it is free, and any other slot is as it was.
-module _ (w : Core) (n slot : ℕ) (kept : IsKept w) (phase : w.collector.phase ≡ Sweeping (Some slot) n) where
+module _ (w : Core) (n slot : ℕ) (kept : IsKept true w) (phase : w.collector.phase ≡ Sweeping (Some slot) n) where
   abbrev s : State
   s = w.collector.counts
 

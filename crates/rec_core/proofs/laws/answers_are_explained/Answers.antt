@@ -1,5 +1,5 @@
 -- What a run keeps tells what a step shows.
-use Rattle.rec_core.proofs.Runs.{end_kept}
+use Rattle.rec_core.proofs.BareRuns.{end_kept}
 use Rattle.rec_core.proofs.Showing.{step_shown}
 use Rattle.rec_core.proofs.laws.answers_are_explained.Goals as goal
 

@@ -1,6 +1,6 @@
 -- What a run keeps gives what the machines ask.
-use Rattle.rec_core.proofs.Runs.{end_kept}
-use Rattle.rec_core.proofs.Words.{may_step, may_turn}
+use Rattle.rec_core.proofs.BareRuns.{end_kept, may_turn}
+use Rattle.rec_core.proofs.Words.{may_step}
 use Rattle.rec_core.proofs.laws.conditions_are_met.Goals as goal
 
 pub returns-clause-steps : goal.returns-clause-steps

@@ -1,5 +1,5 @@
 -- What a run keeps tells what a scan found.
-use Rattle.rec_core.proofs.Runs.{end_kept}
+use Rattle.rec_core.proofs.BareRuns.{end_kept}
 use Rattle.rec_core.proofs.Scans.{fails_by_probes}
 use Rattle.rec_core.proofs.laws.failed_allocations_probed_every_slot.Goals as goal
 

@@ -1,7 +1,7 @@
 -- What a run keeps tells what is reached.
 use Rattle.rec_core.proofs.Common.{sight, turned}
-use Rattle.rec_core.proofs.Reach.{reached_stays, turned_keeps, keeps_stands_by, steps_keep_taken}
-use Rattle.rec_core.proofs.Runs.{end_kept}
+use Rattle.rec_core.proofs.BareRuns.{end_kept, reached_stays, turned_keeps}
+use Rattle.rec_core.proofs.Reach.{keeps_stands_by, steps_keep_taken}
 use Rattle.rec_core.proofs.laws.nothing_reached_is_freed.Goals as goal
 
 pub returns-clause-reached : goal.returns-clause-reached

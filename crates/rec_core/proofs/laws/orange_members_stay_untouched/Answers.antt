@@ -1,10 +1,8 @@
--- The contract of `orange_members_stay_untouched`: a member of a prepared set that is Orange still was touched by nothing since.
+-- A member of a prepared set that is Orange still was touched by nothing since.
 use Rattle.rec_core.proofs.Trials.{no_trial}
 use Rattle.rec_core.proofs.Outside.{all_untouched}
-use Rattle.rec_core.proofs.Runs.{end_kept}
+use Rattle.rec_core.proofs.Dated.{end_explained}
 use Rattle.rec_core.proofs.laws.orange_members_stay_untouched.Goals as goal
 
 pub returns : goal.returns
-returns c = λ w moves number x config run has fit same.
-    let kept = end_kept w config run in
-    all_untouched w moves number x kept has fit (no_trial w moves kept fit same)
+returns c = λ w config run. let (v, e) = end_explained w config run in (v, e.bare, λ moves number x has fit same. all_untouched v moves number x e.kept has fit (no_trial v moves e.kept fit same))

@@ -1,6 +1,6 @@
 -- The order of every run.
 use Rattle.rec_core.specs.Core.{sight}
-use Rattle.rec_core.proofs.Runs.{end_kept}
+use Rattle.rec_core.proofs.BareRuns.{end_kept}
 use Rattle.rec_order.specs.Naming.{naming_of}
 use Rattle.rec_order.proofs.Legal.{run_legal}
 use Rattle.rec_order.proofs.Unfreed.{there_are_unfreed}

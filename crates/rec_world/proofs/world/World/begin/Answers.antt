@@ -13,7 +13,7 @@ abbrev before : After-begin → Core
 before c = core c.self.inside
 
 -- what it keeps
-kept : (c : After-begin) → IsKept (before c)
+kept : (c : After-begin) → IsKept false (before c)
 kept c = world_kept (before c) c.self.invariant.world
 
 -- its mutator

@@ -14,7 +14,7 @@ use Rattle.rec_collector.specs.declared.turn.Turn.TheVariants as turns
 use Rattle.rec_core.specs.Preconditions.{MayTurn}
 use Rattle.rec_core.specs.Turn.{IsTurn, told_at, turn_told}
 use Rattle.rec_core.proofs.Turn.{turn_is_one}
-use Rattle.rec_core.proofs.Words.{may_turn}
+use Rattle.rec_core.proofs.BareRuns.{may_turn}
 use Rattle.rec_world.proofs.Calls.{ReadyToTurn, ready_to_turn, box_read, moved_world, world_kept}
 use Rattle.rec_world.proofs.Turnings.{holds_looked, home_still, turned_is}
 use Rattle.rec_world.proofs.world.World.turn_as.Goals as goal
@@ -22,7 +22,7 @@ use Rattle.rec_world.proofs.world.World.turn_as.Goals.{In_default, In-Some, Afte
 
 -- what a world's turn is
 turn_of_world : (w : Core) → IsWorld w → IsTurn w (turned w) (turn_told w)
-turn_of_world w world = turn_is_one w (world_kept w world) world.run
+turn_of_world w world = turn_is_one w world.shaped.config world.run
 
 -- where no operation comes next, the epochs are spent
 pub returns-in_default-clause-turn : goal.returns-in_default-clause-turn
