@@ -153,14 +153,14 @@ lasts p first n w k t (Ran.more m v word r b l) some =
       fits = omega (arith, turns_fit q c.machine, ap (λ (x : Private). x.turns) at);
     }
 
-module _ (p : Private) (first : Work) (made : ℕ) (w : Work) (n : Next) (k : IsMachine p) (t : IsTrialOf p first) (ran : Ran first made w) (some : 0 < made) (is : n ≡ tried (parts_of p) w) where
+module _ (p : Private) (first : Work) (made : ℕ) (w : Work) (n : Next) (k : IsMachine p) (t : IsTrialOf p first) (ran : Ran first made w) (some : 0 < made) (is : n ≡ tried (parts_of p) w) (more : ℕ) (all : more ≡ made) where
   -- the machine behind the run, before a collection that it may complete
   abbrev pub behind_run : Private
-  behind_run = record (with_parts p n.parts) { phase = n.phase; turns = p.turns + made }
+  behind_run = record (with_parts p n.parts) { phase = n.phase; turns = p.turns + more }
 
   behind_is : behind_run ≡ landed (before_last p made) (tried (parts_of p) w)
   behind_is =
-      let e : p.turns + made ≡ p.turns + (made - 1) + 1 = omega (arith, some) in
+      let e : p.turns + more ≡ p.turns + (made - 1) + 1 = omega (arith, some, all) in
       (λ i. record (with_parts p n.parts) { phase = n.phase; turns = e i }) ∙ ap (landed (before_last p made)) is
 
   pub run_lands : IsMachine behind_run

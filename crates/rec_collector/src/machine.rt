@@ -252,22 +252,22 @@ impl Machine {
         self.learn_as(kind, word)
     }
 
-    /// Makes turns of the trial that is at work, at least one and at most so many, on the words that `loads` gives. It tells how many it
+    /// Makes turns of the trial that is at work, at least one and at most so many, on the words that `L` loads. It tells how many it
     /// made, and what the last one came to. Only that one may come to something else than `Moved`.
     #[inline(always)]
-    pub fn run_trial<L: Loads>(&mut self, loads: &mut L, most: u32) -> (u32, Turn)
+    pub fn run_trial<B, S, L: Loads<B, S>>(&mut self, board: &B, seat: &mut S, most: u32) -> (u32, Turn)
         requires trying { IsTryingIn self.old.phase }
         requires some { 0 < most }
-        requires stands { (w : Work) → IsTrialOf self.old w → L.StandsAt loads.old 0 w }
+        requires stands { (w : Work) → IsTrialOf self.old w → L.StandsAt board.now seat.old 0 w }
 
         // Whatever a heap's machine has become that started as this one and learnt the same words, this one is now.
-        ensures ran { (w : Work) × L.StandsAt loads.new result.0 w × ((q : Private) (turn : Turn) → RunsTo self.old result.0 w q turn → (self.new ≡ q) × (result.1 ≡ turn)) }
+        ensures ran { (w : Work) × L.StandsAt board.now seat.new result.0 w × ((q : Private) (turn : Turn) → RunsTo self.old result.0 w q turn → (self.new ≡ q) × (result.1 ≡ turn)) }
         ensures some { 0 < result.0 }
         ensures few { result.0 ≤ most }
         ensures same { KeepsSizes self.old self.new }
         ensures kept { IsMachine self.new }
     {
-        let made = self.parts.run_trial(&mut self.phase, loads, most);
+        let made = self.parts.run_trial::<B, S, L>(&mut self.phase, board, seat, most);
         self.turns += u64::from(made);
         (made, self.end_if_nothing_is_free())
     }

@@ -150,19 +150,19 @@ impl Parts {
 
     /// Fields are loaded for the trial, at least one and at most so many. It answers how many were.
     #[inline(always)]
-    pub(crate) fn run_trial<L: Loads>(&mut self, phase: &mut Phase, loads: &mut L, most: u32) -> u32
+    pub(crate) fn run_trial<B, S, L: Loads<B, S>>(&mut self, phase: &mut Phase, board: &B, seat: &mut S, most: u32) -> u32
         requires may { MayTry self.old phase.old }
         requires some { 0 < most }
-        requires stands { (m : Trying) → phase.old ≡ Phase.Trying m → L.StandsAt loads.old 0 (record { machine = m; counts = self.old.counts }) }
+        requires stands { (m : Trying) → phase.old ≡ Phase.Trying m → L.StandsAt board.now seat.old 0 (record { machine = m; counts = self.old.counts }) }
 
-        ensures ran { (m : Trying) → phase.old ≡ Phase.Trying m → (w : Work) × Ran (record { machine = m; counts = self.old.counts }) result w × L.StandsAt loads.new result w × (record { parts = self.new; phase = phase.new } ≡ tried self.old w) }
+        ensures ran { (m : Trying) → phase.old ≡ Phase.Trying m → (w : Work) × Ran (record { machine = m; counts = self.old.counts }) result w × L.StandsAt board.now seat.new result w × (record { parts = self.new; phase = phase.new } ≡ tried self.old w) }
         ensures some { 0 < result }
         ensures few { result ≤ most }
     {
         let Phase::Trying(trial) = phase else {
             unreachable!()
         };
-        let made = trial.run(&mut self.counts, loads, most);
+        let made = trial.run::<B, S, L>(&mut self.counts, board, seat, most);
         if trial.next().is_none() {
             self.end_trial(phase);
         }
