@@ -69,7 +69,7 @@ swap_keeps p t box z k e =
     }
 
 -- what follows a word that works on the parts lands
-work_lands : (p : Private) (word : ℕ) (phase : Phase) → IsMachine p → p.phase ≡ phase → IsGivenAt p word phase → IsWork phase → Lands p (worked (parts_of p) word phase)
+pub work_lands : (p : Private) (word : ℕ) (phase : Phase) → IsMachine p → p.phase ≡ phase → IsGivenAt p word phase → IsWork phase → Lands p (worked (parts_of p) word phase)
 unfolding IsGivenAt
 work_lands p word (Releasing m) k e g at_work = followed_lands p (with_released m (parts_of p) word) (released_has p m word k e g)
 work_lands p word (Freeing m) k e g at_work = followed_lands p (with_freed m (parts_of p) word) (freed_has p m word k e g)
@@ -150,7 +150,7 @@ ended_if_keeps p (Closing n) k e = ended_keeps p n k e
 ended_if_keeps p _ k e = k
 
 -- a turn that works on the parts
-came_keeps : (p : Private) (n : Next) → IsMachine (landed p n) → IsMachine (came p n)
+pub came_keeps : (p : Private) (n : Next) → IsMachine (landed p n) → IsMachine (came p n)
 came_keeps p n k = ended_if_keeps (landed p n) n.phase k refl
 
 -- the next mutator follows, or the batch

@@ -21,6 +21,7 @@ pub mod Opening
 pub mod Outside
 pub mod Presence
 pub mod Rows
+pub mod Running
 pub mod Sends
 pub mod ShownSteps
 pub mod Steps

@@ -1,5 +1,6 @@
 -- Which phase it is, by its kind.
-use Rattle.std.proofs.Common.{◌≡◌}
+use Rattle.std.proofs.Common.{◌≡◌, refl}
+use Rattle.rec_trial.specs.Trial.{Machine}
 use Rattle.rec_collector.specs.Given.{IsWork, IsReleasingIn, IsFreeingIn, IsTryingIn, IsPreparingIn, IsSweepingIn}
 use Rattle.rec_collector.specs.Kind.{kind_of}
 use Rattle.rec_collector.specs.declared.kind.Kind.TheVariants as kinds
@@ -18,6 +19,11 @@ freeing_works _ is = absurd is
 pub trying_works : (phase : Phase) → IsTryingIn phase → IsWork phase
 trying_works (Trying trial) is = tt
 trying_works _ is = absurd is
+
+-- and of a trial there is a machine
+pub trying_is : (phase : Phase) → IsTryingIn phase → (m : Machine) × (phase ≡ Trying m)
+trying_is (Trying trial) is = (trial, refl)
+trying_is _ is = absurd is
 
 pub preparing_works : (phase : Phase) → IsPreparingIn phase → IsWork phase
 preparing_works (Preparing prep) is = tt

@@ -16,6 +16,7 @@ pub mod Present
 pub mod Private
 pub mod Shown
 pub mod Rows
+pub mod Running
 pub mod Step
 pub mod Testing
 pub mod Took

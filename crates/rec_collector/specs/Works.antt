@@ -19,3 +19,8 @@ MayWork w word (Freeing m) = IsClear (record { parts = w; phase = Some (Freeing 
 MayWork w word (Trying m) = IsSome (trial_next m) × IsTrying m w.counts × LeadsToUnreleased w.counts word
 MayWork w word (Preparing m) = IsSome m.at × IsPreparing m w.counts × IfSome (target_of word) (λ slot. slot < length w.counts.slots)
 MayWork w word _ = ⊥
+
+-- a trial is at work, and its counts are as it left them
+abbrev pub MayTry : Parts → Phase → Type 0
+MayTry w (Trying m) = IsSome (trial_next m) × IsTrying m w.counts
+MayTry w _ = ⊥

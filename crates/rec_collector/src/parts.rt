@@ -1,15 +1,17 @@
-ghost use Rattle.std.specs.Prelude.{◌≡◌, ◌+◌, ◌<◌, None, Some, length, false, true};
+ghost use Rattle.std.specs.Prelude.{◌≡◌, ◌+◌, ◌<◌, ◌≤◌, None, Some, length, false, true};
 ghost use Rattle.rec_apply.specs.Batch.{applied, AreAlike, IsCovered};
 ghost use Rattle.rec_release.specs.CycleFree.{IsFreeable, started_of};
 ghost use Rattle.rec_release.specs.Release.{IsReady};
 ghost use Rattle.rec_trial.specs.Rules.{IsReady as IsReadyForTrial};
 ghost use Rattle.rec_collector.specs.Clearing.{IsClear, IsCleared, IsFewTold};
-ghost use Rattle.rec_collector.specs.Followed.{followed, prep_started, prepared, sweep_phase, trial_started, with_offers, worked};
+ghost use Rattle.rec_collector.specs.Followed.{followed, prep_started, prepared, sweep_phase, trial_started, tried, with_offers, worked};
 ghost use Rattle.rec_collector.specs.Given.{IsFreeingIn, IsPreparingIn, IsReleasingIn, IsTryingIn};
 ghost use Rattle.rec_collector.specs.Kept.{NoneReleased};
 ghost use Rattle.rec_collector.specs.Zeros.{AreCounted};
 ghost use Rattle.rec_collector.specs.Parts.{new_freeing, new_parts};
-ghost use Rattle.rec_collector.specs.Works.{MayWork};
+ghost use Rattle.rec_trial.specs.Loaded.{Ran};
+ghost use Rattle.rec_trial.specs.Trial.{Machine as Trying, Work};
+ghost use Rattle.rec_collector.specs.Works.{MayTry, MayWork};
 ghost use Rattle.rec_collector.specs.Testing.{last_tested, with_freeing, zeros_released};
 
 use crate::offer::offer_slots;
@@ -21,7 +23,7 @@ use rec_counts::Counts;
 use rec_log::Buffer;
 use rec_release::{CycleFree, Release};
 use rec_sigma::{Prep, refurbish};
-use rec_trial::Trial;
+use rec_trial::{Loads, Trial};
 use std::marker::Model;
 
 /// What a collection works on between a batch and a sweep: the counts, how many fields a slot has, what became of the sets, and
@@ -144,6 +146,27 @@ impl Parts {
         if trial.next().is_none() {
             self.end_trial(phase);
         }
+    }
+
+    /// Fields are loaded for the trial, at least one and at most so many. It answers how many were.
+    #[inline(always)]
+    pub(crate) fn run_trial<B, S, L: Loads<B, S>>(&mut self, phase: &mut Phase, board: &B, seat: &mut S, most: u32) -> u32
+        requires may { MayTry self.old phase.old }
+        requires some { 0 < most }
+        requires stands { (m : Trying) → phase.old ≡ Phase.Trying m → L.StandsAt board.now seat.old 0 (record { machine = m; counts = self.old.counts }) }
+
+        ensures ran { (m : Trying) → phase.old ≡ Phase.Trying m → (w : Work) × Ran (record { machine = m; counts = self.old.counts }) result w × L.StandsAt board.now seat.new result w × (record { parts = self.new; phase = phase.new } ≡ tried self.old w) }
+        ensures some { 0 < result }
+        ensures few { result ≤ most }
+    {
+        let Phase::Trying(trial) = phase else {
+            unreachable!()
+        };
+        let made = trial.run::<B, S, L>(&mut self.counts, board, seat, most);
+        if trial.next().is_none() {
+            self.end_trial(phase);
+        }
+        made
     }
 
     /// A field was loaded for the preparation.

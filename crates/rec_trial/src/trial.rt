@@ -117,16 +117,16 @@ impl Trial {
     /// Loads words and learns them, at least one and at most so many, as long as something comes next. It answers how many. All that
     /// the trial has is kept in locals meanwhile: the compiler loads nothing of it again behind a load that others may see.
     #[inline(always)]
-    pub fn run<L: Loads>(&mut self, counts: &mut Counts, loads: &mut L, most: u32) -> u32
+    pub fn run<B, S, L: Loads<B, S>>(&mut self, counts: &mut Counts, board: &B, seat: &mut S, most: u32) -> u32
         requires busy { IsSome (next_of self.old) }
         requires kept { IsAtWork self.old counts.old }
         requires some { 0 < most }
-        requires stands { L.StandsAt loads.old 0 (record { machine = self.old; counts = counts.old }) }
+        requires stands { L.StandsAt board.now seat.old 0 (record { machine = self.old; counts = counts.old }) }
 
         ensures ran { Ran (record { machine = self.old; counts = counts.old }) result (record { machine = self.new; counts = counts.new }) }
         ensures some { 0 < result }
         ensures few { result ≤ most }
-        ensures stands { L.StandsAt loads.new result (record { machine = self.new; counts = counts.new }) }
+        ensures stands { L.StandsAt board.now seat.new result (record { machine = self.new; counts = counts.new }) }
     {
         let mut trial = Trial {
             fields: self.fields,
@@ -138,7 +138,7 @@ impl Trial {
         };
         let mut made = 0;
         while made < most && trial.is_busy() {
-            made = trial.run_on(counts, loads, made, most);
+            made = trial.run_on::<B, S, L>(counts, board, seat, made, most);
         }
         *self = trial;
         made
@@ -153,33 +153,34 @@ impl Trial {
 
     // Goes on with a run up to the end of a phase, where so many words of so many were loaded, and answers how many were then.
     #[inline(always)]
-    fn run_on<L: Loads>(&mut self, counts: &mut Counts, loads: &mut L, from: u32, most: u32) -> u32
+    fn run_on<B, S, L: Loads<B, S>>(&mut self, counts: &mut Counts, board: &B, seat: &mut S, from: u32, most: u32) -> u32
         requires busy { IsSome (next_of self.old) }
         requires kept { IsAtWork self.old counts.old }
         requires fewer { from < most }
-        requires stands { L.StandsAt loads.old from (record { machine = self.old; counts = counts.old }) }
+        requires stands { L.StandsAt board.now seat.old from (record { machine = self.old; counts = counts.old }) }
 
         ensures ran { (first : Work) → Ran first from (record { machine = self.old; counts = counts.old }) → Ran first result (record { machine = self.new; counts = counts.new }) }
         ensures kept { IsAtWork self.new counts.new }
         ensures further { from < result }
         ensures few { result ≤ most }
-        ensures stands { L.StandsAt loads.new result (record { machine = self.new; counts = counts.new }) }
+        ensures stands { L.StandsAt board.now seat.new result (record { machine = self.new; counts = counts.new }) }
     {
         match self.phase {
             Phase::Idle => unreachable!(),
-            Phase::Marking => self.run_in(Phase::Marking, counts, loads, from, most),
-            Phase::Scanning => self.run_in(Phase::Scanning, counts, loads, from, most),
-            Phase::Collecting => self.run_in(Phase::Collecting, counts, loads, from, most),
+            Phase::Marking => self.run_in::<B, S, L>(Phase::Marking, counts, board, seat, from, most),
+            Phase::Scanning => self.run_in::<B, S, L>(Phase::Scanning, counts, board, seat, from, most),
+            Phase::Collecting => self.run_in::<B, S, L>(Phase::Collecting, counts, board, seat, from, most),
         }
     }
 
     // The same in a phase that is known: a loop whose phase is known is straight code.
     #[inline(always)]
-    fn run_in<L: Loads>(
+    fn run_in<B, S, L: Loads<B, S>>(
         &mut self,
         phase: Phase,
         counts: &mut Counts,
-        loads: &mut L,
+        board: &B,
+        seat: &mut S,
         from: u32,
         most: u32,
     ) -> u32
@@ -187,16 +188,16 @@ impl Trial {
         requires busy { IsSome (next_of self.old) }
         requires kept { IsAtWork self.old counts.old }
         requires fewer { from < most }
-        requires stands { L.StandsAt loads.old from (record { machine = self.old; counts = counts.old }) }
+        requires stands { L.StandsAt board.now seat.old from (record { machine = self.old; counts = counts.old }) }
 
         ensures ran { (first : Work) → Ran first from (record { machine = self.old; counts = counts.old }) → Ran first result (record { machine = self.new; counts = counts.new }) }
         ensures kept { IsAtWork self.new counts.new }
         ensures further { from < result }
         ensures few { result ≤ most }
-        ensures stands { L.StandsAt loads.new result (record { machine = self.new; counts = counts.new }) }
+        ensures stands { L.StandsAt board.now seat.new result (record { machine = self.new; counts = counts.new }) }
     {
         for made in from..most {
-            let word = loads.load(place(self.slot, self.field, self.fields));
+            let word = L::load(board, seat, place(self.slot, self.field, self.fields));
             self.took_in(phase, counts, word);
             if !self.is_in(phase) {
                 return made + 1;

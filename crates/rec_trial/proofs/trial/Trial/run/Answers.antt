@@ -15,7 +15,7 @@ loop-made-init g c =
       ran = subst (λ (m : Machine). Ran first 0 (record { machine = m; counts = c.args.counts.now })) same Ran.none;
       few = omega arith;
       first = λ none. subst (λ (m : Machine). IsSome (next_of m)) same c.requires.busy;
-      stands = subst (λ (m : Machine). g.L.Loads.StandsAt c.args.loads.now 0 (record { machine = m; counts = c.args.counts.now })) same c.requires.stands;
+      stands = subst (λ (m : Machine). g.L.Loads.StandsAt c.args.board.now c.args.seat.now 0 (record { machine = m; counts = c.args.counts.now })) same c.requires.stands;
     }
 
 pub returns-clause-some : goal.returns-clause-some

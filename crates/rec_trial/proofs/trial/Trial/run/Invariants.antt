@@ -10,7 +10,7 @@ invariant-loop-made g l = record {
   ran : Ran (record { machine = l.fn.self; counts = l.fn.counts }) l.made (record { machine = l.trial; counts = l.counts });
   few : l.made ≤ l.most;
   first : l.made ≡ 0 → IsSome (next_of l.trial);
-  stands : g.L.Loads.StandsAt l.loads l.made (record { machine = l.trial; counts = l.counts });
+  stands : g.L.Loads.StandsAt l.board l.seat l.made (record { machine = l.trial; counts = l.counts });
 }
 
 abbrev pub decreases-loop-made : goal.decreases-loop-made

@@ -39,7 +39,7 @@ loop-made-preserved g c =
       busy = busy_still c.loop-made.self c.took_in.new.self (sym c.loop-made.invariant.phase ∙ same) c.loop-made.invariant.busy;
       kept = c.took_in.ensures.kept;
       ran = λ first r. ran_more first w v c.loop-made.made c.load-word.result (c.loop-made.invariant.ran first r) c.loop-made.invariant.busy given.0 c.took_in.ensures.took;
-      stands = subst (λ (u : Work). g.L.Loads.StandsAt c.load-word.new.self (c.loop-made.made + 1) u) (sym c.took_in.ensures.took) given.1;
+      stands = subst (λ (u : Work). g.L.Loads.StandsAt c.args.board.now c.load-word.new.seat (c.loop-made.made + 1) u) (sym c.took_in.ensures.took) given.1;
     }
 
 pub returns-then-not-is_in-clause-ran : goal.returns-then-not-is_in-clause-ran
@@ -55,4 +55,4 @@ returns-then-not-is_in-clause-stands g c =
     let at = c.place.ensures.place ∙ ap (λ (m : Machine). place_of m.slot m.field m.fields) c.self.view_is in
     let w : Work = record { machine = c.loop-made.self; counts = c.loop-made.counts } in
     let given = c.load-word.ensures c.loop-made.made w c.loop-made.invariant.stands (named c.loop-made.self c.place.result c.loop-made.invariant.busy at) in
-    subst (λ (u : Work). g.L.Loads.StandsAt c.load-word.new.self (c.loop-made.made + 1) u) (sym c.took_in.ensures.took) given.1
+    subst (λ (u : Work). g.L.Loads.StandsAt c.args.board.now c.load-word.new.seat (c.loop-made.made + 1) u) (sym c.took_in.ensures.took) given.1

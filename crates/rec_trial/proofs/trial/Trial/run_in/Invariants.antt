@@ -10,5 +10,5 @@ invariant-loop-made g l = record {
   busy : IsSome (next_of l.self);
   kept : IsAtWork l.self l.counts;
   ran : (first : Work) → Ran first l.from (record { machine = l.fn.self; counts = l.fn.counts }) → Ran first l.made (record { machine = l.self; counts = l.counts });
-  stands : g.L.Loads.StandsAt l.loads l.made (record { machine = l.self; counts = l.counts });
+  stands : g.L.Loads.StandsAt l.board l.seat l.made (record { machine = l.self; counts = l.counts });
 }
