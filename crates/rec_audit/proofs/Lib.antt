@@ -23,3 +23,6 @@ pub mod Runs
 pub mod RunTurns
 pub mod RunReach
 pub mod RunClean
+pub mod Bared
+pub mod BareJournal
+pub mod RunAnswers

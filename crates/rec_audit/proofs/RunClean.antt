@@ -16,7 +16,7 @@ use Rattle.rec_collector.specs.Step.{NamesWord}
 use Rattle.rec_collector.proofs.Always.{names_word}
 use Rattle.rec_core.specs.Cells.{cell}
 use Rattle.rec_core.specs.Config.{IsConfig}
-use Rattle.rec_core.specs.Core.{Core, cells_of, opened}
+use Rattle.rec_core.specs.Core.{Core, cells_of, heap_by}
 use Rattle.rec_core.specs.Kept.{IsKept}
 use Rattle.rec_core.specs.Logged.{last_batch, works_in}
 use Rattle.rec_core.specs.Moves.{AllFit, Fits, Move, after_move, after_moves, turned, turned_by}
@@ -104,15 +104,15 @@ tells_on ls more v each t = record {
 -- ---- lines that are not at fault
 
 -- no set among these lines, which stand behind others, has a member in reach where it is given up
-abbrev Clear : List Line → List Line → Type 0
+abbrev pub Clear : List Line → List Line → Type 0
 Clear ls [] = Unit {0}
 Clear ls (l ∷ more) = (HasReachFault ls l → ⊥) × Clear (ls ++ l ∷ []) more
 
-clear_both : (ls xs ys : List Line) → Clear ls xs → Clear (ls ++ xs) ys → Clear ls (xs ++ ys)
+pub clear_both : (ls xs ys : List Line) → Clear ls xs → Clear (ls ++ xs) ys → Clear ls (xs ++ ys)
 clear_both ls [] ys a b = subst (λ ts. Clear ts ys) (append-nil ls) b
 clear_both ls (x ∷ xs) ys a b = (a.0, clear_both (ls ++ x ∷ []) xs ys a.1 (subst (λ ts. Clear ts ys) (sym (append_assoc ls (x ∷ []) xs)) b))
 
-clear_split : (ls more before after : List Line) (l : Line) → Clear ls more → more ≡ before ++ l ∷ after → HasReachFault (ls ++ before) l → ⊥
+pub clear_split : (ls more before after : List Line) (l : Line) → Clear ls more → more ≡ before ++ l ∷ after → HasReachFault (ls ++ before) l → ⊥
 clear_split ls [] before after l clear e fault = none before e
   where
     none : (before : List Line) → [] ≡ before ++ l ∷ after → ⊥
@@ -128,12 +128,12 @@ clear_split ls (x ∷ more) (b ∷ before) after l clear e fault =
     (subst (λ ts. HasReachFault ts l) (sym (append_assoc ls (x ∷ []) before)) (subst (λ (y : Line). HasReachFault (ls ++ y ∷ before) l) head fault))
 
 -- lines of a kind that gives nothing up
-clear_plain : (test : Kind → Bool) (ls more : List Line) → (test kinds.Free ≡ false) → Each test more → Clear ls more
+pub clear_plain : (test : Kind → Bool) (ls more : List Line) → (test kinds.Free ≡ false) → Each test more → Clear ls more
 clear_plain test ls [] none each = tt
 clear_plain test ls (l ∷ more) none each = (λ fault. false≢true (sym none ∙ sym (ap test fault.kind) ∙ each.0), clear_plain test (ls ++ l ∷ []) more none each.1)
 
 -- what is no set
-abbrev is_kept : Kind → Bool
+abbrev pub is_kept : Kind → Bool
 is_kept kinds.Free = false
 is_kept _ = true
 
@@ -173,17 +173,17 @@ passed_quiet (Some members) = (refl, tt)
 -- ---- steps
 
 -- lines are clear behind others, and all tell of a heap
-record Goes (ls more : List Line) (v : Core) : Type 0 where
-  clear : Clear ls more
-  tells : Tells (ls ++ more) v
+pub record Goes (ls more : List Line) (v : Core) : Type 0 where
+  pub clear : Clear ls more
+  pub tells : Tells (ls ++ more) v
 
 -- a batch or none
-behind_is : (ls : List Line) (batch : Option Batch) → behind_batch ls batch ≡ ls ++ batch_lines batch
+pub behind_is : (ls : List Line) (batch : Option Batch) → behind_batch ls batch ≡ ls ++ batch_lines batch
 behind_is ls None = sym (append-nil ls)
 behind_is ls (Some b) = refl
 
 -- the lines of a step whose batch and operation tell of this heap
-step_goes : (ls : List Line) (v : Core) (op : Op) (word : ℕ) → IsKept v → Tells (behind_batch ls (batch_of op v.collector) ++ op_lines op word) v → Goes ls (lines_of (shown_of op word v.collector)) v
+step_goes : (ls : List Line) (v : Core) (op : Op) (word : ℕ) → IsKept true v → Tells (behind_batch ls (batch_of op v.collector) ++ op_lines op word) v → Goes ls (lines_of (shown_of op word v.collector)) v
 step_goes ls v op word kept tells =
     let batch : Option Batch = batch_of op v.collector in
     let a : List Line = batch_lines batch in
@@ -211,21 +211,21 @@ goes_both ls xs ys u v a b = record { clear = clear_both ls xs ys a.clear b.clea
 goes_none : (ls : List Line) (v : Core) → Tells ls v → Goes ls [] v
 goes_none ls v t = record { clear = tt; tells = subst (λ ts. Tells ts v) (sym (append-nil ls)) t }
 
-turn_goes : (ls : List Line) (w : Core) → IsKept w → Tells ls w → Goes ls (flat_map lines_of (turn_shown w)) (turned w)
+turn_goes : (ls : List Line) (w : Core) → IsKept true w → Tells ls w → Goes ls (flat_map lines_of (turn_shown w)) (turned w)
 turn_goes ls w kept tells =
-    turn_case w (λ o v. IsKept v → IfSome o (NamesWord (length w.collector.counts.slots) w.collector.fields (length w.collector.newer)) → Goes ls (flat_map lines_of (shown_behind v (seen_at w o))) v)
+    turn_case w (λ o v. IsKept true v → IfSome o (NamesWord (length w.collector.counts.slots) w.collector.fields (length w.collector.newer)) → Goes ls (flat_map lines_of (shown_behind v (seen_at w o))) v)
     (λ none still names. goes_none ls w tells)
     by
     (move_kept w Move.Turns kept tt) (names_word w.collector kept.collector.machine)
   where
-    by : (op : Op) → ◌≡◌ {A = Option Op} (next_of w.collector) (Some op) → IsKept (turned_by w op (cell (cells_of w) op)) → NamesWord (length w.collector.counts.slots) w.collector.fields (length w.collector.newer) op
+    by : (op : Op) → ◌≡◌ {A = Option Op} (next_of w.collector) (Some op) → IsKept true (turned_by w op (cell (cells_of w) op)) → NamesWord (length w.collector.counts.slots) w.collector.fields (length w.collector.newer) op
         → Goes ls (flat_map lines_of (shown_behind (turned_by w op (cell (cells_of w) op)) (seen_at w (Some op)))) (turned_by w op (cell (cells_of w) op))
     by op named still names =
         let v : Core = turned_by w op (cell (cells_of w) op) in
         let one : Goes ls (lines_of (shown_of op (cell (cells_of w) op) v.collector)) v = step_goes ls v op (cell (cells_of w) op) still (turned_tells ls w op kept named still names tells) in
         subst (λ ts. Goes ls ts v) (sym (append-nil (lines_of (shown_of op (cell (cells_of w) op) v.collector)))) one
 
-moves_go : (ls : List Line) (w : Core) (ms : List Move) → IsKept w → AllFit w ms → Tells ls w → Goes ls (flat_map lines_of (shown_over w ms)) (after_moves w ms)
+pub moves_go : (ls : List Line) (w : Core) (ms : List Move) → IsKept true w → AllFit w ms → Tells ls w → Goes ls (flat_map lines_of (shown_over w ms)) (after_moves w ms)
 moves_go ls w [] kept fit tells = goes_none ls w tells
 moves_go ls w (m ∷ ms) kept fit tells =
     let v : Core = after_move w m in
@@ -241,7 +241,7 @@ moves_go ls w (m ∷ ms) kept fit tells =
 
 -- ---- the opening
 
-opening_tells : (config : Config) → IsConfig config → Tells (opening_lines (heap_for config)) (opened config)
+pub opening_tells : (config : Config) → IsConfig config → Tells (opening_lines (heap_for config)) (heap_by true config)
 opening_tells config is = record {
   heap = refl;
   puts = λ l c opened. absurd (false≢true (sym (shut l c) ∙ opened));
@@ -269,55 +269,3 @@ opening_tells config is = record {
         free : (n < config.slots - 1) ⊎ (config.slots - 1 ≤ n) → ⊥
         free (inl there) = omega (arith, some, get_or-replicate {A = ℕ} (config.slots - 1) n 0 0 there)
         free (inr past) = omega (arith, some, get_or_past (replicate {A = ℕ} (config.slots - 1) 0) n 0 (omega (arith, past, length-replicate {A = ℕ} (config.slots - 1) 0)))
-
--- ---- the journal
-
-journal_clear : (config : Config) (shown : List Shown) (end : Core) → IsConfig config → Shows (opened config) shown end → Clear [] (journal (heap_for config) shown)
-journal_clear config shown end is s =
-    let opening : List Line = opening_lines (heap_for config) in
-    let whole : Goes opening (flat_map lines_of (shown_over (opened config) s.moves)) (after_moves (opened config) s.moves) = moves_go opening (opened config) s.moves (opened_kept config is) s.fit (opening_tells config is) in
-    clear_both [] opening (flat_map lines_of shown) (clear_plain is_kept [] opening refl (refl, (refl, tt))) (subst (λ xs. Clear opening (flat_map lines_of xs)) (sym s.is) whole.clear)
-
-pub no_reach_fault : (config : Config) (shown : List Shown) (end : Core) (before : List Line) (line : Line) (after : List Line) → IsConfig config → Shows (opened config) shown end → journal (heap_for config) shown ≡ before ++ line ∷ after → HasReachFault before line → ⊥
-no_reach_fault config shown end before line after is s split fault = clear_split [] (journal (heap_for config) shown) before after line (journal_clear config shown end is s) split fault
-
--- what is reached where a set is given up is in the reach of the run's epoch there, or is a free slot
-pub reach_is_of_run : (config : Config) (moves : List Move) (step : Shown) (members : List ℕ) (slot : ℕ) → IsConfig config → AllFit (opened config) moves → turn_shown (after_moves (opened config) moves) ≡ step ∷ [] → step.passed ≡ Some members
-    → IsReachedAt (journal (heap_for config) (shown_over (opened config) moves) ++ (batch_lines step.batch ++ op_lines step.op step.word)) slot
-    → IsReachedIn (turned (after_moves (opened config) moves)) slot
-reach_is_of_run config moves step members slot is fit = turn_case w (λ o v. IsKept v → IfSome o (NamesWord (length w.collector.counts.slots) w.collector.fields (length w.collector.newer)) → shown_behind v (seen_at w o) ≡ step ∷ [] → step.passed ≡ Some members → IsReachedAt (lines ++ (batch_lines step.batch ++ op_lines step.op step.word)) slot → IsReachedIn v slot)
-    (λ none still names shown passed reached. absurd (cc))
-    by
-    (move_kept w Move.Turns kept tt) (names_word w.collector kept.collector.machine)
-  where
-    w : Core
-    w = after_moves (opened config) moves
-
-    lines : List Line
-    lines = journal (heap_for config) (shown_over (opened config) moves)
-
-    kept : IsKept (after_moves (opened config) moves)
-    kept = moves_kept (opened config) moves (opened_kept config is) fit
-
-    told : Tells (journal (heap_for config) (shown_over (opened config) moves)) (after_moves (opened config) moves)
-    told = (moves_go (opening_lines (heap_for config)) (opened config) moves (opened_kept config is) fit (opening_tells config is)).tells
-
-    by : (op : Op) → ◌≡◌ {A = Option Op} (next_of w.collector) (Some op) → IsKept (turned_by w op (cell (cells_of w) op)) → NamesWord (length w.collector.counts.slots) w.collector.fields (length w.collector.newer) op
-        → shown_behind (turned_by w op (cell (cells_of w) op)) (seen_at w (Some op)) ≡ step ∷ [] → step.passed ≡ Some members → IsReachedAt (lines ++ (batch_lines step.batch ++ op_lines step.op step.word)) slot → IsReachedIn (turned_by w op (cell (cells_of w) op)) slot
-    by op named still names shown passed reached =
-        let v : Core = turned_by w op (cell (cells_of w) op) in
-        let its : Shown = shown_of op (cell (cells_of w) op) v.collector in
-        let same : step ≡ its = cc in
-        let here : Tells (lines ++ (batch_lines its.batch ++ op_lines its.op its.word)) v = subst (λ ts. Tells ts v) (ap (λ ts. ts ++ op_lines its.op its.word) (behind_is lines its.batch) ∙ append_assoc lines (batch_lines its.batch) (op_lines its.op its.word)) (turned_tells lines w op kept named still names told) in
-        shown_reach (lines ++ (batch_lines its.batch ++ op_lines its.op its.word)) v members still here (sym (ap (λ (x : Shown). x.passed) same) ∙ passed) slot
-        (subst (λ (x : Shown). IsReachedAt (lines ++ (batch_lines x.batch ++ op_lines x.op x.word)) slot) same reached)
-
-pub run_answered : (config : Config) (shown : List Shown) (end : Core) → IsConfig config → Shows (opened config) shown end → works_in end.collector.phase ≡ false → length (text_of (journal (heap_for config) shown)) ≤ 16777216 → IsVerdict (text_of (journal (heap_for config) shown)) (Yes (sets_passed shown))
-run_answered config shown end is s idle short =
-    let keeps = run_keeps config shown end is s in
-    answered (heap_for config) shown (are_numbers config is) keeps.keep (ap (λ (at : Place). at.working) keeps.ends ∙ idle)
-    (λ before line after split. record {
-      stamp = no_stamp_fault (from_epoch config.first_epoch) (from_epoch (behind_steps (first_place (heap_for config)) shown).next) (journal (heap_for config) shown) before after line (journal_rises (heap_for config) shown keeps.keep keeps.stamped) split;
-      reach = no_reach_fault config shown end before line after is s split;
-    })
-    short

@@ -61,7 +61,7 @@ record KeepsGraph (w v : Core) : Type 0 where
   came : (s : ℕ) → 0 < slice_index_or v.headers s 0 → (0 < slice_index_or w.headers s 0) ⊎ IsUntold v s
   untold : (s : ℕ) → IsUntold w s → IsUntold v s
 
-keeps_graph : (lines : List Line) (w v : Core) → IsKept w → IsKept v → KeepsGraph w v → Tells lines w → Tells lines v
+keeps_graph : (lines : List Line) (w v : Core) → IsKept true w → IsKept true v → KeepsGraph w v → Tells lines w → Tells lines v
 keeps_graph lines w v kept still k t = record {
   heap = t.heap ∙ ap heap_for (sym k.config);
   puts = λ l c o. put (number 1 l) (number 2 l) (t.puts l c o);
@@ -99,7 +99,7 @@ abbrev ShowsNothing : Move → Type 0
 ShowsNothing Move.Turns = ⊥
 ShowsNothing m = Unit {0}
 
-pub quiet_tells : (lines : List Line) (w : Core) (m : Move) → ShowsNothing m → IsKept w → Fits w m → Tells lines w → Tells lines (after_move w m)
+pub quiet_tells : (lines : List Line) (w : Core) (m : Move) → ShowsNothing m → IsKept true w → Fits w m → Tells lines w → Tells lines (after_move w m)
 quiet_tells lines w (Move.Begins t work from) quiet kept fits tells = keeps_graph lines w (after_move w (Move.Begins t work from)) kept (move_kept w (Move.Begins t work from) kept fits) (record {
   config = refl;
   phase = refl;

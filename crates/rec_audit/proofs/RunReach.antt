@@ -83,17 +83,17 @@ filter_member p n (x ∷ xs) is = go (p x) refl (filter_member p n xs) is
     go false e rest there = rest there
 
 -- a line that is left by two tests and leads there
-record LeadsTo (d f : Line → Bool) (n : ℕ) (ls : List Line) : Type 0 where
-  line : Line
-  listed : Contains ls line
-  first : f line ≡ true
-  second : d line ≡ true
-  leads : target_in line ≡ n
+pub record LeadsTo (d f : Line → Bool) (n : ℕ) (ls : List Line) : Type 0 where
+  pub line : Line
+  pub listed : Contains ls line
+  pub first : f line ≡ true
+  pub second : d line ≡ true
+  pub leads : target_in line ≡ n
 
 leads_further : (d f : Line → Bool) (n : ℕ) (x : Line) (ls : List Line) → LeadsTo d f n ls → LeadsTo d f n (x ∷ ls)
 leads_further d f n x ls l = record { line = l.line; listed = Contains-append_right (x ∷ []) ls l.line l.listed; first = l.first; second = l.second; leads = l.leads }
 
-target_member : (d f : Line → Bool) (n : ℕ) (ls : List Line) → is_in n (map target_in (filter d (filter f ls))) ≡ true → LeadsTo d f n ls
+pub target_member : (d f : Line → Bool) (n : ℕ) (ls : List Line) → is_in n (map target_in (filter d (filter f ls))) ≡ true → LeadsTo d f n ls
 target_member d f n [] is = absurd (false≢true is)
 target_member d f n (x ∷ ls) is = go (f x) refl (d x) refl (λ there. leads_further d f n x ls (target_member d f n ls there)) is
   where
@@ -129,7 +129,7 @@ late_names kinds.Sweep numbers is = refl
 late_names kinds.End numbers is = refl
 late_names _ numbers is = absurd (false≢true is)
 
-module _ (ls : List Line) (v : Core) (kept : IsKept v) (tells : Tells ls v) (works : works_in v.collector.phase ≡ true) (unswept : is_unswept v.collector.phase ≡ true) (tried : tried_in v ≡ applied_in v) where
+module _ (ls : List Line) (v : Core) (kept : IsKept true v) (tells : Tells ls v) (works : works_in v.collector.phase ≡ true) (unswept : is_unswept v.collector.phase ≡ true) (tried : tried_in v ≡ applied_in v) where
   -- the buffers of the batch that is worked on
   newer_are : last_batch v.collector ≡ v.collector.newer
   newer_are = ap (λ b. if b then v.collector.newer else v.collector.older) works
@@ -145,7 +145,7 @@ module _ (ls : List Line) (v : Core) (kept : IsKept v) (tells : Tells ls v) (wor
   batch_epoch place new old (i, below, c) =
       let at : i + 1 - 1 ≡ i = omega arith in
       let is : IsMutator v.config (i + 1) = (let many : length v.collector.newer ≡ v.config.mutators = kept.collector.mutators in (omega arith, omega arith)) in
-      let all = subst (λ n. of_core.IsBufferOf v.config (v.epoch - 1) (buffer_at v.collector.newer n)) at (kept.collector.newer (i + 1) is) in
+      let all = subst (λ n. of_core.IsBufferOf true v.config (v.epoch - 1) (buffer_at v.collector.newer n)) at (kept.collector.newer (i + 1) is) in
       subst (of_core.IsMadeIn (v.epoch - 1)) c.2 (all.made c.0 (entries.Put place new old) c.1) ∙ sym (worked_epoch v.epoch v.collector.phase works)
 
   -- a reference that a write of the batch closed
@@ -255,7 +255,7 @@ module _ (ls : List Line) (v : Core) (kept : IsKept v) (tells : Tells ls v) (wor
   reached_may n reached = all_reached MayBe (roots ls) (targets ls) at_root at_target n reached
 
 -- Where a set was shown, what is reached in the journal is in the reach of the epoch, or is a free slot.
-pub shown_reach : (ls : List Line) (v : Core) (members : List ℕ) → IsKept v → Tells ls v → passed_of v.collector ≡ Some members → (slot : ℕ) → IsReachedAt ls slot
+pub shown_reach : (ls : List Line) (v : Core) (members : List ℕ) → IsKept true v → Tells ls v → passed_of v.collector ≡ Some members → (slot : ℕ) → IsReachedAt ls slot
     → IsInReach (pending v) (applied_in v) (slot + 1) ⊎ (slice_index_or v.headers slot 0 ≡ 0)
 shown_reach ls v members kept tells passed slot reached = go v.collector.phase refl passed
   where
@@ -264,7 +264,7 @@ shown_reach ls v members kept tells passed slot reached = go v.collector.phase r
     go _ is shown = absurd (cc)
 
 -- So no member of the set is reached.
-pub shown_unreached : (ls : List Line) (v : Core) (members : List ℕ) → IsKept v → Tells ls v → passed_of v.collector ≡ Some members → HasReached ls members → ⊥
+pub shown_unreached : (ls : List Line) (v : Core) (members : List ℕ) → IsKept true v → Tells ls v → passed_of v.collector ≡ Some members → HasReached ls members → ⊥
 shown_unreached ls v members kept tells passed r =
     let member : 0 < times r.member members = member_times r.member members r.listed in
     elim (shown_reach ls v members kept tells passed r.member r.reached) [

@@ -121,7 +121,7 @@ replaced_earlier : (w : Core) (place word late early : ℕ) → early ≤ late �
 replaced_earlier w place word late early up some = omega (arith, some, sum_by-le-sum_by (closes (record { place = place; word = word; epoch = late })) (closes (record { place = place; word = word; epoch = early })) (writes_of w) (closes_less place word late early up))
 
 -- What was replaced since the epoch of the last batch was so since the last trial, or in the block that stands open.
-raises : (lines : List Line) (u : Core) (place word : ℕ) → IsKept u → HasBlock lines u → 0 < sum_by (closes (record { place = place; word = word; epoch = applied_in u })) (writes_of u) → Status lines u place word
+raises : (lines : List Line) (u : Core) (place word : ℕ) → IsKept true u → HasBlock lines u → 0 < sum_by (closes (record { place = place; word = word; epoch = applied_in u })) (writes_of u) → Status lines u place word
 raises lines u place word kept block some = elim (replaced_when u place word kept some) [
   | inl later ↦ Status.lasts (inr (inl (replaced_earlier u place word (applied_in u + 1) (tried_in u) (tried_near u.epoch u.collector.phase) later)))
   | inr here ↦ told here.0 here.1 block
@@ -204,7 +204,7 @@ abbrev pub behind_batch : List Line → Option Batch → List Line
 behind_batch lines None = lines
 behind_batch lines (Some b) = lines ++ batch_lines (Some b)
 
-module _ (lines : List Line) (w : Core) (op : Op) (kept : IsKept w) (named : ◌≡◌ {A = Option Op} (next_of w.collector) (Some op)) (still : IsKept (turned_by w op (cell (cells_of w) op)))
+module _ (lines : List Line) (w : Core) (op : Op) (kept : IsKept true w) (named : ◌≡◌ {A = Option Op} (next_of w.collector) (Some op)) (still : IsKept true (turned_by w op (cell (cells_of w) op)))
     (names : NamesWord (length w.collector.counts.slots) w.collector.fields (length w.collector.newer) op) (tells : Tells lines w) where
   abbrev word : ℕ
   word = cell (cells_of w) op
@@ -308,7 +308,7 @@ module _ (lines : List Line) (w : Core) (op : Op) (kept : IsKept w) (named : ◌
       made : epoch_of new ≡ w.epoch - 1
       made =
           let at : i + 1 - 1 ≡ i = omega arith in
-          let all = subst (λ n. of_core.IsBufferOf w.config (w.epoch - 1) (buffer_at w.collector.newer n)) at (kept.collector.newer (i + 1) is) in
+          let all = subst (λ n. of_core.IsBufferOf true w.config (w.epoch - 1) (buffer_at w.collector.newer n)) at (kept.collector.newer (i + 1) is) in
           subst (of_core.IsMadeIn (w.epoch - 1)) c.2 (all.made c.0 (entries.Put place new old) c.1)
 
       gathered : (phase : Phase) → w.collector.phase ≡ phase → applied_at w.epoch phase ≡ w.epoch - 2 → under_way phase ≡ 1 → epoch_of new ≡ applied_in w + 1

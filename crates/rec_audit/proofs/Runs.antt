@@ -1,16 +1,24 @@
 -- What the steps of every run keep, so that their journal is in form.
-use Rattle.std.proofs.Common.{◌≡◌, ◌≢◌, ℕ, ◌+◌, ◌-◌, ◌*◌, ◌^◌, ◌<◌, ◌≤◌, ◌==◌, if◌then◌else◌, Bool, true, false, Option, None, Some, IfSome, List, [], ◌∷◌, ◌++◌, length, get_or, refl, sym, ap, subst, ◌∙◌, arith}
-use Rattle.std.specs.List.{All}
+use Rattle.std.proofs.Common.{◌≡◌, ◌≢◌, ℕ, ◌+◌, ◌-◌, ◌*◌, ◌^◌, ◌<◌, ◌≤◌, ◌==◌, if◌then◌else◌, Bool, true, false, Option, None, Some, IfSome, List, [], ◌∷◌, ◌++◌, length, get_or, refl, sym, ap, subst, ◌∙◌, arith, ◌/◌, ◌%◌, map, zero, suc}
+use Rattle.std.specs.List.{All, Contains}
 use Rattle.std.proofs.lemmas.Bool.{cond-false, ne_eqb}
 use Rattle.std.proofs.lemmas.List.{get_or_default}
+use Rattle.std.proofs.lemmas.List.Elements.{Contains-append_right, Contains-get_or}
+use Rattle.rec_word.specs.Bare.{bare}
 use Rattle.rec_word.specs.Word.{stamp_of}
+use Rattle.rec_word.specs.declared.stamps.Stamp.{Stamp}
+use Rattle.rec_word.proofs.Bare.{stamp_of_dated}
+use Rattle.rec_log.specs.Words.{entry_by}
 use Rattle.rec_word.specs.declared.op.Op.{Op}
 use Rattle.rec_word.specs.declared.op.Op.TheVariants as ops
 use Rattle.rec_model.specs.Pending.{epoch_of}
 use Rattle.rec_log.specs.declared.contents.Contents.{Contents}
 use Rattle.rec_log.specs.declared.entry.Entry.{Entry}
 use Rattle.rec_log.specs.declared.entry.Entry.TheVariants as entries
+use Rattle.rec_collector.specs.Bare.{bare_private}
 use Rattle.rec_collector.specs.Kept.{under_way}
+use Rattle.rec_collector.proofs.Bare.{buffer_bare}
+use Rattle.rec_collector.proofs.BareKept.{rows_many}
 use Rattle.rec_collector.specs.Next.{is_spent, next_at, next_of}
 use Rattle.rec_collector.specs.Private.{Private, blank}
 use Rattle.rec_collector.specs.Shown.{Batch, Shown, batch_made, batch_of, completed_in, completed_of, passed_in, passed_of}
@@ -23,7 +31,8 @@ use Rattle.rec_collector.proofs.Always.{names_word}
 use Rattle.rec_collector.proofs.ShownSteps.{shown_as_made}
 use Rattle.rec_core.specs.Cells.{cell}
 use Rattle.rec_core.specs.Config.{IsConfig, IsMutator}
-use Rattle.rec_core.specs.Core.{Core, box, cells_of, opened}
+use Rattle.rec_core.specs.Bare.{bare_core}
+use Rattle.rec_core.specs.Core.{Core, box, cells_of, heap_by, opened}
 use Rattle.rec_core.specs.Kept.{IsKept}
 use Rattle.rec_core.specs.Kept as of_core
 use Rattle.rec_core.specs.Logged.{HasOwnBuffers, IsOwnBuffer, IsOwnEntry, works_in}
@@ -34,8 +43,12 @@ use Rattle.rec_core.specs.Turn.{seen_at}
 use Rattle.rec_core.specs.declared.config.Config.{Config}
 use Rattle.rec_core.proofs.Freed.{shown_is_within}
 use Rattle.rec_core.proofs.LoggedTurns.{move_own, opened_own}
-use Rattle.rec_core.proofs.Opening.{opened_kept}
-use Rattle.rec_core.proofs.Runs.{given_is, move_kept, move_stays, rule_of}
+use Rattle.rec_core.proofs.BareRuns.{explained, given_is, move_kept, opened_kept, rule_of}
+use Rattle.rec_core.proofs.BareOpened.{heap_bare}
+use Rattle.rec_core.proofs.Dated.{Explains, move_explained}
+use Rattle.rec_core.proofs.Opening as dated_opened
+use Rattle.rec_core.proofs.Stamped.{IsStamped, move_stamped, opened_stamped, stamp_is}
+use Rattle.rec_core.proofs.Runs.{move_stays}
 use Rattle.rec_core.proofs.Turning.{turn_case}
 use Rattle.rec_audit.specs.Form.{AreHeapNumbers}
 use Rattle.rec_audit.specs.Journal.{heap_numbers, register_number}
@@ -113,7 +126,7 @@ buffer_of config t b own many = record {
     held None below = omega arith
     held (Some slot) below = let h : slot < config.slots = below slot refl in omega arith
 
-buffers_of : (w : Core) → IsKept w → HasOwnBuffers w → All (IsBufferOf (heap_for w.config)) w.collector.newer
+buffers_of : (w : Core) → IsKept false w → HasOwnBuffers w → All (IsBufferOf (heap_for w.config)) w.collector.newer
 buffers_of w kept own k d below =
     let many : length w.collector.newer ≡ w.config.mutators = kept.collector.mutators in
     let is : IsMutator w.config (k + 1) = (omega arith, omega arith) in
@@ -124,14 +137,14 @@ buffers_of w kept own k d below =
 
 -- ---- a turn
 
-pub begun : (w : Core) → IsKept w → HasBegun w.collector
+pub begun : {dated : Bool} → (w : Core) → IsKept dated w → HasBegun w.collector
 begun w kept =
     let some : 1 ≤ w.config.first_epoch = kept.config.some_epoch in
     let all : w.config.first_epoch + w.collector.collections + under_way w.collector.phase ≡ w.epoch = kept.collector.begun in
     let same : w.collector.epoch ≡ w.epoch = kept.collector.epoch in
     omega arith
 
-batch_keeps : (w : Core) (q : Private) (word : ℕ) (b : Contents) (op : Op) (turn : Turn) → IsKept w → HasOwnBuffers w → (s : Step w.collector word b (Some op) q turn) → KeepsBatch (heap_for w.config) (place_of w.collector) (batch_made s)
+batch_keeps : (w : Core) (q : Private) (word : ℕ) (b : Contents) (op : Op) (turn : Turn) → IsKept false w → HasOwnBuffers w → (s : Step w.collector word b (Some op) q turn) → KeepsBatch (heap_for w.config) (place_of w.collector) (batch_made s)
 batch_keeps w q word b op turn kept own = go
   where
     some : 1 + under_way w.collector.phase ≤ w.collector.epoch
@@ -164,10 +177,45 @@ batch_keeps w q word b op turn kept own = go
     go (Step.sweep due swept u phase sweeping is which next g) = tt
     go (Step.end_sweep swept closing is e) = tt
 
--- the words of a batch have the stamps of its epoch
-stamped_buffer : (w : Core) (t epoch : ℕ) (b : Contents) → IsKept w → IsMutator w.config t → IsOwnBuffer w.config t b → of_core.IsBufferOf w.config epoch b → AreStampedEntries epoch t b.entries
+-- the stamp of a bare word is that of the word
+stamp_bare : (word : ℕ) → stamp_of (bare word) ≡ stamp_of word
+stamp_bare word = sym (ap stamp_of (let whole : word ≡ 2 ^ 64 * (word / 2 ^ 64) + word % 2 ^ 64 = omega arith in whole) ∙ stamp_of_dated true (word / 2 ^ 64) (word % 2 ^ 64))
+
+-- a write with bare words is one with words
+record BareWrite (es : List Entry) (place new old : ℕ) : Type 0 where
+  dated_new : ℕ
+  dated_old : ℕ
+  listed : Contains es (entries.Put place dated_new dated_old)
+  same : bare dated_new ≡ new
+
+bare_write : (es : List Entry) (place new old : ℕ) → Contains (map (entry_by bare) es) (entries.Put place new old) → BareWrite es place new old
+bare_write [] place new old c = absurd (let below = c.1 in omega arith)
+bare_write (e ∷ es) place new old (suc k, below, there) =
+    let rest = bare_write es place new old (k, omega arith, there) in
+    record { dated_new = rest.dated_new; dated_old = rest.dated_old; listed = Contains-append_right (e ∷ []) es (entries.Put place rest.dated_new rest.dated_old) rest.listed; same = rest.same }
+bare_write (entries.Put p n o ∷ es) place new old (zero, below, there) =
+    let at : p ≡ place = cc in
+    let is : bare n ≡ new = cc in
+    record { dated_new = n; dated_old = o; listed = (0, omega arith, ap (λ k. entries.Put k n o) at); same = is }
+bare_write (entries.Born slot leaf ∷ es) place new old (zero, below, there) = absurd (cc)
+
+-- the writes that the collector gathered have stamps of their epoch, as the heap of dated words behind tells
+stamps_there : (v : Core) → IsKept true v → IsStamped v → (k : ℕ) → k < length v.collector.newer → (place new old : ℕ) → Contains (get_or (bare_core v).collector.newer k (blank 0 0)).entries (entries.Put place new old) → (stamp_of new).epoch ≡ v.collector.epoch - 1
 unfolding epoch_of
-stamped_buffer w t epoch b kept is own buffer index d below = go (get_or b.entries index d) (own.entries index d below) (buffer.made index d below)
+stamps_there v kept stamped k below place new old c =
+    let at : k + 1 - 1 ≡ k = omega arith in
+    let many : length v.collector.newer ≡ v.config.mutators = kept.collector.mutators in
+    let is : IsMutator v.config (k + 1) = (omega arith, omega arith) in
+    let its = bare_write (get_or v.collector.newer k (blank 0 0)).entries place new old (subst (λ (b : Contents). Contains b.entries (entries.Put place new old)) (buffer_bare v.collector.newer k) c) in
+    let buffer : of_core.IsBufferOf true v.config (v.epoch - 1) (get_or v.collector.newer k (blank 0 0)) = subst (λ n. of_core.IsBufferOf true v.config (v.epoch - 1) (get_or v.collector.newer n (blank 0 0))) at (kept.collector.newer (k + 1) is) in
+    let made : epoch_of its.dated_new ≡ v.epoch - 1 = subst (of_core.IsMadeIn (v.epoch - 1)) its.listed.2 (buffer.made its.listed.0 (entries.Put place its.dated_new its.dated_old) its.listed.1) in
+    let dated : epoch_of its.dated_new ≡ (stamp_of its.dated_new).epoch = stamp_is v place its.dated_new its.dated_old stamped (k, below, its.listed) in
+    ap (λ n. (stamp_of n).epoch) (sym its.same) ∙ (ap (λ (x : Stamp). x.epoch) (stamp_bare its.dated_new) ∙ (sym dated ∙ (made ∙ ap (λ n. n - 1) (sym kept.collector.epoch))))
+
+-- the words of a batch have the stamps of its epoch
+stamped_buffer : (w : Core) (t epoch : ℕ) (b : Contents) → IsKept false w → IsMutator w.config t → IsOwnBuffer w.config t b → of_core.IsBufferOf false w.config epoch b
+    → ((place new old : ℕ) → Contains b.entries (entries.Put place new old) → (stamp_of new).epoch ≡ epoch) → AreStampedEntries epoch t b.entries
+stamped_buffer w t epoch b kept is own buffer made index d below = go (get_or b.entries index d) refl (own.entries index d below)
   where
     few : index < 2 ^ 18
     few =
@@ -176,15 +224,14 @@ stamped_buffer w t epoch b kept is own buffer index d below = go (get_or b.entri
         let most : w.config.log_entries ≤ 262143 = kept.config.few_log_entries in
         omega (arith, below)
 
-    go : (entry : Entry) → IsOwnEntry w.config t index entry → of_core.IsMadeIn epoch entry → IsStampedEntry epoch t index entry
-    go (entries.Put place new old) o made =
-        let some : (stamp_of new).writer ≢ 0 = λ none. omega (arith, is.0, sym o.writer ∙ none) in
-        let at : (stamp_of new).epoch ≡ epoch = sym (cond-false ((stamp_of new).writer == 0) 0 (stamp_of new).epoch (ne_eqb (stamp_of new).writer 0 some)) ∙ made in
+    go : (entry : Entry) → get_or b.entries index d ≡ entry → IsOwnEntry w.config t index entry → IsStampedEntry epoch t index entry
+    go (entries.Put place new old) here o =
+        let at : (stamp_of new).epoch ≡ epoch = made place new old (subst (Contains b.entries) here (Contains-get_or b.entries index d below)) in
         (ap (λ e. stamp_number e (stamp_of new).writer (stamp_of new).index) at ∙ ap (λ n. stamp_number epoch n (stamp_of new).index) o.writer ∙ ap (stamp_number epoch t) o.number, few)
-    go (entries.Born slot leaf) o made = tt
+    go (entries.Born slot leaf) here o = tt
 
-batch_stamped : (w : Core) (q : Private) (word : ℕ) (b : Contents) (op : Op) (turn : Turn) → IsKept w → HasOwnBuffers w → (s : Step w.collector word b (Some op) q turn) → IsStampedIn (batch_made s)
-batch_stamped w q word b op turn kept own = go
+batch_stamped : (w v : Core) (q : Private) (word : ℕ) (b : Contents) (op : Op) (turn : Turn) → IsKept false w → HasOwnBuffers w → Explains v w → IsStamped v → (s : Step w.collector word b (Some op) q turn) → IsStampedIn (batch_made s)
+batch_stamped w v q word b op turn kept own e stamped = go
   where
     many : length w.collector.newer ≤ 63
     many = (let all : length w.collector.newer ≡ w.config.mutators = kept.collector.mutators in let most : w.config.mutators ≤ 63 = kept.config.few_mutators in omega arith)
@@ -195,6 +242,10 @@ batch_stamped w q word b op turn kept own = go
         let spare : get_or w.collector.newer k d ≡ blank w.collector.registers w.collector.capacity = get_or_default w.collector.newer k d (blank 0 0) below ∙ (now_at w Idle kept idle).1 k (omega arith) below in
         subst (λ (x : Contents). AreStampedEntries w.collector.epoch (k + 1) x.entries) (sym spare) (λ index e none. absurd (omega arith))
 
+    its : (k : ℕ) → k < length w.collector.newer → (place new old : ℕ) → Contains (get_or w.collector.newer k (blank 0 0)).entries (entries.Put place new old) → (stamp_of new).epoch ≡ w.collector.epoch - 1
+    its = subst (λ (u : Core). (k : ℕ) → k < length u.collector.newer → (place new old : ℕ) → Contains (get_or u.collector.newer k (blank 0 0)).entries (entries.Put place new old) → (stamp_of new).epoch ≡ u.collector.epoch - 1) e.bare
+        (λ k below. stamps_there v e.kept stamped k (subst (λ n. k < n) (rows_many v.collector.newer) below))
+
     gathered : IsStampedBatch (record { epoch = w.collector.epoch - 1; newer = w.collector.newer })
     gathered k d below =
         let all : length w.collector.newer ≡ w.config.mutators = kept.collector.mutators in
@@ -204,7 +255,7 @@ batch_stamped w q word b op turn kept own = go
         let same : c ≡ get_or w.collector.newer k d = ap (λ n. get_or w.collector.newer n (blank 0 0)) at ∙ get_or_default w.collector.newer k (blank 0 0) d below in
         let epoch : w.collector.epoch ≡ w.epoch = kept.collector.epoch in
         subst (λ (x : Contents). AreStampedEntries (w.collector.epoch - 1) (k + 1) x.entries) same
-        (stamped_buffer w (k + 1) (w.collector.epoch - 1) c kept is (own.newer (k + 1) is) (subst (λ e. of_core.IsBufferOf w.config (e - 1) c) (sym epoch) (kept.collector.newer (k + 1) is)))
+        (stamped_buffer w (k + 1) (w.collector.epoch - 1) c kept is (own.newer (k + 1) is) (subst (λ e. of_core.IsBufferOf false w.config (e - 1) c) (sym epoch) (kept.collector.newer (k + 1) is)) (its (k + 1 - 1) (omega (arith, below))))
 
     go : (s : Step w.collector word b (Some op) q turn) → IsStampedIn (batch_made s)
     go (Step.spent idle most is same answer) = tt
@@ -222,7 +273,7 @@ batch_stamped w q word b op turn kept own = go
     go (Step.sweep due swept u phase sweeping is which next g) = tt
     go (Step.end_sweep swept closing is e) = tt
 
-op_keeps : (w : Core) (q : Private) (op : Op) → IsKept w → HasOwnBuffers w → ◌≡◌ {A = Option Op} (next_of w.collector) (Some op) → NamesWord (length w.collector.counts.slots) w.collector.fields (length w.collector.newer) op
+op_keeps : (w : Core) (q : Private) (op : Op) → IsKept false w → HasOwnBuffers w → ◌≡◌ {A = Option Op} (next_of w.collector) (Some op) → NamesWord (length w.collector.counts.slots) w.collector.fields (length w.collector.newer) op
     → KeepsOp (heap_for w.config) (with_batch (place_of w.collector) (batch_of op q)) op (cell (cells_of w) op)
 unfolding next_of
 op_keeps w q (ops.ClearField place) kept own named names = λ some. (
@@ -233,10 +284,16 @@ op_keeps w q (ops.ClearField place) kept own named names = λ some. (
 op_keeps w q (ops.FreeHeader slot) kept own named names = (frees_works w.collector w.collector.phase slot named, subst (λ n. slot < n) kept.collector.slots names)
 op_keeps w q _ kept own named names = tt
 
-passed_keeps : (v : Core) (at : Place) → IsKept v → at.working ≡ worked_in v.collector.phase → (passed : Option (List ℕ)) → passed_of v.collector ≡ passed → KeepsPassed (heap_for v.config) at passed
+passed_same : (q : Private) (phase : Phase) → passed_in (bare_private q) phase ≡ passed_in q phase
+passed_same q (Freeing m) = refl
+passed_same q _ = refl
+
+passed_keeps : (v : Core) (at : Place) → IsKept false v → at.working ≡ worked_in v.collector.phase → (passed : Option (List ℕ)) → passed_of v.collector ≡ passed → KeepsPassed (heap_for v.config) at passed
 passed_keeps v at kept working None is = tt
 passed_keeps v at kept working (Some members) is =
-    let within = shown_is_within v members kept is in
+    let (u, e) = explained v kept in
+    let passed : passed_of u.collector ≡ Some members = sym (passed_same u.collector u.collector.phase) ∙ (ap (λ (x : Core). passed_of x.collector) e.bare ∙ is) in
+    let within = subst (λ (x : Core). (0 < length members) × All (λ slot. slot < x.config.slots) members) e.bare (shown_is_within u members e.kept passed) in
     (working ∙ passed_works v.collector v.collector.phase members is, within.0, within.1)
 
 -- Steps keep what they have to, and this is where they lead.
@@ -245,14 +302,14 @@ pub record KeepTo (heap : Heap) (at : Place) (shown : List Shown) (to : Place) :
   pub stamped : AreStamped shown
   pub ends : behind_steps at shown ≡ to
 
-turn_keeps : (w : Core) → IsKept w → HasOwnBuffers w → KeepTo (heap_for w.config) (place_of w.collector) (turn_shown w) (place_of (turned w).collector)
-turn_keeps w kept own =
-    turn_case w (λ o v. IsKept v → v.config ≡ w.config → IfSome o (NamesWord (length w.collector.counts.slots) w.collector.fields (length w.collector.newer)) → KeepTo (heap_for w.config) (place_of w.collector) (shown_behind v (seen_at w o)) (place_of v.collector))
+turn_keeps : (w v : Core) → IsKept false w → HasOwnBuffers w → Explains v w → IsStamped v → KeepTo (heap_for w.config) (place_of w.collector) (turn_shown w) (place_of (turned w).collector)
+turn_keeps w behind kept own e stamped =
+    turn_case w (λ o v. IsKept false v → v.config ≡ w.config → IfSome o (NamesWord (length w.collector.counts.slots) w.collector.fields (length w.collector.newer)) → KeepTo (heap_for w.config) (place_of w.collector) (shown_behind v (seen_at w o)) (place_of v.collector))
     (λ none still config names. record { keep = tt; stamped = tt; ends = refl })
     by
     (move_kept w Move.Turns kept tt) (move_stays w Move.Turns) (names_word w.collector kept.collector.machine)
   where
-    by : (op : Op) → ◌≡◌ {A = Option Op} (next_of w.collector) (Some op) → IsKept (turned_by w op (cell (cells_of w) op)) → (turned_by w op (cell (cells_of w) op)).config ≡ w.config
+    by : (op : Op) → ◌≡◌ {A = Option Op} (next_of w.collector) (Some op) → IsKept false (turned_by w op (cell (cells_of w) op)) → (turned_by w op (cell (cells_of w) op)).config ≡ w.config
         → NamesWord (length w.collector.counts.slots) w.collector.fields (length w.collector.newer) op
         → KeepTo (heap_for w.config) (place_of w.collector) (shown_behind (turned_by w op (cell (cells_of w) op)) (seen_at w (Some op))) (place_of (turned_by w op (cell (cells_of w) op)).collector)
     by op named still config names =
@@ -275,7 +332,7 @@ turn_keeps w kept own =
             },
             tt,
           );
-          stamped = (subst IsStampedIn (sym made.batch) (batch_stamped w q word b op (turn_of w.collector word) kept own s), tt);
+          stamped = (subst IsStampedIn (sym made.batch) (batch_stamped w behind q word b op (turn_of w.collector word) kept own e stamped s), tt);
           ends = end.1;
         }
 
@@ -290,26 +347,27 @@ keep_both heap at between to (x ∷ first) later a b =
     let rest : KeepTo heap (behind_step at x) (first ++ later) to = keep_both heap (behind_step at x) between to first later (record { keep = a.keep.1; stamped = a.stamped.1; ends = a.ends }) b in
     record { keep = (a.keep.0, rest.keep); stamped = (a.stamped.0, rest.stamped); ends = rest.ends }
 
-moves_keep : (w : Core) (ms : List Move) → IsKept w → HasOwnBuffers w → AllFit w ms → KeepTo (heap_for w.config) (place_of w.collector) (shown_over w ms) (place_of (after_moves w ms).collector)
-moves_keep w [] kept own fit = keep_none (heap_for w.config) (place_of w.collector)
-moves_keep w (m ∷ ms) kept own fit =
+moves_keep : (w v : Core) (ms : List Move) → IsKept false w → HasOwnBuffers w → Explains v w → IsStamped v → AllFit w ms → KeepTo (heap_for w.config) (place_of w.collector) (shown_over w ms) (place_of (after_moves w ms).collector)
+moves_keep w behind [] kept own e stamped fit = keep_none (heap_for w.config) (place_of w.collector)
+moves_keep w behind (m ∷ ms) kept own e stamped fit =
     let v : Core = after_move w m in
-    let still : IsKept v = move_kept w m kept fit.0 in
+    let still : IsKept false v = move_kept w m kept fit.0 in
+    let next = move_explained behind w m e fit.0 in
     let rest : KeepTo (heap_for w.config) (place_of v.collector) (shown_over v ms) (place_of (after_moves v ms).collector)
-    = subst (λ config. KeepTo (heap_for config) (place_of v.collector) (shown_over v ms) (place_of (after_moves v ms).collector)) (move_stays w m) (moves_keep v ms still (move_own w m kept fit.0 own) fit.1) in
+    = subst (λ config. KeepTo (heap_for config) (place_of v.collector) (shown_over v ms) (place_of (after_moves v ms).collector)) (move_stays w m) (moves_keep v (after_move behind m) ms still (move_own w m kept fit.0 own) next.1 (move_stamped behind m e.kept next.0 stamped) fit.1) in
     keep_both (heap_for w.config) (place_of w.collector) (place_of v.collector) (place_of (after_moves v ms).collector) _ (shown_over v ms) (first m fit.0) rest
   where
     first : (m : Move) → Fits w m → KeepTo (heap_for w.config) (place_of w.collector) (shown_in w m) (place_of (after_move w m).collector)
     first (Move.Begins t work from) fits = keep_none (heap_for w.config) (place_of w.collector)
     first (Move.Steps t) fits = keep_none (heap_for w.config) (place_of w.collector)
-    first Move.Turns fits = turn_keeps w kept own
+    first Move.Turns fits = turn_keeps w behind kept own e stamped
     first Move.Offers fits = keep_none (heap_for w.config) (place_of w.collector)
 
 -- ---- from an opening on
 
 pub run_keeps : (config : Config) (shown : List Shown) (end : Core) → IsConfig config → Shows (opened config) shown end → KeepTo (heap_for config) (first_place (heap_for config)) shown (place_of end.collector)
 run_keeps config shown end is s =
-    let all : KeepTo (heap_for config) (place_of (opened config).collector) (shown_over (opened config) s.moves) (place_of (after_moves (opened config) s.moves).collector) = moves_keep (opened config) s.moves (opened_kept config is) (opened_own config is) s.fit in
+    let all : KeepTo (heap_for config) (place_of (opened config).collector) (shown_over (opened config) s.moves) (place_of (after_moves (opened config) s.moves).collector) = moves_keep (opened config) (heap_by true config) s.moves (opened_kept config is) (opened_own config is) (record { bare = heap_bare config; kept = dated_opened.opened_kept config is }) (opened_stamped config is) s.fit in
     let some : 1 ≤ config.first_epoch = is.some_epoch in
     let next : config.first_epoch - 1 + 1 ≡ config.first_epoch = omega arith in
     let first : place_of (opened config).collector ≡ first_place (heap_for config) = (let make : ℕ → Place = λ n. record { next = n; working = false } in ap make next) in

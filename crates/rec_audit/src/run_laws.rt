@@ -2,6 +2,7 @@
 
 ghost use Rattle.std.specs.Prelude.{◌≡◌, ◌≤◌, ◌++◌, ◌∷◌, ℕ, [], false, List, Some, length};
 ghost use Rattle.rec_collector.specs.Shown.{Shown};
+ghost use Rattle.rec_core.specs.Bare.{Behind};
 ghost use Rattle.rec_core.specs.Config.{IsConfig};
 ghost use Rattle.rec_core.specs.Core.{Core, opened};
 ghost use Rattle.rec_core.specs.Logged.{works_in};
@@ -53,7 +54,7 @@ pub fn reach_of_journals_is_of_runs()
     ensures { (config : Config) (moves : List Move) (step : Shown) (members : List ℕ) (slot : ℕ) → IsConfig config → AllFit (opened config) moves
         → turn_shown (after_moves (opened config) moves) ≡ step ∷ [] → step.passed ≡ Some members
         → IsReachedAt (journal (heap_for config) (shown_over (opened config) moves) ++ (batch_lines step.batch ++ op_lines step.op step.word)) slot
-        → IsReachedIn (turned (after_moves (opened config) moves)) slot }
+        → Behind (turned (after_moves (opened config) moves)) (λ v. IsReachedIn v slot) }
 {}
 
 /// So the journal of every run from an opening in which no collection is left open is answered yes, with as many sets as passed both

@@ -11,7 +11,7 @@ use Rattle.rec_core.specs.Moves.{AllFit, Fits, Move, after_move, after_moves, be
 use Rattle.rec_core.specs.Shown.{Shows, shown_in, shown_over}
 use Rattle.rec_core.specs.Worked.{IsWorked, StepsTo}
 use Rattle.rec_core.specs.declared.config.Config.{Config}
-use Rattle.rec_core.proofs.Runs.{after_both, fit_both, move_stays, moves_kept, over_both}
+use Rattle.rec_core.proofs.Runs.{after_both, fit_both, move_stays, over_both}
 
 pub shows_none : (w : Core) → Shows w [] w
 shows_none w = record { moves = []; fit = tt; ends = refl; is = refl }
@@ -31,10 +31,6 @@ shows_then u v w first later a b = record {
 -- one move
 pub shows_one : (w : Core) (m : Move) → Fits w m → Shows w (shown_in w m) (after_move w m)
 shows_one w m fits = record { moves = m ∷ []; fit = (fits, tt); ends = refl; is = sym (append-nil (shown_in w m)) }
-
--- what every heap keeps holds behind them
-pub shows_kept : (w v : Core) (shown : List Shown) → IsKept true w → Shows w shown v → IsKept true v
-shows_kept w v shown kept s = subst (IsKept true) s.ends (moves_kept w s.moves kept s.fit)
 
 -- the steps of a work
 record AreSteps (w : Core) (v : Core) : Type 0 where

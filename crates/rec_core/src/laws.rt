@@ -19,7 +19,7 @@ ghost use Rattle.rec_counts.specs.Lists.{times};
 ghost use Rattle.rec_collector.specs.Touched.{IsOrangeIn, WasUntouched};
 ghost use Rattle.rec_collector.specs.Zeros.{AreTheZeros};
 ghost use Rattle.rec_sigma.specs.Prepared.{seen};
-ghost use Rattle.rec_core.specs.Bare.{Behind};
+ghost use Rattle.rec_core.specs.Bare.{bare_core, Behind};
 ghost use Rattle.rec_core.specs.Config.{IsConfig, IsMutator};
 ghost use Rattle.rec_core.specs.Core.{Core, sight, mutator, opened};
 ghost use Rattle.rec_word.specs.declared.op.Op.TheVariants.{FreeHeader};
@@ -76,20 +76,22 @@ pub fn turns_keep_their_promises()
 /// While sets are tested, in any state of any run of a heap with its collector, a set that passes the Delta test and the Sigma
 /// test is garbage: no member is in the reach of the epoch whose batch was applied. And whatever was given up, as the members of
 /// such a set are at once, is in the reach of no epoch from that one on, and is named by no register, by no field of a slot that
-/// isn't given up and by nothing that is pending, until its slot is freed.
+/// isn't given up and by nothing that is pending, until its slot is freed. The epochs are those of the heap of dated words behind, which
+/// has the same counts, lists and sets.
 pub fn sets_that_pass_are_garbage()
     ensures passed { (w : Core) → IsConfig w.config → EndsRun w → Behind w (λ v. (number : ℕ) → TestsSets v.collector.phase → Passes v number → IsProvenGarbage v number) }
     ensures gone { (w : Core) → IsConfig w.config → EndsRun w → Behind w AreGone }
 {}
 
 /// A header is set to 0, in any state of any run of a heap with its collector, only where no register, no field of any slot and
-/// nothing that is pending names the slot, and the slot stands in no list of the collector but the free list.
+/// nothing that is pending names the slot, and the slot stands in no list of the collector but the free list. What is pending is told by
+/// the epochs of the heap of dated words behind.
 pub fn freed_slots_are_forgotten()
     ensures { (w : Core) → IsConfig w.config → EndsRun w → Behind w (λ v. (slot : ℕ) → collector_next v.collector ≡ Some (FreeHeader slot) → IsForgotten v slot) }
 {}
 
 /// The true count of every slot is the count formula of its node at the epoch of the last batch, in every state of every run
-/// of a heap with its collector.
+/// of a heap with its collector, by the epochs of the heap of dated words behind it.
 pub fn true_counts_are_the_formula()
     ensures { (w : Core) → IsConfig w.config → EndsRun w → Behind w (λ v. (slot : ℕ) → slot < v.config.slots → (slot_at v.collector.counts slot).count ≡ count_formula (pending v) (pending v).applied (slot + 1)) }
 {}
@@ -104,27 +106,30 @@ pub fn failed_allocations_probed_every_slot()
 /// What the collector loads from fields stays what it is, whether marking, blackening, collecting or preparation loads it, until the
 /// sets that the trial found are tested. Take any moves of mutators and collector over which no other trial begins. Each word that they
 /// loaded was put in the epoch requested then, or before. At their end it stands in its field, or a write of that epoch or of a later
-/// one replaced it there, or the collector took it out.
+/// one replaced it there, or the collector took it out. The epochs are those of the heap of dated words behind, and the same moves lead
+/// that one to the heap behind the heap that they lead to.
 pub fn loaded_words_stay_references()
-    ensures { (w : Core) → IsConfig w.config → EndsRun w → Behind w (λ v. (moves : List Move) (l : Loaded) → AllFit v moves → IsSameTrial v (after_moves v moves) → Contains (loaded_over v moves) l → IsReferenceStill (after_moves v moves) (cleared_over v moves) l) }
+    ensures { (w : Core) → IsConfig w.config → EndsRun w → Behind w (λ v. (moves : List Move) → AllFit w moves → (bare_core (after_moves v moves) ≡ after_moves w moves) × ((l : Loaded) → IsSameTrial v (after_moves v moves) → Contains (loaded_over v moves) l → IsReferenceStill (after_moves v moves) (cleared_over v moves) l)) }
 {}
 
 /// A member of a prepared set that is Orange still was touched by nothing since. Take any moves of mutators and collector over which no
 /// trial begins. The member was Orange in the same set before them. No increment, decrement or snapshot of a batch named it, and no
-/// decrement since; but in a steady heap a register may have named it that named it in both snapshots of a batch. Each reference that was lowered came off its true count and off its cyclic count, not below zero.
+/// decrement since; but in a steady heap a register may have named it that named it in both snapshots of a batch. Each reference that was
+/// lowered came off its true count and off its cyclic count, not below zero. It is said of the heap of dated words behind, which has the
+/// same counts.
 pub fn orange_members_stay_untouched()
-    ensures { (w : Core) → IsConfig w.config → EndsRun w → Behind w (λ v. (moves : List Move) (number x : ℕ) → HasSets v.collector.phase → AllFit v moves → IsSameTrial v (after_moves v moves) → IsOrangeIn (after_moves v moves).collector.counts number x → WasUntouched v.collector.counts (after_moves v moves).collector.counts number x (named_over v moves x)) }
+    ensures { (w : Core) → IsConfig w.config → EndsRun w → Behind w (λ v. (moves : List Move) → AllFit w moves → (bare_core (after_moves v moves) ≡ after_moves w moves) × ((number x : ℕ) → HasSets v.collector.phase → IsSameTrial v (after_moves v moves) → IsOrangeIn (after_moves v moves).collector.counts number x → WasUntouched v.collector.counts (after_moves v moves).collector.counts number x (named_over v moves x))) }
 {}
 
 /// The outside count of a member is read off the run. Take the turn with which the preparation of sets begins, and any moves behind it
 /// over which no trial begins, once the preparation is done. They loaded each field of each member once, in order, and no other. The
 /// cyclic count of each member that is Orange still is its outside count by these words: its true count at that turn, less the words in
 /// fields of its set's members that lead to it. Each reference that was lowered since took one more off, not below zero. So a member of
-/// a set that passes both tests has no more references than there are such words.
+/// a set that passes both tests has no more references than there are such words. It is said of the heap of dated words behind.
 pub fn outside_counts_are_of_the_run()
-    ensures places { (w : Core) → IsConfig w.config → EndsRun w → Behind w (λ v. (moves : List Move) → BeginsPreparing v → AllFit (turned v) moves → IsSameTrial (turned v) (after_moves (turned v) moves) → HasSets (after_moves (turned v) moves).collector.phase → map (λ (l : Loaded). l.place) (loaded_over (turned v) moves) ≡ places_of v.config.fields (concat (turned v).collector.counts.sets)) }
-    ensures passed { (w : Core) → IsConfig w.config → EndsRun w → Behind w (λ v. (moves : List Move) (number x : ℕ) → BeginsPreparing v → AllFit (turned v) moves → IsSameTrial (turned v) (after_moves (turned v) moves) → HasSets (after_moves (turned v) moves).collector.phase → Passes (after_moves (turned v) moves) number → (slot_at (after_moves (turned v) moves).collector.counts x).set ≡ Some number → (slot_at (after_moves (turned v) moves).collector.counts x).count ≤ seen (turned v).collector.counts number (fields_loaded v.config.fields (loaded_over (turned v) moves)) x) }
-    ensures members { (w : Core) → IsConfig w.config → EndsRun w → Behind w (λ v. (moves : List Move) (number x : ℕ) → BeginsPreparing v → AllFit (turned v) moves → IsSameTrial (turned v) (after_moves (turned v) moves) → HasSets (after_moves (turned v) moves).collector.phase → IsOrangeIn (after_moves (turned v) moves).collector.counts number x → IsOutside (turned v).collector.counts (after_moves (turned v) moves).collector.counts (fields_loaded v.config.fields (loaded_over (turned v) moves)) number x) }
+    ensures places { (w : Core) → IsConfig w.config → EndsRun w → Behind w (λ v. (moves : List Move) → BeginsPreparing v → AllFit (turned w) moves → (bare_core (after_moves (turned v) moves) ≡ after_moves (turned w) moves) × (IsSameTrial (turned v) (after_moves (turned v) moves) → HasSets (after_moves (turned v) moves).collector.phase → map (λ (l : Loaded). l.place) (loaded_over (turned v) moves) ≡ places_of v.config.fields (concat (turned v).collector.counts.sets))) }
+    ensures passed { (w : Core) → IsConfig w.config → EndsRun w → Behind w (λ v. (moves : List Move) → BeginsPreparing v → AllFit (turned w) moves → (bare_core (after_moves (turned v) moves) ≡ after_moves (turned w) moves) × ((number x : ℕ) → IsSameTrial (turned v) (after_moves (turned v) moves) → HasSets (after_moves (turned v) moves).collector.phase → Passes (after_moves (turned v) moves) number → (slot_at (after_moves (turned v) moves).collector.counts x).set ≡ Some number → (slot_at (after_moves (turned v) moves).collector.counts x).count ≤ seen (turned v).collector.counts number (fields_loaded v.config.fields (loaded_over (turned v) moves)) x)) }
+    ensures members { (w : Core) → IsConfig w.config → EndsRun w → Behind w (λ v. (moves : List Move) → BeginsPreparing v → AllFit (turned w) moves → (bare_core (after_moves (turned v) moves) ≡ after_moves (turned w) moves) × ((number x : ℕ) → IsSameTrial (turned v) (after_moves (turned v) moves) → HasSets (after_moves (turned v) moves).collector.phase → IsOrangeIn (after_moves (turned v) moves).collector.counts number x → IsOutside (turned v).collector.counts (after_moves (turned v) moves).collector.counts (fields_loaded v.config.fields (loaded_over (turned v) moves)) number x)) }
 {}
 
 /// In every state of every run of a heap with its collector, the zeros are exactly the slots without a count that are neither
@@ -150,7 +155,8 @@ pub fn conditions_are_met()
 {}
 
 /// The set of which a watch is shown that it passed both tests is garbage. Behind that step, in any state of any run of a heap with its
-/// collector, each member is in the reach of no epoch from that of the last batch on, and nothing names it.
+/// collector, each member is in the reach of no epoch from that of the last batch on, and nothing names it, by the epochs of the heap of
+/// dated words behind.
 pub fn shown_sets_are_garbage()
     ensures { (w : Core) → IsConfig w.config → EndsRun w → Behind w (λ v. (members : List ℕ) (slot : ℕ) → passed_of v.collector ≡ Some members → 0 < times slot members → IsGone v slot) }
 {}

@@ -83,12 +83,12 @@ actors_swept events n w = filter_map-append actor events (swept_by n (next_of w.
 pub record Went (script : ScriptContents) (first : Core) (named : Naming) (events : List Event) (n : Naming) (world : Core) : Type 0 where
   pub valid : IsScript script
   pub config : first.config ≡ config_of script
-  pub kept : IsKept first
+  pub kept : IsKept false first
   pub run : Runs first world events named n
   pub commands : (t : ℕ) → map (λ (line : Line). line.0) (filter_map (line_by t) events) ≡ take (made_in events t) (commands_of script t)
 
 -- Before the first turn.
-pub begun : (script : ScriptContents) (first : Core) (named : Naming) → IsScript script → first.config ≡ config_of script → IsKept first → Went script first named [] named first
+pub begun : (script : ScriptContents) (first : Core) (named : Naming) → IsScript script → first.config ≡ config_of script → IsKept false first → Went script first named [] named first
 begun script first named is config kept = record { valid = is; config = config; kept = kept; run = record { moves = []; fit = tt; ends = refl; tells = refl; names = refl }; commands = λ t. refl }
 
 runs_config : (script : ScriptContents) (first w : Core) (events : List Event) (m n : Naming) → first.config ≡ config_of script → Runs first w events m n → w.config ≡ config_of script
@@ -146,7 +146,7 @@ polled_world w v t world is idle present done =
     let u : Core = done.last in
     let begins : IsWorld b = moved_world w (Move.Begins t works.Poll 0) world (is, idle, present, tt, tt, world.shaped.config.some_slots) in
     let (last, there) = path_world b t u begins is done.path in
-    let kept : IsKept u = world_kept u last in
+    let kept : IsKept false u = world_kept u last in
     let work : work_of (mutator u t) ≡ Some works.Poll = (path_counts b t u begins is done.path).1 ∙ began_work w t works.Poll (world_kept w world) is in
     let stays : IsStayingIn (mutator u t).phase = polls_stay (mutator u t).phase work in (
       subst IsWorld (sym done.steps) (moved_world u (Move.Steps t) last (there, done.busy)),
@@ -158,7 +158,7 @@ pub told_not_yet : (script : ScriptContents) (w v : Core) (t : ℕ) (cmd : Cmd) 
     → IsCommand script.registers script.fields cmd → (done : IsWorked w t (works.Command cmd) v) → answer_of (mutator v t) ≡ Some (makes.Answered told) → (told.answer ≡ answers.NotYet) ↔ IsAwaited (mutator done.last t) (found_by done.last t) cmd
 told_not_yet script w v t cmd told world config some most idle present command done answered =
     let is : IsMutator w.config t = is_mutator script w t config some most in
-    let kept : IsKept w = world_kept w world in
+    let kept : IsKept false w = world_kept w world in
     let own = (actor_of w t kept is).own in
     let (valid, label) = operands script (mutator w t) cmd (own.registers ∙ ap (λ (c : Config). c.registers) config) (own.fields ∙ ap (λ (c : Config). c.fields) config) command in
     let b : Core = begun_in w t (works.Command cmd) in
@@ -179,7 +179,7 @@ went_command script first named events n before after t cmd told world idle pres
     let polled : Runs first mid events named n = subst (λ es. Runs first mid es named n) (append-nil events) (runs_both first before mid events [] named n n so.run poll) in
     let config : mid.config ≡ config_of script = runs_config script first mid events named n so.config polled in
     let (world_mid, present_mid) = polled_world before mid t world is (idle t is) present carries.poll in
-    let kept : IsKept mid = world_kept mid world_mid in
+    let kept : IsKept false mid = world_kept mid world_mid in
     let is_mid : IsMutator mid.config t = is_mutator script mid t config there.some there.most in
     let own = (actor_of mid t kept is_mid).own in
     let (valid, label) = operands script (mutator mid t) cmd (own.registers ∙ ap (λ (c : Config). c.registers) config) (own.fields ∙ ap (λ (c : Config). c.fields) config) (next_in_range script t (made_in events t) cmd so.valid carries.next) in
@@ -205,14 +205,14 @@ shows_command script made t before after cmd told valid config world idle presen
     let poll : Shows before [] mid = shows_worked before mid t works.Poll (world_kept before world) is (idle t is) present tt tt carries.poll in
     let config_mid : mid.config ≡ config_of script = ap (λ (x : Core). x.config) (sym poll.ends) ∙ config_after before poll.moves ∙ config in
     let (world_mid, present_mid) = polled_world before mid t world is (idle t is) present carries.poll in
-    let kept : IsKept mid = world_kept mid world_mid in
+    let kept : IsKept false mid = world_kept mid world_mid in
     let is_mid : IsMutator mid.config t = is_mutator script mid t config_mid there.some there.most in
     let own = (actor_of mid t kept is_mid).own in
     let (fits, label) = operands script (mutator mid t) cmd (own.registers ∙ ap (λ (c : Config). c.registers) config_mid) (own.fields ∙ ap (λ (c : Config). c.fields) config_mid) (next_in_range script t made cmd valid carries.next) in
     shows_then before mid after [] [] poll (shows_worked mid after t (works.Command cmd) kept is_mid carries.poll.idle present_mid fits label carries.command)
 
 -- A turn of the collector more, and the poll that follows it.
-pub went_step : (script : ScriptContents) (first : Core) (named : Naming) (done : ℕ → Type 0) (events : List Event) (n : Naming) (before after : Core) → IsKept before → AreIdle before → Follows done before after → Went script first named events n before
+pub went_step : (script : ScriptContents) (first : Core) (named : Naming) (done : ℕ → Type 0) (events : List Event) (n : Naming) (before after : Core) → IsKept false before → AreIdle before → Follows done before after → Went script first named events n before
     → Went script first named (events ++ swept_by n (next_of before.collector)) n after
 went_step script first named done events n before after kept idle follows so = record {
   valid = so.valid;

@@ -1,5 +1,5 @@
 -- Which step decided an answer NotYet.
-use Rattle.std.proofs.Common.{◌≡◌, inl, inr, ◌⊎◌, ℕ, zero, suc, ◌+◌, ◌<◌, ◌≤◌, List, [], ◌∷◌, ◌++◌, Option, Some, length, take, refl, sym, ap, subst, ◌∙◌, arith, append_assoc}
+use Rattle.std.proofs.Common.{◌≡◌, inl, inr, ◌⊎◌, ℕ, zero, suc, ◌+◌, ◌<◌, ◌≤◌, List, [], ◌∷◌, ◌++◌, Option, Some, length, take, refl, sym, ap, subst, ◌∙◌, arith, append_assoc, false}
 use Rattle.std.specs.List.{slice_get}
 use Rattle.std.proofs.Math.Seq.{take-append_seam}
 use Rattle.std.proofs.lemmas.List.{append-nil, length-append, take-append-le}
@@ -23,7 +23,7 @@ use Rattle.rec_core.specs.Core.{Core, mutator}
 use Rattle.rec_core.specs.Kept.{IsKept}
 use Rattle.rec_core.specs.Moves.{AllFit, Move, after_move, stepped}
 use Rattle.rec_core.specs.RunAnswers.{answered_by, told_by}
-use Rattle.rec_core.proofs.Runs.{move_kept}
+use Rattle.rec_core.proofs.BareRuns.{move_kept}
 use Rattle.rec_core.proofs.Showing.{step_caused}
 use Rattle.rec_order.specs.Events.{events_in, events_of, swept_by}
 use Rattle.rec_order.specs.Naming.{Naming, named_after}
@@ -141,7 +141,7 @@ tells_by s t line at.Parting work made refused is = absurd (omega (arith, ap len
 tells_by s t line _ work made refused is = answers_by s t line work made is
 
 -- the move that told it is a step of the mutator, to which leaving was refused
-told_first : (n : Naming) (w : Core) (m : Move) (later : List Move) (t : ℕ) (line : Line) → IsKept w → AllFit w (m ∷ later) → line.1.answer ≡ answers.NotYet → events_in n w m ≡ Event.Answers t line ∷ [] → IsAwaitedStep n w (m ∷ later) 0 t line
+told_first : (n : Naming) (w : Core) (m : Move) (later : List Move) (t : ℕ) (line : Line) → IsKept false w → AllFit w (m ∷ later) → line.1.answer ≡ answers.NotYet → events_in n w m ≡ Event.Answers t line ∷ [] → IsAwaitedStep n w (m ∷ later) 0 t line
 told_first n w (Move.Begins s work from) later t line kept fit refused is = absurd (omega (arith, ap length is))
 told_first n w (Move.Steps s) later t line kept fit refused is =
     let tells : TellsBy s t line (work_of (mutator w s)) (answer_of (mutator (stepped w s) s)) = tells_by s t line (mutator w s).phase (work_of (mutator w s)) (answer_of (mutator (stepped w s) s)) refused is in
@@ -158,7 +158,7 @@ told_first n w Move.Turns later t line kept fit refused is = absurd (omega (arit
 told_first n w Move.Offers later t line kept fit refused is = absurd (omega (arith, ap length is))
 
 -- In a run of moves a step of the mutator told it.
-pub step_told : (n : Naming) (w : Core) (moves : List Move) → IsKept w → AllFit w moves
+pub step_told : (n : Naming) (w : Core) (moves : List Move) → IsKept false w → AllFit w moves
     → (i t : ℕ) (line : Line) → slice_get (events_of n w moves) i ≡ Some (Event.Answers t line) → line.1.answer ≡ answers.NotYet → IsAwaitedStep n w moves i t line
 step_told n w [] kept fit i t line there refused = absurd (omega (arith, slice_get_within [] i (Event.Answers t line) there))
 step_told n w (m ∷ moves) kept fit i t line there refused = elim (later_or_first (events_in n w m) (events_of (named_after n w m) (after_move w m) moves) i (Event.Answers t line) (few_in n w m) there) [

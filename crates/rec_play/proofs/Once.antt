@@ -20,9 +20,9 @@ use Rattle.rec_core.specs.Kept.{IsKept}
 use Rattle.rec_core.specs.Moves.{begun, offering, stepped, turned}
 use Rattle.rec_core.specs.Quiet.{AreQuiet}
 use Rattle.rec_core.specs.Worked.{AreIdle, IsWorked, StepsTo, WaitsFor}
-use Rattle.rec_core.proofs.Offering.{offering_kept}
+use Rattle.rec_core.proofs.BareRuns.{offering_kept}
 use Rattle.rec_core.proofs.Rest.QuietTurns.{quiet_begun}
-use Rattle.rec_core.proofs.Rest.TurnRules.{turn_is}
+use Rattle.rec_core.proofs.Rest.BareRest.{turn_is}
 use Rattle.rec_core.proofs.TurnCases.{Awaits, TurnCase}
 use Rattle.rec_order.specs.Naming.{Naming}
 use Rattle.rec_core.specs.Turn.{TurnHasCause}
@@ -151,7 +151,7 @@ pub run_once : (script : ScriptContents) (start : Core) (a b : Naming) (actors :
 run_once script start a b actors e f n k v u run run' = same_run script start a b actors actors e f n k v u refl run run'
 
 -- where the collector waits, its turn changes nothing
-waits_still : (w : Core) (t : ℕ) → IsKept w → WaitsFor w t → turned w ≡ w
+waits_still : (w : Core) (t : ℕ) → IsKept false w → WaitsFor w t → turned w ≡ w
 waits_still w t kept waits = go (turn_is w kept)
   where
     other : (p : Phase) → w.collector.phase ≡ p → ◌≡◌ {A = Phase} (Looking t) p
@@ -182,7 +182,7 @@ data Goes (w v : Core) : Type 0 where
   polls : (t : ℕ) → IsAwaited w t → HasPolled w t v → Goes w v
 
 -- leads to one state
-goes_once : (w v u : Core) → IsKept w → Goes w v → Goes w u → v ≡ u
+goes_once : (w v u : Core) → IsKept false w → Goes w v → Goes w u → v ≡ u
 goes_once w v u kept (Goes.turns is cause) (Goes.turns is' cause') = is ∙ sym is'
 goes_once w v u kept (Goes.turns is cause) (Goes.polls t awaited polled) = absurd (omega (arith, cause.0, ap (λ (x : Core). x.collector.turns) (is ∙ waits_still w t kept awaited.waits)))
 goes_once w v u kept (Goes.polls t awaited polled) (Goes.turns is cause) = absurd (omega (arith, cause.0, ap (λ (x : Core). x.collector.turns) (is ∙ waits_still w t kept awaited.waits)))
@@ -190,16 +190,16 @@ goes_once w v u kept (Goes.polls t awaited polled) (Goes.polls s awaited' polled
     worked_once w t works.Poll v u polled.worked (subst (λ n. IsWorked w n works.Poll u) (waits_once w s t awaited'.waits awaited.waits) polled'.worked)
 
 -- no collection goes on from its last turn
-no_more : (start v : Core) (c : IsCollection start v) → IsKept c.last → (x : Core) → Goes c.last x → ⊥
+no_more : (start v : Core) (c : IsCollection start v) → IsKept false c.last → (x : Core) → Goes c.last x → ⊥
 no_more start v c kept x (Goes.turns is cause) = omega (arith, c.complete.3, cause.1, ap (λ (w : Core). w.collector.collections) (c.turns ∙ sym is))
 no_more start v c kept x (Goes.polls t awaited polled) = omega (arith, c.complete.3, ap (λ (w : Core). w.collector.collections) (c.turns ∙ waits_still c.last t kept awaited.waits))
 
 -- a move of a heap that is kept
 abbrev GoesKept : Core → Core → Type 0
-GoesKept w v = IsKept w × Goes w v
+GoesKept w v = IsKept false w × Goes w v
 
 -- A collection that mutators don't take part in leaves one state.
-collection_once : (first : ℕ) (start v u : Core) → IsKept start → AreQuiet first start → IsCollection start v → IsCollection start u → v ≡ u
+collection_once : (first : ℕ) (start v u : Core) → IsKept false start → AreQuiet first start → IsCollection start v → IsCollection start u → v ≡ u
 collection_once first start v u kept quiet a b =
     a.turns
     ∙ ap turned (end_once GoesKept (λ w x y p q. goes_once w x y p.0 p.1 q.1) start a.last b.last (λ x g. no_more start v a g.0 x g.1) (λ x g. no_more start u b g.0 x g.1) (path a.last a.path) (path b.last b.path))
@@ -210,7 +210,7 @@ collection_once first start v u kept quiet a b =
     path w (IsAmid.turns x _ before is cause) = Path.further x w (path x before) ((quiet_amid first start x kept quiet before).kept, Goes.turns is cause)
     path w (IsAmid.polls x _ t before awaited polled) = Path.further x w (path x before) ((quiet_amid first start x kept quiet before).kept, Goes.polls t awaited polled)
 
-finishes_once : (first : ℕ) (start v u : Core) → IsKept start → AreQuiet first start → Finishes start v → Finishes start u → v ≡ u
+finishes_once : (first : ℕ) (start v u : Core) → IsKept false start → AreQuiet first start → Finishes start v → Finishes start u → v ≡ u
 finishes_once first start v u kept quiet (Finishes.one idle c) (Finishes.one idle' c') = collection_once first start v u kept quiet c c'
 finishes_once first start v u kept quiet (Finishes.one idle c) (Finishes.two w busy c' d') = absurd (busy idle)
 finishes_once first start v u kept quiet (Finishes.two w busy c d) (Finishes.one idle c') = absurd (busy idle)
@@ -219,7 +219,7 @@ finishes_once first start v u kept quiet (Finishes.two w busy c d) (Finishes.two
     let same : x ≡ w = collection_once first start x w kept quiet c' c in
     collection_once first w v u mid.kept mid.quiet d (subst (λ y. IsCollection y u) same d')
 
-pub settling_once : (start v u : Core) → IsKept start → AreIdle start → IsSettling start v → IsSettling start u → v ≡ u
+pub settling_once : (start v u : Core) → IsKept false start → AreIdle start → IsSettling start v → IsSettling start u → v ≡ u
 settling_once start v u kept idle a b =
     let first : ℕ = start.epoch + 1 in
     let c = one start kept idle a.collected a.finishes in

@@ -79,7 +79,7 @@ run_made script first named made acted events n k before after t cmd told counte
     names
 
 -- and with a step of the collector.
-pub run_stepped : (script : ScriptContents) (first : Core) (named : Naming) (made : List ℕ) (acted : List Actor) (events : List Event) (n : Naming) (before after : Core) → before.config ≡ config_of script → IsKept before → AreCounted script made events
+pub run_stepped : (script : ScriptContents) (first : Core) (named : Naming) (made : List ℕ) (acted : List Actor) (events : List Event) (n : Naming) (before after : Core) → before.config ≡ config_of script → IsKept false before → AreCounted script made events
     → Follows (IsSpent script made) before after → IsPlayedRun script first named acted events n before → IsPlayedRun script first named (acted ++ Collector ∷ []) (events ++ swept_by n (next_of before.collector)) n after
 run_stepped script first named made acted events n before after config kept counted follows run = IsPlayedRun.collects acted events n before after run (go follows)
   where
@@ -263,7 +263,7 @@ pub step_made : (script : ScriptContents) (first : Core) (named : Naming) (seed 
     → q.script ≡ p.script → IsWorld after → AreIdle after → AreThere q.script q.made after → after.config ≡ config_of script → Between script first named seed turns before journals noted p → Between script first named seed turns after journals noted q
 step_made script first named seed turns before after journals noted p q seen turn makes same world idle present config so =
     let follows : Follows (IsSpent script p.made) before after = subst (λ s. Follows (IsSpent s p.made) before after) so.of makes.steps.follows in
-    let kept : IsKept before = world_kept before so.kept in
+    let kept : IsKept false before = world_kept before so.kept in
     record {
       of = same ∙ so.of;
       kept = world;

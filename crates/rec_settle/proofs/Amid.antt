@@ -1,38 +1,34 @@
 -- What is known in the midst of a collection that settling makes, and once it is complete.
-use Rattle.std.proofs.Common.{◌≡◌, ℕ, ◌+◌, ◌≤◌, refl, sym, ap, subst, ◌∙◌, arith}
-use Rattle.rec_model.specs.Sight.{Sight}
+use Rattle.std.proofs.Common.{◌≡◌, ℕ, ◌+◌, ◌≤◌, refl, sym, ap, subst, ◌∙◌, arith, false}
 use Rattle.rec_collector.specs.Kept.{under_way}
 use Rattle.rec_collector.specs.Private.{Private}
 use Rattle.rec_collector.specs.declared.phase.Phase.TheVariants.{Idle}
-use Rattle.rec_core.specs.Core.{Core, sight}
+use Rattle.rec_core.specs.Core.{Core}
 use Rattle.rec_core.specs.Kept.{IsKept}
 use Rattle.rec_core.specs.Moves.{turned, Move}
 use Rattle.rec_core.specs.Quiet.{AreQuiet}
-use Rattle.rec_core.specs.Resting.{holds, Round, RestsIn, TurnsTo, epochs_before, next_round}
+use Rattle.rec_core.specs.Resting.{Round, epochs_before, next_round}
+use Rattle.rec_core.proofs.BareRuns.{turned_kept}
 use Rattle.rec_core.proofs.Gathering.{awaited_stays}
+use Rattle.rec_core.proofs.Rest.BareRest.{RestsBehind, TurnsBehind, quiet_turned, rests_polled, rests_turned}
 use Rattle.rec_core.proofs.Rest.QuietPolls.{polled_kept, quiet_polled}
-use Rattle.rec_core.proofs.Rest.QuietTurns.{quiet_turned}
-use Rattle.rec_core.proofs.Rest.RestingSeen.{rests_seen}
-use Rattle.rec_core.proofs.Rest.Rounds.{rests_turned}
-use Rattle.rec_core.proofs.Rest.TurnRules.{turn_is}
-use Rattle.rec_core.proofs.Runs.{move_stays, turned_kept}
-use Rattle.rec_settle.specs.Collecting.{HasPolled, IsAmid, IsCollection}
+use Rattle.rec_core.proofs.Runs.{move_stays}
+use Rattle.rec_settle.specs.Collecting.{IsAmid, IsCollection}
 
 -- In the midst of a collection mutators are at rest, and no collection more is complete.
 pub record IsQuietAmid (first : ℕ) (before w : Core) : Type 0 where
-  pub kept : IsKept w
+  pub kept : IsKept false w
   pub quiet : AreQuiet first w
   pub config : w.config ≡ before.config
   pub collections : w.collector.collections ≡ before.collector.collections
 
-pub quiet_amid : (first : ℕ) (before w : Core) → IsKept before → AreQuiet first before → IsAmid before w → IsQuietAmid first before w
+pub quiet_amid : (first : ℕ) (before w : Core) → IsKept false before → AreQuiet first before → IsAmid before w → IsQuietAmid first before w
 quiet_amid first before w kept quiet (IsAmid.here _ is) = subst (IsQuietAmid first before) (sym is) (record { kept = kept; quiet = quiet; config = refl; collections = refl })
 quiet_amid first before w kept quiet (IsAmid.turns u _ path is cause) =
     let h = quiet_amid first before u kept quiet path in
-    let after : IsKept (turned u) = turned_kept u h.kept in
     record {
-      kept = subst IsKept (sym is) after;
-      quiet = subst (AreQuiet first) (sym is) (quiet_turned first u (turned u) h.kept after (turn_is u h.kept) h.quiet);
+      kept = subst (IsKept false) (sym is) (turned_kept u h.kept);
+      quiet = subst (AreQuiet first) (sym is) (quiet_turned first u h.kept h.quiet);
       config = ap (λ (x : Core). x.config) is ∙ move_stays u Move.Turns ∙ h.config;
       collections = cause.1 ∙ h.collections;
     }
@@ -48,25 +44,24 @@ quiet_amid first before w kept quiet (IsAmid.polls u _ t path awaited polled) =
 
 -- and once it is complete
 pub record IsQuietAfter (first : ℕ) (before after : Core) : Type 0 where
-  pub kept : IsKept after
+  pub kept : IsKept false after
   pub quiet : AreQuiet first after
   pub config : after.config ≡ before.config
   pub collections : after.collector.collections ≡ before.collector.collections + 1
 
-pub quiet_after : (first : ℕ) (before after : Core) → IsKept before → AreQuiet first before → IsCollection before after → IsQuietAfter first before after
+pub quiet_after : (first : ℕ) (before after : Core) → IsKept false before → AreQuiet first before → IsCollection before after → IsQuietAfter first before after
 quiet_after first before after kept quiet c =
     let h = quiet_amid first before c.last kept quiet c.path in
-    let next : IsKept (turned c.last) = turned_kept c.last h.kept in
     record {
-      kept = subst IsKept (sym c.turns) next;
-      quiet = subst (AreQuiet first) (sym c.turns) (quiet_turned first c.last (turned c.last) h.kept next (turn_is c.last h.kept) h.quiet);
+      kept = subst (IsKept false) (sym c.turns) (turned_kept c.last h.kept);
+      quiet = subst (AreQuiet first) (sym c.turns) (quiet_turned first c.last h.kept h.quiet);
       config = ap (λ (x : Core). x.config) c.turns ∙ move_stays c.last Move.Turns ∙ h.config;
       collections = c.complete.3 ∙ ap (λ n. n + 1) h.collections;
     }
 
 -- A collection of a round, which began at rest, when nothing had been written or born for so many epochs.
-module _ (first : ℕ) (r : Round) (before : Core) (kept : IsKept before) (quiet : AreQuiet first before) (idle : before.collector.phase ≡ Idle) (late : first + epochs_before r ≤ before.epoch + 1) (some : r ≡ Round.Over → ⊥)
-    (begun : RestsIn r before before.words before.collector before.collector.phase) where
+module _ (first : ℕ) (r : Round) (before : Core) (kept : IsKept false before) (quiet : AreQuiet first before) (idle : before.collector.phase ≡ Idle) (late : first + epochs_before r ≤ before.epoch + 1) (some : r ≡ Round.Over → ⊥)
+    (begun : RestsBehind r before before.collector.phase) where
   -- the requested epoch, while the collection is under way
   late_amid : (w : Core) → IsQuietAmid first before w → first + epochs_before r + under_way w.collector.phase ≤ w.epoch + 1
   late_amid w h =
@@ -75,30 +70,26 @@ module _ (first : ℕ) (r : Round) (before : Core) (kept : IsKept before) (quiet
       let then : before.config.first_epoch + before.collector.collections + under_way before.collector.phase ≡ before.epoch = kept.collector.begun in
       omega (arith, now, then, first_epoch, h.collections, ap under_way idle, late)
 
-  -- a poll leaves what is known
-  polled_rests : (w v : Core) (t : ℕ) → HasPolled w t v → RestsIn r w w.words w.collector w.collector.phase → RestsIn r v v.words v.collector v.collector.phase
-  polled_rests w v t polled h =
-      let seen : sight v ≡ sight w = polled.quiet.seen in
-      let over : RestsIn r v w.words w.collector w.collector.phase = rests_seen r w v polled.quiet.config (ap holds seen) w.words w.collector w.collector.phase h in
-      subst (λ ws. RestsIn r v ws v.collector v.collector.phase) (sym (ap (λ (s : Sight). s.words) seen)) (subst (λ (c : Private). RestsIn r v w.words c c.phase) (sym polled.quiet.collector) over)
-
-  rests_amid : (w : Core) → IsAmid before w → RestsIn r w w.words w.collector w.collector.phase
-  rests_amid w (IsAmid.here _ is) = subst (λ (x : Core). RestsIn r x x.words x.collector x.collector.phase) (sym is) begun
+  -- what is known of the heap behind, in the midst of the collection
+  rests_amid : (w : Core) → IsAmid before w → RestsBehind r w w.collector.phase
+  rests_amid w (IsAmid.here _ is) = subst (λ (x : Core). RestsBehind r x x.collector.phase) (sym is) begun
   rests_amid w (IsAmid.turns u _ path is cause) =
       let h = quiet_amid first before u kept quiet path in
-      subst (λ (x : Core). RestsIn r x x.words x.collector x.collector.phase) (sym is) (go (rests_turned first u h.kept h.quiet r (late_amid u h) some (rests_amid u path)))
+      subst (λ (x : Core). RestsBehind r x x.collector.phase) (sym is) (go (rests_turned first u h.quiet r (late_amid u h) some (rests_amid u path)))
     where
-      go : TurnsTo r u (turned u) → RestsIn r (turned u) (turned u).words (turned u).collector (turned u).collector.phase
-      go (TurnsTo.goes_on stays rests) = rests
-      go (TurnsTo.completes more at rests) = absurd (omega (arith, more, sym (ap (λ (x : Core). x.collector.collections) is) ∙ cause.1))
-  rests_amid w (IsAmid.polls u _ t path awaited polled) = polled_rests u w t polled (rests_amid u path)
+      go : TurnsBehind r u (turned u) → RestsBehind r (turned u) (turned u).collector.phase
+      go (TurnsBehind.goes_on stays rests) = rests
+      go (TurnsBehind.completes more at rests) = absurd (omega (arith, more, sym (ap (λ (x : Core). x.collector.collections) is) ∙ cause.1))
+  rests_amid w (IsAmid.polls u _ t path awaited polled) =
+      let h = quiet_amid first before u kept quiet path in
+      rests_polled first r u w t h.quiet awaited.there (awaited_stays u t h.kept awaited.there awaited.waits) polled.worked polled.quiet (rests_amid u path)
 
   -- Once it is complete, the next round may begin.
-  pub rests_after : (after : Core) → IsCollection before after → RestsIn (next_round r) after after.words after.collector Idle
+  pub rests_after : (after : Core) → IsCollection before after → RestsBehind (next_round r) after Idle
   rests_after after c =
       let h = quiet_amid first before c.last kept quiet c.path in
-      subst (λ (x : Core). RestsIn (next_round r) x x.words x.collector Idle) (sym c.turns) (go (rests_turned first c.last h.kept h.quiet r (late_amid c.last h) some (rests_amid c.last c.path)))
+      subst (λ (x : Core). RestsBehind (next_round r) x Idle) (sym c.turns) (go (rests_turned first c.last h.quiet r (late_amid c.last h) some (rests_amid c.last c.path)))
     where
-      go : TurnsTo r c.last (turned c.last) → RestsIn (next_round r) (turned c.last) (turned c.last).words (turned c.last).collector Idle
-      go (TurnsTo.goes_on stays rests) = absurd (omega (arith, stays, sym (ap (λ (x : Core). x.collector.collections) c.turns) ∙ c.complete.3))
-      go (TurnsTo.completes more at rests) = rests
+      go : TurnsBehind r c.last (turned c.last) → RestsBehind (next_round r) (turned c.last) Idle
+      go (TurnsBehind.goes_on stays rests) = absurd (omega (arith, stays, sym (ap (λ (x : Core). x.collector.collections) c.turns) ∙ c.complete.3))
+      go (TurnsBehind.completes more at rests) = rests

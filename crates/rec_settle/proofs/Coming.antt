@@ -26,7 +26,7 @@ use Rattle.rec_settle.specs.declared.turns.Settling.TheVariants.{Finishing, Offe
 use Rattle.rec_settle.proofs.Amid.{IsQuietAfter, quiet_after, quiet_amid}
 use Rattle.rec_settle.proofs.Settles.{HasCollected, collection_epoch, offering_quiet, one, two, was_busy}
 use Rattle.rec_settle.proofs.Waiting.{few_waits, moved_nearer, polled_nearer}
-use Rattle.rec_core.proofs.Offering.{offering_kept}
+use Rattle.rec_core.proofs.BareRuns.{offering_kept}
 
 -- a stage in which a collection is under way, or begins with the next turn
 abbrev pub Collects : Settling → Type 0
@@ -88,7 +88,7 @@ idle_or_busy Idle = inl refl
 idle_or_busy _ = inr refl
 
 -- the collection of the requested epoch is complete, or the one that was under way before it
-first_complete : (requested : ℕ) (first v : Core) → IsKept first → AreIdle first → requested ≡ first.epoch → IsCollection first v → Settles (stage_after (Finishing requested) v.epoch) first v
+first_complete : (requested : ℕ) (first v : Core) → IsKept false first → AreIdle first → requested ≡ first.epoch → IsCollection first v → Settles (stage_after (Finishing requested) v.epoch) first v
 first_complete requested first v kept idle same whole = elim (cases_eq v.epoch requested) [
   | inl is ↦
       let P : Bool → Type 0 = λ b. Settles (if b then Finishing requested else Offering) first v in
@@ -102,7 +102,7 @@ first_complete requested first v kept idle same whole = elim (cases_eq v.epoch r
       ])
 ]
 
-second_complete : (requested : ℕ) (first mid v : Core) → IsKept first → AreIdle first → requested ≡ first.epoch → (first.collector.phase ≡ Idle → ⊥) → IsCollection first mid → IsCollection mid v
+second_complete : (requested : ℕ) (first mid v : Core) → IsKept false first → AreIdle first → requested ≡ first.epoch → (first.collector.phase ≡ Idle → ⊥) → IsCollection first mid → IsCollection mid v
     → Settles (stage_after (Finishing requested) v.epoch) first v
 second_complete requested first mid v kept idle same busy earlier whole =
     let P : Bool → Type 0 = λ b. Settles (if b then Finishing requested else Offering) first v in
@@ -113,7 +113,7 @@ second_complete requested first mid v kept idle same busy earlier whole =
     subst P (sym (ne_eqb v.epoch requested (λ is. omega (arith, is, same, epoch, later, busy_way first.collector.phase busy, at_rest)))) (Finishes.two mid busy earlier whole)
 
 -- settling goes on to its next stage
-settles_next : (s : Settling) (first w v : Core) → Collects s → IsKept first → AreIdle first → ((start : Core) → IsAmid start w → IsCollection start v) → Settles s first w → Settles (stage_after s v.epoch) first v
+settles_next : (s : Settling) (first w v : Core) → Collects s → IsKept false first → AreIdle first → ((start : Core) → IsAmid start w → IsCollection start v) → Settles s first w → Settles (stage_after s v.epoch) first v
 settles_next (Finishing requested) first w v collects kept idle whole (same, IsFinishing.one _ path) = first_complete requested first v kept idle same (whole first path)
 settles_next (Finishing requested) first w v collects kept idle whole (same, IsFinishing.two mid _ busy earlier path) = second_complete requested first mid v kept idle same busy earlier (whole mid path)
 settles_next Trying first w v collects kept idle whole h = record { collected = h.collected; finishes = h.finishes; tried = v; tries = whole (offering h.collected) h.path; path = IsAmid.here v refl }
@@ -143,7 +143,7 @@ amid_same first number epoch start v h path =
     omega (arith, amid.collections, h.collections, ap (λ (c : Config). c.first_epoch) amid.config, ap (λ (c : Config). c.first_epoch) h.config)
 
 -- in each stage no more collections are completed than epochs were requested before it
-few_completed : (s : Settling) (first w : Core) → Collects s → IsKept first → AreIdle first → Settles s first w → completed w ≤ first.epoch + behind s
+few_completed : (s : Settling) (first w : Core) → Collects s → IsKept false first → AreIdle first → Settles s first w → completed w ≤ first.epoch + behind s
 few_completed (Finishing requested) first w collects kept idle (same, IsFinishing.one _ path) =
     let amid = quiet_amid (first.epoch + 1) first w kept (quiet_begun first kept idle) path in
     omega (arith, amid.collections, ap (λ (c : Config). c.first_epoch) amid.config, kept.collector.begun)
@@ -187,7 +187,7 @@ pub record GoesOn (first : Core) (s : Settling) (w : Core) (next : Settling) (v 
 
 -- A turn was made, in a collection.
 module _ (first : Core) (s : Settling) (w v : Core) (collects : Collects s) (come : HasCome first s w) (before : IsWorld w) (after : IsWorld v) (config : v.config ≡ w.config) where
-  kept : IsKept first
+  kept : IsKept false first
   kept = world_kept first come.kept
 
   few : completed w ≤ first.epoch + behind s
@@ -267,7 +267,7 @@ goes_on first s w v turn on come before after config steps =
     record { comes = h.comes; nearer = omega (arith, h.nearer, offered_left s w) }
 
 -- Where it begins, five collections have more turns.
-pub first_left : (w : Core) → IsKept w → left_in (Finishing w.epoch) w < 5 * most_turns w.config
+pub first_left : (w : Core) → IsKept false w → left_in (Finishing w.epoch) w < 5 * most_turns w.config
 first_left w kept =
     let few : collections_left (Finishing w.epoch) w ≤ 4 = omega (arith, kept.collector.begun, under_way_most w.collector.phase) in
     let product : collections_left (Finishing w.epoch) w * most_turns w.config ≤ 4 * most_turns w.config = mul-le-mul_right (most_turns w.config) few in

@@ -1,5 +1,5 @@
 -- Settling comes to a settled heap, from every state of a run in which no mutator works.
-use Rattle.std.proofs.Common.{◌≡◌, ℕ, ◌+◌, ◌*◌, ◌^◌, ◌<◌, ◌≤◌, refl, sym, ap, subst, ◌∙◌, arith}
+use Rattle.std.proofs.Common.{◌≡◌, ℕ, ◌+◌, ◌*◌, ◌^◌, ◌<◌, ◌≤◌, refl, sym, ap, subst, ◌∙◌, arith, false}
 use Rattle.std.proofs.Math.Nat.{mul-le-mul_right}
 use Rattle.rec_collector.specs.Kept.{under_way}
 use Rattle.rec_collector.specs.declared.phase.Phase.TheVariants.{Idle}
@@ -8,29 +8,28 @@ use Rattle.rec_core.specs.Core.{Core}
 use Rattle.rec_core.specs.Kept.{IsKept}
 use Rattle.rec_core.specs.Moves.{offering}
 use Rattle.rec_core.specs.Quiet.{AreQuiet}
-use Rattle.rec_core.specs.Resting.{Round, RestsIn}
+use Rattle.rec_core.specs.Resting.{Round}
 use Rattle.rec_core.specs.Settled.{IsSettled}
-use Rattle.rec_core.proofs.Offering.{offering_kept}
-use Rattle.rec_core.proofs.Rest.QuietCounts.{idle_count}
+use Rattle.rec_core.proofs.BareRuns.{offering_kept}
+use Rattle.rec_core.proofs.Rest.BareRest.{RestsBehind, rests_offered, settled_behind}
 use Rattle.rec_core.proofs.Rest.QuietTurns.{quiet_begun}
-use Rattle.rec_core.proofs.Rest.Rested.{settled}
 use Rattle.rec_core.proofs.Rest.Rounds.{busy_way}
 use Rattle.rec_settle.specs.Collecting.{AreIdle, IsCollection, Finishes, IsSettling}
 use Rattle.rec_settle.proofs.Amid.{quiet_after, rests_after}
 use Rattle.rec_settle.proofs.Stays.{Stays, stays_after, stays_same, stays_then}
 
 -- the epoch that is requested where no collection is under way
-idle_epoch : (w : Core) → IsKept w → w.collector.phase ≡ Idle → w.config.first_epoch + w.collector.collections ≡ w.epoch
+idle_epoch : (w : Core) → IsKept false w → w.collector.phase ≡ Idle → w.config.first_epoch + w.collector.collections ≡ w.epoch
 idle_epoch w kept idle = omega (arith, kept.collector.begun, ap under_way idle)
 
 -- A collection ends where no other is under way, an epoch on, but where it was under way as it began.
-pub collection_epoch : (before after : Core) → IsKept before → AreIdle before → IsCollection before after → after.epoch + under_way before.collector.phase ≡ before.epoch + 1
+pub collection_epoch : (before after : Core) → IsKept false before → AreIdle before → IsCollection before after → after.epoch + under_way before.collector.phase ≡ before.epoch + 1
 collection_epoch before after kept idle c =
     let next = quiet_after (before.epoch + 1) before after kept (quiet_begun before kept idle) c in
     omega (arith, kept.collector.begun, idle_epoch after next.kept c.complete.2, next.collections, ap (λ x. x.first_epoch) next.config)
 
 -- So the epoch tells whether it was.
-pub was_busy : (before after : Core) → IsKept before → AreIdle before → IsCollection before after → after.epoch ≡ before.epoch → before.collector.phase ≡ Idle → ⊥
+pub was_busy : (before after : Core) → IsKept false before → AreIdle before → IsCollection before after → after.epoch ≡ before.epoch → before.collector.phase ≡ Idle → ⊥
 was_busy before after kept idle c same none = omega (arith, collection_epoch before after kept idle c, same, ap under_way none)
 
 -- to offer every slot changes nothing else
@@ -40,7 +39,7 @@ offering_quiet first w quiet t is = let own = quiet t is in record { idle = own.
 -- Where a part of settling has come to: no collection is under way, and mutators did nothing since a first epoch. So many collections
 -- were completed, and what stays stayed.
 pub record HasCollected (first number : ℕ) (before after : Core) : Type 0 where
-  pub kept : IsKept after
+  pub kept : IsKept false after
   pub quiet : AreQuiet first after
   pub idle : after.collector.phase ≡ Idle
   pub config : after.config ≡ before.config
@@ -49,7 +48,7 @@ pub record HasCollected (first number : ℕ) (before after : Core) : Type 0 wher
   pub few : after.collector.freed ≤ before.collector.freed + number * before.config.slots
 
 -- one collection more
-collected_more : (first number : ℕ) (before w after : Core) → IsKept w → AreQuiet first w → w.config ≡ before.config → w.collector.collections ≡ before.collector.collections + number → Stays before w
+collected_more : (first number : ℕ) (before w after : Core) → IsKept false w → AreQuiet first w → w.config ≡ before.config → w.collector.collections ≡ before.collector.collections + number → Stays before w
     → w.collector.freed ≤ before.collector.freed + number * before.config.slots → IsCollection w after → HasCollected first (number + 1) before after
 collected_more first number before w after kept quiet config collections stays few c =
     let next = quiet_after first w after kept quiet c in
@@ -69,7 +68,7 @@ collected_more first number before w after kept quiet config collections stays f
     mul_more n k = omega arith
 
 -- the collection of the requested epoch is complete
-finished : (first : ℕ) (before after : Core) → IsKept before → AreQuiet first before → Finishes before after → HasCollected first (1 + under_way before.collector.phase) before after
+finished : (first : ℕ) (before after : Core) → IsKept false before → AreQuiet first before → Finishes before after → HasCollected first (1 + under_way before.collector.phase) before after
 finished first before after kept quiet (Finishes.one idle c) =
     subst (λ n. HasCollected first n before after) (sym (ap (λ p. 1 + under_way p) idle)) (collected_more first 0 before before after kept quiet refl (omega arith) (stays_same before) (omega arith) c)
 finished first before after kept quiet (Finishes.two w busy c d) =
@@ -84,7 +83,7 @@ pub record EndsSettling (before after : Core) : Type 0 where
   pub settled : IsSettled after
 
 -- from a world in which no mutator works
-module _ (before : Core) (kept : IsKept before) (idle : AreIdle before) where
+module _ (before : Core) (kept : IsKept false before) (idle : AreIdle before) where
   -- the collection of the requested epoch is complete
   pub one : (collected : Core) → Finishes before collected → HasCollected (before.epoch + 1) (1 + under_way before.collector.phase) before collected
   one collected finishes = finished (before.epoch + 1) before collected kept (quiet_begun before kept idle) finishes
@@ -97,7 +96,7 @@ module _ (before : Core) (kept : IsKept before) (idle : AreIdle before) where
       (stays_then h.stays (record { registers = refl; stands = λ heap number s. s; made = refl; freed = omega arith })) h.few tries
 
 -- Settling to its end.
-module _ (before after : Core) (kept : IsKept before) (idle : AreIdle before) (settling : IsSettling before after) where
+module _ (before after : Core) (kept : IsKept false before) (idle : AreIdle before) (settling : IsSettling before after) where
   abbrev first : ℕ
   first = before.epoch + 1
 
@@ -132,22 +131,22 @@ module _ (before after : Core) (kept : IsKept before) (idle : AreIdle before) (s
   epoch_three : after.epoch ≡ before.epoch + 3
   epoch_three = omega (arith, idle_epoch after three.kept three.idle, three.collections, ap (λ c. c.first_epoch) three.config, begun)
 
-  tried_rests : RestsIn Round.Second tried tried.words tried.collector Idle
+  tried_rests : RestsBehind Round.Second tried Idle
   tried_rests = rests_after first Round.First (offering collected) (offering_kept collected one_.kept) (offering_quiet first collected one_.quiet) one_.idle (omega (arith, epoch_one)) (λ is. cc)
-      (subst (RestsIn Round.First (offering collected) collected.words (offering collected).collector) (sym one_.idle) refl) tried settling.tries
+      (subst (RestsBehind Round.First (offering collected)) (sym one_.idle) (rests_offered collected one_.kept)) tried settling.tries
 
-  all_rests : RestsIn Round.Over after after.words after.collector Idle
-  all_rests = rests_after first Round.Second tried two_.kept two_.quiet two_.idle (omega (arith, epoch_two)) (λ is. cc) (subst (RestsIn Round.Second tried tried.words tried.collector) (sym two_.idle) tried_rests) after settling.frees
+  all_rests : RestsBehind Round.Over after Idle
+  all_rests = rests_after first Round.Second tried two_.kept two_.quiet two_.idle (omega (arith, epoch_two)) (λ is. cc) (subst (RestsBehind Round.Second tried) (sym two_.idle) tried_rests) after settling.frees
 
   pub settling_settles : EndsSettling before after
   settling_settles = record {
     all = subst (λ n. HasCollected first n before after) (let sum : 1 + way + 1 + 1 ≡ 3 + way = omega arith in sum) three;
     epoch = epoch_three;
-    settled = settled after three.kept three.idle all_rests (idle_count first after three.kept three.quiet three.idle (omega (arith, epoch_three)));
+    settled = settled_behind first after three.quiet three.idle (omega (arith, epoch_three)) all_rests;
   }
 
 -- What four collections sweep fits a number of 32 bits.
-pub few_freed : (before after : Core) → IsKept before → EndsSettling before after → after.collector.freed < before.collector.freed + 2 ^ 32
+pub few_freed : (before after : Core) → IsKept false before → EndsSettling before after → after.collector.freed < before.collector.freed + 2 ^ 32
 few_freed before after kept h =
     let some : 3 + under_way before.collector.phase ≤ 4 = omega (arith, under_way_most before.collector.phase) in
     let most : (3 + under_way before.collector.phase) * before.config.slots ≤ 4 * before.config.slots = mul-le-mul_right before.config.slots some in

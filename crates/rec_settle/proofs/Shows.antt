@@ -1,5 +1,5 @@
 -- What a watch is shown of settling is what it is shown of the moves that make up its turns.
-use Rattle.std.proofs.Common.{ℕ, Option, None, Some, List, [], sym, subst}
+use Rattle.std.proofs.Common.{ℕ, Option, None, Some, List, [], sym, subst, false}
 use Rattle.std.proofs.lemmas.List.{append-nil}
 use Rattle.rec_word.specs.declared.op.Op.{Op}
 use Rattle.rec_mutator.specs.declared.work.Work.TheVariants as works
@@ -9,8 +9,9 @@ use Rattle.rec_core.specs.Core.{Core}
 use Rattle.rec_core.specs.Kept.{IsKept}
 use Rattle.rec_core.specs.Moves.{Move, turned, turned_at}
 use Rattle.rec_core.specs.Shown.{Shows, turn_shown}
+use Rattle.rec_core.proofs.BareRuns.{shows_kept}
 use Rattle.rec_core.proofs.Gathering.{awaited_stays}
-use Rattle.rec_core.proofs.Shows.{shows_kept, shows_none, shows_one, shows_then, shows_worked}
+use Rattle.rec_core.proofs.Shows.{shows_none, shows_one, shows_then, shows_worked}
 use Rattle.rec_settle.specs.Collecting.{Anyone, AreIdle, Follows}
 use Rattle.rec_settle.specs.Shown.{IsShownTo}
 use Rattle.rec_settle.specs.Stages.{offered}
@@ -32,7 +33,7 @@ pub record ShowsStep (w v : Core) : Type 0 where
   pub shows : Shows w (turn_shown w) v
   pub idle : AreIdle v
 
-pub shows_step : (done : ℕ → Type 0) (w v : Core) → IsKept w → AreIdle w → Follows done w v → ShowsStep w v
+pub shows_step : (done : ℕ → Type 0) (w v : Core) → IsKept false w → AreIdle w → Follows done w v → ShowsStep w v
 shows_step done w v kept idle (Follows.rests left is) = subst (ShowsStep w) (sym is) (record { shows = shows_one w Move.Turns tt; idle = turned_idle w idle })
 shows_step done w v kept idle (Follows.polls t awaited same nothing polled) = record {
   shows =
@@ -55,12 +56,12 @@ pub record ShowsTo (first : Core) (shown : List Shown) (w : Core) : Type 0 where
   pub shows : Shows first shown w
   pub idle : AreIdle w
 
-pub shows_to : (first : Core) (shown : List Shown) (stage : Settling) (w : Core) → IsKept first → AreIdle first → IsShownTo first shown stage w → ShowsTo first shown w
+pub shows_to : (first : Core) (shown : List Shown) (stage : Settling) (w : Core) → IsKept false first → AreIdle first → IsShownTo first shown stage w → ShowsTo first shown w
 shows_to first _ _ _ kept idle IsShownTo.begins = record { shows = shows_none first; idle = idle }
 shows_to first _ _ _ kept idle (IsShownTo.turns shown stage before after turn so on steps) =
     let h : ShowsTo first shown before = shows_to first shown stage before kept idle so in
     let offers : Shows before [] (offered stage before) = offered_shows stage before in
-    let was : IsKept (offered stage before) = shows_kept before (offered stage before) [] (shows_kept first before shown kept h.shows) offers in
+    let was : IsKept false (offered stage before) = shows_kept before (offered stage before) [] (shows_kept first before shown kept h.shows) offers in
     let step : ShowsStep (offered stage before) after = shows_step Anyone (offered stage before) after was (offered_idle stage before h.idle) steps.follows in
     record {
       shows = shows_then first before after shown (turn_shown (offered stage before)) h.shows (shows_then before (offered stage before) after [] (turn_shown (offered stage before)) offers step.shows);

@@ -1,5 +1,5 @@
 -- What stays while settling collects: the registers, the births, and whatever heap stands for what is seen. What is swept is counted.
-use Rattle.std.proofs.Common.{◌≡◌, ℕ, ◌+◌, ◌≤◌, length, refl, sym, ap, subst, ◌∙◌, arith}
+use Rattle.std.proofs.Common.{◌≡◌, ℕ, ◌+◌, ◌≤◌, length, refl, sym, ap, subst, ◌∙◌, arith, false}
 use Rattle.rec_model.specs.Heap.{Heap}
 use Rattle.rec_model.specs.Sight.{Sight, StandsBy}
 use Rattle.rec_collector.specs.Kept.{swept_at}
@@ -11,10 +11,11 @@ use Rattle.rec_core.specs.Kept.{IsKept}
 use Rattle.rec_core.specs.Moves.{turned}
 use Rattle.rec_core.specs.Quiet.{AreQuiet}
 use Rattle.rec_core.specs.Swept.{swept}
+use Rattle.rec_core.proofs.BareRuns.{turned_keeps}
 use Rattle.rec_core.proofs.TurnCases.{Awaits, TurnCase}
-use Rattle.rec_core.proofs.Reach.{turned_keeps, keeps_stands_by}
+use Rattle.rec_core.proofs.Reach.{keeps_stands_by}
 use Rattle.rec_core.proofs.Swept.{preparation_sweeps, test_sweeps, trial_sweeps}
-use Rattle.rec_core.proofs.Rest.TurnRules.{turn_is}
+use Rattle.rec_core.proofs.Rest.BareRest.{turn_is}
 use Rattle.rec_core.proofs.Turns.{now_at}
 use Rattle.rec_settle.specs.Collecting.{IsAmid, IsCollection}
 use Rattle.rec_settle.proofs.Amid.{quiet_amid}
@@ -65,7 +66,7 @@ stays_then a b = record {
 }
 
 -- a turn
-stays_turned : (w : Core) → IsKept w → Stays w (turned w)
+stays_turned : (w : Core) → IsKept false w → Stays w (turned w)
 stays_turned w kept =
     let stays = turn_stays w (turned w) (turn_is w kept) in
     let keeps = turned_keeps w kept in
@@ -76,7 +77,7 @@ pub record StaysAmid (before w : Core) : Type 0 where
   pub stays : Stays before w
   pub sweeps : w.collector.freed + swept before ≡ before.collector.freed + swept w
 
-stays_amid : (first : ℕ) (before w : Core) → IsKept before → AreQuiet first before → IsAmid before w → StaysAmid before w
+stays_amid : (first : ℕ) (before w : Core) → IsKept false before → AreQuiet first before → IsAmid before w → StaysAmid before w
 stays_amid first before w kept quiet (IsAmid.here _ is) = subst (StaysAmid before) (sym is) (record { stays = stays_same before; sweeps = refl })
 stays_amid first before w kept quiet (IsAmid.turns u _ path is cause) =
     let h = stays_amid first before u kept quiet path in
@@ -98,7 +99,7 @@ stays_amid first before w kept quiet (IsAmid.polls u _ t path awaited polled) =
     }
 
 -- a sweep frees as many slots as there are, at most
-few_swept : (w : Core) → IsKept w → swept w ≤ w.config.slots
+few_swept : (w : Core) → IsKept false w → swept w ≤ w.config.slots
 few_swept w kept = go w.collector.phase refl
   where
     slots : length w.collector.counts.slots ≡ w.config.slots
@@ -114,7 +115,7 @@ pub record StaysAfter (before after : Core) : Type 0 where
   pub stays : Stays before after
   pub few : after.collector.freed ≤ before.collector.freed + before.config.slots
 
-pub stays_after : (first : ℕ) (before after : Core) → IsKept before → AreQuiet first before → IsCollection before after → StaysAfter before after
+pub stays_after : (first : ℕ) (before after : Core) → IsKept false before → AreQuiet first before → IsCollection before after → StaysAfter before after
 stays_after first before after kept quiet c =
     let h = stays_amid first before c.last kept quiet c.path in
     let amid = quiet_amid first before c.last kept quiet c.path in

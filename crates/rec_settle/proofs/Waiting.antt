@@ -17,7 +17,7 @@ use Rattle.rec_core.specs.Kept.{Handshake, IsHandshake, IsKept}
 use Rattle.rec_core.specs.Moves.{turned}
 use Rattle.rec_core.specs.Worked.{IsWorked}
 use Rattle.rec_core.specs.declared.config.Config.{Config}
-use Rattle.rec_core.proofs.Opening.{opened_kept}
+use Rattle.rec_core.proofs.BareRuns.{opened_kept}
 use Rattle.rec_core.proofs.Runs.{looked_is}
 use Rattle.rec_core.proofs.Actors.{idle_here}
 use Rattle.rec_core.proofs.Gathering.{looked_due}
@@ -28,10 +28,10 @@ use Rattle.rec_settle.specs.Collecting.{AreIdle, Follows, HasPolled, HasStepped,
 use Rattle.rec_settle.specs.Left.{left_of}
 
 -- the turns of a collection are limited
-few_turns : (w : Core) → IsKept w → w.collector.turns ≤ turns_of w.config
+few_turns : (w : Core) → IsKept false w → w.collector.turns ≤ turns_of w.config
 unfolding turns_of
 few_turns w kept =
-    let first : IsKept (opened w.config) = opened_kept w.config kept.config in
+    let first : IsKept false (opened w.config) = opened_kept w.config kept.config in
     subst (λ n. w.collector.turns ≤ n) (same_limit w.collector (opened w.config).collector (kept.collector.slots ∙ sym first.collector.slots) (kept.collector.fields ∙ sym first.collector.fields) (kept.collector.mutators ∙ sym first.collector.mutators))
     (within_limit w.collector kept.collector.machine)
   where
@@ -51,7 +51,7 @@ few_waits w (Looking t) = go (crossing_of w t == crossing_word w.epoch Retired)
 few_waits w _ = omega arith
 
 -- what is left of a collection is less after a turn that goes on
-pub moved_nearer : (w v : Core) → IsKept w → IsKept v → v.config ≡ w.config → TurnHasCause w v answers.Moved → left_of v < left_of w
+pub moved_nearer : (w v : Core) → IsKept false w → IsKept false v → v.config ≡ w.config → TurnHasCause w v answers.Moved → left_of v < left_of w
 moved_nearer w v before after config cause =
     let same : turns_of v.config ≡ turns_of w.config = ap turns_of config in
     omega (arith, same, cause.0, few_turns w before, few_turns v after, few_waits v v.collector.phase)
@@ -67,7 +67,7 @@ others_idle before after t config stay idle all s there =
     ]
 
 -- whoever is waited for is a mutator
-pub awaited : (w v : Core) (t : ℕ) → IsKept w → TurnHasCause w v (answers.Waiting t) → IsAwaited w t
+pub awaited : (w v : Core) (t : ℕ) → IsKept false w → TurnHasCause w v (answers.Waiting t) → IsAwaited w t
 awaited w v t kept cause = record { there = looked_is w (Looking t) kept cause.0; waits = record { looks = cause.0; behind = cause.1 } }
 
 -- what a poll leaves
@@ -79,14 +79,14 @@ has_polled w v t (Some e) worked quiet idle crossed none some = record { worked 
 -- The collector waited for a mutator that had nothing else to do, and it polled.
 pub polled_behind : (done : ℕ → Type 0) (w u v : Core) (t : ℕ) → done t → u ≡ turned w → IsWorld u → TurnHasCause w u (answers.Waiting t) → HasPolled u t v → HasStepped done w (answers.Waiting t) v
 polled_behind done w u v t nothing is world cause polled =
-    let kept : IsKept w = subst IsKept cause.2 (world_kept u world) in
+    let kept : IsKept false w = subst (IsKept false) cause.2 (world_kept u world) in
     record {
       cause = subst (λ (x : Core). TurnHasCause w x (answers.Waiting t)) is cause;
       follows = Follows.polls t (awaited w u t kept cause) (sym is ∙ cause.2) nothing (subst (λ (x : Core). HasPolled x t v) cause.2 polled);
     }
 
 -- Once a mutator that was waited for has polled, its mailbox is handed over.
-polled_over : (w v : Core) (t : ℕ) → IsKept v → IsAwaited w t → HasPolled w t v → crossing_of v t ≡ crossing_word v.epoch Retired
+polled_over : (w v : Core) (t : ℕ) → IsKept false v → IsAwaited w t → HasPolled w t v → crossing_of v t ≡ crossing_word v.epoch Retired
 polled_over w v t kept awaits polled =
     let is : IsMutator v.config t = subst (λ (c : Config). IsMutator c t) (sym polled.quiet.config) awaits.there in
     let phase : v.collector.phase ≡ Looking t = ap (λ (c : Private). c.phase) polled.quiet.collector ∙ awaits.waits.looks in
@@ -99,7 +99,7 @@ polled_over w v t kept awaits polled =
     go (inr (inr (crossed, last))) here = crossed.word
 
 -- so less is left
-pub polled_nearer : (w v : Core) (t : ℕ) → IsKept v → IsAwaited w t → HasPolled w t v → left_of v < left_of w
+pub polled_nearer : (w v : Core) (t : ℕ) → IsKept false v → IsAwaited w t → HasPolled w t v → left_of v < left_of w
 polled_nearer w v t kept awaits polled =
     let phase : v.collector.phase ≡ Looking t = ap (λ (c : Private). c.phase) polled.quiet.collector ∙ awaits.waits.looks in
     let now : waits_at v v.collector.phase ≡ 0 = ap (waits_at v) phase ∙ cond-true (crossing_of v t == crossing_word v.epoch Retired) 0 1 (eq-eqb (crossing_of v t) (crossing_word v.epoch Retired) (polled_over w v t kept awaits polled)) in

@@ -145,7 +145,7 @@ module _ (first : ℕ) (w : Core) (quiet : AreQuiet first w) where
   pub rests_turned : (r : Round) → first + epochs_before r + under_way w.collector.phase ≤ w.epoch + 1 → (r ≡ Round.Over → ⊥) → RestsBehind r w w.collector.phase → TurnsBehind r w (turned w)
   rests_turned r late some h =
       go (rounds.rests_turned first v e.kept (quiet_there first v (subst (AreQuiet first) (sym e.bare) quiet)) r (subst (λ (u : Core). first + epochs_before r + under_way u.collector.phase ≤ u.epoch + 1) (sym e.bare) late) some
-        (subst (λ (u : Core). RestsIn r v v.words v.collector u.collector.phase) (sym e.bare) h.rests))
+      (subst (λ (u : Core). RestsIn r v v.words v.collector u.collector.phase) (sym e.bare) h.rests))
     where
       v : Core
       v = h.behind
@@ -187,8 +187,8 @@ rests_polled first r u w t quiet is stays worked same h =
     let seen : sight (bare_core y) ≡ sight (bare_core v) = ap sight f.bare ∙ (same.seen ∙ sym (ap sight e.bare)) in
     let held : holds (sight y) ≡ holds (sight v)
     = (let regs : (sight y).registers ≡ (sight v).registers = sym (registers_bare y) ∙ (ap (λ (s : Sight). s.registers) seen ∙ registers_bare v) in
-       let heads : y.headers ≡ v.headers = ap (λ (s : Sight). s.headers) seen in
-       λ i slot. sum_by (named slot) (regs i) + one (slice_index_or (heads i) slot 1 == 0)) in
+    let heads : y.headers ≡ v.headers = ap (λ (s : Sight). s.headers) seen in
+    λ i slot. sum_by (named slot) (regs i) + one (slice_index_or (heads i) slot 1 == 0)) in
     let over : RestsIn r y v.words v.collector u.collector.phase = rests_seen r v y config held v.words v.collector u.collector.phase h.rests in
     let phase : u.collector.phase ≡ w.collector.phase = ap (λ (c : collectors.Private). c.phase) (sym same.collector) in
     record {

@@ -172,7 +172,7 @@ rule_is w op word q turn kept found (Step.end_sweep n closing named e) =
 -- Every turn is one of the rules, where its operation is carried out by one.
 pub turn_by : {dated : Bool} → (w : Core) → IsKept dated w
     → ((op : Op) → ◌≡◌ {A = Option Op} (next_of w.collector) (Some op)
-        → Step w.collector (cell (cells_of w) op) (box w (looked_at w.collector.phase)) (Some op) (step_of w.collector (cell (cells_of w) op) (box w (looked_at w.collector.phase))) (turn_of w.collector (cell (cells_of w) op)))
+    → Step w.collector (cell (cells_of w) op) (box w (looked_at w.collector.phase)) (Some op) (step_of w.collector (cell (cells_of w) op) (box w (looked_at w.collector.phase))) (turn_of w.collector (cell (cells_of w) op)))
     → TurnCase w (turned w)
 turn_by w kept rule = turn_case w (λ o v. TurnCase w v)
     (λ none.

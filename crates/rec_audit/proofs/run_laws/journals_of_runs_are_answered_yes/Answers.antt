@@ -1,5 +1,5 @@
 -- No line is at fault, by either rule.
-use Rattle.rec_audit.proofs.RunClean.{run_answered}
+use Rattle.rec_audit.proofs.RunAnswers.{run_answered}
 use Rattle.rec_audit.proofs.run_laws.journals_of_runs_are_answered_yes.Goals as goal
 
 pub returns : goal.returns
