@@ -11,7 +11,7 @@
 
 #include "recycler.h"
 
-enum { ROUNDS = 20, RINGS = 16, RING = 8, COLLECTIONS = 3, LOG_ENTRIES = 262143, LIST = 0, FIRST, LAST, NEXT, REGISTERS };
+enum { ROUNDS = 20, RINGS = 8, RING = 8, COLLECTIONS = 3, LOG_ENTRIES = 262143, LIST = 0, FIRST, LAST, NEXT, REGISTERS };
 
 static recycler heap = RECYCLER_CLOSED;
 static recycler_handle *const mutator = &heap.mutators[0];
