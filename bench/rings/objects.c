@@ -1,7 +1,8 @@
 /* What an object of a garbage ring takes its mutator and the collector, for callgrind. Words: how many slots, and how many of their objects
  * live in a list that a register names. In each round one thread makes RINGS rings of RING objects and drops them, and then turns the
  * collector until COLLECTIONS are complete. The counts of the mutator's commands are named `mutator`, those of the turns `collector`, and
- * those of turns over the list alone, where no ring was made, `idle`. */
+ * those of turns over the list alone, where no ring was made, `idle`. Those named `traced` are of turns in which the list is tried: a second
+ * register named its first object before them, and names it no more. */
 #include <stdbool.h>
 #include <stdint.h>
 #include <stdio.h>
@@ -105,6 +106,10 @@ int main(int argc, char **argv) {
     for (int round = 0; round < ROUNDS; round++) {
         round_of(0, "idle");
         round_of(RINGS, "collector");
+        copy(FIRST, LIST);
+        collect(false);
+        drop(FIRST);
+        round_of(0, "traced");
     }
     must(recycler_stop(&heap), NULL, "stop");
     must(recycler_close(&heap), NULL, "close");
