@@ -7,5 +7,6 @@ pub mod Renews
 pub mod Standings
 pub mod Starts
 pub mod Still
+pub mod Straight
 pub mod Ties
 pub mod Values

@@ -1,5 +1,5 @@
 -- What each call comes to, code by code: why that code came, and what the call left.
-use Rattle.std.specs.Prelude.{◌≡◌, ◌⊎◌, ℕ, ◌+◌, ◌%◌, ◌<◌, ◌≤◌, false, true, All, Option, Some, None, IsSome, List, [], ◌∷◌, length, map, slice_index_or, unwrap_or}
+use Rattle.std.specs.Prelude.{◌≡◌, ◌⊎◌, ℕ, ◌+◌, ◌%◌, ◌<◌, ◌≤◌, Bool, false, true, All, Option, Some, None, IsSome, List, [], ◌∷◌, length, map, slice_index_or, unwrap_or}
 use Rattle.std.specs.Arc.{arc_value}
 use Rattle.rec_word.specs.declared.word.TheConstants.{LAST_EPOCH}
 use Rattle.rec_collector.specs.declared.turn.Turn.{Turn}
@@ -368,6 +368,15 @@ Asks h asked told codes.Ok h' told' = (cmd : Cmd) × (asked ≡ Some cmd) × Has
 Asks h asked told codes.Range h' told' = LacksOperand h asked × (h' ≡ h) × (told' ≡ told)
 Asks h asked told codes.Left h' told' = HasLeft h × (h' ≡ h) × (told' ≡ told)
 Asks h asked told code h' told' = LacksEnd (Runs h ⊎ IsSome (hears_in h)) h code × (h' ≡ h) × (told' ≡ told)
+
+-- A command was carried out in straight code, or nothing happened.
+abbrev pub Tries : Option End → Option Cmd → Asked → Bool → Option End → Asked → Type 0
+Tries h asked told true h' told' = Asks h asked told codes.Ok h' told'
+Tries h asked told false h' told' = (h' ≡ h) × (told' ≡ told)
+
+-- the handle has no mutator: it is closed, the heap rests, or it has another end
+abbrev pub LacksMutator : Option End → Code → Type 0
+LacksMutator h code = LacksEnd (Runs h ⊎ IsSome (hears_in h)) h code
 
 -- A mutator polled: `crossed` is the epoch that it crossed into, or 0.
 pub record HasPolled (h h' : Option End) (crossed : ℕ) : Type 0 where

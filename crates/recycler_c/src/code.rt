@@ -41,6 +41,7 @@ pub enum Code {
 
 impl Code {
     /// The number that C sees.
+    #[inline(always)]
     pub fn number(self) -> u32
         ensures { result ≡ number_of self }
     {

@@ -89,19 +89,47 @@ pub struct Mutating {
 }
 
 impl Mutating {
-    ghost use Rattle.std.specs.Prelude.{◌↔◌, IsTrue};
+    ghost use Rattle.std.specs.Prelude.{◌↔◌, IfSome, IsTrue};
+    ghost use Rattle.rec_mutator.specs.Private.{is_full, register};
     ghost use Rattle.rec_table.specs.Rule.{MayAsk};
     ghost use Rattle.rec_mutator.specs.declared.work.Work.TheVariants as works;
     ghost use Rattle.rec_table.specs.Views.{mutator_now};
 
     /// Whether its registers and the field are there, and it hasn't left.
+    #[inline(always)]
     pub fn can_ask(&self, cmd: &Cmd) -> bool
         ensures { IsTrue result ↔ MayAsk (mutator_now self.now.mutator) cmd.now }
     {
         self.mutator.valid(cmd)
     }
 
+    /// What a register names.
+    #[inline(always)]
+    pub fn register(&self, r: u8) -> Option<u16>
+        requires { r < length (mutator_now self.now.mutator).registers }
+        ensures { result ≡ register (mutator_now self.now.mutator) r }
+    {
+        self.mutator.register(r)
+    }
+
+    /// Whether its log has no room for another entry.
+    #[inline(always)]
+    pub fn is_full(&self) -> bool
+        ensures { result ≡ is_full (mutator_now self.now.mutator) }
+    {
+        self.mutator.is_full()
+    }
+
+    /// The slot with which its next scan would begin, where that is found free.
+    #[inline(always)]
+    pub fn finds_free(&self) -> Option<u16>
+        ensures { IfSome result (λ from. from < (mutator_now self.now.mutator).slots) }
+    {
+        self.mutator.finds_free(&self.heap)
+    }
+
     /// Whether its mutator has left.
+    #[inline(always)]
     pub fn has_left(&self) -> bool
         ensures { result ≡ (mutator_now self.now.mutator).left }
     {

@@ -185,7 +185,7 @@ pub extern "C" fn recycler_new(
 ) -> u32
     ensures { Answers result (λ code. Asks mutator.old.owned.held (narrow (commands.New reg label)) told.old code mutator.new.owned.held told.new) }
 {
-    command::ask(alloc, mutator, command::new(reg, label), told).number()
+    command::ask_birth(alloc, mutator, reg, label, false, told)
 }
 
 /// Makes a leaf, an object whose fields are null for good.
@@ -199,7 +199,7 @@ pub extern "C" fn recycler_leaf(
 ) -> u32
     ensures { Answers result (λ code. Asks mutator.old.owned.held (narrow (commands.Leaf reg label)) told.old code mutator.new.owned.held told.new) }
 {
-    command::ask(alloc, mutator, command::leaf(reg, label), told).number()
+    command::ask_birth(alloc, mutator, reg, label, true, told)
 }
 
 /// Lets a register be null.
@@ -212,7 +212,7 @@ pub extern "C" fn recycler_null(
 ) -> u32
     ensures { Answers result (λ code. Asks mutator.old.owned.held (narrow (commands.Null reg)) told.old code mutator.new.owned.held told.new) }
 {
-    command::ask(alloc, mutator, command::null(reg), told).number()
+    command::ask_null(alloc, mutator, reg, told)
 }
 
 /// Lets `dst` name what `src` names.
@@ -226,7 +226,7 @@ pub extern "C" fn recycler_copy(
 ) -> u32
     ensures { Answers result (λ code. Asks mutator.old.owned.held (narrow (commands.Copy dst src)) told.old code mutator.new.owned.held told.new) }
 {
-    command::ask(alloc, mutator, command::copy(dst, src), told).number()
+    command::ask_copy(alloc, mutator, dst, src, told)
 }
 
 /// Lets `dst` name what a field of the object in `src` leads to.
@@ -241,7 +241,7 @@ pub extern "C" fn recycler_get(
 ) -> u32
     ensures { Answers result (λ code. Asks mutator.old.owned.held (narrow (commands.Get dst src field)) told.old code mutator.new.owned.held told.new) }
 {
-    command::ask(alloc, mutator, command::get(dst, src, field), told).number()
+    command::ask_get(alloc, mutator, dst, src, field, told)
 }
 
 /// Lets a field of the object in `src` lead to what `val` names.
@@ -256,7 +256,7 @@ pub extern "C" fn recycler_put(
 ) -> u32
     ensures { Answers result (λ code. Asks mutator.old.owned.held (narrow (commands.Put src field val)) told.old code mutator.new.owned.held told.new) }
 {
-    command::ask(alloc, mutator, command::put(src, field, val), told).number()
+    command::ask_put(alloc, mutator, src, field, val, told)
 }
 
 /// Tells the label of the object in a register.
@@ -269,7 +269,7 @@ pub extern "C" fn recycler_value(
 ) -> u32
     ensures { Answers result (λ code. Asks mutator.old.owned.held (narrow (commands.Value reg)) told.old code mutator.new.owned.held told.new) }
 {
-    command::ask(alloc, mutator, command::value(reg), told).number()
+    command::ask_value(alloc, mutator, reg, told)
 }
 
 /// Tells whether two registers name one object, or both none.
@@ -283,5 +283,5 @@ pub extern "C" fn recycler_same(
 ) -> u32
     ensures { Answers result (λ code. Asks mutator.old.owned.held (narrow (commands.Same a b)) told.old code mutator.new.owned.held told.new) }
 {
-    command::ask(alloc, mutator, command::same(a, b), told).number()
+    command::ask_same(alloc, mutator, a, b, told)
 }

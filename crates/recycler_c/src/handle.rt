@@ -19,6 +19,7 @@ pub struct Handle {
 
 impl Handle {
     /// Takes its box out. It is closed then.
+    #[inline(always)]
     pub fn take(&mut self, alloc: Global) -> Box<End>
         requires { self.old.full ≡ true }
         ensures was { self.old.owned.held ≡ Some result.value }
@@ -29,6 +30,7 @@ impl Handle {
     }
 
     /// Puts a box in.
+    #[inline(always)]
     pub fn put(&mut self, whole: Box<End>)
         requires { self.old.full ≡ false }
         ensures { self.new.owned.held ≡ Some whole.value }

@@ -7,6 +7,9 @@ use Rattle.recycler_c.specs.Calls.{HasAsked}
 use Rattle.recycler_c.specs.Standing.{mutates_in}
 use Rattle.recycler_c.specs.declared.end.End.{End}
 use Rattle.recycler_c.specs.declared.end.End.TheVariants as ends
+use Rattle.rec_table.specs.Straight.{Carried}
+use Rattle.rec_table.specs.Views.{IsMutatorOf, Started}
+use Rattle.recycler_c.proofs.Straight.{asked_by}
 use Rattle.recycler_c.proofs.command.ask_in.Goals as goal
 
 pub returns-then-has_left : goal.returns-then-has_left
@@ -43,8 +46,17 @@ returns-then-not-can_ask c = (
   refl,
 )
 
-pub carry_out-requires : goal.carry_out-requires
-carry_out-requires c = c.can_ask.ensures.0 (search rules)
+pub command-answered-requires-clause-own : goal.command-answered-requires-clause-own
+command-answered-requires-clause-own c = subst (λ (s : Started). IsMutatorOf s c.in-Mutating.out.mutator) (sym c.deref.ensures) c.in-Mutating.out.own
+
+pub command-answered-requires-clause-valid : goal.command-answered-requires-clause-valid
+command-answered-requires-clause-valid c = c.can_ask.ensures.0 (search rules)
 
 pub returns-else-not-can_ask : goal.returns-else-not-can_ask
-returns-else-not-can_ask c = (c.in-Some.cmd, c.in-Some.is, subst (λ (e : End). HasAsked (Some e) c.in-Some.cmd (Some (ends.Mutating c.carry_out.new.out)) c.carry_out.new.told) (sym c.in-Mutating.is) c.carry_out.ensures)
+returns-else-not-can_ask c =
+    let e = c.command-answered.ensures in
+    let carried : Carried c.in-Mutating.out.mutator c.command-answered.new.self c.in-Some.cmd c.command-answered.result = record { grows = e.grows; is = e.is; answer = e.answer; causes = e.causes; leaves = e.leaves; line = e.line; idle = e.idle; same = e.same } in (
+      c.in-Some.cmd,
+      c.in-Some.is,
+      asked_by _ c.in-Mutating.out _ c.in-Some.cmd c.command-answered.result _ c.in-Mutating.is (c.can_ask.ensures.0 (search rules)) refl carried c.show_answer.ensures,
+    )

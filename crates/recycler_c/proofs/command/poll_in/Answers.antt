@@ -2,7 +2,11 @@
 use Rattle.std.proofs.Common.{Some, ap, refl, sym, ◌∙◌}
 use Rattle.recycler_c.specs.Standing.{mutates_in}
 use Rattle.recycler_c.specs.declared.end.End.{End}
+use Rattle.recycler_c.proofs.Straight.{lacks_polls}
 use Rattle.recycler_c.proofs.command.poll_in.Goals as goal
+
+pub returns-in_default : goal.returns-in_default
+returns-in_default c = lacks_polls (Some c.args.end.now) c.args.crossed.now c.lacks_mutator.result c.lacks_mutator.ensures
 
 pub returns-then-has_left : goal.returns-then-has_left
 returns-then-has_left c = (
@@ -11,8 +15,8 @@ returns-then-has_left c = (
   refl,
 )
 
-pub returns-else-has_left : goal.returns-else-has_left
-returns-else-has_left c = record {
+pub returns : goal.returns
+returns c = record {
   before = c.in-Mutating.out;
   was = ap (λ (e : End). mutates_in (Some e)) c.in-Mutating.is;
   after = _;

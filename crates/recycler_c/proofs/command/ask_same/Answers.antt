@@ -1,0 +1,16 @@
+-- The contract of `ask_same`: compares two registers, in straight code where that goes its usual way.
+use Rattle.std.proofs.Common.{◌≡◌, Some}
+use Rattle.recycler_c.specs.declared.code.Code.TheVariants as codes
+use Rattle.recycler_c.proofs.Straight.{tried, untried}
+use Rattle.recycler_c.proofs.command.ask_same.Goals as goal
+
+pub returns-then-done : goal.returns-then-done
+returns-then-done c =
+    let was : c.args.mutator.now.owned.held ≡ Some c.deref_mut.result.now = cc in
+    (codes.Ok, c.number.ensures, tried _ _ _ _ _ _ _ _ was c.put.ensures c.if-done.true c.same_in-done.ensures)
+
+pub returns : goal.returns
+returns c =
+    let e = c.same_by_steps-2.ensures in
+    let was : c.args.mutator.now.owned.held ≡ Some c.deref_mut.result.now = cc in
+    (e.0, e.1, untried _ _ _ _ _ _ _ _ _ _ _ was c.put.ensures c.if-done.false c.same_in-done.ensures e.2)
