@@ -1,5 +1,5 @@
 -- What a heap that counts late has to account for: its field words, its registers, and what is not counted yet.
-use Rattle.std.specs.Prelude.{ℕ, ◌+◌, ◌/◌, ◌<◌, ◌==◌, if◌then◌else◌, Bool, false, List, slice_index_or}
+use Rattle.std.specs.Prelude.{ℕ, ◌+◌, ◌/◌, ◌<◌, ◌==◌, Bool, false, List, slice_index_or}
 use Rattle.std.specs.List.{sum_by}
 use Rattle.rec_word.specs.Bare.{date_of}
 use Rattle.rec_word.specs.Word.{target_bits}

@@ -1,16 +1,15 @@
 -- What a mutator does next and what it learns is the same in a heap of bare words, but for the words.
-use Rattle.std.proofs.Common.{◌≡◌, Bool, true, false, ℕ, ◌+◌, ◌<◌, ◌≤◌, ◌==◌, if◌then◌else◌, List, [], ◌∷◌, ◌++◌, Option, None, Some, length, map, refl, sym, ap, subst, ◌∙◌, arith}
+use Rattle.std.proofs.Common.{◌≡◌, Bool, true, false, ℕ, ◌+◌, ◌<◌, ◌==◌, if◌then◌else◌, List, [], ◌∷◌, Option, None, Some, length, refl, sym, ap, ◌∙◌, arith}
 use Rattle.std.proofs.lemmas.List.{map-append}
 use Rattle.std.proofs.lemmas.List.{length-map}
 use Rattle.rec_word.specs.Bare.{bare, bare_in, bare_op}
 use Rattle.rec_word.specs.Op.{cell_of}
 use Rattle.rec_word.specs.Place.{place_of}
 use Rattle.rec_word.specs.Header.{is_leaf}
-use Rattle.rec_word.specs.Word.{packed, target_of}
-use Rattle.rec_word.specs.declared.op.Op.{Op}
+use Rattle.rec_word.specs.Word.{packed}
 use Rattle.rec_word.specs.declared.op.Op.TheVariants as ops
 use Rattle.rec_word.proofs.Bare.{target_of_bare}
-use Rattle.rec_log.specs.Words.{buffer_by, entry_by}
+use Rattle.rec_log.specs.Words.{entry_by}
 use Rattle.rec_log.specs.declared.contents.Contents.{Contents}
 use Rattle.rec_log.specs.declared.entry.Entry.{Entry}
 use Rattle.rec_log.specs.declared.entry.Entry.TheVariants as entries
@@ -18,12 +17,11 @@ use Rattle.rec_model.specs.Asking.{allocation, null_or_object, plain}
 use Rattle.rec_model.specs.declared.answer.Answer.TheVariants as answers
 use Rattle.rec_model.specs.declared.command.Cmd.{Cmd}
 use Rattle.rec_model.specs.declared.command.Cmd.TheVariants as commands
-use Rattle.rec_model.specs.declared.told.Told.{Told}
-use Rattle.rec_mutator.specs.Bare.{bare_buffer, bare_made, bare_phase, bare_private, bare_told}
+use Rattle.rec_mutator.specs.Bare.{bare_buffer, bare_phase, bare_private}
 use Rattle.rec_mutator.specs.Next.{begun_op, first_op, new_op, next_at, next_of, read_op, write_op, label_op}
 use Rattle.rec_mutator.specs.Private.{IsAt, IsMachine, IsStore, Private, is_busy, is_busy_at, is_full, probe_of, register, word_for}
 use Rattle.rec_mutator.specs.Step.{HasRoom}
-use Rattle.rec_mutator.specs.Took.{allowed_by, answered, begun_by, begun_of, born_in, first_by, label_by, left_at, left_of, leaving_by, is_uncollected, moved, new_by, polled, probed, read_by, stored, step_of, swapped_at, swapped_of, took_at, took_of, with_entry, with_register, written_by}
+use Rattle.rec_mutator.specs.Took.{allowed_by, answered, begun_by, begun_of, born_in, first_by, label_by, left_at, left_of, leaving_by, is_uncollected, moved, new_by, probed, read_by, stored, step_of, swapped_at, swapped_of, took_at, took_of, with_entry, with_register, written_by}
 use Rattle.rec_mutator.specs.declared.made.Made.TheVariants as makes
 use Rattle.rec_mutator.specs.declared.phase.Phase.{Phase}
 use Rattle.rec_mutator.specs.declared.phase.Phase.TheVariants.{Idle, Begun, Scanning, Scanned, Storing, Crossing, Swapping, Giving, Leaving, Retiring, Parting, Finished}

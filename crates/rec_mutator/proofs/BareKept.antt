@@ -1,13 +1,10 @@
 -- What every machine keeps, the mutator of a heap of bare words keeps too.
-use Rattle.std.proofs.Common.{◌≡◌, Bool, true, false, ℕ, ◌+◌, ◌<◌, ◌≤◌, List, Option, None, Some, length, map, refl, sym, ap, subst, ◌∙◌, arith}
+use Rattle.std.proofs.Common.{◌≡◌, ◌<◌, ◌≤◌, length, refl, sym, subst}
 use Rattle.std.proofs.lemmas.List.{length-map}
 use Rattle.rec_word.specs.Bare.{bare}
 use Rattle.rec_log.specs.Words.{entry_by}
-use Rattle.rec_log.specs.declared.entry.Entry.{Entry}
 use Rattle.rec_mutator.specs.Bare.{bare_made, bare_phase, bare_private}
-use Rattle.rec_mutator.specs.Causes.{gives_back}
-use Rattle.rec_mutator.specs.Private.{IsAt, IsMachine, IsScan, IsStore, IsValid, Private}
-use Rattle.rec_mutator.specs.Took.{IsBetween}
+use Rattle.rec_mutator.specs.Private.{IsAt, IsMachine, IsValid, Private}
 use Rattle.rec_mutator.specs.declared.made.Made.{Made}
 use Rattle.rec_mutator.specs.declared.phase.Phase.{Phase}
 use Rattle.rec_mutator.specs.declared.phase.Phase.TheVariants.{Idle, Begun, Scanning, Scanned, Storing, Crossing, Swapping, Giving, Leaving, Retiring, Parting, Finished}

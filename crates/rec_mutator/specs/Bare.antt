@@ -1,5 +1,5 @@
 -- A mutator of a heap of bare words, and one of a heap of dated words.
-use Rattle.std.specs.Prelude.{◌≡◌, ℕ, true, false}
+use Rattle.std.specs.Prelude.{false}
 use Rattle.rec_word.specs.Bare.{bare}
 use Rattle.rec_log.specs.Words.{buffer_by}
 use Rattle.rec_log.specs.declared.contents.Contents.{Contents}

@@ -1,5 +1,5 @@
 -- Runs with moves more, and what they tell of an actor.
-use Rattle.std.proofs.Common.{◌≡◌, ◌⊎◌, inl, inr, ⊎_elim, ℕ, ◌-◌, true, List, [], ◌∷◌, ◌++◌, refl, sym, ap, ◌∙◌, subst, arith, get_or-set_same}
+use Rattle.std.proofs.Common.{◌≡◌, ◌⊎◌, inl, inr, ⊎_elim, ℕ, ◌-◌, true, List, [], ◌∷◌, ◌++◌, refl, sym, ap, ◌∙◌, subst, arith, get_or-set_same, false}
 use Rattle.std.proofs.lemmas.Bool.{cases_eq}
 use Rattle.std.proofs.lemmas.List.Sums.{fold-append}
 use Rattle.rec_table.proofs.Common.{Private, is_busy, begun_of, took_of, step_of, swapped_of, spare, IsSwapping, IsMutator, Core, mutator, nobody, box, IsKept, Move, after_move, after_moves, begun_from, stepped, Fits, AllFit, found_by, IsWorld, moved_world, move_kept, move_stays, mutator_stays, over_both, own_gives, other_gives, in_list, may_step, beats_in, beats_of, learnt, told, Beat, Saw}
@@ -25,7 +25,7 @@ swaps_or_not at.Retiring = inl tt
 swaps_or_not _ = inr (λ x. x)
 
 -- a step learns of its mailbox only what is known before: it holds a spare
-pub step_same : (w : Core) (t : ℕ) → IsKept w → IsMutator w.config t → is_busy (mutator w t) ≡ true
+pub step_same : (w : Core) (t : ℕ) → IsKept false w → IsMutator w.config t → is_busy (mutator w t) ≡ true
     → step_of (mutator w t) (found_by w t) (box w t) ≡ step_of (mutator w t) (found_by w t) (spare (took_of (mutator w t) (found_by w t)))
 unfolding step_of
 step_same w t kept is busy =
@@ -36,7 +36,7 @@ step_same w t kept is busy =
     (swaps_or_not q.phase)
 
 -- what a mutator has after a move is what the move tells of it
-pub told_in : (w : Core) (m : Move) (x : ℕ) → IsKept w → Fits w m → IsMutator w.config x → mutator (after_move w m) x ≡ told (mutator w x) (by_actor x beats_in w m)
+pub told_in : (w : Core) (m : Move) (x : ℕ) → IsKept false w → Fits w m → IsMutator w.config x → mutator (after_move w m) x ≡ told (mutator w x) (by_actor x beats_in w m)
 told_in w m x kept fits is = elim (cases_eq (maker m) x) [
   | inl own ↦ mine m fits own ∙ ap (told (mutator w x)) (sym (own_gives x beats_in w m own))
   | inr other ↦ mutator_stays w m x fits is other ∙ ap (told (mutator w x)) (sym (other_gives x beats_in w m other))
@@ -52,7 +52,7 @@ told_in w m x kept fits is = elim (cases_eq (maker m) x) [
     mine Move.Offers fits own = refl
 
 -- and so after a run
-pub mutator_after : (w : Core) (ms : List Move) (x : ℕ) → IsKept w → AllFit w ms → IsMutator w.config x → mutator (after_moves w ms) x ≡ told (mutator w x) (beats_of x w ms)
+pub mutator_after : (w : Core) (ms : List Move) (x : ℕ) → IsKept false w → AllFit w ms → IsMutator w.config x → mutator (after_moves w ms) x ≡ told (mutator w x) (beats_of x w ms)
 mutator_after w [] x kept f is = refl
 mutator_after w (m ∷ ms) x kept f is =
     mutator_after (after_move w m) ms x (move_kept w m kept f.0) f.1 (subst (λ (c : Config). IsMutator c x) (sym (move_stays w m)) is)

@@ -1,5 +1,5 @@
 -- The births of a run are those of the mutators' lists, added up.
-use Rattle.std.proofs.Common.{◌≡◌, ◌≢◌, inl, inr, ℕ, zero, suc, ◌+◌, ◌<◌, ◌≤◌, arith, List, [], ◌∷◌, refl, sym, ap, ◌∙◌}
+use Rattle.std.proofs.Common.{◌≡◌, ◌≢◌, inl, inr, ℕ, zero, suc, ◌+◌, ◌<◌, ◌≤◌, arith, List, [], ◌∷◌, refl, sym, ap, ◌∙◌, false}
 use Rattle.std.proofs.lemmas.Bool.{cases_eq}
 use Rattle.rec_table.proofs.Common.{Core, mutator, Move, AllFit, Fits, after_move, after_moves, Private, IsKept, move_kept, move_stays, other_gives, own_gives, beats_in, beats_of, births_told, told, Beat}
 use Rattle.rec_core.specs.Run.{by_actor, maker}
@@ -35,7 +35,7 @@ module _ (w : Core) (lists : ℕ → List Beat) (t : ℕ) (none : (x : ℕ) → 
         omega (arith, one_alone n low (omega (arith, le, ne)), here)
   ]
 
-splits_first : (w : Core) (m : Move) (ms : List Move) (n : ℕ) → IsKept w → Fits w m → n ≤ w.config.mutators → births_all w (m ∷ ms) n ≡ all_births w (λ x. by_actor x beats_in w m) n + births_all (after_move w m) ms n
+splits_first : (w : Core) (m : Move) (ms : List Move) (n : ℕ) → IsKept false w → Fits w m → n ≤ w.config.mutators → births_all w (m ∷ ms) n ≡ all_births w (λ x. by_actor x beats_in w m) n + births_all (after_move w m) ms n
 splits_first w m ms zero kept fits le = omega arith
 splits_first w m ms (suc n) kept fits le =
     let now : List Beat = by_actor (n + 1) beats_in w m in
@@ -66,7 +66,7 @@ none_yet : (w : Core) (n : ℕ) → births_all w [] n ≡ 0
 none_yet w zero = refl
 none_yet w (suc n) = let rest = none_yet w n in omega (arith, rest)
 
-pub births_add_up : (w : Core) (ms : List Move) → IsKept w → AllFit w ms → (after_moves w ms).made ≡ w.made + births_all w ms w.config.mutators
+pub births_add_up : (w : Core) (ms : List Move) → IsKept false w → AllFit w ms → (after_moves w ms).made ≡ w.made + births_all w ms w.config.mutators
 births_add_up w [] kept fit = let none = none_yet w w.config.mutators in omega (arith, none)
 births_add_up w (m ∷ ms) kept fit =
     let same : births_all (after_move w m) ms (after_move w m).config.mutators ≡ births_all (after_move w m) ms w.config.mutators = ap (λ (c : Config). births_all (after_move w m) ms c.mutators) (move_stays w m) in

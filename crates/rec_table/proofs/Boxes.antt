@@ -103,7 +103,7 @@ takes_box key slots id t p op f st is_p busy taking is_op does s h len at_id fit
     let x : ℕ = t.number in
     let here : Here key s h t None p op = here_at key s h id t None p op at_id is_p busy is_op in
     let v : Core = before (after_moves key h.run) x None in
-    let kept : IsKept v = world_kept v here.world in
+    let kept : IsKept false v = world_kept v here.world in
     let n : ℕ = get_or s.words (index_of (length key.words) (length key.headers) op) 0 in
     let m : Private = mutator v x in
     let phase : TakesBox m.phase = subst (λ (q : Private). TakesBox q.phase) (sym here.is) taking in
@@ -147,7 +147,7 @@ gives_box key slots id t p op f st is_p busy giving is_op does s h len at_id fit
     let now : Core = after_moves key h.run in
     let here : Here key s h t None p op = here_at key s h id t None p op at_id is_p busy is_op in
     let v : Core = before now x None in
-    let kept : IsKept v = world_kept v here.world in
+    let kept : IsKept false v = world_kept v here.world in
     let n : ℕ = get_or s.words (index_of (length key.words) (length key.headers) op) 0 in
     let m : Private = mutator v x in
     let phase : gives_back m.phase ≡ true = ap (λ (q : Private). gives_back q.phase) here.is ∙ giving in

@@ -66,7 +66,7 @@ same_or (x ∷ l) zero d e lt = refl
 same_or (x ∷ l) (suc k) d e lt = same_or l k d e (omega (arith, lt))
 
 -- where all mutators are idle and the collector holds no mailbox, every mailbox is home
-pub all_even : (w : Core) → IsKept w → ((k : ℕ) → k < w.config.mutators → is_busy (mutator w (k + 1)) ≡ false) → boxes_out w.collector ≡ [] → All (λ word. word % 2 ≡ 0) w.crossing
+pub all_even : (w : Core) → IsKept false w → ((k : ℕ) → k < w.config.mutators → is_busy (mutator w (k + 1)) ≡ false) → boxes_out w.collector ≡ [] → All (λ word. word % 2 ≡ 0) w.crossing
 all_even w kept idle none = λ k d lt.
     let many = kept.mutators.words in
     let is : IsMutator w.config (k + 1) = (omega arith, omega (arith, lt, many)) in
@@ -95,8 +95,8 @@ pub ends : (key : Core) (c : CollectorSeat) (ws : List ℕ) (xs : List (Option C
     → ((k : ℕ) → k < key.config.mutators → (get_or ms k nobody ≡ told (mutator key (k + 1)) (get_or c.known k [])) × (is_busy (get_or ms k nobody) ≡ false)) → Ends key c ws xs ms g r
 ends key c ws xs ms g r world g_is none many each =
     let w : Core = after_moves key r.run in
-    let kept : IsKept w = world_kept w r.world in
-    let key_kept : IsKept key = world_kept key world in
+    let kept : IsKept false w = world_kept w r.world in
+    let key_kept : IsKept false key = world_kept key world in
     let config : w.config ≡ key.config = config_after key r.run in
     let there : w.config.mutators ≡ key.config.mutators = ap (λ (x : Config). x.mutators) config in
     let is_g : w.collector ≡ g = r.collector ∙ sym g_is in
@@ -115,7 +115,7 @@ ends key c ws xs ms g r world g_is none many each =
     }
 
 -- and the other way: where every mailbox is home, the collector holds none
-pub none_out_where_even : (w : Core) → IsKept w → All (λ word. word % 2 ≡ 0) w.crossing → boxes_out w.collector ≡ []
+pub none_out_where_even : (w : Core) → IsKept false w → All (λ word. word % 2 ≡ 0) w.crossing → boxes_out w.collector ≡ []
 none_out_where_even w kept even = by w.collector.phase refl
   where
     by : (phase : Phase) → w.collector.phase ≡ phase → boxes_at w.collector phase ≡ []

@@ -44,7 +44,7 @@ unfolding step_of
 learns_alone c word b between stays = sym (collector_stays (took_of c word) b (not_swapping c word between stays))
 
 -- what the collector's turn records makes up what it learns
-looked_makes : (w : Core) (word : ℕ) (phase : Phase) → IsKept w → w.collector.phase ≡ phase → step_of w.collector word (box w (looked_at phase)) ≡ gathered w.collector (looked w word phase)
+looked_makes : (w : Core) (word : ℕ) (phase : Phase) → IsKept false w → w.collector.phase ≡ phase → step_of w.collector word (box w (looked_at phase)) ≡ gathered w.collector (looked w word phase)
 looked_makes w word (Looking t) kept is = dite (ℕ_discrete word (crossing_word w.collector.epoch Retired))
     (λ (e : word ≡ crossing_word w.collector.epoch Retired). sym (ap (λ b. gathered w.collector (cond b (Took word (box w t)) (Saw word))) (eq-eqb word (crossing_word w.collector.epoch Retired) e)))
     (λ (ne : word ≢ crossing_word w.collector.epoch Retired).
@@ -54,19 +54,19 @@ looked_makes w word (Looking t) kept is = dite (ℕ_discrete word (crossing_word
 looked_makes w word (Swapping t) kept is = absurd (subst IsBetween is kept.collector.between)
 looked_makes w word _ kept is = learns_alone w.collector word (box w 1) kept.collector.between (λ d. ap (left_by w.collector word d) is)
 
-turn_makes : (w : Core) (x : Option Op) → IsKept w → (turned_at w x).collector ≡ gathered_all w.collector (turn_at w x)
+turn_makes : (w : Core) (x : Option Op) → IsKept false w → (turned_at w x).collector ≡ gathered_all w.collector (turn_at w x)
 turn_makes w None kept = refl
 turn_makes w (Some op) kept = looked_makes w (cell (cells_of w) op) w.collector.phase kept refl
 
 -- so it is after a move that does not offer the slots
-pub collected_in : (w : Core) (m : Move) → IsKept w → Fits w m → OffersNone m → (after_move w m).collector ≡ gathered_all w.collector (by_actor 0 beats_in w m)
+pub collected_in : (w : Core) (m : Move) → IsKept false w → Fits w m → OffersNone m → (after_move w m).collector ≡ gathered_all w.collector (by_actor 0 beats_in w m)
 collected_in w (Move.Begins t work from) kept fits none = ap (gathered_all w.collector) (sym (other_gives 0 beats_in w (Move.Begins t work from) (λ e. omega (arith, e, fits.0.0))))
 collected_in w (Move.Steps t) kept fits none = ap (gathered_all w.collector) (sym (other_gives 0 beats_in w (Move.Steps t) (λ e. omega (arith, e, fits.0.0))))
 collected_in w Move.Turns kept fits none = turn_makes w (next_of w.collector) kept
 collected_in w Move.Offers kept fits none = absurd none
 
 -- and after a run of such moves
-pub collector_after : (w : Core) (ms : List Move) → IsKept w → AllFit w ms → Offerless ms → (after_moves w ms).collector ≡ gathered_all w.collector (beats_of 0 w ms)
+pub collector_after : (w : Core) (ms : List Move) → IsKept false w → AllFit w ms → Offerless ms → (after_moves w ms).collector ≡ gathered_all w.collector (beats_of 0 w ms)
 collector_after w [] kept fit none = refl
 collector_after w (m ∷ ms) kept fit none =
     collector_after (after_move w m) ms (move_kept w m kept fit.0) fit.1 none.1

@@ -14,9 +14,10 @@ pub use Rattle.rec_core.specs.Core.{Core, box, cells_of, crossing_of, mutator, n
 pub use Rattle.rec_core.specs.Kept.{IsHandshake, IsKept, Handshake, stand_at, stand_in}
 pub use Rattle.rec_core.specs.Moves.{AllFit, Fits, Move, after_move, after_moves, begun_from, found_by, left_by, looked_at, stepped, turned, turned_at}
 pub use Rattle.rec_core.specs.Row.{cells_of_row, index_of, row}
-pub use Rattle.rec_core.proofs.Runs.{after_both, config_after, every_both, fit_both, fit_first, move_kept, move_stays, moves_kept, mutator_stays, other_gives, over_both, own_gives}
+pub use Rattle.rec_core.proofs.BareRuns.{may_turn, move_kept, moves_kept}
+pub use Rattle.rec_core.proofs.Runs.{after_both, config_after, every_both, fit_both, fit_first, move_stays, mutator_stays, other_gives, over_both, own_gives}
 pub use Rattle.rec_core.proofs.Steps.{actor_of, fields_many, in_list}
-pub use Rattle.rec_core.proofs.Words.{IsOwnOp, collector_within, may_step, may_turn, names_slots, own_next}
+pub use Rattle.rec_core.proofs.Words.{IsOwnOp, collector_within, may_step, names_slots, own_next}
 pub use Rattle.rec_world.specs.World.{IsWorld}
 pub use Rattle.rec_world.proofs.Calls.{made_small, moved_world, world_kept}
 pub use Rattle.rec_table.specs.Beats.{Offerless, OffersNone, beats_in, beats_of, births_told, gathered, gathered_all, learnt, looked, told, turn_at}

@@ -1,5 +1,5 @@
 -- What a closed table leaves.
-use Rattle.std.proofs.Common.{◌≡◌, ℕ, zero, suc, ◌+◌, ◌≤◌, arith, List, [], ◌∷◌, ◌++◌, map, length, get_or, Option, refl, sym, ap, ◌∙◌, subst}
+use Rattle.std.proofs.Common.{◌≡◌, ℕ, zero, suc, ◌+◌, ◌≤◌, arith, List, [], ◌∷◌, ◌++◌, map, length, get_or, Option, refl, sym, ap, ◌∙◌, subst, false}
 use mathlib.Core.Option as maybe
 use mathlib.Core.Option.{some, none, some-injective, some-ne-none}
 use mathlib.Core.Logic.{dite}
@@ -41,7 +41,7 @@ pub ended : (key : Core) (id : ℕ) (v : View) (c : CollectorSeat) (ws : List �
 ended key id v c ws xs is made known f =
     let s : State (Option Contents) View = f.0 in
     let h : Holds key s = f.1.0.holds in
-    let kept : IsKept key = world_kept key h.world in
+    let kept : IsKept false key = world_kept key h.world in
     let mine = h.each id (Collects c) (subst (λ (u : View). get_elem? s.views id ≡ some u) is f.1.1) in
     record {
       run = h.run;

@@ -1,5 +1,5 @@
 -- The journals that the lists tell are those of the run, and they have a legal order.
-use Rattle.std.proofs.Common.{◌≡◌, ◌≢◌, ℕ, zero, suc, ◌+◌, ◌-◌, ◌<◌, length, get_or, Bool, if◌then◌else◌, List, [], ◌∷◌, ◌++◌, Option, Some, None, refl, sym, ap, subst, ◌∙◌, arith, append_assoc, eq-eqb, ne_eqb}
+use Rattle.std.proofs.Common.{◌≡◌, ◌≢◌, ℕ, zero, suc, ◌+◌, ◌-◌, ◌<◌, length, get_or, Bool, if◌then◌else◌, List, [], ◌∷◌, ◌++◌, Option, Some, None, refl, sym, ap, subst, ◌∙◌, arith, append_assoc, eq-eqb, ne_eqb, false}
 use Rattle.std.proofs.lemmas.Bool.{cases_eq}
 use Rattle.std.proofs.Common.{inl, inr}
 use Rattle.std.proofs.lemmas.List.{append-nil}
@@ -68,7 +68,7 @@ other_line t x at.Parting work answer other = refl
 other_line t x _ work answer other = other_answer t x work answer other
 
 -- the lines of one move
-move_lines : (w : Core) (m : Move) (x : ℕ) → IsKept w → Fits w m → IsMutator w.config x → filter_map (line_by x) (told_in w m) ≡ journal (mutator w x) (by_actor x beats_in w m)
+move_lines : (w : Core) (m : Move) (x : ℕ) → IsKept false w → Fits w m → IsMutator w.config x → filter_map (line_by x) (told_in w m) ≡ journal (mutator w x) (by_actor x beats_in w m)
 move_lines w m x kept fits is = elim (cases_eq (maker m) x) [
   | inl mine ↦ own m fits mine ∙ ap (journal (mutator w x)) (sym (own_gives x beats_in w m mine))
   | inr theirs ↦ other m theirs ∙ ap (journal (mutator w x)) (sym (other_gives x beats_in w m theirs))
@@ -91,7 +91,7 @@ move_lines w m x kept fits is = elim (cases_eq (maker m) x) [
     other _ theirs = refl
 
 -- The lines that a run told a mutator are those that its list tells.
-pub run_lines : (w : Core) (ms : List Move) (x : ℕ) → IsKept w → AllFit w ms → IsMutator w.config x → filter_map (line_by x) (told_in_all w ms) ≡ journal (mutator w x) (beats_of x w ms)
+pub run_lines : (w : Core) (ms : List Move) (x : ℕ) → IsKept false w → AllFit w ms → IsMutator w.config x → filter_map (line_by x) (told_in_all w ms) ≡ journal (mutator w x) (beats_of x w ms)
 run_lines w [] x kept fit is = refl
 run_lines w (m ∷ ms) x kept fit is =
     filter_map-append (line_by x) (told_in w m) (told_in_all (after_move w m) ms)
@@ -113,7 +113,7 @@ as_many w k [] = refl
 as_many w k (l ∷ ls) = ap suc (as_many w (k + 1) ls)
 
 -- So the journals that the lists tell have a legal order.
-pub lists_legal : (key : Core) (heap : Heap) (number : ℕ → ℕ) (unfreed : List ℕ) (run : List Move) (lists : List (List Beat)) → IsKept key → AreIdle key → StandsBy heap (sight key) number → AreUnfreed (sight key) number unfreed
+pub lists_legal : (key : Core) (heap : Heap) (number : ℕ → ℕ) (unfreed : List ℕ) (run : List Move) (lists : List (List Beat)) → IsKept false key → AreIdle key → StandsBy heap (sight key) number → AreUnfreed (sight key) number unfreed
     → AllFit key run → length lists ≡ key.config.mutators → ((k : ℕ) → k < key.config.mutators → get_or lists k [] ≡ beats_of (k + 1) key run) → HasLegalOrder key heap number unfreed run (journals_from key 0 lists)
 lists_legal key heap number unfreed run lists kept idle stands are fit many each =
     run_legal key heap number unfreed run (journals_from key 0 lists) kept idle stands are fit

@@ -31,7 +31,7 @@ use Rattle.rec_collector.specs.declared.phase.Phase.TheVariants.{Looking, Return
 use Rattle.rec_core.specs.Run.{by_actor, over}
 use Rattle.rec_core.specs.RunAnswers.{answered_by, told_by, told_in_all}
 use Rattle.rec_core.specs.Worked.{AreIdle}
-use Rattle.rec_core.proofs.Swept.{turned_sweeps}
+use Rattle.rec_core.proofs.BareRuns.{turned_sweeps}
 use Rattle.rec_order.specs.Events.{events_in, events_of, swept_by}
 use Rattle.rec_order.specs.Legal.{AreJournals, limits_of, moment_of}
 use Rattle.rec_order.specs.Naming.{Naming, named_after, named_after_all, naming_of}
@@ -142,7 +142,7 @@ none_told t at.Parting work made = refl
 none_told t _ work made = none_answered t work made
 
 -- what a move frees is named by the heap that stands for the world, and by each later one
-module _ (w : Core) (n : Naming) (now last : Heap) (kept : IsKept w) (stands : StandsBy now (sight w) n.number) (keeps : KeepsLabels now last) where
+module _ (w : Core) (n : Naming) (now last : Heap) (kept : IsKept false w) (stands : StandsBy now (sight w) n.number) (keeps : KeepsLabels now last) where
   names_at : (next : Option Op) → ◌≡◌ {A = Option Op} (next_of w.collector) next → labels_at w next ≡ map (label_in last) (freed_objects (swept_by n next))
   names_at (Some (ops.FreeHeader slot)) is =
       let taken : IsTaken (sight w) slot = (freed_taken w slot (turned_sweeps w kept) is).1 in
@@ -162,7 +162,7 @@ module _ (w : Core) (n : Naming) (now last : Heap) (kept : IsKept w) (stands : S
 abbrev pub StandsAlong : (limits : Limits) (w : Core) (n : Naming) (m : Moment) (ms : List Move) → Type 0
 StandsAlong limits w n m ms = (q r : List Move) → q ++ r ≡ ms → StandsBy (after_all limits m (events_of n w q)).heap (sight (after_moves w q)) (named_after_all n w q).number
 
-names_all : (limits : Limits) (w : Core) (n : Naming) (m : Moment) (ms : List Move) → IsKept w → AllFit w ms → StandsAlong limits w n m ms
+names_all : (limits : Limits) (w : Core) (n : Naming) (m : Moment) (ms : List Move) → IsKept false w → AllFit w ms → StandsAlong limits w n m ms
     → over labels_in w ms ≡ map (label_in (after_all limits m (events_of n w ms)).heap) (freed_objects (events_of n w ms))
 names_all limits w n m [] kept fit along = refl
 names_all limits w n m (move ∷ ms) kept fit along =
@@ -211,7 +211,7 @@ move_frees w Move.Turns fits = turn_frees w (next_of w.collector) refl
 move_frees w Move.Offers fits = refl
 
 -- the collector's list in a run frees what its moves free
-beats_free : (w : Core) (ms : List Move) → IsKept w → AllFit w ms → Offerless ms → freed_by_all w.collector (beats_of 0 w ms) ≡ over labels_in w ms
+beats_free : (w : Core) (ms : List Move) → IsKept false w → AllFit w ms → Offerless ms → freed_by_all w.collector (beats_of 0 w ms) ≡ over labels_in w ms
 beats_free w [] kept fit none = refl
 beats_free w (m ∷ ms) kept fit none =
     freed_both w.collector (by_actor 0 beats_in w m) (beats_of 0 (after_move w m) ms)
@@ -219,7 +219,7 @@ beats_free w (m ∷ ms) kept fit none =
     ∙ ap (λ l. labels_in w m ++ l) (beats_free (after_move w m) ms (move_kept w m kept fit.0) fit.1 none.1)
 
 -- So they are the labels of the objects that the order frees.
-names_freed : (limits : Limits) (w : Core) (n : Naming) (m : Moment) (ms : List Move) (log : List Beat) → IsKept w → AllFit w ms → Offerless ms → log ≡ beats_of 0 w ms → StandsAlong limits w n m ms
+names_freed : (limits : Limits) (w : Core) (n : Naming) (m : Moment) (ms : List Move) (log : List Beat) → IsKept false w → AllFit w ms → Offerless ms → log ≡ beats_of 0 w ms → StandsAlong limits w n m ms
     → freed_by_all w.collector log ≡ map (label_in (after_all limits m (events_of n w ms)).heap) (freed_objects (events_of n w ms))
 names_freed limits w n m ms log kept fit none is along =
     ap (freed_by_all w.collector) is ∙ beats_free w ms kept fit none ∙ names_all limits w n m ms kept fit along
@@ -267,7 +267,7 @@ returned_none p (b ∷ []) once home = by p.phase refl
 returned_none p (b ∷ c ∷ bs) once home = absurd (omega (arith, once))
 
 -- And so it is of every run of a running heap, also where a mailbox was given back behind it.
-pub run_names_freed : (key : Core) (heap : Heap) (number : ℕ → ℕ) (unfreed : List ℕ) (run : List Move) (log returned : List Beat) → IsKept key → AreIdle key → StandsBy heap (sight key) number → AreUnfreed (sight key) number unfreed
+pub run_names_freed : (key : Core) (heap : Heap) (number : ℕ → ℕ) (unfreed : List ℕ) (run : List Move) (log returned : List Beat) → IsKept false key → AreIdle key → StandsBy heap (sight key) number → AreUnfreed (sight key) number unfreed
     → AllFit key run → Offerless run → log ++ returned ≡ beats_of 0 key run → length returned ≤ 1 → (boxes_out (gathered_all key.collector log) ≡ [] → returned ≡ []) → NameFreed key heap number unfreed run (freed_by_all key.collector log)
 run_names_freed key heap number unfreed run log returned kept idle stands are fit none is once home =
     sym (append-nil (freed_by_all key.collector log))

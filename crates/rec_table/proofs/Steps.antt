@@ -38,7 +38,7 @@ abbrev pub before : Core → (t : ℕ) → Option Start → Core
 before w t None = w
 before w t (Some start) = begun_from w t start.work start.from
 
-ready_is : (w : Core) (t : ℕ) (wk : Option Start) → IsKept w → IsMutator w.config t → mutator (before w t wk) t ≡ ready (mutator w t) wk
+ready_is : (w : Core) (t : ℕ) (wk : Option Start) → IsKept false w → IsMutator w.config t → mutator (before w t wk) t ≡ ready (mutator w t) wk
 ready_is w t None kept is = refl
 ready_is w t (Some start) kept is = get_or-set_same w.mutators (t - 1) (begun_of (mutator w t) start.work start.from) nobody (in_list w t kept is)
 
@@ -47,14 +47,14 @@ unfolding begun_of
 begun_busy p work from = refl
 
 -- a slot of the mutator is one of the heap
-starts : (w : Core) (t from : ℕ) → IsKept w → IsMutator w.config t → from < (mutator w t).slots → from < w.config.slots
+starts : (w : Core) (t from : ℕ) → IsKept false w → IsMutator w.config t → from < (mutator w t).slots → from < w.config.slots
 starts w t from kept is there = subst (λ n. from < n) (actor_of w t kept is).own.slots there
 
 before_world : (w : Core) (t : ℕ) (wk : Option Start) → IsWorld w → IsMutator w.config t → MayGo (mutator w t) wk → IsWorld (before w t wk)
 before_world w t None world is may = world
 before_world w t (Some start) world is may = moved_world w (Move.Begins t start.work start.from) world (is, may.0, may.1, may.2, may.3, starts w t start.from (world_kept w world) is may.4)
 
-before_busy : (w : Core) (t : ℕ) (wk : Option Start) → IsKept w → IsMutator w.config t → MayGo (mutator w t) wk → is_busy (mutator (before w t wk) t) ≡ true
+before_busy : (w : Core) (t : ℕ) (wk : Option Start) → IsKept false w → IsMutator w.config t → MayGo (mutator w t) wk → is_busy (mutator (before w t wk) t) ≡ true
 before_busy w t None kept is may = may
 before_busy w t (Some start) kept is may = ap is_busy (ready_is w t (Some start) kept is) ∙ begun_busy (mutator w t) start.work start.from
 
@@ -73,7 +73,7 @@ before_boxes w t (Some start) = refl
 all_fit : (w : Core) (t : ℕ) (wk : Option Start) → IsWorld w → IsMutator w.config t → MayGo (mutator w t) wk → AllFit w (moves_of t wk)
 all_fit w t None world is may = ((is, may), tt)
 all_fit w t (Some start) world is may =
-    let kept : IsKept w = world_kept w world in
+    let kept : IsKept false w = world_kept w world in
     ((is, may.0, may.1, may.2, may.3, starts w t start.from kept is may.4), ((is, before_busy w t (Some start) kept is may), tt))
 
 after_is : (w : Core) (t : ℕ) (wk : Option Start) → after_moves w (moves_of t wk) ≡ stepped (before w t wk) t
@@ -168,7 +168,7 @@ plain_homes w t busy plain =
     λ i. homes_of (crossing i) (boxes i)
 
 -- the lengths of the rows stay
-pub places_after : (w : Core) (ms : List Move) → IsKept w → AllFit w ms → length (after_moves w ms).words ≡ length w.words
+pub places_after : (w : Core) (ms : List Move) → IsKept false w → AllFit w ms → length (after_moves w ms).words ≡ length w.words
 places_after w ms kept fit =
     let v : Core = after_moves w ms in
     let config : v.config ≡ w.config = config_after w ms in
@@ -176,7 +176,7 @@ places_after w ms kept fit =
     ∙ ap (λ (c : Config). c.slots * c.fields) config
     ∙ fields_many w w.config.slots w.config.fields kept refl refl
 
-pub slots_after : (w : Core) (ms : List Move) → IsKept w → AllFit w ms → length (after_moves w ms).headers ≡ length w.headers
+pub slots_after : (w : Core) (ms : List Move) → IsKept false w → AllFit w ms → length (after_moves w ms).headers ≡ length w.headers
 slots_after w ms kept fit = (moves_kept w ms kept fit).headers ∙ ap (λ (c : Config). c.slots) (config_after w ms) ∙ sym kept.headers
 
 -- the fits of all views after the view of one has changed
@@ -256,7 +256,7 @@ here_at key s h id t wk p op fit is_p may is_op =
     let now : Core = after_moves key h.run in
     let mine = h.each id (Mutates t) fit in
     let there : IsMutator key.config x = (omega (arith, mine.1), omega (arith, mine.2, h.room)) in
-    let kept : IsKept key = world_kept key h.world in
+    let kept : IsKept false key = world_kept key h.world in
     let world : IsWorld now = world_after key h.run h.world h.fit in
     let here : IsMutator now.config x = subst (λ (c : Config). IsMutator c x) (sym (config_after key h.run)) there in
     let actor : mutator now x ≡ p = mutator_after key h.run x kept h.fit there ∙ (ap (told (mutator key x)) (sym mine.3) ∙ sym is_p) in

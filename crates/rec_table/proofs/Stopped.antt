@@ -1,5 +1,5 @@
 -- What stopping promises, from the run of all lists.
-use Rattle.std.proofs.Common.{◌≡◌, List, length, map, Some, Result, Ok, Err, sym, ap, ◌∙◌, subst}
+use Rattle.std.proofs.Common.{◌≡◌, List, length, map, Some, Result, Ok, Err, sym, ap, ◌∙◌, subst, false}
 use Rattle.std.specs.Option.{IfSome}
 use Rattle.std.specs.Result.{IfOk, result_ok}
 use Rattle.std.proofs.lemmas.List.{length-map}
@@ -10,7 +10,7 @@ use Rattle.rec_table.proofs.Journals.{lists_legal}
 use Rattle.rec_table.proofs.Named.{run_names_freed}
 use Rattle.rec_table.proofs.Safe.{safe}
 
-pub stopped : (s : Started) (g h : CollectorView) (hs : List MutatorView) (w : Core) → IsKept s.world → AreIdle s.world → g.opened ≡ s.world.collector → AreMutatorsOf s hs → PutsBack g h
+pub stopped : (s : Started) (g h : CollectorView) (hs : List MutatorView) (w : Core) → IsKept false s.world → AreIdle s.world → g.opened ≡ s.world.collector → AreMutatorsOf s hs → PutsBack g h
     → Interleaves s.world h.collecting.log (map (λ (m : MutatorView). m.log) hs) w → IsStopped s.world g.collecting.log (map (λ (m : MutatorView). m.log) hs) w
 stopped s g h hs w kept idle opened mutators back run =
     let lists : List (List Beat) = map (λ (m : MutatorView). m.log) hs in

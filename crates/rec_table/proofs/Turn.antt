@@ -1,6 +1,6 @@
 -- What makes a turn of the collector on the table one.
 use Rattle.std.proofs.Common.{◌≡◌, ℕ, Option, None, Some, refl, sym, ap, subst, ◌∙◌}
-use Rattle.rec_table.proofs.Common.{Op, cell, Core, cells_of, turned, IsWorld, world_kept, gathered, CollectorView, collector_now, collecting_more, word_of, Beat}
+use Rattle.rec_table.proofs.Common.{Op, cell, Core, cells_of, turned, IsWorld, gathered, CollectorView, collector_now, collecting_more, word_of, Beat}
 use Rattle.rec_collector.specs.Causes.{HasCause}
 use Rattle.rec_collector.specs.Kept.{IsMachine}
 use Rattle.rec_collector.specs.Next.{next_of}
@@ -15,7 +15,7 @@ use Rattle.rec_table.specs.Turn.{MakesTurn}
 
 -- a world's turn, with the answer that was told
 told : (w : Core) (answer : Turn) → IsWorld w → turn_told w ≡ answer → IsTurn w (turned w) answer
-told w answer world is = subst (IsTurn w (turned w)) is (turn_is_one w (world_kept w world) world.run)
+told w answer world is = subst (IsTurn w (turned w)) is (turn_is_one w world.shaped.config world.run)
 
 caused : (p : Private) (answer : Turn) → IsMachine p → (word : ℕ) → answer ≡ turn_of p word → HasCause p word (took_of p word) answer
 caused p answer machine word is = subst (HasCause p word (took_of p word)) (sym is) (has_cause p word machine)

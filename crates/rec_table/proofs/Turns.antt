@@ -33,7 +33,7 @@ use Rattle.rec_core.proofs.Shapes.{same_boxes}
 use Rattle.rec_table.specs.Homes.{homes_of}
 use Rattle.rec_table.specs.Rule.{Fits}
 use Rattle.rec_core.proofs.Row.{row_read, row_write}
-use Rattle.rec_core.proofs.Swept.{turned_sweeps}
+use Rattle.rec_core.proofs.BareRuns.{turned_sweeps}
 use Rattle.rec_core.specs.Swept.{IsSweep, SweepsNothing}
 use Rattle.rec_core.specs.Kept.{IsHeader}
 use Rattle.rec_word.specs.Header.{IsTakenHeader}
@@ -55,13 +55,13 @@ gives_busy at.Parting is = refl
 gives_busy _ is = absurd (true≢false (sym is))
 
 -- the crossing word of a mutator that has its mailbox out says so
-out_word : (w : Core) (x : ℕ) → IsKept w → IsMutator w.config x → gives_back (mutator w x).phase ≡ true → (into : ℕ) × (crossing_of w x ≡ crossing_word into WithMutator)
+out_word : (w : Core) (x : ℕ) → IsKept false w → IsMutator w.config x → gives_back (mutator w x).phase ≡ true → (into : ℕ) × (crossing_of w x ≡ crossing_word into WithMutator)
 out_word w x kept is giving =
     ⊎_elim (λ due. (w.epoch, due.1.word)) (λ ahead. (w.epoch + 1, ahead.1.word))
     (giving_crosses w.config w.epoch (mutator w x) (crossing_of w x) (box w x) (stand_of w x) (stays_here w x kept is (gives_busy (mutator w x).phase giving)) giving (actor_of w x kept is).handshake)
 
 -- a turn changes no mailbox of a mutator that has it out
-hand_kept : (w : Core) (op : Op) (x : ℕ) → IsKept w → IsMutator w.config x → ◌≡◌ {A = Option Op} (next_of w.collector) (Some op) → gives_back (mutator w x).phase ≡ true → box (turned_at w (Some op)) x ≡ box w x
+hand_kept : (w : Core) (op : Op) (x : ℕ) → IsKept false w → IsMutator w.config x → ◌≡◌ {A = Option Op} (next_of w.collector) (Some op) → gives_back (mutator w x).phase ≡ true → box (turned_at w (Some op)) x ≡ box w x
 hand_kept w op x kept is named giving = by w.collector.phase refl
   where
     still : (phase : Phase) → w.collector.phase ≡ phase → left_by w.collector (cell (cells_of w) op) (box w (looked_at phase)) phase ≡ box w (looked_at phase) → box (turned_at w (Some op)) x ≡ box w x
@@ -105,7 +105,7 @@ pub here_at : (key : Core) (s : State (Option Contents) View) (h : Holds key s) 
 here_at key s h id c p op fit is_p next =
     let now : Core = after_moves key h.run in
     let mine = h.each id (Collects c) fit in
-    let kept : IsKept key = world_kept key h.world in
+    let kept : IsKept false key = world_kept key h.world in
     let world : IsWorld now = world_after key h.run h.world h.fit in
     let is : now.collector ≡ p = collector_after key h.run kept h.fit h.offerless ∙ ap (gathered_all key.collector) (sym mine.3) ∙ sym is_p in
     let named : ◌≡◌ {A = Option Op} (next_of now.collector) (Some op) = ap next_of is ∙ next in
@@ -153,7 +153,7 @@ pub turns_on : (key : Core) (s : State (Option Contents) View) (h : Holds key s)
     × (h'.run ≡ h.run ++ Move.Turns ∷ [])
 turns_on key s h id c p op z homes' b fit here does homes_are beat_is =
     let now : Core = after_moves key h.run in
-    let kept : IsKept now = world_kept now here.world in
+    let kept : IsKept false now = world_kept now here.world in
     let mine = h.each id (Collects c) fit in
     let run' : List Move = h.run ++ Move.Turns ∷ [] in
     let ends : after_moves key run' ≡ turned_at now (Some op) = after_both key h.run (Move.Turns ∷ []) ∙ ap (turned_at now) here.named in
@@ -179,7 +179,7 @@ turns_on key s h id c p op z homes' b fit here does homes_are beat_is =
       refl,
     )
   where
-    other : (j : ℕ) (v : View) → j ≢ id → id ≡ 0 → after_moves key (h.run ++ Move.Turns ∷ []) ≡ turned_at (after_moves key h.run) (Some op) → IsKept (after_moves key h.run)
+    other : (j : ℕ) (v : View) → j ≢ id → id ≡ 0 → after_moves key (h.run ++ Move.Turns ∷ []) ≡ turned_at (after_moves key h.run) (Some op) → IsKept false (after_moves key h.run)
         → ◌≡◌ {A = Option Op} (next_of (after_moves key h.run).collector) (Some op) → Fits key h.run h.made h.gone h.owner j v → Fits key (h.run ++ Move.Turns ∷ []) h.made h.gone h.owner j v
     other j (Collects d) ne first ends kept named f = absurd (ne (f.0 ∙ sym first))
     other j (Mutates u) ne first ends kept named f =
@@ -194,7 +194,7 @@ turns_on key s h id c p op z homes' b fit here does homes_are beat_is =
         )
     other j Spent ne first ends kept named f = tt
 
-plain_boxes : (w : Core) (op : Op) → IsKept w → (left_by w.collector (cell (cells_of w) op) (box w (looked_at w.collector.phase)) w.collector.phase ≡ box w (looked_at w.collector.phase)) → (turned_at w (Some op)).boxes ≡ w.boxes
+plain_boxes : (w : Core) (op : Op) → IsKept false w → (left_by w.collector (cell (cells_of w) op) (box w (looked_at w.collector.phase)) w.collector.phase ≡ box w (looked_at w.collector.phase)) → (turned_at w (Some op)).boxes ≡ w.boxes
 plain_boxes w op kept same = ap (set w.boxes (looked_at w.collector.phase - 1)) same ∙ same_boxes w (looked_at w.collector.phase)
 
 -- A slot that is freed next is there, and it is taken.
@@ -205,7 +205,7 @@ freed_taken w slot (IsSweep.frees x names below taken unreached odd h f) frees =
     let same : x ≡ slot = let one : ◌≡◌ {A = Option Op} (Some (ops.FreeHeader x)) (Some (ops.FreeHeader slot)) = sym names ∙ frees in cc in
     subst (λ i. (i < length w.headers) × IsTaken (sight w) i) same (below, taken)
 
-finds_header : (w : Core) (op : Op) (p : Private) (n slot : ℕ) → IsKept w → w.collector ≡ p → n ≡ cell (cells_of w) op → ◌≡◌ {A = Option Op} (next_of p) (Some op) → ◌≡◌ {A = Option Op} (next_of p) (Some (ops.FreeHeader slot)) → IsTakenHeader n
+finds_header : (w : Core) (op : Op) (p : Private) (n slot : ℕ) → IsKept false w → w.collector ≡ p → n ≡ cell (cells_of w) op → ◌≡◌ {A = Option Op} (next_of p) (Some op) → ◌≡◌ {A = Option Op} (next_of p) (Some (ops.FreeHeader slot)) → IsTakenHeader n
 finds_header w op p n slot kept is found next frees =
     let its : op ≡ ops.FreeHeader slot = some_op op (ops.FreeHeader slot) (sym next ∙ frees) in
     let there = freed_taken w slot (turned_sweeps w kept) (ap next_of is ∙ frees) in
@@ -238,7 +238,7 @@ unfolding next_of next_at
 returns_op c t is = ap (next_at c) is
 
 -- the mailbox that is given back next is held, with a spare
-pub held_so : (w : Core) (t : ℕ) → IsKept w → IsMutator w.config t → w.collector.phase ≡ Returning t → HasCrossed w.epoch (mutator w t) (crossing_of w t) WithCollector × (box w t ≡ spare_of w.config)
+pub held_so : (w : Core) (t : ℕ) → IsKept false w → IsMutator w.config t → w.collector.phase ≡ Returning t → HasCrossed w.epoch (mutator w t) (crossing_of w t) WithCollector × (box w t ≡ spare_of w.config)
 held_so w t kept is at_phase =
     subst (IsHandshake w.config w.epoch (mutator w t) (crossing_of w t) (box w t)) (held_stands w t kept at_phase) (actor_of w t kept is).handshake
 
@@ -250,7 +250,7 @@ looks key slots id t c p f st is_p phase does s h len at_id fit =
     let op : Op = ops.LookBox t p.epoch in
     let here : Here key s h c p op = here_at key s h id c p op at_id is_p (looks_op p t phase) in
     let now : Core = after_moves key h.run in
-    let kept : IsKept now = world_kept now here.world in
+    let kept : IsKept false now = world_kept now here.world in
     let n : ℕ = get_or s.words (index_of (length key.words) (length key.headers) op) 0 in
     let word : ℕ = cell (cells_of now) op in
     let at_phase : now.collector.phase ≡ Looking t = ap (λ (q : Private). q.phase) here.is ∙ phase in
@@ -340,7 +340,7 @@ returns_box key slots id t c p f st is_p phase does s h len at_id fit =
     let op : Op = ops.ReturnBox t p.epoch in
     let here : Here key s h c p op = here_at key s h id c p op at_id is_p (returns_op p t phase) in
     let now : Core = after_moves key h.run in
-    let kept : IsKept now = world_kept now here.world in
+    let kept : IsKept false now = world_kept now here.world in
     let n : ℕ = get_or s.words (index_of (length key.words) (length key.headers) op) 0 in
     let word : ℕ = cell (cells_of now) op in
     let at_phase : now.collector.phase ≡ Returning t = ap (λ (q : Private). q.phase) here.is ∙ phase in

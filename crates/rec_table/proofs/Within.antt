@@ -1,5 +1,5 @@
 -- The word of a mutator's operation is there.
-use Rattle.std.proofs.Common.{◌≡◌, ℕ, ◌+◌, ◌*◌, ◌<◌, ◌≤◌, length, sym, ap, ◌∙◌, subst, arith}
+use Rattle.std.proofs.Common.{◌≡◌, ℕ, ◌+◌, ◌*◌, ◌<◌, ◌≤◌, length, sym, ap, ◌∙◌, subst, arith, false}
 use Rattle.rec_table.proofs.Common.{Op, Private, IsMachine, KeepsSizes, IsMutator, Core, cells_of, mutator, IsKept, IsWithin, IsWorld, world_kept, actor_of, fields_many, IsOwnOp, own_next, index_of}
 use Rattle.rec_word.specs.declared.op.Op.TheVariants as ops
 use Rattle.rec_mutator.specs.Next.{next_of}
@@ -28,7 +28,7 @@ within key t p _ is z own names = absurd own
 pub there : (key : Core) (t : ℕ) (opened p : Private) (words : ℕ) → IsWorld key → IsMutator key.config t → opened ≡ mutator key t → KeepsSizes opened p → IsMachine p → NamesSlots p
     → words ≡ length key.words + length key.headers + 2 + length key.crossing → index_of (length key.words) (length key.headers) (next_of p) < words
 there key t opened p words world is at keeps machine names wide =
-    let kept : IsKept key = world_kept key world in
+    let kept : IsKept false key = world_kept key world in
     let own = (actor_of key t kept is).own in
     let slots : p.slots ≡ key.config.slots = keeps.slots ∙ ap (λ (q : Private). q.slots) at ∙ own.slots in
     let fields : p.fields ≡ key.config.fields = keeps.fields ∙ ap (λ (q : Private). q.fields) at ∙ own.fields in

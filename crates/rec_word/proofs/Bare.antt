@@ -1,7 +1,6 @@
 -- A word and its date.
-use Rattle.std.proofs.Common.{◌≡◌, ℕ, ◌+◌, ◌*◌, ◌/◌, ◌%◌, ◌^◌, ◌<◌, ◌≤◌, Bool, true, false, Option, None, Some, refl, sym, ap, ◌∙◌, arith}
+use Rattle.std.proofs.Common.{◌≡◌, ℕ, ◌+◌, ◌*◌, ◌/◌, ◌%◌, ◌^◌, ◌<◌, ◌≤◌, Bool, true, false, Option, None, Some, refl, ap, ◌∙◌, arith}
 use Rattle.std.proofs.Math.Nat.{mod-eq_of_lt, mul-add-mod_self_left}
-use Rattle.rec_word.specs.Atom.{leaves}
 use Rattle.rec_word.specs.Bare.{bare, date_of, dated_word, bare_in, bare_op}
 use Rattle.rec_word.specs.Op.{cell_of, written}
 use Rattle.rec_word.specs.Word.{low_bits, packed, predecessor, stamp_of, target_bits, target_of, IsStamp, IsTarget}

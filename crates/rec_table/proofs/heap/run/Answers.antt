@@ -1,5 +1,5 @@
 -- The contract of `run`: puts the parts of a world on a table, and makes the seats of its mutators.
-use Rattle.std.proofs.Common.{◌≡◌, ℕ, [], length, map, sym, ap, ◌∙◌, subst, arith, ◌≤◌, vec_capacity}
+use Rattle.std.proofs.Common.{◌≡◌, ℕ, [], length, map, sym, ap, ◌∙◌, subst, arith, ◌≤◌, vec_capacity, false}
 use mathlib.Core.Option.{some}
 use Rattle.rec_table.proofs.Common.{CollectorView, Core, IsKept, world_kept, boxes_out, IsWorld, fields_many}
 use Rattle.rec_collector.specs.Private as collectors
@@ -14,7 +14,7 @@ use Rattle.rec_table.proofs.heap.run.Goals.{In-Err}
 pub open-requires-clause-home : goal.open-requires-clause-home
 open-requires-clause-home c =
     let w : Core = c.args.was.now.value in
-    let kept : IsKept w = world_kept w c.requires.world in
+    let kept : IsKept false w = world_kept w c.requires.world in
     let words_many = kept.mutators.words in
     let boxes_many = kept.mutators.mailboxes in
     ap (map some) c.requires.parts.boxes ∙ sym (all_home w.crossing w.boxes (omega (arith, words_many, boxes_many)) c.requires.home)
@@ -22,7 +22,7 @@ open-requires-clause-home c =
 pub open-requires-clause-collector : goal.open-requires-clause-collector
 open-requires-clause-collector c =
     let w : Core = c.args.was.now.value in
-    let kept : IsKept w = world_kept w c.requires.world in
+    let kept : IsKept false w = world_kept w c.requires.world in
     let own : c.args.parts.collector ≡ w.collector = c.requires.parts.collector in
     (own, ap boxes_out own ∙ none_out_where_even w kept c.requires.home, subst (λ (p : collectors.Private). IsBetween p.phase) (sym own) kept.collector.between)
 
@@ -46,7 +46,7 @@ returns-in-Err-clause-refused c = c.of_parts-world.ensures.made c.args.was.now.v
 pub returns-in-Ok : goal.returns-in-Ok
 returns-in-Ok c =
     let is : c.in-Ok.board.table.shared.key.value ≡ c.args.was.now.value = ap (λ s. s.value) c.in-Ok.ensures.ok.0 in
-    let kept : IsKept c.args.was.now.value = world_kept c.args.was.now.value c.requires.world in
+    let kept : IsKept false c.args.was.now.value = world_kept c.args.was.now.value c.requires.world in
     let many : length c.args.parts.machines.items ≡ c.in-Ok.board.table.shared.key.value.config.mutators = ap length c.requires.parts.machines ∙ kept.mutators.many ∙ ap (λ (w : Core). w.config.mutators) (sym is) in
     let made : CollectorView → Core → ℕ → CollectorView = λ o w n. record { table = o.table; opened = w.collector; collecting = record { log = o.collecting.log; made = n; known = o.collecting.known } } in
     record {
@@ -67,7 +67,7 @@ open-requires-clause-words c = c.as_slice.ensures.value ∙ c.requires.parts.row
 pub open-requires-clause-layout : goal.open-requires-clause-layout
 open-requires-clause-layout c =
     let p = c.new-layout.ensures.parts in
-    let kept : IsKept c.args.was.now.value = world_kept c.args.was.now.value c.requires.world in
+    let kept : IsKept false c.args.was.now.value = world_kept c.args.was.now.value c.requires.world in
     (p.0 ∙ fields_many c.args.was.now.value c.args.parts.config.slots c.args.parts.config.fields kept (ap (λ k. k.slots) c.requires.parts.config) (ap (λ k. k.fields) c.requires.parts.config), p.1 ∙ ap (λ k. k.slots) c.requires.parts.config ∙ sym c.requires.world.shaped.headers, c.new-layout.ensures.layout)
 
 pub seat_all-machines-requires-clause-own : goal.seat_all-machines-requires-clause-own
@@ -92,7 +92,7 @@ pub invariant_of-result : goal.invariant_of-result
 invariant_of-result c =
     let is = c.in-Ok.ensures.ok.0 in
     let sizes = c.in-Ok.ensures.sizes in
-    let kept : IsKept c.args.was.now.value = world_kept c.args.was.now.value c.requires.world in
+    let kept : IsKept false c.args.was.now.value = world_kept c.args.was.now.value c.requires.world in
     let many : length c.args.parts.machines.items ≡ c.in-Ok.board.table.shared.key.value.config.mutators = ap length c.requires.parts.machines ∙ kept.mutators.many ∙ ap (λ (w : Core). w.config.mutators) (sym (ap (λ s. s.value) is)) in (
       subst (λ s. IsWorld s.value) (sym is) c.requires.world,
       subst (λ s. AreIdle s.value) (sym is) c.requires.idle,
