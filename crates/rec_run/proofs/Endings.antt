@@ -1,7 +1,7 @@
 -- How a run ends, from what its parts tell.
-use Rattle.std.proofs.Common.{◌≡◌, ◌≢◌, ◌⊎◌, inl, inr, ℕ, ◌+◌, ◌<◌, ◌≤◌, List, [], ◌∷◌, ◌++◌, Option, None, Some, Result, Ok, Err, length, map, refl, sym, ap, subst, ◌∙◌, arith}
+use Rattle.std.proofs.Common.{◌≡◌, ◌≢◌, ◌⊎◌, inl, inr, true, ℕ, ◌+◌, ◌<◌, ◌≤◌, List, [], ◌∷◌, ◌++◌, Option, None, Some, Result, Ok, Err, length, map, refl, sym, ap, subst, ◌∙◌, arith}
 use Rattle.std.specs.Result.{IfOk, result_or}
-use Rattle.std.proofs.lemmas.Bool.{cases_lt}
+use Rattle.std.proofs.lemmas.Bool.{cases_lt, false≢true}
 use Rattle.std.proofs.lemmas.List.{append-nil, length-append}
 use Rattle.rec_io.specs.Faults.{Rose}
 use Rattle.rec_io.specs.Sink.{Appends}
@@ -30,6 +30,7 @@ use Rattle.rec_play.specs.Start.{Start}
 use Rattle.rec_script.proofs.Refusing.{refused_no_text}
 use Rattle.rec_script.proofs.Uniqueness.{refused_once}
 use Rattle.rec_request.specs.declared.request.How.{How}
+use Rattle.rec_request.specs.declared.request.How.TheVariants as hows
 use Rattle.rec_request.specs.declared.request.Keeping.{Keeping}
 use Rattle.rec_request.specs.declared.request.Make.{Make}
 use Rattle.rec_request.specs.declared.request.Request.{Request}
@@ -37,6 +38,7 @@ use Rattle.rec_request.specs.declared.request.Resume.{Resume}
 use Rattle.rec_request.specs.declared.request.Request.TheVariants as requests
 use Rattle.rec_script.specs.Script.{ScriptContents, IsText, IsRefused}
 use Rattle.rec_run.specs.Resuming.{IsResumable, IsUnresumed}
+use Rattle.rec_run.specs.Running.{on_threads}
 use Rattle.rec_io.specs.Whole.{IsAtEnd}
 use Rattle.rec_run.proofs.Resumed.{unresumed_none}
 
@@ -378,3 +380,12 @@ bad_same e l m j k e_is is =
     let lines : l ≡ m = (cc) in
     let kinds : j ≡ k = (cc) in
     (cc)
+
+-- the one request that threads carry out
+pub for_threads : (request : Request) → on_threads request ≡ true → request ≡ requests.Answer hows.Threads
+for_threads (requests.Answer hows.Threads) is = refl
+for_threads (requests.Answer (hows.Play how)) is = absurd (false≢true is)
+for_threads (requests.Keep asked) is = absurd (false≢true is)
+for_threads (requests.Resume asked) is = absurd (false≢true is)
+for_threads (requests.Make make) is = absurd (false≢true is)
+for_threads requests.Audit is = absurd (false≢true is)
