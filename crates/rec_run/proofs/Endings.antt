@@ -24,7 +24,7 @@ use Rattle.rec_script.specs.declared.error.ScriptError.{ScriptError}
 use Rattle.rec_script.specs.declared.error.ScriptError.TheVariants.{Bad}
 use Rattle.rec_request.specs.CommandLine.{Asks, ReadsScript}
 use Rattle.rec_run.specs.Ends.{Passage, Failed, Ends, HasCause, passage}
-use Rattle.rec_run.specs.Headline.{Are, HasRead, IsAnswer, Answers, AnswersTo, TellsOf, HasRun, WroteAnswer, WroteFront, IsReadPast, IsRefusedFor, ReadRefused, ResumesTo, IsTail, is_summary, is_traced, printed, printed_order}
+use Rattle.rec_run.specs.Headline.{Are, HasRead, IsReadOut, IsAnswer, Answers, AnswersTo, TellsOf, HasRun, WroteAnswer, WroteFront, IsReadPast, IsRefusedFor, ReadRefused, ResumesTo, IsTail, is_summary, is_traced, printed, printed_order}
 use Rattle.rec_play.specs.Played.{last_moment}
 use Rattle.rec_play.specs.Start.{Start}
 use Rattle.rec_script.proofs.Refusing.{refused_no_text}
@@ -75,6 +75,10 @@ past_limit request bytes more rest line kind long is = go request
     go (requests.Make asked) = λ never. never
     go requests.Audit = λ never. never
 
+-- bytes within the limit that were read to the end
+pub read_short : (rest left : Option (List ℕ)) (bytes : List ℕ) → Passes rest left bytes → length bytes ≤ 16777216 → IsAtEnd rest left → IsReadOut rest left
+read_short rest left bytes passes short end = λ whole told. inl (end whole told, subst (λ (w : List ℕ). length w ≤ 16777216) (sym (all_read rest left bytes passes end whole told)) short)
+
 -- bytes that were refused, read to the end or past the limit
 pub read_refused : (request : Request) (rest left : Option (List ℕ)) (bytes : List ℕ) (line : ℕ) (kind : Kind) → Passes rest left bytes → (length bytes ≤ 16777216 → IsAtEnd rest left)
     → length bytes ≤ 16777216 + 65536 → IsRefusedFor request bytes line kind → ReadRefused request rest left line kind
@@ -82,7 +86,7 @@ read_refused request None left bytes line kind passes end few refused =
     record {
       bytes = bytes;
       read = λ whole told. untold (λ w. w ≡ bytes) whole told;
-      ended = λ whole told. untold (λ w. (left ≡ Some []) ⊎ IsReadPast w left) whole told;
+      ended = λ whole told. untold (λ w. ((left ≡ Some []) × (length w ≤ 16777216)) ⊎ IsReadPast w left) whole told;
       refused = refused;
     }
 read_refused request (Some rest) left bytes line kind passes end few refused =
@@ -99,7 +103,7 @@ read_refused request (Some rest) left bytes line kind passes end few refused =
           record {
             bytes = bytes;
             read = all_read (Some rest) left bytes passes (end short);
-            ended = λ whole told. inl (end short whole told);
+            ended = read_short (Some rest) left bytes passes short (end short);
             refused = refused;
           }
     ]
