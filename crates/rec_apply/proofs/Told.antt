@@ -1,15 +1,15 @@
 -- What is told of buffers beside the other ones of their mutators, register by register.
-use Rattle.std.proofs.Common.{◌≡◌, ◌≢◌, ℕ, ◌+◌, ◌<◌, ◌≤◌, Bool, true, false, eqb, cond, Option, None, Some, List, [], ◌∷◌, zero, suc, length, map, get_or, refl, arith, sym, ◌∙◌, ap, inl, inr}
+use Rattle.std.proofs.Common.{◌≡◌, ◌≢◌, ℕ, ◌+◌, ◌<◌, ◌≤◌, Bool, true, false, cond, Option, None, Some, List, [], ◌∷◌, zero, suc, length, map, get_or, refl, arith, sym, ◌∙◌, ap, inl, inr}
 use Rattle.std.specs.List.{sum_by}
 use Rattle.std.proofs.lemmas.Bool.{cases_eq, eq-eqb, ne_eqb}
 use Rattle.std.proofs.lemmas.List.Sums.{sum_by-cons}
-use Rattle.rec_counts.specs.Counts.{State, slot_at}
+use Rattle.rec_counts.specs.Counts.{State}
 use Rattle.rec_word.specs.Word.{is_slot}
 use Rattle.rec_counts.specs.Lists.{one}
 use Rattle.rec_log.specs.declared.contents.Contents.{Contents}
 use Rattle.rec_apply.specs.Batch.{AreAlike, blank, IsCovered, names, touches}
-use Rattle.rec_apply.specs.Targets.{added, held, leaf_born, leaves, named, new_target, old_target, taken, told_buffer, told_buffers, told_each, told_of, told_registers, told_steadily, written}
-use Rattle.rec_apply.proofs.Naming.{added_parts, named-cons, named-nil}
+use Rattle.rec_apply.specs.Targets.{added, leaf_born, leaves, named, new_target, old_target, taken, told_buffer, told_buffers, told_each, told_of, told_registers, told_steadily, written}
+use Rattle.rec_apply.proofs.Naming.{added_parts, named-cons}
 
 -- two registers that differ
 pub told_apart : (steady : Bool) (a b : Option ℕ) → a ≢ b → told_of steady a b ≡ a

@@ -1,11 +1,11 @@
 -- The contract of `apply`: counts a batch.
-use Rattle.std.proofs.Common.{◌≡◌, ℕ, ◌+◌, Bool, List, refl, arith}
+use Rattle.std.proofs.Common.{◌≡◌, Bool, List, refl, arith}
 use Rattle.rec_log.specs.declared.contents.Contents.{Contents}
-use Rattle.rec_counts.specs.Counts.{State, slot_at}
-use Rattle.rec_apply.specs.Batch.{applied, AreAlike, batch, IsApplied, IsCovered}
-use Rattle.rec_apply.specs.Targets.{added, taken, told_buffers}
+use Rattle.rec_counts.specs.Counts.{State}
+use Rattle.rec_apply.specs.Batch.{applied, batch, IsApplied, IsCovered}
+use Rattle.rec_apply.specs.Targets.{told_buffers}
 use Rattle.rec_apply.proofs.Touching.{taken_times}
-use Rattle.rec_apply.proofs.Told.{told_covered, told_even, told_fewer}
+use Rattle.rec_apply.proofs.Told.{told_covered}
 use Rattle.rec_apply.proofs.Whole.{is_applied, applied_count}
 use Rattle.rec_apply.proofs.batch.apply.Goals as goal
 

@@ -1,10 +1,10 @@
 -- The contract of `tell_change`: what a register of a steady heap held before and holds now.
-use Rattle.std.proofs.Common.{◌≡◌, ◌≢◌, ◌∷◌, [], true, refl, sym, ap, ◌∙◌, arith, rules}
+use Rattle.std.proofs.Common.{◌≢◌, ◌∷◌, [], true, refl, sym, arith, rules}
 use Rattle.rec_word.specs.Word.{is_slot}
 use Rattle.rec_counts.specs.Lists.{one}
-use Rattle.rec_apply.specs.Targets.{slots_in, told_of}
-use Rattle.rec_apply.proofs.Tells.{tells_none, tells_then}
-use Rattle.rec_apply.proofs.Told.{told_apart, told_equal}
+use Rattle.rec_apply.specs.Targets.{slots_in}
+use Rattle.rec_apply.proofs.Tells.{tells_then}
+use Rattle.rec_apply.proofs.Told.{told_apart}
 use Rattle.rec_apply.proofs.telling.tell_change.Goals as goal
 
 pub returns-then-ne : goal.returns-then-ne

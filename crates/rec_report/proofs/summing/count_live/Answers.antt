@@ -1,5 +1,4 @@
 -- As many as were numbered.
-use Rattle.std.proofs.Common.{◌≡◌}
 use Rattle.rec_report.proofs.Summed.{counted}
 use Rattle.rec_report.proofs.summing.count_live.Goals as goal
 

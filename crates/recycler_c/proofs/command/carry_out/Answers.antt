@@ -1,5 +1,5 @@
 -- The contract of `carry_out`: a command of a mutator, in straight code where it goes its usual way.
-use Rattle.std.proofs.Common.{◌≡◌, Some, [], ◌∷◌, refl, sym, subst, ◌∙◌}
+use Rattle.std.proofs.Common.{◌≡◌, [], ◌∷◌, refl, sym, subst, ◌∙◌}
 use Rattle.std.specs.Arc.{arc_value}
 use Rattle.rec_mutator.specs.declared.work.Work.TheVariants as works
 use Rattle.rec_table.specs.Answered.{IsAnswered, Leaves}

@@ -1,5 +1,5 @@
 -- The contract of `Machine::lost`: a scan goes on behind its first probe.
-use Rattle.std.proofs.Common.{◌≡◌, ℕ, Bool, true, false, sym, ap, subst, ◌∙◌}
+use Rattle.std.proofs.Common.{◌≡◌, ℕ, Bool, false, sym, ap, subst, ◌∙◌}
 use Rattle.rec_model.specs.Asking.{allocation}
 use Rattle.rec_model.specs.declared.command.Cmd.{Cmd}
 use Rattle.rec_mutator.specs.Next.{next_of}

@@ -1,5 +1,5 @@
 -- The contract of `Machine::wrote`: what is learnt of a write.
-use Rattle.std.proofs.Common.{◌≡◌, Bool, false, Some, refl, sym, ap, subst, ◌∙◌}
+use Rattle.std.proofs.Common.{◌≡◌, false, Some, sym, ap, subst, ◌∙◌}
 use Rattle.rec_mutator.specs.Inside.{private}
 use Rattle.rec_mutator.specs.Private.{Private, HasOperands, IsMachine, answer_at, is_full, register, word_for}
 use Rattle.rec_mutator.specs.Took.{begun_of, took_of}

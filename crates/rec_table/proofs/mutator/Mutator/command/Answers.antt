@@ -1,5 +1,5 @@
 -- The contract of `Mutator::command`: carries out a command, and tells the answer.
-use Rattle.std.proofs.Common.{◌≡◌, None, Some, [], ◌∷◌, refl, sym, ◌∙◌, subst}
+use Rattle.std.proofs.Common.{[], ◌∷◌, sym, ◌∙◌, subst}
 use Rattle.rec_mutator.specs.declared.work.Work.TheVariants as works
 use Rattle.rec_table.proofs.Common.{KeepsSizes, IsMutatorOf, MutatorView, Works, mutator_now}
 use Rattle.rec_table.specs.Answered.{IsAnswered, Leaves}

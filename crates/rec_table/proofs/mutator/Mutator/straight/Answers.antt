@@ -1,5 +1,5 @@
 -- The contract of `Mutator::straight`: carries out a command in straight code, where it goes its usual way.
-use Rattle.std.proofs.Common.{◌≡◌, sym, subst}
+use Rattle.std.proofs.Common.{sym, subst}
 use Rattle.rec_table.proofs.Common.{IsMutatorOf, IsWorld, MutatorView, Started, mutator_now, started}
 use Rattle.rec_table.specs.Rule.{MayAsk}
 use Rattle.rec_table.specs.Straight.{CarriedOr}
