@@ -51,8 +51,10 @@ pub fn carry_out_alone<R: Threads + Sync, S: Source, K: Sink>(
     ensures never_falls { K.faults sink.old ≤ K.faults sink.new }
 {
     match request {
-        Request::Answer(How::Play(how)) => play_source(rt, alloc, how, source, sink),
-        Request::Answer(How::Threads) => unreachable!(),
+        Request::Answer(how) => match how {
+            How::Play(play) => play_source(rt, alloc, play, source, sink),
+            How::Threads => unreachable!(),
+        },
         Request::Keep(asked) => keep_source(alloc, asked, source, sink),
         Request::Resume(asked) => resume_source(rt, alloc, asked, source, sink),
         Request::Make(make) => write_made(alloc, make, sink),
