@@ -10,7 +10,7 @@ use Rattle.rec_audit.specs.Verdicts.IsVerdict.{yes, long, no as first_fault}
 use Rattle.rec_run.specs.Headline.{HasRead, IsReadPast, SaysVerdict, WroteAnswer, WroteFront}
 use Rattle.rec_io.specs.Whole.{IsAtEnd}
 use Rattle.rec_request.specs.declared.request.Request.TheVariants as requests
-use Rattle.rec_run.proofs.Endings.{all_read, some_same}
+use Rattle.rec_run.proofs.Endings.{all_read, read_short, some_same}
 
 -- of bytes past the limit the same is said as of all that follow
 past : (bytes more rest : List ℕ) (verdict : Verdict) → 16777216 < length bytes → rest ≡ bytes ++ more → IsVerdict bytes verdict → IsVerdict rest verdict
@@ -28,7 +28,7 @@ said : (rest left : Option (List ℕ)) (bytes text : List ℕ) → Passes rest l
 said None left bytes text passes end few says =
     record {
       bytes = bytes;
-      read = (λ whole told. untold (λ w. w ≡ bytes) whole told, λ whole told. untold (λ w. (left ≡ Some []) ⊎ IsReadPast w left) whole told);
+      read = (λ whole told. untold (λ w. w ≡ bytes) whole told, λ whole told. untold (λ w. ((left ≡ Some []) × (length w ≤ 16777216)) ⊎ IsReadPast w left) whole told);
       says = says;
     }
 said (Some rest) left bytes text passes end few says =
@@ -46,7 +46,7 @@ said (Some rest) left bytes text passes end few says =
       | inr short ↦
           record {
             bytes = bytes;
-            read = (all_read (Some rest) left bytes passes (end short), λ whole told. inl (end short whole told));
+            read = (all_read (Some rest) left bytes passes (end short), read_short (Some rest) left bytes passes short (end short));
             says = says;
           }
     ]

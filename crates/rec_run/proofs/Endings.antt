@@ -1,7 +1,7 @@
 -- How a run ends, from what its parts tell.
-use Rattle.std.proofs.Common.{◌≡◌, ◌≢◌, ◌⊎◌, inl, inr, ℕ, ◌+◌, ◌<◌, ◌≤◌, List, [], ◌∷◌, ◌++◌, Option, None, Some, Result, Ok, Err, length, map, refl, sym, ap, subst, ◌∙◌, arith}
+use Rattle.std.proofs.Common.{◌≡◌, ◌≢◌, ◌⊎◌, inl, inr, true, ℕ, ◌+◌, ◌<◌, ◌≤◌, List, [], ◌∷◌, ◌++◌, Option, None, Some, Result, Ok, Err, length, map, refl, sym, ap, subst, ◌∙◌, arith}
 use Rattle.std.specs.Result.{IfOk, result_or}
-use Rattle.std.proofs.lemmas.Bool.{cases_lt}
+use Rattle.std.proofs.lemmas.Bool.{cases_lt, false≢true}
 use Rattle.std.proofs.lemmas.List.{append-nil, length-append}
 use Rattle.rec_io.specs.Faults.{Rose}
 use Rattle.rec_io.specs.Sink.{Appends}
@@ -24,12 +24,13 @@ use Rattle.rec_script.specs.declared.error.ScriptError.{ScriptError}
 use Rattle.rec_script.specs.declared.error.ScriptError.TheVariants.{Bad}
 use Rattle.rec_request.specs.CommandLine.{Asks, ReadsScript}
 use Rattle.rec_run.specs.Ends.{Passage, Failed, Ends, HasCause, passage}
-use Rattle.rec_run.specs.Headline.{Are, HasRead, IsAnswer, Answers, AnswersTo, TellsOf, HasRun, WroteAnswer, WroteFront, IsReadPast, IsRefusedFor, ReadRefused, ResumesTo, IsTail, is_summary, is_traced, printed, printed_order}
+use Rattle.rec_run.specs.Headline.{Are, HasRead, IsReadOut, IsAnswer, Answers, AnswersTo, TellsOf, HasRun, WroteAnswer, WroteFront, IsReadPast, IsRefusedFor, ReadRefused, ResumesTo, IsTail, is_summary, is_traced, printed, printed_order}
 use Rattle.rec_play.specs.Played.{last_moment}
 use Rattle.rec_play.specs.Start.{Start}
 use Rattle.rec_script.proofs.Refusing.{refused_no_text}
 use Rattle.rec_script.proofs.Uniqueness.{refused_once}
 use Rattle.rec_request.specs.declared.request.How.{How}
+use Rattle.rec_request.specs.declared.request.How.TheVariants as hows
 use Rattle.rec_request.specs.declared.request.Keeping.{Keeping}
 use Rattle.rec_request.specs.declared.request.Make.{Make}
 use Rattle.rec_request.specs.declared.request.Request.{Request}
@@ -37,6 +38,7 @@ use Rattle.rec_request.specs.declared.request.Resume.{Resume}
 use Rattle.rec_request.specs.declared.request.Request.TheVariants as requests
 use Rattle.rec_script.specs.Script.{ScriptContents, IsText, IsRefused}
 use Rattle.rec_run.specs.Resuming.{IsResumable, IsUnresumed}
+use Rattle.rec_run.specs.Running.{on_threads}
 use Rattle.rec_io.specs.Whole.{IsAtEnd}
 use Rattle.rec_run.proofs.Resumed.{unresumed_none}
 
@@ -73,6 +75,10 @@ past_limit request bytes more rest line kind long is = go request
     go (requests.Make asked) = λ never. never
     go requests.Audit = λ never. never
 
+-- bytes within the limit that were read to the end
+pub read_short : (rest left : Option (List ℕ)) (bytes : List ℕ) → Passes rest left bytes → length bytes ≤ 16777216 → IsAtEnd rest left → IsReadOut rest left
+read_short rest left bytes passes short end = λ whole told. inl (end whole told, subst (λ (w : List ℕ). length w ≤ 16777216) (sym (all_read rest left bytes passes end whole told)) short)
+
 -- bytes that were refused, read to the end or past the limit
 pub read_refused : (request : Request) (rest left : Option (List ℕ)) (bytes : List ℕ) (line : ℕ) (kind : Kind) → Passes rest left bytes → (length bytes ≤ 16777216 → IsAtEnd rest left)
     → length bytes ≤ 16777216 + 65536 → IsRefusedFor request bytes line kind → ReadRefused request rest left line kind
@@ -80,7 +86,7 @@ read_refused request None left bytes line kind passes end few refused =
     record {
       bytes = bytes;
       read = λ whole told. untold (λ w. w ≡ bytes) whole told;
-      ended = λ whole told. untold (λ w. (left ≡ Some []) ⊎ IsReadPast w left) whole told;
+      ended = λ whole told. untold (λ w. ((left ≡ Some []) × (length w ≤ 16777216)) ⊎ IsReadPast w left) whole told;
       refused = refused;
     }
 read_refused request (Some rest) left bytes line kind passes end few refused =
@@ -97,7 +103,7 @@ read_refused request (Some rest) left bytes line kind passes end few refused =
           record {
             bytes = bytes;
             read = all_read (Some rest) left bytes passes (end short);
-            ended = λ whole told. inl (end short whole told);
+            ended = read_short (Some rest) left bytes passes short (end short);
             refused = refused;
           }
     ]
@@ -378,3 +384,12 @@ bad_same e l m j k e_is is =
     let lines : l ≡ m = (cc) in
     let kinds : j ≡ k = (cc) in
     (cc)
+
+-- the one request that threads carry out
+pub for_threads : (request : Request) → on_threads request ≡ true → request ≡ requests.Answer hows.Threads
+for_threads (requests.Answer hows.Threads) is = refl
+for_threads (requests.Answer (hows.Play how)) is = absurd (false≢true is)
+for_threads (requests.Keep asked) is = absurd (false≢true is)
+for_threads (requests.Resume asked) is = absurd (false≢true is)
+for_threads (requests.Make make) is = absurd (false≢true is)
+for_threads requests.Audit is = absurd (false≢true is)

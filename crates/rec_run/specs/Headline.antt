@@ -286,9 +286,9 @@ pub record IsReadPast (rest : List ℕ) (left : Option (List ℕ)) : Type 0 wher
   pub many : MOST_BYTES < length bytes
   pub few : length bytes ≤ MOST_BYTES + 65536
 
--- a source was read to its end, or past the limit of a script
+-- a source was read to its end, which is within the limit of a script, or past that limit
 abbrev pub IsReadOut : Option (List ℕ) → Option (List ℕ) → Type 0
-IsReadOut before after = ForSome before (λ rest. (after ≡ Some []) ⊎ IsReadPast rest after)
+IsReadOut before after = ForSome before (λ rest. ((after ≡ Some []) × (length rest ≤ MOST_BYTES)) ⊎ IsReadPast rest after)
 
 -- what a request reads of a source: all its bytes, and nothing for a made script; a journal may be read past its limit, since of one
 -- that long one thing is said, whatever follows

@@ -11,7 +11,7 @@ ghost use Rattle.rec_report.specs.Text.{IsOrderOf};
 ghost use Rattle.rec_world.specs.World.{opened, sight};
 ghost use Rattle.rec_play.specs.Played.{config_of, lines_of};
 ghost use Rattle.rec_play.specs.Start.{MayBegin, Start, opening_of};
-ghost use Rattle.rec_request.specs.CommandLine.{HasFewTurns};
+ghost use Rattle.rec_request.specs.declared.request.How.TheVariants as hows;
 ghost use Rattle.rec_run.specs.Headline.{Answers, is_summary, printed};
 ghost use Rattle.rec_run.specs.Outcome.{IsOutcome};
 ghost use Rattle.rec_run.specs.Tracing.{tail_of};
@@ -23,7 +23,7 @@ use crate::playing::play_script;
 use crate::tracing::{Traced, trace_world};
 use rec_play::config_for;
 use rec_report::{Text, summary, text};
-use rec_request::How;
+use rec_request::{How, Play};
 use rec_script::Script;
 use rec_settle::settle;
 use rec_threads::Gate;
@@ -32,19 +32,34 @@ use std::alloc::{AllocError as NoMemory, Global};
 use std::sync::Wait;
 use std::thread::Threads;
 
-/// The answer to a script that is run so: the whole text, or a summary, and behind it the line of a trace where one is asked for.
-pub fn answer_script<R: Threads + Wait + Sync, G: Gate>(
+/// The answer to a script that is played so: the whole text, or a summary, and behind it the line of a trace where one is asked for. It
+/// waits for nobody, so it returns.
+pub fn answer_played<R: Threads + Sync>(
     rt: &R,
     alloc: Global,
     script: &Script,
-    how: How,
+    how: Play,
+) -> Result<Text, NoMemory>
+    requires { how.turns ≤ MOST_TURNS }
+    ensures { IfOk result (λ text. Answers script.now (opening_of script.now) (hows.Play how) (flat_map (λ line. line) text)) }
+{
+    let mut outcome = play_script(alloc, script, how, &mut Auditor::without_audit())?;
+    let answered = answer_outcome(rt, alloc, script, How::Play(how), &mut outcome);
+    drop(outcome);
+    answered
+}
+
+/// The answer to a script whose commands are carried out on threads.
+pub fn answer_driven<R: Threads + Wait + Sync, G: Gate>(
+    rt: &R,
+    alloc: Global,
+    script: &Script,
     gate: &G,
 ) -> Result<Text, NoMemory>
-    requires { HasFewTurns how }
-    ensures { IfOk result (λ text. Answers script.now (opening_of script.now) how (flat_map (λ line. line) text)) }
+    ensures { IfOk result (λ text. Answers script.now (opening_of script.now) hows.Threads (flat_map (λ line. line) text)) }
 {
-    let mut outcome = carry_out(rt, alloc, script, how, gate)?;
-    let answered = answer_outcome(rt, alloc, script, how, &mut outcome);
+    let mut outcome = drive_script(rt, alloc, script, gate)?;
+    let answered = answer_outcome(rt, alloc, script, How::Threads, &mut outcome);
     drop(outcome);
     answered
 }
@@ -69,24 +84,6 @@ pub fn answer_outcome<R: Threads + Sync>(
     };
     let text = write_text(alloc, script, wants_summary(how), outcome)?;
     end_text(alloc, text, traced, settled.live)
-}
-
-// Carries out a script's commands on a heap of its own.
-fn carry_out<R: Threads + Wait + Sync, G: Gate>(
-    rt: &R,
-    alloc: Global,
-    script: &Script,
-    how: How,
-    gate: &G,
-) -> Result<Outcome, NoMemory>
-    requires { HasFewTurns how }
-    ensures outcome { IfOk result (IsOutcome script.now (opening_of script.now) how) }
-    ensures epochs { IfOk result (λ outcome. outcome.world.epoch ≤ MOST_TURNS + 1) }
-{
-    match how {
-        How::Play(play) => play_script(alloc, script, play, &mut Auditor::without_audit()),
-        How::Threads => drive_script(rt, alloc, script, gate),
-    }
 }
 
 // Whether a summary is written in place of the whole text.

@@ -13,6 +13,7 @@
 //! The form of a script and of its answer is this project's profile (`docs/PROFILE.md`).
 #![tactic(auto)]
 
+mod alone;
 mod answer;
 mod auditing;
 mod driving;
@@ -26,5 +27,6 @@ mod status;
 mod tracing;
 mod writing;
 
+pub use alone::carry_out_alone;
 pub use running::run;
 pub use status::Status;

@@ -1,38 +1,32 @@
 //! The top call: from words, and the bytes of a script or a journal, to the bytes of an answer.
-ghost use Rattle.std.specs.Prelude.{◌≡◌, ◌≢◌, ◌⊎◌, ℕ, ◌≤◌, false, List, Option, Some, map, string_bytes, IfOk};
+ghost use Rattle.std.specs.Prelude.{◌≡◌, ◌≢◌, ◌⊎◌, ℕ, ◌≤◌, false, List, Option, Some, map, IfOk};
 ghost use Rattle.std.specs.List.{flat_map};
-ghost use Rattle.rec_model.specs.declared.limits.TheConstants.{MOST_COMMANDS, MOST_SCRIPT_MUTATORS, MOST_TURNS};
 ghost use Rattle.rec_io.specs.Faults.{Rose};
 ghost use Rattle.rec_io.specs.Source.{Passes};
 ghost use Rattle.rec_io.specs.Told.{KeepsTold};
-ghost use Rattle.rec_image.specs.Restored.{config_of as config_in};
-ghost use Rattle.rec_play.specs.Played.{config_of, log_room};
-ghost use Rattle.rec_play.specs.Start.{Start};
 ghost use Rattle.rec_script.specs.Script.{IsText, IsRefused};
 ghost use Rattle.rec_script.specs.declared.error.Kind.{Kind};
-ghost use Rattle.rec_request.specs.CommandLine.{Asks, AsksToAudit, AsksToMake, AsksToRead, AsksToResume, HasFewTurns, IsCommandLine, IsInRange, ReadsSource};
-ghost use Rattle.rec_run.specs.Ends.{Ends, HasCause, passage, untouched};
-ghost use Rattle.rec_run.specs.Headline.{Answers, AnswersTo, ResumesTo, SaysVerdict, TellsOf, WroteAnswer, WroteFront};
-ghost use Rattle.rec_run.specs.Resuming.{IsRestoredFor, IsResumable, IsUnresumed};
+ghost use Rattle.rec_request.specs.CommandLine.{Asks, AsksToAudit, AsksToMake, AsksToRead, AsksToResume, IsCommandLine, IsInRange, ReadsSource};
+ghost use Rattle.rec_run.specs.Ends.{Ends, HasCause, passage};
+ghost use Rattle.rec_run.specs.Headline.{AnswersTo, WroteAnswer, WroteFront};
+ghost use Rattle.rec_run.specs.Resuming.{IsResumable, IsUnresumed};
+ghost use Rattle.rec_run.specs.Running.{on_threads};
 ghost use Rattle.rec_run.specs.Status.{may_write};
 ghost use Rattle.rec_request.specs.declared.request.How.TheVariants as hows;
 ghost use Rattle.rec_request.specs.declared.request.Request.{Request as Asked};
 
-use crate::answer::{answer_outcome, answer_script};
+use crate::alone::carry_out_alone;
+use crate::answer::answer_driven;
 use crate::finish::finish;
-use crate::keeping::keep_script;
-use crate::resuming::{read_resumed, resume_script};
 use crate::status::Status;
 use crate::writing::write_lines;
-use rec_audit::check;
-use rec_image::Image;
-use rec_io::{Flush, ReadStop, Sink, Source, read_all, write_text};
+use rec_io::{Flush, ReadStop, Sink, Source, read_all};
 use rec_model::limits::MOST_BYTES;
 use rec_report::Text;
-use rec_request::{How, Keeping, Make, Play, Refusal, Request, Resume, read_words};
-use rec_script::{Script, ScriptError, read};
+use rec_request::{How, Refusal, Request, read_words};
+use rec_script::{ScriptError, read};
 use rec_threads::Gate;
-use std::alloc::{AllocError as NoMemory, Global};
+use std::alloc::Global;
 use std::sync::Wait;
 use std::thread::Threads;
 
@@ -125,26 +119,29 @@ fn carry_out<R: Threads + Wait + Sync, S: Source, K: Sink, G: Gate>(
     ensures left { (bytes : List ℕ) × Passes (S.rest source.old) (S.rest source.new) bytes }
     ensures never_falls { K.faults sink.old ≤ K.faults sink.new }
 {
-    match request {
-        Request::Answer(how) => answer_source(rt, alloc, how, source, sink, gate),
-        Request::Keep(asked) => keep_source(alloc, asked, source, sink),
-        Request::Resume(asked) => resume_source(rt, alloc, asked, source, sink),
-        Request::Make(make) => write_made(alloc, make, sink),
-        Request::Audit => audit_source(alloc, source, sink),
+    if on_threads(&request) {
+        drive_source(rt, alloc, source, sink, gate)
+    } else {
+        carry_out_alone(rt, alloc, request, source, sink)
     }
 }
 
-// Reads a script to its end, runs it, and writes its answer.
-fn answer_source<R: Threads + Wait + Sync, S: Source, K: Sink, G: Gate>(
+// Whether a request is carried out by threads that wait for one another.
+fn on_threads(request: &Request) -> bool
+    ensures { result ≡ on_threads request.now }
+{
+    matches!(request, Request::Answer(How::Threads))
+}
+
+// Reads a script to its end, has threads carry out its commands, and writes its answer.
+fn drive_source<R: Threads + Wait + Sync, S: Source, K: Sink, G: Gate>(
     rt: &R,
     alloc: Global,
-    how: How,
     source: &mut S,
     sink: &mut K,
     gate: &G,
 ) -> Status
-    requires { HasFewTurns how }
-    ensures ends { Ends (Request.Answer how) result (passage S.rest S.faults source.old source.new) (passage K.written K.faults sink.old sink.new) }
+    ensures ends { Ends (Request.Answer hows.Threads) result (passage S.rest S.faults source.old source.new) (passage K.written K.faults sink.old sink.new) }
     ensures unwritten { may_write result ≡ false → sink.new ≡ sink.old }
     ensures reads { result ≢ Status.ReadFault → S.faults source.new ≡ S.faults source.old }
     ensures writes { result ≢ Status.WriteFault → K.faults sink.new ≡ K.faults sink.old }
@@ -156,7 +153,7 @@ fn answer_source<R: Threads + Wait + Sync, S: Source, K: Sink, G: Gate>(
         Err(ReadStop::Fault) => return Status::ReadFault,
         Err(ReadStop::NoMemory) => return Status::NoMemory,
     };
-    let text = match answer(rt, alloc, how, bytes, gate) {
+    let text = match answer_on_threads(rt, alloc, bytes, gate) {
         Ok(text) => text,
         Err(ScriptError::Bad { line, kind }) => return Status::BadScript { line, kind },
         Err(ScriptError::NoMemory) => return Status::NoMemory,
@@ -167,194 +164,18 @@ fn answer_source<R: Threads + Wait + Sync, S: Source, K: Sink, G: Gate>(
     }
 }
 
-// The answer of the script in the bytes.
-fn answer<R: Threads + Wait + Sync, G: Gate>(
+// The answer of the script in the bytes, whose commands threads carry out.
+fn answer_on_threads<R: Threads + Wait + Sync, G: Gate>(
     rt: &R,
     alloc: Global,
-    how: How,
     bytes: Vec<u8>,
     gate: &G,
 ) -> Result<Text, ScriptError>
-    requires { HasFewTurns how }
-    ensures answer { IfOk result (λ text. AnswersTo bytes.items how (flat_map (λ line. line) text)) }
+    ensures answer { IfOk result (λ text. AnswersTo bytes.items hows.Threads (flat_map (λ line. line) text)) }
     ensures refused { (line : ℕ) (kind : Kind) → result ≡ Err (ScriptError.Bad line kind) → IsRefused bytes.items line kind }
 {
     let script = read(alloc, &bytes)?;
     // The bytes are needed no more: their room is given back before the journals take theirs.
     drop(bytes);
-    answer_script(rt, alloc, &script, how, gate).map_err(|_| ScriptError::NoMemory)
-}
-
-// Reads a script to its end, plays it, and writes what is to be kept of it.
-fn keep_source<S: Source, K: Sink>(
-    alloc: Global,
-    asked: Keeping,
-    source: &mut S,
-    sink: &mut K,
-) -> Status
-    requires { asked.turns ≤ MOST_TURNS }
-    ensures ends { Ends (Request.Keep asked) result (passage S.rest S.faults source.old source.new) (passage K.written K.faults sink.old sink.new) }
-    ensures unwritten { may_write result ≡ false → sink.new ≡ sink.old }
-    ensures reads { result ≢ Status.ReadFault → S.faults source.new ≡ S.faults source.old }
-    ensures writes { result ≢ Status.WriteFault → K.faults sink.new ≡ K.faults sink.old }
-    ensures left { (bytes : List ℕ) × Passes (S.rest source.old) (S.rest source.new) bytes }
-    ensures never_falls { K.faults sink.old ≤ K.faults sink.new }
-{
-    let bytes = match read_all(alloc, source, MOST_BYTES) {
-        Ok(bytes) => bytes,
-        Err(ReadStop::Fault) => return Status::ReadFault,
-        Err(ReadStop::NoMemory) => return Status::NoMemory,
-    };
-    let kept = match keep(alloc, asked, bytes) {
-        Ok(kept) => kept,
-        Err(ScriptError::Bad { line, kind }) => return Status::BadScript { line, kind },
-        Err(ScriptError::NoMemory) => return Status::NoMemory,
-    };
-    match write_text(sink, &kept) {
-        Ok(()) => Status::Done,
-        Err(_) => Status::WriteFault,
-    }
-}
-
-// What is to be kept of the script in the bytes.
-fn keep(alloc: Global, asked: Keeping, bytes: Vec<u8>) -> Result<Vec<u8>, ScriptError>
-    requires { asked.turns ≤ MOST_TURNS }
-    ensures told { IfOk result (λ kept. TellsOf bytes.items asked kept.items) }
-    ensures refused { (line : ℕ) (kind : Kind) → result ≡ Err (ScriptError.Bad line kind) → IsRefused bytes.items line kind }
-{
-    let played = read(alloc, &bytes)?;
-    // The bytes are needed no more: their room is given back before what is kept takes its own.
-    drop(bytes);
-    keep_script(alloc, &played, asked).map_err(|_| ScriptError::NoMemory)
-}
-
-// Reads an image and the mutators behind it to the end, goes on from there, and writes the answer.
-fn resume_source<R: Threads + Sync, S: Source, K: Sink>(
-    rt: &R,
-    alloc: Global,
-    asked: Resume,
-    source: &mut S,
-    sink: &mut K,
-) -> Status
-    requires { asked.turns ≤ MOST_TURNS }
-    ensures ends { Ends (Request.Resume asked) result (passage S.rest S.faults source.old source.new) (passage K.written K.faults sink.old sink.new) }
-    ensures unwritten { may_write result ≡ false → sink.new ≡ sink.old }
-    ensures reads { result ≢ Status.ReadFault → S.faults source.new ≡ S.faults source.old }
-    ensures writes { result ≢ Status.WriteFault → K.faults sink.new ≡ K.faults sink.old }
-    ensures left { (bytes : List ℕ) × Passes (S.rest source.old) (S.rest source.new) bytes }
-    ensures never_falls { K.faults sink.old ≤ K.faults sink.new }
-{
-    let bytes = match read_all(alloc, source, MOST_BYTES) {
-        Ok(bytes) => bytes,
-        Err(ReadStop::Fault) => return Status::ReadFault,
-        Err(ReadStop::NoMemory) => return Status::NoMemory,
-    };
-    let text = match resume(rt, alloc, asked, bytes) {
-        Ok(text) => text,
-        Err(ScriptError::Bad { line, kind }) => return Status::BadScript { line, kind },
-        Err(ScriptError::NoMemory) => return Status::NoMemory,
-    };
-    match write_lines(sink, &text) {
-        Ok(()) => Status::Done,
-        Err(_) => Status::WriteFault,
-    }
-}
-
-// The answer of the image in the bytes, and of the mutators behind it.
-fn resume<R: Threads + Sync>(
-    rt: &R,
-    alloc: Global,
-    asked: Resume,
-    bytes: Vec<u8>,
-) -> Result<Text, ScriptError>
-    requires { asked.turns ≤ MOST_TURNS }
-    ensures answer { IfOk result (λ text. ResumesTo bytes.items asked (flat_map (λ line. line) text)) }
-    ensures refused { (line : ℕ) (kind : Kind) → result ≡ Err (ScriptError.Bad line kind) → IsUnresumed bytes.items line kind }
-{
-    let (image, script) = match read_resumed(alloc, &bytes) {
-        Ok(read) => read,
-        Err(error) => return Err(error),
-    };
-    // The bytes are needed no more: their room is given back before the heap takes its own.
-    drop(bytes);
-    let how = Play {
-        seed: asked.seed,
-        turns: asked.turns,
-        summary: false,
-        trace: false,
-    };
-    let answered = answer_resumed(rt, alloc, &image, &script, how);
-    drop((image, script));
-    match answered {
-        Ok(text) => Ok(text),
-        Err(_) => Err(ScriptError::NoMemory),
-    }
-}
-
-// The answer of a script that goes on from an image with its numbers.
-fn answer_resumed<R: Threads + Sync>(
-    rt: &R,
-    alloc: Global,
-    image: &Image,
-    script: &Script,
-    how: Play,
-) -> Result<Text, NoMemory>
-    requires turns { how.turns ≤ MOST_TURNS }
-    requires numbers { config_in image.now (log_room script.now) false ≡ config_of script.now }
-    ensures { IfOk result (λ text. (start : Start) × IsRestoredFor image.now script.now start × Answers script.now start (hows.Play how) (flat_map (λ line. line) text)) }
-{
-    let mut outcome = resume_script(alloc, script, image, how)?;
-    let answered = answer_outcome(rt, alloc, script, How::Play(how), &mut outcome);
-    drop(outcome);
-    answered
-}
-
-// Reads a journal to its end, or past its limit, and writes what is to be said of it.
-fn audit_source<S: Source, K: Sink>(alloc: Global, source: &mut S, sink: &mut K) -> Status
-    ensures ends { Ends Request.Audit result (passage S.rest S.faults source.old source.new) (passage K.written K.faults sink.old sink.new) }
-    ensures unwritten { may_write result ≡ false → sink.new ≡ sink.old }
-    ensures reads { result ≢ Status.ReadFault → S.faults source.new ≡ S.faults source.old }
-    ensures writes { result ≢ Status.WriteFault → K.faults sink.new ≡ K.faults sink.old }
-    ensures left { (bytes : List ℕ) × Passes (S.rest source.old) (S.rest source.new) bytes }
-    ensures never_falls { K.faults sink.old ≤ K.faults sink.new }
-{
-    let bytes = match read_all(alloc, source, MOST_BYTES) {
-        Ok(bytes) => bytes,
-        Err(ReadStop::Fault) => return Status::ReadFault,
-        Err(ReadStop::NoMemory) => return Status::NoMemory,
-    };
-    let Ok(text) = verdict_text(alloc, &bytes) else {
-        return Status::NoMemory;
-    };
-    match write_text(sink, text.as_bytes()) {
-        Ok(()) => Status::Done,
-        Err(_) => Status::WriteFault,
-    }
-}
-
-// What is to be said of a journal, as a line.
-fn verdict_text(alloc: Global, bytes: &[u8]) -> Result<String, NoMemory>
-    ensures { IfOk result (λ text. SaysVerdict bytes.now (string_bytes text)) }
-{
-    let verdict = check(alloc, bytes)?;
-    let text = format!(in alloc; "{verdict}\n")?;
-    Ok(text)
-}
-
-// Writes a made script. Whatever source there is, nothing is read from it.
-fn write_made<K: Sink>(alloc: Global, make: Make, sink: &mut K) -> Status
-    requires mutators { (1 ≤ make.mutators) × (make.mutators ≤ MOST_SCRIPT_MUTATORS) }
-    requires commands { make.commands ≤ MOST_COMMANDS }
-    ensures ends { (rest : Option (List ℕ)) (faults : ℕ) → Ends (Request.Make make) result (untouched rest faults) (passage K.written K.faults sink.old sink.new) }
-    ensures unwritten { may_write result ≡ false → sink.new ≡ sink.old }
-    ensures writes { result ≢ Status.WriteFault → K.faults sink.new ≡ K.faults sink.old }
-    ensures never_falls { K.faults sink.old ≤ K.faults sink.new }
-{
-    let Ok(text) = rec_script::make(alloc, make.seed, make.mutators, make.commands) else {
-        return Status::NoMemory;
-    };
-    match write_text(sink, &text) {
-        Ok(()) => Status::Done,
-        Err(_) => Status::WriteFault,
-    }
+    answer_driven(rt, alloc, &script, gate).map_err(|_| ScriptError::NoMemory)
 }

@@ -1,42 +1,10 @@
--- What was done is what the request asks, and nothing else.
-use Rattle.std.proofs.Common.{sym, subst}
+-- A request for threads is driven, and every other one is carried out alone.
+use Rattle.std.proofs.Common.{◌≡◌, true, sym, subst}
 use Rattle.rec_request.specs.CommandLine.{ReadsSource}
+use Rattle.rec_request.specs.declared.request.How.TheVariants as hows
+use Rattle.rec_request.specs.declared.request.Request.{Request}
+use Rattle.rec_request.specs.declared.request.Request.TheVariants as requests
 use Rattle.rec_run.specs.Ends.{Ends, passage}
+use Rattle.rec_run.specs.Running.{on_threads}
+use Rattle.rec_run.proofs.Endings.{for_threads}
 use Rattle.rec_run.proofs.running.carry_out.Goals as goal
-
-pub returns-in-Answer-clause-ends : goal.returns-in-Answer-clause-ends
-returns-in-Answer-clause-ends g c =
-    subst (λ request. Ends request c.answer_source.result (passage g.S.Source.rest g.S.Source.faults c.args.source.now c.answer_source.new.source) (passage g.K.Sink.written g.K.Sink.faults c.args.sink.now c.answer_source.new.sink))
-    (sym c.in-Answer.is) c.answer_source.ensures.ends
-
-pub returns-in-Answer-clause-unread : goal.returns-in-Answer-clause-unread
-returns-in-Answer-clause-unread g c = λ never. absurd (never (subst ReadsSource (sym c.in-Answer.is) tt))
-
-pub returns-in-Make-clause-ends : goal.returns-in-Make-clause-ends
-returns-in-Make-clause-ends g c =
-    subst (λ request. Ends request c.write_made.result (passage g.S.Source.rest g.S.Source.faults c.args.source.now c.args.source.now) (passage g.K.Sink.written g.K.Sink.faults c.args.sink.now c.write_made.new.sink))
-    (sym c.in-Make.is) (c.write_made.ensures.ends (g.S.Source.rest c.args.source.now) (g.S.Source.faults c.args.source.now))
-
-pub returns-in-Keep-clause-ends : goal.returns-in-Keep-clause-ends
-returns-in-Keep-clause-ends g c =
-    subst (λ request. Ends request c.keep_source.result (passage g.S.Source.rest g.S.Source.faults c.args.source.now c.keep_source.new.source) (passage g.K.Sink.written g.K.Sink.faults c.args.sink.now c.keep_source.new.sink))
-    (sym c.in-Keep.is) c.keep_source.ensures.ends
-
-pub returns-in-Keep-clause-unread : goal.returns-in-Keep-clause-unread
-returns-in-Keep-clause-unread g c = λ never. absurd (never (subst ReadsSource (sym c.in-Keep.is) tt))
-
-pub returns-in-Resume-clause-ends : goal.returns-in-Resume-clause-ends
-returns-in-Resume-clause-ends g c =
-    subst (λ request. Ends request c.resume_source.result (passage g.S.Source.rest g.S.Source.faults c.args.source.now c.resume_source.new.source) (passage g.K.Sink.written g.K.Sink.faults c.args.sink.now c.resume_source.new.sink))
-    (sym c.in-Resume.is) c.resume_source.ensures.ends
-
-pub returns-in-Resume-clause-unread : goal.returns-in-Resume-clause-unread
-returns-in-Resume-clause-unread g c = λ never. absurd (never (subst ReadsSource (sym c.in-Resume.is) tt))
-
-pub returns-in-Audit-clause-ends : goal.returns-in-Audit-clause-ends
-returns-in-Audit-clause-ends g c =
-    subst (λ request. Ends request c.audit_source.result (passage g.S.Source.rest g.S.Source.faults c.args.source.now c.audit_source.new.source) (passage g.K.Sink.written g.K.Sink.faults c.args.sink.now c.audit_source.new.sink))
-    (sym c.in-Audit.is) c.audit_source.ensures.ends
-
-pub returns-in-Audit-clause-unread : goal.returns-in-Audit-clause-unread
-returns-in-Audit-clause-unread g c = λ never. absurd (never (subst ReadsSource (sym c.in-Audit.is) tt))

@@ -3,7 +3,7 @@ use Rattle.std.proofs.Common.{refl}
 use Rattle.rec_request.specs.declared.request.Request.TheVariants as requests
 use Rattle.rec_run.proofs.Endings.{bad_same, read_refused, wrote_resumed, wrote_resumed_front}
 use Rattle.rec_run.proofs.Fronts.{joined}
-use Rattle.rec_run.proofs.running.resume_source.Goals as goal
+use Rattle.rec_run.proofs.alone.resume_source.Goals as goal
 
 pub returns-in-Err-Bad-clause-ends : goal.returns-in-Err-Bad-clause-ends
 returns-in-Err-Bad-clause-ends g c =

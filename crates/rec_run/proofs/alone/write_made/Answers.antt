@@ -3,7 +3,7 @@ use Rattle.std.proofs.Common.{rules, ◌≡◌, ◌++◌, ℕ, List, subst}
 use Rattle.rec_io.specs.Sink.{Appends}
 use Rattle.rec_script.specs.Made.{made_text}
 use Rattle.rec_run.proofs.Makings.{wrote_made, wrote_made_front}
-use Rattle.rec_run.proofs.running.write_made.Goals as goal
+use Rattle.rec_run.proofs.alone.write_made.Goals as goal
 
 pub returns-in-Ok-write_text-clause-ends : goal.returns-in-Ok-write_text-clause-ends
 returns-in-Ok-write_text-clause-ends g c = λ rest faults.

@@ -1,6 +1,6 @@
 -- The answer is told from the heap that the image was restored as.
 use Rattle.std.proofs.lemmas.Result.{IfOk-weaker}
-use Rattle.rec_run.proofs.running.answer_resumed.Goals as goal
+use Rattle.rec_run.proofs.alone.answer_resumed.Goals as goal
 
 pub returns : goal.returns
 returns g c =

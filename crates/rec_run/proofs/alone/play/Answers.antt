@@ -1,11 +1,11 @@
--- The contract of `answer`: the answer of the script in the bytes.
+-- The contract of `play`: the answer of the script in the bytes.
 use Rattle.std.proofs.Common.{◌≡◌, sym, ap, subst, ◌∙◌, Result, Err}
 use Rattle.std.proofs.lemmas.Result.{err_from_is_err_and}
 use Rattle.rec_script.specs.declared.script.Script.{Script}
 use Rattle.rec_script.specs.declared.error.ScriptError.{ScriptError}
 use Rattle.rec_script.specs.declared.error.ScriptError.TheVariants.{Bad}
 use Rattle.rec_script.specs.Script.{IsRefused}
-use Rattle.rec_run.proofs.running.answer.Goals as goal
+use Rattle.rec_run.proofs.alone.play.Goals as goal
 
 pub returns-in_err-script-clause-refused : goal.returns-in_err-script-clause-refused
 returns-in_err-script-clause-refused g c = λ line kind is.

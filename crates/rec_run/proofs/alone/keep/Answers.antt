@@ -5,7 +5,7 @@ use Rattle.rec_script.specs.declared.script.Script.{Script}
 use Rattle.rec_script.specs.declared.error.ScriptError.{ScriptError}
 use Rattle.rec_script.specs.declared.error.ScriptError.TheVariants.{Bad}
 use Rattle.rec_script.specs.Script.{IsRefused}
-use Rattle.rec_run.proofs.running.keep.Goals as goal
+use Rattle.rec_run.proofs.alone.keep.Goals as goal
 
 pub returns-in_err-played-clause-refused : goal.returns-in_err-played-clause-refused
 returns-in_err-played-clause-refused c = λ line kind is.

@@ -10,7 +10,7 @@ use Rattle.rec_run.specs.Resuming.{IsResumedAs, IsRestoredFor, IsUnresumed, Tell
 use Rattle.rec_request.specs.declared.request.How.{How}
 use Rattle.rec_request.specs.declared.request.How.TheVariants as hows
 use Rattle.rec_run.proofs.Resumed.{numbers_same}
-use Rattle.rec_run.proofs.running.resume.Goals as goal
+use Rattle.rec_run.proofs.alone.resume.Goals as goal
 
 pub returns-in-Err-clause-refused : goal.returns-in-Err-clause-refused
 returns-in-Err-clause-refused g c = λ line kind is.

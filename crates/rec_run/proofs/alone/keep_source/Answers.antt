@@ -3,7 +3,7 @@ use Rattle.std.proofs.Common.{◌≡◌, ◌++◌, ℕ, List, refl, subst}
 use Rattle.rec_io.specs.Sink.{Appends}
 use Rattle.rec_request.specs.declared.request.Request.TheVariants as requests
 use Rattle.rec_run.proofs.Endings.{bad_same, read_refused, wrote_kept, wrote_kept_front}
-use Rattle.rec_run.proofs.running.keep_source.Goals as goal
+use Rattle.rec_run.proofs.alone.keep_source.Goals as goal
 
 pub returns-in-Err-Bad-clause-ends : goal.returns-in-Err-Bad-clause-ends
 returns-in-Err-Bad-clause-ends g c =

@@ -4,7 +4,7 @@ use Rattle.std.specs.Prelude.{string_bytes}
 use Rattle.rec_io.specs.Sink.{Appends}
 use Rattle.rec_run.specs.Headline.{SaysVerdict}
 use Rattle.rec_run.proofs.Audits.{wrote_verdict, wrote_verdict_front}
-use Rattle.rec_run.proofs.running.audit_source.Goals as goal
+use Rattle.rec_run.proofs.alone.audit_source.Goals as goal
 
 pub returns-in-Ok-write_text-clause-ends : goal.returns-in-Ok-write_text-clause-ends
 returns-in-Ok-write_text-clause-ends g c =

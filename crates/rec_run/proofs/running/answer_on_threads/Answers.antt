@@ -1,0 +1,15 @@
+-- The contract of `answer_on_threads`: the answer of the script in the bytes.
+use Rattle.std.proofs.Common.{◌≡◌, sym, ap, subst, ◌∙◌, Result, Err}
+use Rattle.std.proofs.lemmas.Result.{err_from_is_err_and}
+use Rattle.rec_script.specs.declared.script.Script.{Script}
+use Rattle.rec_script.specs.declared.error.ScriptError.{ScriptError}
+use Rattle.rec_script.specs.declared.error.ScriptError.TheVariants.{Bad}
+use Rattle.rec_script.specs.Script.{IsRefused}
+use Rattle.rec_run.proofs.running.answer_on_threads.Goals as goal
+
+pub returns-in_err-script-clause-refused : goal.returns-in_err-script-clause-refused
+returns-in_err-script-clause-refused g c = λ line kind is.
+    let p = err_from_is_err_and c.from_residual.result c.from_residual.ensures.1 in
+    let same : p.0 ≡ Bad line kind = cc in
+    let was : ◌≡◌ {A = Result Script ScriptError} (Err c.in_err-script.field-0.0) (Err (Bad line kind)) = ap (λ (x : ScriptError). Err x) (sym p.2 ∙ same) in
+    subst (λ bytes. IsRefused bytes line kind) c.deref.ensures.value (c.in_err-script.ensures.refused line kind was)
