@@ -155,7 +155,7 @@ lasts p first n w k t (Ran.more m v word r b l) some =
     let keeps = keeps_word q v word c.machine it l in
     let e : p.turns + m ≡ p.turns + (m + 1 - 1) = omega arith in
     let is : landed q (tried (parts_of q) w) ≡ landed (before_last p (m + 1)) (tried (parts_of p) w) =
-        ap (λ (x : Private). landed x (tried (parts_of x) w)) at ∙ (λ i. landed (record p { turns = e i }) (tried (parts_of p) w)) in
+    ap (λ (x : Private). landed x (tried (parts_of x) w)) at ∙ (λ i. landed (record p { turns = e i }) (tried (parts_of p) w)) in
     record {
       machine = subst IsMachine is keeps.machine;
       sizes = subst (KeepsSizes p) is (sizes_on p q (landed q (tried (parts_of q) w)) c.sizes keeps.sizes);

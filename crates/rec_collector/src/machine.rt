@@ -255,7 +255,12 @@ impl Machine {
     /// Makes turns of the trial that is at work, at least one and at most so many, on the words that `L` loads. It tells how many it
     /// made, and what the last one came to. Only that one may come to something else than `Moved`.
     #[inline(always)]
-    pub fn run_trial<B, S, L: Loads<B, S>>(&mut self, board: &B, seat: &mut S, most: u32) -> (u32, Turn)
+    pub fn run_trial<B, S, L: Loads<B, S>>(
+        &mut self,
+        board: &B,
+        seat: &mut S,
+        most: u32,
+    ) -> (u32, Turn)
         requires trying { IsTryingIn self.old.phase }
         requires some { 0 < most }
         requires stands { (w : Work) → IsTrialOf self.old w → L.StandsAt board.now seat.old 0 w }
@@ -267,7 +272,9 @@ impl Machine {
         ensures same { KeepsSizes self.old self.new }
         ensures kept { IsMachine self.new }
     {
-        let made = self.parts.run_trial::<B, S, L>(&mut self.phase, board, seat, most);
+        let made = self
+            .parts
+            .run_trial::<B, S, L>(&mut self.phase, board, seat, most);
         self.turns += u64::from(made);
         (made, self.end_if_nothing_is_free())
     }

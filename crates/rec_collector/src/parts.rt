@@ -150,7 +150,13 @@ impl Parts {
 
     /// Fields are loaded for the trial, at least one and at most so many. It answers how many were.
     #[inline(always)]
-    pub(crate) fn run_trial<B, S, L: Loads<B, S>>(&mut self, phase: &mut Phase, board: &B, seat: &mut S, most: u32) -> u32
+    pub(crate) fn run_trial<B, S, L: Loads<B, S>>(
+        &mut self,
+        phase: &mut Phase,
+        board: &B,
+        seat: &mut S,
+        most: u32,
+    ) -> u32
         requires may { MayTry self.old phase.old }
         requires some { 0 < most }
         requires stands { (m : Trying) → phase.old ≡ Phase.Trying m → L.StandsAt board.now seat.old 0 (record { machine = m; counts = self.old.counts }) }

@@ -68,7 +68,11 @@ impl Model for Collector {
 
 // Makes the operation of a turn that looks at no mailbox, and no more.
 #[inline(always)]
-pub(crate) fn make_turn<W: Turning>(board: &Board, seat: &mut Seat<Option<Buffer>, View>, op: Op) -> u64
+pub(crate) fn make_turn<W: Turning>(
+    board: &Board,
+    seat: &mut Seat<Option<Buffer>, View>,
+    op: Op,
+) -> u64
     requires table { seat.old.table_id ≡ board.now.table.shared.table_id }
     requires seat { seat.old.me ≡ (Collects (collecting_of seat.old.me.0), boxes_out W.actor) }
     requires actor { W.actor ≡ gathered_all board.now.table.shared.key.value.collector (collecting_of seat.old.me.0).log }
@@ -374,7 +378,12 @@ impl Collector {
         ensures further { result.1 ≡ Turn.Moved → from < result.0 }
         ensures same { self.new ≡ record self.old { collecting = record self.old.collecting { log = self.new.collecting.log } } }
     {
-        let (made, turn) = run_trial::<Brand>(board, &mut self.seat, &mut self.machine, most - from);
+        let (made, turn) = run_trial::<Brand>(
+            board,
+            &mut self.seat,
+            &mut self.machine,
+            most - from,
+        );
         match turn {
             Turn::Moved => (from + made, turn),
             _ => (from + (made - 1), turn),

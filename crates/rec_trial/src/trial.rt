@@ -117,7 +117,13 @@ impl Trial {
     /// Loads words and learns them, at least one and at most so many, as long as something comes next. It answers how many. All that
     /// the trial has is kept in locals meanwhile: the compiler loads nothing of it again behind a load that others may see.
     #[inline(always)]
-    pub fn run<B, S, L: Loads<B, S>>(&mut self, counts: &mut Counts, board: &B, seat: &mut S, most: u32) -> u32
+    pub fn run<B, S, L: Loads<B, S>>(
+        &mut self,
+        counts: &mut Counts,
+        board: &B,
+        seat: &mut S,
+        most: u32,
+    ) -> u32
         requires busy { IsSome (next_of self.old) }
         requires kept { IsAtWork self.old counts.old }
         requires some { 0 < most }
@@ -153,7 +159,14 @@ impl Trial {
 
     // Goes on with a run up to the end of a phase, where so many words of so many were loaded, and answers how many were then.
     #[inline(always)]
-    fn run_on<B, S, L: Loads<B, S>>(&mut self, counts: &mut Counts, board: &B, seat: &mut S, from: u32, most: u32) -> u32
+    fn run_on<B, S, L: Loads<B, S>>(
+        &mut self,
+        counts: &mut Counts,
+        board: &B,
+        seat: &mut S,
+        from: u32,
+        most: u32,
+    ) -> u32
         requires busy { IsSome (next_of self.old) }
         requires kept { IsAtWork self.old counts.old }
         requires fewer { from < most }
@@ -167,9 +180,30 @@ impl Trial {
     {
         match self.phase {
             Phase::Idle => unreachable!(),
-            Phase::Marking => self.run_in::<B, S, L>(Phase::Marking, counts, board, seat, from, most),
-            Phase::Scanning => self.run_in::<B, S, L>(Phase::Scanning, counts, board, seat, from, most),
-            Phase::Collecting => self.run_in::<B, S, L>(Phase::Collecting, counts, board, seat, from, most),
+            Phase::Marking => self.run_in::<B, S, L>(
+                Phase::Marking,
+                counts,
+                board,
+                seat,
+                from,
+                most,
+            ),
+            Phase::Scanning => self.run_in::<B, S, L>(
+                Phase::Scanning,
+                counts,
+                board,
+                seat,
+                from,
+                most,
+            ),
+            Phase::Collecting => self.run_in::<B, S, L>(
+                Phase::Collecting,
+                counts,
+                board,
+                seat,
+                from,
+                most,
+            ),
         }
     }
 

@@ -16,8 +16,7 @@ written_more items old slots place i l r h =
 
 pub loop-index-preserved : goal.loop-index-preserved
 loop-index-preserved c =
-    let r : c.loop-index.index < length c.args.slots.now = omega (arith, c.loop-index-test.true) in
-    (
+    let r : c.loop-index.index < length c.args.slots.now = omega (arith, c.loop-index-test.true) in (
       length-set _ _ _ ∙ c.loop-index.invariant.0,
       written_more c.loop-index.items c.args.items.now c.args.slots.now c.args.place c.loop-index.index (omega (arith, c.requires, c.loop-index.invariant.0, r)) r c.loop-index.invariant.1,
     )

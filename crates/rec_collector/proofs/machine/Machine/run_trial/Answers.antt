@@ -33,7 +33,7 @@ returns-clause-ran g c =
     let n : Next = record { parts = c.run_trial-made.new.self; phase = c.run_trial-made.new.phase } in
     let ends = c.end_if_nothing_is_free.ensures in
     let told = run_told p (record { machine = m.0; counts = p.counts }) c.run_trial-made.result ran.0 n c.self.invariant (record { phase = m.1; counts = refl }) ran.1 c.run_trial-made.ensures.some ran.3 c.from.result c.from.ensures
-        c.end_if_nothing_is_free.new.self c.end_if_nothing_is_free.result ends.took ends.turn ends.same in
+    c.end_if_nothing_is_free.new.self c.end_if_nothing_is_free.result ends.took ends.turn ends.same in
     (ran.0, ran.2, λ q turn runs. told.0 q turn (subst (λ (x : Private). RunsTo x c.run_trial-made.result ran.0 q turn) (sym c.self.view_is) runs))
 
 pub returns-clause-same : goal.returns-clause-same
@@ -44,5 +44,5 @@ returns-clause-same g c =
     let n : Next = record { parts = c.run_trial-made.new.self; phase = c.run_trial-made.new.phase } in
     let ends = c.end_if_nothing_is_free.ensures in
     let told = run_told p (record { machine = m.0; counts = p.counts }) c.run_trial-made.result ran.0 n c.self.invariant (record { phase = m.1; counts = refl }) ran.1 c.run_trial-made.ensures.some ran.3 c.from.result c.from.ensures
-        c.end_if_nothing_is_free.new.self c.end_if_nothing_is_free.result ends.took ends.turn ends.same in
+    c.end_if_nothing_is_free.new.self c.end_if_nothing_is_free.result ends.took ends.turn ends.same in
     subst (λ (x : Private). KeepsSizes x c.end_if_nothing_is_free.new.self) c.self.view_is told.1

@@ -12,6 +12,6 @@ returns-then-slots-len c =
     let size : length ys ≡ length xs = c.write_at.auto.items ∙ ap (length {A = ℕ}) c.deref_mut.ensures.value in
     let whole : take c.self.inside.items.len (ys ++ drop (length ys) xs) ≡ ys = take_at _ _ _ (c.write_at.auto.items ∙ c.deref_mut.ensures.len) in
     let written : take (c.self.inside.end + length c.args.slots.now) ys ≡ take c.self.inside.end xs ++ c.args.slots.now =
-        c.write_at.ensures ∙ ap (λ (zs : List ℕ). take c.self.inside.end zs ++ c.args.slots.now) c.deref_mut.ensures.value in
+    c.write_at.ensures ∙ ap (λ (zs : List ℕ). take c.self.inside.end zs ++ c.args.slots.now) c.deref_mut.ensures.value in
     let shelf : List ℕ → ℕ → Shelf = λ list room. record { list = list; room = room } in
     rw (← c.self.view_is, whole) (ap₂ shelf (window_more xs ys c.args.slots.now c.self.inside.head c.self.inside.end c.self.invariant.0 c.self.invariant.1 written) size)
