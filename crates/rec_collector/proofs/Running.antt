@@ -102,6 +102,16 @@ given_word : (q : Private) (w : Work) (word : ℕ) → IsTrialOf q w → LeadsTo
 unfolding IsGiven IsGivenAt
 given_word q w word t l = subst (IsGivenAt q word) (sym t.phase) (subst (λ (s : State). LeadsToUnreleased s word) (sym t.counts) l)
 
+-- a machine that takes in a word for its trial is one still
+pub word_keeps : (q : Private) (w : Work) (word : ℕ) → IsMachine q → IsTrialOf q w → LeadsToUnreleased w.counts word → IsMachine (took_of q word) × KeepsSizes q (took_of q word)
+word_keeps q w word k t l =
+    let f : Next = follows q w word in
+    let keeps = keeps_word q w word k t l in
+    let is = sym (tried_step q w word t).0 in (
+      subst IsMachine is (came_keeps q f keeps.machine),
+      subst (KeepsSizes q) is (sizes_on q (landed q f) (came q f) keeps.sizes (ended_sizes (landed q f) f.phase keeps.machine)),
+    )
+
 -- A machine that is at a trial's work, after so many words.
 pub record Came (p : Private) (n : ℕ) (w : Work) : Type 0 where
   pub now : Private
@@ -115,14 +125,13 @@ pub came_more : (p : Private) (n : ℕ) (w : Work) (word : ℕ) → Came p n w �
 came_more p n w word c b l =
     let q : Private = c.now in
     let t : IsTrialOf q w = (run_works p n w q c.turn c.runs b).0 in
-    let f : Next = follows q w word in
-    let k = keeps_word q w word c.machine t l in
+    let k = word_keeps q w word c.machine t l in
     record {
       now = took_of q word;
       turn = turn_of q word;
       runs = RunsTo.more n w q c.turn word c.runs t b (given_word q w word t l);
-      machine = subst IsMachine (sym (tried_step q w word t).0) (came_keeps q f k.machine);
-      sizes = subst (KeepsSizes p) (sym (tried_step q w word t).0) (sizes_on p q (came q f) c.sizes (sizes_on q (landed q f) (came q f) k.sizes (ended_sizes (landed q f) f.phase k.machine)));
+      machine = k.0;
+      sizes = sizes_on p q (took_of q word) c.sizes k.1;
     }
 
 pub came_ran : (p : Private) (first : Work) (n : ℕ) (w : Work) → IsMachine p → IsTrialOf p first → Ran first n w → Came p n w

@@ -27,6 +27,7 @@ pub mod Stopped
 pub mod Straight
 pub mod Stopping
 pub mod Turn
+pub mod TrialRuns
 pub mod Turns
 pub mod Within
 pub mod Freeing

@@ -31,6 +31,7 @@ use crate::heap::Heap;
 use crate::operating::{compare_exchange, fetch_add, join_seat, load, split_seat, swap};
 use crate::rule::{Glanced, Looked, Returned, Turned, Turning};
 use crate::telling::Telling;
+use crate::trying::run_trial;
 use crate::views::View;
 use atomic_table::Seat;
 use rec_collector::{Kind, Machine, Sets, Turn};
@@ -67,7 +68,11 @@ impl Model for Collector {
 
 // Makes the operation of a turn that looks at no mailbox, and no more.
 #[inline(always)]
-fn make_turn<W: Turning>(board: &Board, seat: &mut Seat<Option<Buffer>, View>, op: Op) -> u64
+pub(crate) fn make_turn<W: Turning>(
+    board: &Board,
+    seat: &mut Seat<Option<Buffer>, View>,
+    op: Op,
+) -> u64
     requires table { seat.old.table_id ≡ board.now.table.shared.table_id }
     requires seat { seat.old.me ≡ (Collects (collecting_of seat.old.me.0), boxes_out W.actor) }
     requires actor { W.actor ≡ gathered_all board.now.table.shared.key.value.collector (collecting_of seat.old.me.0).log }
@@ -341,10 +346,47 @@ impl Collector {
         match self.kind() {
             Kind::Releasing => self.run_as(heap, Kind::Releasing, from, most),
             Kind::Freeing => self.run_as(heap, Kind::Freeing, from, most),
-            Kind::Trying => self.run_as(heap, Kind::Trying, from, most),
+            Kind::Trying => self.run_trying(heap, from, most),
             Kind::Preparing => self.run_as(heap, Kind::Preparing, from, most),
             Kind::Sweeping => self.run_as(heap, Kind::Sweeping, from, most),
             Kind::Other => self.run_as(heap, Kind::Other, from, most),
+        }
+    }
+
+    // The same for turns of a trial, which the machine makes in a loop of its own.
+    #[inline(always)]
+    fn run_trying(&mut self, heap: &Heap, from: u32, most: u32) -> (u32, Turn)
+        requires own { IsCollectorOf heap.now self.old }
+        requires fewer { from < most }
+        requires kind { Kind.Trying ≡ kind_of (collector_now self.old).phase }
+
+        ensures made { (first : CollectorView) → MovesTo first from self.old → MakesSome first self.new result.0 most result.1 }
+        ensures further { result.1 ≡ Turn.Moved → from < result.0 }
+        ensures own { IsCollectorOf heap.now self.new }
+    {
+        self.run_trying_on(heap.board(), from, most)
+    }
+
+    #[inline(always)]
+    fn run_trying_on(&mut self, board: &Board, from: u32, most: u32) -> (u32, Turn)
+        requires own { IsOwn board.now.table.shared.table_id board.now.table.shared.key.value self.old }
+        requires world { IsWorld board.now.table.shared.key.value }
+        requires fewer { from < most }
+        requires kind { Kind.Trying ≡ kind_of (collector_now self.old).phase }
+
+        ensures made { (first : CollectorView) → MovesTo first from self.old → MakesSome first self.new result.0 most result.1 }
+        ensures further { result.1 ≡ Turn.Moved → from < result.0 }
+        ensures same { self.new ≡ record self.old { collecting = record self.old.collecting { log = self.new.collecting.log } } }
+    {
+        let (made, turn) = run_trial::<Brand>(
+            board,
+            &mut self.seat,
+            &mut self.machine,
+            most - from,
+        );
+        match turn {
+            Turn::Moved => (from + made, turn),
+            _ => (from + (made - 1), turn),
         }
     }
 

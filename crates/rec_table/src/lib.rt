@@ -28,6 +28,7 @@ mod seating;
 mod spare;
 mod start;
 mod telling;
+mod trying;
 mod views;
 
 pub use collector::Collector;
