@@ -5,7 +5,7 @@
  * thread's processor time. Boehm's collector alone is told how many bytes its heap may have, and with `whole` takes them at once. It prints
  * how many objects were made, in how many nanoseconds by the wall, how many births were refused, and of the births the longest call and the
  * longest wait, refused calls included, in nanoseconds. At the end stands how many bytes the heap holds. Before the clock starts, the first
- * thread makes a list of LIVE objects, which it keeps to the end.
+ * thread makes a list of LIVE objects, which it keeps to the end. After each thing that it makes, a register of it walks WALK objects on.
  *
  * A program says before it includes this: FIELDS that an object has, REGISTERS that a thread has, two at least, OBJECTS in a thing, and
  * KEPT, how many objects registers reach in the end, beside the list. And it has the call `replace`. */
@@ -21,8 +21,8 @@
 #include <string.h>
 #include <time.h>
 
-/* One register more names the list, in the first thread. */
-enum { LIST = REGISTERS, ALL_REGISTERS };
+/* One register more names the list, in the first thread, and another one walks over it, if any does. */
+enum { LIST = REGISTERS, WALKER, ALL_REGISTERS = WALKER + (WALK > 0) };
 
 /* A thread, and what it told: when it began and ended, how many births were refused, and the longest call and wait. */
 typedef struct maker {
@@ -37,7 +37,8 @@ typedef struct seat seat;
 static void replace(maker *m, seat *s, long round);
 
 /* An allocator's. `make` tells whether there was room for the object; after a refused birth comes give_way. A thread polls for each eight
- * objects or so. `empty` lets a register be null, and `drop` says besides that nothing else names what the register reaches. */
+ * objects or so. `follow` lets a register name what its object's field leads to, and tells whether that is an object. `empty` lets a
+ * register be null, and `drop` says besides that nothing else names what the register reaches. */
 static void open_heap(uint64_t most_bytes, bool whole);
 static uint64_t heap_bytes(void);
 static void close_heap(void);
@@ -47,6 +48,7 @@ static void poll(seat *s);
 static void give_way(seat *s);
 static bool make(seat *s, int reg, uint32_t label);
 static void link_to(seat *s, int from, int field, int to);
+static bool follow(seat *s, int reg, int field);
 static void copy(seat *s, int to, int from);
 static void empty(seat *s, int reg);
 static void drop(seat *s, int reg);
@@ -151,6 +153,15 @@ static void make_list(seat *s) {
     empty(s, NEXT_ONE);
 }
 
+/* Behind its last object the walk begins anew. */
+static void walk(seat *s) {
+    for (int step = 0; step < WALK; step++) {
+        if (!follow(s, WALKER, 0)) {
+            copy(s, WALKER, LIST);
+        }
+    }
+}
+
 static void *work(void *given) {
     maker *m = given;
     seat s;
@@ -162,6 +173,9 @@ static void *work(void *given) {
     m->begun = now(CLOCK_MONOTONIC);
     for (long round = 0; round < rounds; round++) {
         replace(m, &s, round);
+        if (m->number == 0) {
+            walk(&s);
+        }
     }
     m->ended = now(CLOCK_MONOTONIC);
     leave(&s);

@@ -55,6 +55,12 @@ static void link_to(seat *s, int from, int field, int to) {
     s->registers[from]->fields[field] = s->registers[to];
 }
 
+static bool follow(seat *s, int reg, int field) {
+    object *from = s->registers[reg];
+    s->registers[reg] = from == NULL ? NULL : from->fields[field];
+    return s->registers[reg] != NULL;
+}
+
 static void copy(seat *s, int to, int from) {
     s->registers[to] = s->registers[from];
 }

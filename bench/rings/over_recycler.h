@@ -109,6 +109,12 @@ static void link_to(seat *s, int from, int field, int to) {
     }
 }
 
+static bool follow(seat *s, int reg, int field) {
+    recycler_asked told;
+    must(recycler_get(s->mutator, reg, reg, field, &told), "get");
+    return told.answer == RECYCLER_OBJECT;
+}
+
 static void copy(seat *s, int to, int from) {
     recycler_asked told;
     must(recycler_copy(s->mutator, to, from, &told), "copy");
