@@ -190,8 +190,8 @@ typedef struct recycler_totals_told {
 
 /* Opens a heap at rest, in a closed `recycler`. One object with label 0 stands in slot 0 and in register 0 of each mutator. The memory of
  * the heap at rest and of its handles is taken here. The heap is steady: a register that holds the same object at two successive crossings
- * costs the collector one comparison, and no trial of what that object reaches. A register that changes makes a candidate root of the
- * object that it leaves, and the next trial looks at everything that this object reaches.
+ * costs the collector one comparison, and no trial of what that object reaches. If a register has changed, the object that it held before
+ * becomes a candidate root, unless it is a leaf or is freed: the next trial looks at everything that it reaches.
  * slots: objects that fit, 1 to 65,535. fields: of each object, 1 to 16. registers: of each mutator, 1 to 64. mutators: 1 to 63.
  * log_entries: that the log of each mutator holds, 1 to 262,143. Each allocation and each field write, null included, uses one entry; a
  * refused command uses none. A poll that crosses empties the log, and there is an epoch to cross into once the collector's turns have begun
