@@ -96,6 +96,8 @@ pub enum Fact {
     Label(u16),
     /// Whether the object in the slot is a leaf.
     Leaf(u16),
+    /// The colour of the slot.
+    Colour(u16),
     /// The word of the field with this place.
     Field(u32),
     /// What a register of a mutator names.
@@ -112,6 +114,8 @@ pub enum Fact {
     EpochOf(u8),
     /// What became of the sets that were tested.
     Sets,
+    /// The candidate roots that no trial has taken yet, in order.
+    Roots,
     /// Whether every mailbox is home.
     Mailboxes,
     /// A number of the heap as a whole.

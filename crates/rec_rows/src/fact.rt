@@ -5,7 +5,8 @@ ghost use Rattle.rec_core.specs.Config.{IsMutator};
 ghost use Rattle.rec_world.specs.World.{IsWorld};
 
 use crate::action::{Fact, Whole};
-use crate::told::{number, yes};
+use crate::told::{listed, number, yes};
+use rec_counts::Colour;
 use rec_world::{Numbering, World};
 use std::alloc::{AllocError as NoMemory, Global};
 
@@ -19,6 +20,7 @@ pub fn shown(alloc: Global, world: &World, fact: Fact) -> Result<String, NoMemor
         Fact::Label(at) => label(alloc, world, at),
         Fact::Leaf(at) => leaf(alloc, world, at),
         Fact::Number(at) => number_of(alloc, world, at),
+        Fact::Colour(at) => colour(alloc, world, at),
         Fact::Field(place) => field(alloc, world, place),
         Fact::Register(t, r) => register(alloc, world, t, r),
         Fact::Valid(t, cmd) => yes(alloc, world.valid(t, &cmd)),
@@ -26,6 +28,7 @@ pub fn shown(alloc: Global, world: &World, fact: Fact) -> Result<String, NoMemor
         Fact::Left(t) => left(alloc, world, t),
         Fact::EpochOf(t) => epoch_of(alloc, world, t),
         Fact::Sets => sets(alloc, world),
+        Fact::Roots => roots(alloc, world),
         Fact::Mailboxes => mailboxes(alloc, world),
         Fact::Whole(number) => format!(in alloc; "{}", whole(world, number)),
     }
@@ -47,6 +50,14 @@ fn sets(alloc: Global, world: &World) -> Result<String, NoMemory> {
     let sets = world.sets();
     let (freed, delta, sigma) = (sets.freed, sets.delta, sets.sigma);
     format!(in alloc; "freed {freed} delta {delta} sigma {sigma}")
+}
+
+fn roots(alloc: Global, world: &World) -> Result<String, NoMemory> {
+    let roots = world.collector().counts().roots();
+    if roots.is_empty() {
+        return String::from_str(alloc, "none");
+    }
+    listed(alloc, roots)
 }
 
 fn mailboxes(alloc: Global, world: &World) -> Result<String, NoMemory> {
@@ -90,6 +101,25 @@ fn leaf(alloc: Global, world: &World, slot: u16) -> Result<String, NoMemory> {
         return String::from_str(alloc, ABSENT);
     }
     yes(alloc, world.leaf(slot))
+}
+
+fn colour(alloc: Global, world: &World, slot: u16) -> Result<String, NoMemory> {
+    let counts = world.collector().counts();
+    if slot >= counts.slots() {
+        return String::from_str(alloc, ABSENT);
+    }
+    String::from_str(alloc, colour_name(counts.colour(slot)))
+}
+
+fn colour_name(colour: Colour) -> &'static str {
+    match colour {
+        Colour::Black => "black",
+        Colour::Purple => "purple",
+        Colour::Gray => "gray",
+        Colour::White => "white",
+        Colour::Orange => "orange",
+        Colour::Green => "green",
+    }
 }
 
 fn field(alloc: Global, world: &World, place: u32) -> Result<String, NoMemory> {

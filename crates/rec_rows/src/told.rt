@@ -7,6 +7,7 @@ use rec_mutator::Made;
 use rec_script::{Kind, ScriptError};
 use rec_world::{OpenError, Part, Turn};
 use std::alloc::{AllocError as NoMemory, Global};
+use std::fmt::Write;
 
 /// An answer, spelled as in the text of a run.
 pub fn answer(alloc: Global, answer: Answer) -> Result<String, NoMemory> {
@@ -116,4 +117,16 @@ pub fn number(alloc: Global, number: Option<u64>, missing: &str) -> Result<Strin
 /// Yes or no.
 pub fn yes(alloc: Global, is_so: bool) -> Result<String, NoMemory> {
     String::from_str(alloc, if is_so { "yes" } else { "no" })
+}
+
+/// Slots, with a space between each two.
+pub fn listed(alloc: Global, slots: &[u16]) -> Result<String, NoMemory> {
+    let mut text = String::new(alloc);
+    for (i, slot) in slots.iter().enumerate() {
+        if i > 0 {
+            text.push(' ')?;
+        }
+        write!(text, "{slot}")?;
+    }
+    Ok(text)
 }

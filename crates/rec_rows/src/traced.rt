@@ -1,9 +1,9 @@
 //! Heaps that are traced.
 
+use crate::told::listed;
 use rec_trace::trace;
 use rec_world::World;
 use std::alloc::{AllocError as NoMemory, Global};
-use std::fmt::Write;
 use std::thread::Threads;
 
 /// The slots that a trace lists, in order, where a frontier is cut into so many pieces at most.
@@ -17,16 +17,4 @@ pub fn traced<R: Threads + Sync>(
         return String::from_str(alloc, "no pieces");
     }
     listed(alloc, &trace(rt, alloc, world, pieces)?)
-}
-
-// The slots, with a space between each two.
-fn listed(alloc: Global, slots: &[u16]) -> Result<String, NoMemory> {
-    let mut text = String::new(alloc);
-    for (i, slot) in slots.iter().enumerate() {
-        if i > 0 {
-            text.push(' ')?;
-        }
-        write!(text, "{slot}")?;
-    }
-    Ok(text)
 }

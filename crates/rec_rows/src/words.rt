@@ -37,12 +37,13 @@ fn collecting(line: &[&str], first: &str, rest: &[&str]) -> Result<Action, Wrong
     }
 }
 
-/// The numbers of a heap: each behind its name, in their order.
+/// The numbers of a heap, each preceded by its name, in their order. The word `steady` may follow.
 pub fn config(words: &[&str]) -> Result<Config, Wrong> {
-    if !are_named(words) {
+    let (named, steady) = kind(words);
+    if !are_named(named) {
         return Err(Wrong::Unknown);
     }
-    let [slots, fields, registers, mutators, log_entries, first_epoch] = numbers(words)?;
+    let [slots, fields, registers, mutators, log_entries, first_epoch] = numbers(named)?;
     Ok(Config {
         slots,
         fields,
@@ -50,8 +51,16 @@ pub fn config(words: &[&str]) -> Result<Config, Wrong> {
         mutators,
         log_entries,
         first_epoch,
-        steady: false,
+        steady,
     })
+}
+
+// The words that name numbers, and whether the heap is to be steady.
+fn kind<'a, 'b>(words: &'a [&'b str]) -> (&'a [&'b str], bool) {
+    match words {
+        [named @ .., "steady"] => (named, true),
+        _ => (words, false),
+    }
 }
 
 // What the numbers of a heap are called.
@@ -280,6 +289,7 @@ fn validity(mutator: &str, line: &[&str]) -> Result<Fact, Wrong> {
 fn fact_alone(name: &str) -> Result<Fact, Wrong> {
     match name {
         "sets" => Ok(Fact::Sets),
+        "roots" => Ok(Fact::Roots),
         "mailboxes" => Ok(Fact::Mailboxes),
         _ => whole(name).map(Fact::Whole),
     }
@@ -291,6 +301,7 @@ fn fact_at(name: &str, at: &str) -> Result<Fact, Wrong> {
         "slot" => slot(at).map(Fact::Slot),
         "label" => slot(at).map(Fact::Label),
         "leaf" => slot(at).map(Fact::Leaf),
+        "colour" => slot(at).map(Fact::Colour),
         "number" => slot(at).map(Fact::Number),
         "field" => number(at).map(Fact::Field),
         "busy" => short(at).map(Fact::Busy),
