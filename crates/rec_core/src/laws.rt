@@ -21,7 +21,7 @@ ghost use Rattle.rec_collector.specs.Zeros.{AreTheZeros};
 ghost use Rattle.rec_sigma.specs.Prepared.{seen};
 ghost use Rattle.rec_core.specs.Bare.{bare_core, Behind};
 ghost use Rattle.rec_core.specs.Config.{IsConfig, IsMutator};
-ghost use Rattle.rec_core.specs.Core.{Core, sight, mutator, opened};
+ghost use Rattle.rec_core.specs.Core.{Core, sight, mutator, heap_by, opened};
 ghost use Rattle.rec_word.specs.declared.op.Op.TheVariants.{FreeHeader};
 ghost use Rattle.rec_word.specs.Header.{header_word};
 ghost use Rattle.rec_word.specs.Place.{places_of};
@@ -32,7 +32,7 @@ ghost use Rattle.rec_core.specs.Loads.{BeginsPreparing, cleared_over, fields_loa
 ghost use Rattle.rec_core.specs.Preconditions.{MayStep, MayTurn};
 ghost use Rattle.rec_core.specs.Moves.{Move, AllFit, Fits, after_move, after_moves, IsRun, EndsRun, RunsFrom, stepped, turned};
 ghost use Rattle.rec_core.specs.Objects.{AreObjects, HaveLabels, Objects};
-ghost use Rattle.rec_core.specs.OpenedFrom.{opened_from};
+ghost use Rattle.rec_core.specs.OpenedFrom.{heap_from_by, opened_from};
 ghost use Rattle.rec_core.specs.Pending.{pending};
 ghost use Rattle.rec_core.specs.Reach.{KeepsReached};
 ghost use Rattle.rec_core.specs.Scans.{BeginsNone, FailsByProbes};
@@ -54,6 +54,23 @@ pub fn runs_begin_with_an_opening()
 /// A run goes on with every move that fits its end.
 pub fn runs_go_on()
     ensures { (w : Core) (m : Move) → EndsRun w → Fits w m → EndsRun (after_move w m) }
+{}
+
+/// Beside each run stands a run of dated words: from the dated opening with the same objects, by the same moves. Its bare words are those
+/// of the heap in every state, and it keeps what is said of epochs too. So each date is the epoch of the write that put the word.
+pub fn dated_runs_stand_beside()
+    ensures opens { (config : Config) (moves : List Move) → IsConfig config → AllFit (opened config) moves → AllFit (heap_by true config) moves × ((bare_core (after_moves (heap_by true config) moves) ≡ after_moves (opened config) moves) × IsKept true (after_moves (heap_by true config) moves)) }
+    ensures opens_from { (config : Config) (o : Objects) (moves : List Move) → IsConfig config → AreObjects config o → HaveLabels o.nodes → AllFit (opened_from config o) moves → AllFit (heap_from_by true config o) moves × ((bare_core (after_moves (heap_from_by true config o) moves) ≡ after_moves (opened_from config o) moves) × IsKept true (after_moves (heap_from_by true config o) moves)) }
+{}
+
+/// Whatever heap of dated words keeps this, its true counts are the count formula. A set of it that passes both tests is garbage, as is
+/// the one that a watch is shown, and stays so once it is given up. And nothing names a slot that it frees.
+pub fn dated_heaps_count_late()
+    ensures counts { (v : Core) (slot : ℕ) → IsKept true v → slot < v.config.slots → (slot_at v.collector.counts slot).count ≡ count_formula (pending v) (pending v).applied (slot + 1) }
+    ensures passed { (v : Core) (number : ℕ) → IsKept true v → TestsSets v.collector.phase → Passes v number → IsProvenGarbage v number }
+    ensures gone { (v : Core) → IsKept true v → AreGone v }
+    ensures forgotten { (v : Core) (slot : ℕ) → IsKept true v → collector_next v.collector ≡ Some (FreeHeader slot) → IsForgotten v slot }
+    ensures shown { (v : Core) (members : List ℕ) (slot : ℕ) → IsKept true v → passed_of v.collector ≡ Some members → 0 < times slot members → IsGone v slot }
 {}
 
 /// Nothing that a register reaches is released, freed or handed out again, in any state of any run of a heap with its
