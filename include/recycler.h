@@ -197,7 +197,8 @@ typedef struct recycler_totals_told {
  * refused command uses none. A poll that crosses empties the log, and there is an epoch to cross into once the collector's turns have begun
  * a collection. So a log bounds how much of the heap its mutator takes in one epoch. RECYCLER_LOG_ENTRIES(free, mutators) is a good number,
  * where `free` slots are left beside the objects that stay live. With fewer entries mutators wait for the collector sooner than they have
- * to. With more they fill the heap, and each birth looks at many headers (bench/README.md, "The size of logs").
+ * to. With more they fill the heap, and each birth looks at many headers (bench/README.md, "The size of logs"). Where registers walk over a
+ * large live structure, more entries serve better: each collection tries what such a register reached, and there are fewer collections.
  * first_epoch: 1 to 16,777,215.
  * Codes: OPEN_ALREADY, the six of the numbers, NO_MEMORY. */
 uint32_t recycler_open(recycler *r, uint32_t slots, uint32_t fields, uint32_t registers, uint32_t mutators, uint32_t log_entries,

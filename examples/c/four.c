@@ -10,7 +10,7 @@
 
 #include "recycler.h"
 
-enum { MUTATORS = 4, ROUNDS = 1000, LONG = 8, FIRST = 1, LAST = 2, NEXT = 3 };
+enum { SLOTS = 1024, MUTATORS = 4, ROUNDS = 1000, LONG = 8, FIRST = 1, LAST = 2, NEXT = 3 };
 
 static recycler heap = RECYCLER_CLOSED;
 static pthread_mutex_t lock = PTHREAD_MUTEX_INITIALIZER;
@@ -116,7 +116,7 @@ int main(void) {
     pthread_t threads[MUTATORS + 1];
     recycler_settled settled;
     recycler_totals_told totals;
-    must(recycler_open(&heap, 1024, 1, 4, MUTATORS, 4096, 1), "open");
+    must(recycler_open(&heap, SLOTS, 1, 4, MUTATORS, RECYCLER_LOG_ENTRIES(SLOTS, MUTATORS), 1), "open");
     must(recycler_start(&heap), "start");
     for (int i = 0; i < MUTATORS; i++) {
         start_thread(&threads[i], mutate, &heap.mutators[i]);
