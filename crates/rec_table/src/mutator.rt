@@ -257,9 +257,9 @@ impl Mutator {
         self.actor.same(heap.board(), a, b)
     }
 
-    // The same, step by step.
+    /// Carries out a command step by step, with all that `command` promises: for a caller who knows that it doesn't go its usual way.
     #[inline(never)]
-    fn by_steps(&mut self, heap: &Heap, cmd: Cmd) -> Told
+    pub fn by_steps(&mut self, heap: &Heap, cmd: Cmd) -> Told
         requires own { IsMutatorOf heap.now self.old }
         requires valid { MayAsk (mutator_now self.old) cmd }
         ensures grows { Works (works.Command cmd) self.old.log self.new.log }

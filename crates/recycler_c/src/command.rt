@@ -48,7 +48,7 @@ fn ask_in(end: &mut End, cmd: Option<Cmd>, told: &mut Asked) -> Code
             if !out.can_ask(&cmd) {
                 return Code::Range;
             }
-            let answered = out.mutator.command(&out.heap, cmd);
+            let answered = out.mutator.by_steps(&out.heap, cmd);
             *told = show_answer(answered.answer);
             Code::Ok
         }

@@ -46,17 +46,17 @@ returns-then-not-can_ask c = (
   refl,
 )
 
-pub command-answered-requires-clause-own : goal.command-answered-requires-clause-own
-command-answered-requires-clause-own c = subst (λ (s : Started). IsMutatorOf s c.in-Mutating.out.mutator) (sym c.deref.ensures) c.in-Mutating.out.own
+pub by_steps-answered-requires-clause-own : goal.by_steps-answered-requires-clause-own
+by_steps-answered-requires-clause-own c = subst (λ (s : Started). IsMutatorOf s c.in-Mutating.out.mutator) (sym c.deref.ensures) c.in-Mutating.out.own
 
-pub command-answered-requires-clause-valid : goal.command-answered-requires-clause-valid
-command-answered-requires-clause-valid c = c.can_ask.ensures.0 (search rules)
+pub by_steps-answered-requires-clause-valid : goal.by_steps-answered-requires-clause-valid
+by_steps-answered-requires-clause-valid c = c.can_ask.ensures.0 (search rules)
 
 pub returns-else-not-can_ask : goal.returns-else-not-can_ask
 returns-else-not-can_ask c =
-    let e = c.command-answered.ensures in
-    let carried : Carried c.in-Mutating.out.mutator c.command-answered.new.self c.in-Some.cmd c.command-answered.result = record { grows = e.grows; is = e.is; answer = e.answer; causes = e.causes; leaves = e.leaves; line = e.line; idle = e.idle; same = e.same } in (
+    let e = c.by_steps-answered.ensures in
+    let carried : Carried c.in-Mutating.out.mutator c.by_steps-answered.new.self c.in-Some.cmd c.by_steps-answered.result = record { grows = e.grows; is = e.is; answer = e.answer; causes = e.causes; leaves = e.leaves; line = e.line; idle = e.idle; same = e.same } in (
       c.in-Some.cmd,
       c.in-Some.is,
-      asked_by _ c.in-Mutating.out _ c.in-Some.cmd c.command-answered.result _ c.in-Mutating.is (c.can_ask.ensures.0 (search rules)) refl carried c.show_answer.ensures,
+      asked_by _ c.in-Mutating.out _ c.in-Some.cmd c.by_steps-answered.result _ c.in-Mutating.is (c.can_ask.ensures.0 (search rules)) refl carried c.show_answer.ensures,
     )
