@@ -1,5 +1,5 @@
 -- A heap of bare words keeps what the heap of dated words behind it keeps, but for what is said of epochs of words.
-use Rattle.std.proofs.Common.{◌≡◌, ◌⊎◌, inl, inr, Bool, true, false, ℕ, ◌+◌, ◌-◌, ◌*◌, ◌<◌, ◌≤◌, ◌||◌, if◌then◌else◌, List, [], ◌∷◌, Option, length, map, replicate, zero, suc, slice_index_or, refl, sym, ap, subst, ◌∙◌, arith}
+use Rattle.std.proofs.Common.{◌≡◌, inl, inr, true, false, ℕ, ◌+◌, ◌-◌, ◌*◌, ◌≤◌, ◌||◌, if◌then◌else◌, List, [], ◌∷◌, map, replicate, zero, suc, slice_index_or, refl, sym, ap, subst, ◌∙◌}
 use Rattle.std.specs.List.{sum_by}
 use Rattle.std.proofs.Math.ListN.{get_or-map}
 use Rattle.std.proofs.lemmas.List.{length-map}
@@ -11,12 +11,11 @@ use Rattle.rec_log.specs.Words.{buffer_by, entry_by}
 use Rattle.rec_log.specs.declared.contents.Contents.{Contents}
 use Rattle.rec_model.specs.Heap.{roots}
 use Rattle.rec_model.specs.Reach.{is_in}
-use Rattle.rec_model.specs.Sight.{HoldsLeaf, IsSound, IsTaken, targets_of, words_of}
+use Rattle.rec_model.specs.Sight.{IsSound}
 use Rattle.rec_mutator.specs.Bare as mutators
 use Rattle.rec_mutator.specs.Causes.{gives_back}
 use Rattle.rec_mutator.specs.Private.{Private}
 use Rattle.rec_mutator.specs.Took.{IsBetween}
-use Rattle.rec_mutator.specs.declared.phase.Phase as phases
 use Rattle.rec_mutator.proofs.Bare.{busy_bare}
 use Rattle.rec_mutator.proofs.BareKept.{entries_bare, machine_bare, phase_bare, said_bare}
 use Rattle.rec_collector.specs.Bare as collectors_bare
@@ -26,9 +25,8 @@ use Rattle.rec_collector.specs.declared.phase.Phase.TheVariants.{Idle, Looking, 
 use Rattle.rec_collector.proofs.Bare.{buffer_bare}
 use Rattle.rec_collector.proofs.BareKept as collecting
 use Rattle.rec_core.specs.Bare.{bare_core}
-use Rattle.rec_core.specs.Config.{IsMutator}
-use Rattle.rec_core.specs.Core.{Core, mutator, nobody, sight, spare_of}
-use Rattle.rec_core.specs.Kept.{Handshake, HasCollector, HasCrossed, HasGone, HasLabelAt, HasLearnt, HasMutators, HasRetired, HaveLearnt, IsActor, IsAhead, IsBehind, IsBufferOf, IsCrossing, IsHandshake, IsHeldAt, IsKept, IsKeptBy, IsOwn, IsSettledIn, LetGo, entries_made}
+use Rattle.rec_core.specs.Core.{Core, nobody, sight}
+use Rattle.rec_core.specs.Kept.{Handshake, HasCollector, HasCrossed, HasLabelAt, HasLearnt, HasMutators, HasRetired, HaveLearnt, IsActor, IsAhead, IsBufferOf, IsCrossing, IsHandshake, IsHeldAt, IsKept, IsKeptBy, IsOwn, IsSettledIn, LetGo, entries_made}
 use Rattle.rec_core.specs.Pending.{epoch_at, has_let_go, is_parting}
 use Rattle.rec_core.specs.declared.config.Config.{Config}
 use Rattle.rec_core.proofs.Bare.{mutator_bare}

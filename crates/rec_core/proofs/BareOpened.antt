@@ -1,22 +1,19 @@
 -- A heap of dated words as it is opened has the bare words of a heap as it is opened.
-use Rattle.std.proofs.Common.{◌≡◌, Bool, true, false, ℕ, zero, suc, ◌+◌, ◌-◌, ◌*◌, ◌^◌, ◌<◌, ◌≤◌, Option, None, Some, List, [], ◌∷◌, ◌++◌, All, length, map, replicate, refl, sym, ap, subst, ◌∙◌, arith}
+use Rattle.std.proofs.Common.{◌≡◌, true, false, ℕ, zero, suc, ◌+◌, ◌-◌, ◌*◌, ◌^◌, ◌<◌, ◌≤◌, Option, None, Some, List, [], ◌∷◌, ◌++◌, All, length, map, replicate, refl, ap, ◌∙◌, arith}
 use Rattle.std.proofs.lemmas.List.{map-append}
 use Rattle.std.proofs.lemmas.List.Elements.{All-head, All-tail}
 use Rattle.rec_word.specs.Bare.{bare}
-use Rattle.rec_word.specs.Mailbox.{crossing_word}
-use Rattle.rec_word.specs.declared.mailbox.Mailbox.TheVariants.{Spare}
 use Rattle.rec_word.specs.Word.{IsTarget}
 use Rattle.rec_word.proofs.Bare.{bare_small, packed_small}
 use Rattle.rec_log.specs.Words.{buffer_by}
 use Rattle.rec_log.specs.declared.contents.Contents.{Contents}
 use Rattle.rec_mutator.specs.Bare as mutators
 use Rattle.rec_mutator.specs.Private.{Private}
-use Rattle.rec_collector.specs.Bare as collectors_bare
 use Rattle.rec_collector.specs.Private as collectors
 use Rattle.rec_core.specs.Bare.{bare_core}
 use Rattle.rec_core.specs.Config.{IsConfig}
-use Rattle.rec_core.specs.Core.{Core, heap_by, mutator_by, mutators_by, spare_of}
-use Rattle.rec_core.specs.Objects.{AreObjects, HaveLabels, Objects, counts_of, early_stamp, early_word, early_words, rows_of}
+use Rattle.rec_core.specs.Core.{heap_by, mutator_by, mutators_by, spare_of}
+use Rattle.rec_core.specs.Objects.{AreObjects, HaveLabels, Objects, early_stamp, early_word, early_words, rows_of}
 use Rattle.rec_core.specs.OpenedFrom.{all_holding_by, heap_from_by, holding_by}
 use Rattle.rec_core.specs.declared.config.Config.{Config}
 use Rattle.rec_core.proofs.EarlyWords.{early_is}

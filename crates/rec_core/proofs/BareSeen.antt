@@ -1,12 +1,12 @@
 -- What is seen of a heap of bare words is what is seen of the heap of dated words, but for the words.
-use Rattle.std.proofs.Common.{◌≡◌, ℕ, ◌+◌, ◌-◌, ◌*◌, List, [], ◌∷◌, Option, drop, map, slice_range, take, refl, sym, ap, subst, ◌∙◌}
+use Rattle.std.proofs.Common.{◌≡◌, ℕ, ◌+◌, ◌-◌, ◌*◌, List, [], ◌∷◌, Option, drop, map, take, refl, sym, ap, subst, ◌∙◌}
 use Rattle.std.proofs.lemmas.List.{drop-map, take-map}
 use Rattle.rec_word.specs.Bare.{bare}
 use Rattle.rec_word.specs.Word.{target_of}
 use Rattle.rec_word.proofs.Bare.{target_of_bare}
 use Rattle.rec_model.specs.Heap.{roots}
 use Rattle.rec_model.specs.Reach.{named, IsReached}
-use Rattle.rec_model.specs.Sight.{Reaches, Sight, targets_of, words_of}
+use Rattle.rec_model.specs.Sight.{Reaches, targets_of, words_of}
 use Rattle.rec_mutator.specs.Bare as mutators
 use Rattle.rec_mutator.specs.Private.{Private}
 use Rattle.rec_collector.proofs.Bare as collecting

@@ -1,5 +1,5 @@
 -- Behind each run of a heap stands a run of a heap of dated words, by the same moves, which is kept.
-use Rattle.std.proofs.Common.{◌≡◌, false, ℕ, List, [], ◌∷◌, refl, sym, ap, subst, ◌∙◌, true}
+use Rattle.std.proofs.Common.{◌≡◌, List, [], ◌∷◌, sym, ap, subst, ◌∙◌, true}
 use Rattle.rec_mutator.specs.Bare as mutators
 use Rattle.rec_mutator.specs.Private.{IsValid, Private, is_busy}
 use Rattle.rec_mutator.specs.declared.work.Work.{Work}

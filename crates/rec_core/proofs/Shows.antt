@@ -1,5 +1,5 @@
 -- What a watch is shown of moves that follow one another, and of those of a work, of which it is shown nothing.
-use Rattle.std.proofs.Common.{◌≡◌, ℕ, false, List, [], ◌∷◌, ◌++◌, refl, sym, ap, subst, ◌∙◌, true, Bool}
+use Rattle.std.proofs.Common.{◌≡◌, ℕ, false, List, [], ◌∷◌, ◌++◌, refl, sym, ap, subst, ◌∙◌, Bool}
 use Rattle.std.proofs.lemmas.List.{append-nil}
 use Rattle.rec_mutator.specs.Private.{IsValid, is_busy}
 use Rattle.rec_mutator.specs.declared.work.Work.{Work}

@@ -1,9 +1,8 @@
 -- In a heap of dated words the epoch of a word's stamp is its date, of each word that was put by a write which a buffer holds.
-use Rattle.std.proofs.Common.{◌≡◌, ℕ, ◌+◌, ◌≤◌, ◌==◌, Bool, true, false, if◌then◌else◌, List, refl, ap, sym, ◌∙◌, arith}
+use Rattle.std.proofs.Common.{◌≡◌, ℕ, ◌≤◌, ◌==◌, Bool, true, false, if◌then◌else◌, refl, ap, arith}
 use Rattle.std.specs.List.{sum_by}
 use Rattle.std.proofs.lemmas.Bool.{eq-eqb, eqb-true}
-use Rattle.rec_core.proofs.Common.{Core, IsConfig, IsKept, AllFit, Fits, Move, after_move, after_moves, Write, Op, Config, epoch_of, stamp_of, turned}
-use Rattle.rec_collector.specs.Next.{next_of}
+use Rattle.rec_core.proofs.Common.{Core, IsConfig, IsKept, Fits, Move, after_move, Write, Config, epoch_of, stamp_of}
 use Rattle.rec_log.specs.declared.entry.Entry.TheVariants as entries
 use Rattle.rec_core.specs.Core.{heap_by}
 use Rattle.rec_core.specs.Pending.{writes_of}
@@ -11,7 +10,6 @@ use Rattle.rec_core.proofs.Journalled.{StandsIn}
 use Rattle.rec_core.proofs.Lasting.{begun_less, op_less, step_less}
 use Rattle.rec_core.proofs.Newly.{newer_weighs}
 use Rattle.rec_core.proofs.Opening.{pending_opens}
-use Rattle.rec_core.proofs.Runs.{move_kept}
 use Rattle.rec_core.proofs.Turning.{turn_case}
 
 -- a write whose word has another epoch in its stamp than its date

@@ -1,5 +1,5 @@
 -- The core of a heap with its collector: the shared words, the mailboxes, and the private record of each actor.
-use Rattle.std.specs.Prelude.{ℕ, false, ◌-◌, zero, suc, List, [], ◌∷◌, ◌++◌, length, map, replicate, slice_index_or, slice_set, Bool, Some, Option, None}
+use Rattle.std.specs.Prelude.{ℕ, false, ◌-◌, zero, suc, List, [], ◌∷◌, ◌++◌, length, map, replicate, slice_index_or, slice_set, Bool, Some, None}
 use Rattle.rec_word.specs.Mailbox.{crossing_word}
 use Rattle.rec_word.specs.declared.mailbox.Mailbox.TheVariants.{Spare}
 use Rattle.rec_model.specs.Sight.{Sight, opening_sight}

@@ -1,19 +1,18 @@
 -- What is learnt of the usual works all at once, behind their last operation, is what is learnt step by step.
-use Rattle.std.proofs.Common.{◌≡◌, ℕ, ◌+◌, ◌%◌, ◌<◌, Bool, true, false, List, [], ◌∷◌, ◌++◌, Option, Some, None, if◌then◌else◌, length, refl, sym, ap, subst, ◌∙◌, arith, set, inl, eq-eqb, ◌==◌}
+use Rattle.std.proofs.Common.{◌≡◌, ℕ, ◌+◌, ◌%◌, ◌<◌, Bool, true, false, List, [], ◌∷◌, ◌++◌, Option, Some, None, if◌then◌else◌, refl, sym, ap, subst, ◌∙◌, arith, set, inl, eq-eqb, ◌==◌}
 use Rattle.rec_word.specs.Header.{is_leaf, label_of, IsTakenHeader}
 use Rattle.rec_word.specs.Place.{place_of}
 use Rattle.rec_word.specs.Word.{target_of}
 use Rattle.rec_model.specs.Asking.{allocation, null_or_object, plain, same, yes_or_no}
 use Rattle.rec_model.specs.declared.answer.Answer.{Answer}
 use Rattle.rec_model.specs.declared.answer.Answer.TheVariants as answers
-use Rattle.rec_model.specs.declared.command.Cmd.{Cmd}
 use Rattle.rec_model.specs.declared.command.Cmd.TheVariants as commands
 use Rattle.rec_model.specs.declared.told.Told.{Told}
 use Rattle.rec_log.specs.declared.contents.Contents.{Contents}
 use Rattle.rec_log.specs.declared.entry.Entry.TheVariants as entries
 use Rattle.rec_mutator.specs.Next.{next_of, next_at, read_op, write_op, label_op, new_op}
-use Rattle.rec_mutator.specs.Private.{Private, register, is_busy, is_full, word_for, probe_of, HasOperands, IsValid, IsMachine}
-use Rattle.rec_mutator.specs.Took.{begun_of, took_of, took_at, moved, answered, with_entry, with_register, read_by, written_by, allowed_by, label_by, new_by, born_in, IsFound, IsRequested}
+use Rattle.rec_mutator.specs.Private.{Private, register, is_busy, is_full, word_for, probe_of, IsValid, IsMachine}
+use Rattle.rec_mutator.specs.Took.{begun_of, took_of, took_at, read_by, written_by, allowed_by, label_by, new_by, born_in, IsFound, IsRequested}
 use Rattle.rec_mutator.specs.declared.made.Made.TheVariants as makes
 use Rattle.rec_mutator.specs.declared.phase.Phase.{Phase}
 use Rattle.rec_mutator.specs.declared.phase.Phase.TheVariants.{Begun, Scanning, Storing, Crossing, Finished}

@@ -1,7 +1,7 @@
 -- The contract of `Machine::bore`: what is learnt of a birth.
-use Rattle.std.proofs.Common.{◌≡◌, ◌<◌, Bool, false, Some, refl, sym, ap, subst, ◌∙◌}
+use Rattle.std.proofs.Common.{◌≡◌, ◌<◌, false, Some, sym, ap, subst, ◌∙◌}
 use Rattle.rec_mutator.specs.Inside.{private}
-use Rattle.rec_mutator.specs.Private.{Private, HasOperands, IsMachine, answer_at, is_full, register, word_for}
+use Rattle.rec_mutator.specs.Private.{Private, HasOperands, IsMachine, answer_at, is_full}
 use Rattle.rec_mutator.specs.Took.{begun_of, took_of}
 use Rattle.rec_mutator.specs.declared.work.Work.TheVariants as works
 use Rattle.rec_model.specs.Asking.{allocation}

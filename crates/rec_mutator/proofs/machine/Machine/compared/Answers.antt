@@ -1,7 +1,7 @@
 -- The contract of `Machine::compared`: what is learnt of a comparison.
-use Rattle.std.proofs.Common.{◌≡◌, false, Some, None, refl, sym, ap, subst, ◌∙◌}
+use Rattle.std.proofs.Common.{Some, sym, ap, subst, ◌∙◌}
 use Rattle.rec_mutator.specs.Inside.{private}
-use Rattle.rec_mutator.specs.Private.{Private, HasOperands, IsMachine, answer_at, register}
+use Rattle.rec_mutator.specs.Private.{Private, HasOperands, IsMachine, answer_at}
 use Rattle.rec_mutator.specs.Took.{begun_of, took_of}
 use Rattle.rec_mutator.specs.declared.made.Made.TheVariants as makes
 use Rattle.rec_mutator.specs.declared.work.Work.TheVariants as works

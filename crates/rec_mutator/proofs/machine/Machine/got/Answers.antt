@@ -1,10 +1,9 @@
 -- The contract of `Machine::got`: what is learnt of a read.
-use Rattle.std.proofs.Common.{◌≡◌, Bool, false, Some, refl, sym, ap, subst, ◌∙◌}
+use Rattle.std.proofs.Common.{◌≡◌, Some, sym, ap, subst, ◌∙◌}
 use Rattle.rec_mutator.specs.Inside.{private}
-use Rattle.rec_mutator.specs.Private.{Private, HasOperands, IsMachine, answer_at, is_full, register, word_for}
+use Rattle.rec_mutator.specs.Private.{Private, HasOperands, IsMachine, answer_at, register}
 use Rattle.rec_mutator.specs.Took.{begun_of, took_of}
 use Rattle.rec_mutator.specs.declared.work.Work.TheVariants as works
-use Rattle.rec_model.specs.Asking.{allocation}
 use Rattle.rec_model.specs.declared.answer.Answer.{Answer}
 use Rattle.rec_model.specs.declared.command.Cmd.TheVariants as commands
 use Rattle.rec_mutator.specs.declared.made.Made.TheVariants as makes

@@ -1,5 +1,5 @@
 -- The contract of `Machine::labelled`: what is learnt of a label.
-use Rattle.std.proofs.Common.{◌≡◌, false, Some, None, refl, sym, ap, subst, ◌∙◌}
+use Rattle.std.proofs.Common.{◌≡◌, Some, sym, ap, subst, ◌∙◌}
 use Rattle.rec_mutator.specs.Inside.{private}
 use Rattle.rec_mutator.specs.Private.{Private, HasOperands, IsMachine, answer_at, register}
 use Rattle.rec_mutator.specs.Took.{begun_of, took_of}

@@ -1,12 +1,9 @@
 -- The contract of `Machine::stayed`: what is learnt of a poll that crosses nowhere.
-use Rattle.std.proofs.Common.{◌≡◌, false, Some, None, refl, sym, ap, subst, ◌∙◌}
+use Rattle.std.proofs.Common.{sym, ap, subst, ◌∙◌}
 use Rattle.rec_mutator.specs.Inside.{private}
-use Rattle.rec_mutator.specs.Private.{Private, HasOperands, IsMachine, answer_at, register}
+use Rattle.rec_mutator.specs.Private.{Private, IsMachine, answer_at}
 use Rattle.rec_mutator.specs.Took.{begun_of, took_of}
-use Rattle.rec_mutator.specs.declared.made.Made.TheVariants as makes
 use Rattle.rec_mutator.specs.declared.work.Work.TheVariants as works
-use Rattle.rec_model.specs.declared.command.Cmd.TheVariants as commands
-use Rattle.rec_model.specs.declared.told.Told.{Told}
 use Rattle.rec_mutator.proofs.Straight.{begun_machine, stayed_is, stayed_machine}
 use Rattle.rec_mutator.proofs.machine.Machine.stayed.Goals as goal
 
