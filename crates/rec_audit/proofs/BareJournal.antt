@@ -1,5 +1,5 @@
 -- A run's journal has the lines of the run of dated words behind it, with bare words: where that one gives up nothing in reach, it doesn't.
-use Rattle.std.proofs.Common.{◌≡◌, inl, inr, ℕ, suc, zero, ◌+◌, ◌-◌, ◌<◌, ◌==◌, Bool, true, false, if◌then◌else◌, Option, None, Some, List, [], ◌∷◌, ◌++◌, map, refl, sym, ap, subst, ◌∙◌, arith, append_assoc, append-nil}
+use Rattle.std.proofs.Common.{◌≡◌, ℕ, suc, zero, ◌+◌, ◌==◌, Bool, true, false, if◌then◌else◌, Option, None, Some, List, [], ◌∷◌, ◌++◌, map, refl, sym, ap, subst, ◌∙◌, arith, append_assoc, append-nil}
 use Rattle.std.specs.List.{Contains, enumerate_from, flat_map}
 use Rattle.std.specs.Option.{option_map}
 use Rattle.std.proofs.lemmas.Bool.{eq-eqb, eqb-true, false≢true}
@@ -17,25 +17,23 @@ use Rattle.rec_collector.specs.Next.{next_of}
 use Rattle.rec_collector.specs.Private.{Private}
 use Rattle.rec_collector.specs.Shown.{Batch, Shown, applied_in, applied_newer, applied_newer_in, applied_of, batch_of, batch_with, completed_in, completed_of, passed_in, passed_of, shown_of}
 use Rattle.rec_collector.specs.declared.phase.Phase.{Phase}
-use Rattle.rec_collector.specs.declared.phase.Phase.TheVariants.{Idle, Looking, Swapping, Returning, Releasing, Freeing, Trying, Preparing, Opening, Sweeping, Closing}
+use Rattle.rec_collector.specs.declared.phase.Phase.TheVariants.{Idle, Looking, Freeing}
 use Rattle.rec_collector.proofs.Bare as collecting
 use Rattle.rec_core.specs.Bare.{bare_core}
 use Rattle.rec_core.specs.Cells.{cell}
 use Rattle.rec_core.specs.Core.{Core, cells_of}
 use Rattle.rec_core.specs.Kept.{IsKept}
-use Rattle.rec_core.specs.Moves.{AllFit, Fits, Move, after_move, after_moves, turned}
+use Rattle.rec_core.specs.Moves.{AllFit, Move, after_move, turned}
 use Rattle.rec_core.specs.Shown.{shown_behind, shown_in, shown_over, turn_shown}
 use Rattle.rec_core.specs.Turn.{seen_at}
 use Rattle.rec_core.proofs.Bare.{found_bare}
 use Rattle.rec_core.proofs.BareSeen.{turned_behind}
 use Rattle.rec_core.proofs.Dated.{Explains, move_explained}
-use Rattle.rec_audit.specs.Form.{is_heap, number}
+use Rattle.rec_audit.specs.Form.{is_heap}
 use Rattle.rec_audit.specs.Graph.{is_out, is_put, opens}
 use Rattle.rec_audit.specs.Journal.{batch_lines, completed_lines, entry_line, line_of, lines_of, op_lines, opening_lines, part_lines, parts_lines, passed_lines}
 use Rattle.rec_audit.specs.Lines.{Line}
-use Rattle.rec_audit.specs.Verdicts.{HasReachFault}
 use Rattle.rec_audit.specs.declared.form.Heap.{Heap}
-use Rattle.rec_audit.specs.declared.kind.Kind.{Kind}
 use Rattle.rec_audit.specs.declared.kind.Kind.TheVariants as kinds
 use Rattle.rec_audit.proofs.Bared.{Alike, has_reached_less, push_out, push_plain, push_put, push_skip}
 use Rattle.rec_audit.proofs.RunClean.{Clear, clear_both}

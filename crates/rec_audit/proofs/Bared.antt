@@ -1,5 +1,5 @@
 -- The lines that a run of dated words would have, and those of bare words, which a journal has: a path in these is one in those.
-use Rattle.std.proofs.Common.{◌≡◌, ◌⊎◌, inl, inr, ℕ, suc, zero, ◌+◌, ◌-◌, ◌/◌, ◌%◌, ◌^◌, ◌<◌, ◌≤◌, ◌==◌, ◌||◌, ◌&&◌, not, nat_lt, Bool, true, false, cond, Option, None, Some, List, [], ◌∷◌, ◌++◌, map, filter, refl, sym, ap, subst, ◌∙◌, arith, append_assoc, append-nil}
+use Rattle.std.proofs.Common.{◌≡◌, ◌⊎◌, inl, inr, ℕ, suc, zero, ◌-◌, ◌/◌, ◌==◌, ◌||◌, ◌&&◌, not, nat_lt, Bool, true, false, cond, Some, List, [], ◌∷◌, ◌++◌, map, filter, refl, sym, ap, subst, ◌∙◌, arith, append-nil}
 use Rattle.std.specs.List.{Contains, flat_map, list_any, range_with_len}
 use Rattle.std.proofs.Math.Bool.{or-false, or-true}
 use Rattle.std.proofs.lemmas.Bool.{eq-eqb, eqb-true, false≢true, or_cases}
@@ -8,13 +8,11 @@ use Rattle.std.proofs.lemmas.List.Elements.{Contains-append_cases, Contains-appe
 use Rattle.rec_word.specs.Bare.{bare}
 use Rattle.rec_word.specs.Word.{target_bits}
 use Rattle.rec_model.specs.Reach.{is_in, IsReached}
-use Rattle.rec_model.proofs.Members.{is_in-cons}
 use Rattle.rec_model.proofs.Within.{all_reached}
 use Rattle.rec_audit.specs.Form.{heap_of, is_epoch, is_heap, last_that, number}
 use Rattle.rec_audit.specs.Graph.{HasReached, IsReachedAt, closes, has_target, is_born, is_dead, is_out, is_put, is_sweep, is_taken, named_by, opens, opens_from, roots, taken_by, target_in, targets, tells, this_block}
 use Rattle.rec_audit.specs.Graphs.{closing_in, named_in}
 use Rattle.rec_audit.specs.Lines.{Line}
-use Rattle.rec_audit.specs.declared.kind.Kind.{Kind}
 use Rattle.rec_audit.specs.declared.kind.Kind.TheVariants as kinds
 use Rattle.rec_audit.proofs.Grown.{any_closing, any_more, dead_epoch, dead_out, dead_same, heap_same, last_more, taken_same, this_more, this_new}
 use Rattle.rec_audit.proofs.Rising.{both_of}

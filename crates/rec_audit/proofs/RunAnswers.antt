@@ -1,31 +1,21 @@
 -- No line of a run's journal is at fault, so it is answered yes.
-use Rattle.std.proofs.Common.{◌≡◌, ◌⊎◌, inl, inr, ℕ, zero, suc, ◌-◌, ◌<◌, ◌≤◌, ◌==◌, Bool, true, false, cond, Option, None, Some, IfSome, List, [], ◌∷◌, ◌++◌, length, replicate, slice_index_or, refl, sym, ap, subst, ◌∙◌, arith, append-nil, append_assoc}
-use Rattle.std.specs.List.{Contains, flat_map}
-use Rattle.std.proofs.lemmas.Bool.{cases_lt, false≢true}
-use Rattle.std.proofs.lemmas.List.{get_or-replicate, get_or_past, length-replicate}
-use Rattle.std.proofs.lemmas.List.Concat.{flat_map-append}
-use Rattle.std.proofs.lemmas.List.Elements.{Contains-append_cases, Contains-append_left}
+use Rattle.std.proofs.Common.{◌≡◌, ℕ, ◌≤◌, true, false, Option, None, Some, IfSome, List, [], ◌∷◌, ◌++◌, length, refl, sym, ap, subst, ◌∙◌, append_assoc}
+use Rattle.std.specs.List.{flat_map}
 use Rattle.rec_word.specs.declared.op.Op.{Op}
-use Rattle.rec_word.specs.declared.op.Op.TheVariants as ops
-use Rattle.rec_log.specs.declared.contents.Contents.{Contents as Buffer}
-use Rattle.rec_log.specs.declared.entry.Entry.{Entry}
 use Rattle.rec_collector.specs.Next.{next_of}
-use Rattle.rec_collector.specs.Private.{blank, buffer_at, first_registers, retired}
-use Rattle.rec_collector.specs.Shown.{Batch, Shown, batch_of, completed_of, passed_of, shown_of}
+use Rattle.rec_collector.specs.Shown.{Shown, batch_of, passed_of, shown_of}
 use Rattle.rec_collector.specs.Step.{NamesWord}
 use Rattle.rec_collector.proofs.Always.{names_word}
 use Rattle.rec_core.specs.Cells.{cell}
 use Rattle.rec_core.specs.Config.{IsConfig}
 use Rattle.rec_core.specs.Core.{Core, cells_of, heap_by, opened}
 use Rattle.rec_core.specs.Kept.{IsKept}
-use Rattle.rec_core.specs.Logged.{last_batch, works_in}
-use Rattle.rec_core.specs.Moves.{AllFit, Fits, Move, after_move, after_moves, turned, turned_by}
-use Rattle.rec_core.specs.Shown.{Shows, shown_behind, shown_in, shown_over, turn_shown}
+use Rattle.rec_core.specs.Logged.{works_in}
+use Rattle.rec_core.specs.Moves.{AllFit, Move, after_moves, turned, turned_by}
+use Rattle.rec_core.specs.Shown.{Shows, shown_behind, shown_over, turn_shown}
 use Rattle.rec_core.specs.Turn.{seen_at}
 use Rattle.rec_core.specs.declared.config.Config.{Config}
-use Rattle.rec_core.proofs.Newborn.{none_in}
-use Rattle.rec_core.proofs.Runs.{move_kept, moves_kept}
-use Rattle.rec_core.proofs.Turning.{turn_case}
+use Rattle.rec_core.proofs.Runs.{move_kept}
 use Rattle.rec_word.specs.Bare.{bare_in}
 use Rattle.rec_word.specs.Op.{cell_of}
 use Rattle.rec_collector.specs.Bare as collectors_bare
@@ -39,22 +29,18 @@ use Rattle.rec_core.proofs.Opening.{opened_kept}
 use Rattle.rec_audit.proofs.BareJournal.{Beside, moves_beside, opening_alike, passed_is, shown_bare, work_beside}
 use Rattle.rec_audit.proofs.Bared.{Alike, reached_less}
 use Rattle.rec_audit.proofs.RunClean.{Clear, Goes, behind_is, clear_both, clear_plain, clear_split, is_kept, moves_go, opening_tells}
-use Rattle.rec_audit.specs.Form.{number}
-use Rattle.rec_audit.specs.Graph.{IsReachedAt, is_sweep, is_taken, opens, this_block}
-use Rattle.rec_audit.specs.Journal.{batch_lines, completed_lines, journal, line_of, lines_of, op_lines, opening_lines, parts_lines, passed_lines, sets_passed}
+use Rattle.rec_audit.specs.Graph.{IsReachedAt}
+use Rattle.rec_audit.specs.Journal.{batch_lines, journal, lines_of, op_lines, opening_lines, sets_passed}
 use Rattle.rec_audit.specs.Lines.{Line, text_of}
 use Rattle.rec_audit.specs.Runs.{IsReachedIn, heap_for}
 use Rattle.rec_audit.specs.Verdicts.{HasReachFault, IsVerdict}
 use Rattle.rec_audit.specs.declared.verdict.Verdict.TheVariants.{Yes}
-use Rattle.rec_audit.specs.declared.kind.Kind.{Kind}
-use Rattle.rec_audit.specs.declared.kind.Kind.TheVariants as kinds
 use Rattle.rec_audit.specs.Keeping.{Place, behind_steps, first_place}
-use Rattle.rec_audit.proofs.Blocks.{Each, block_more, dead_more, each_at, each_both, heap_more_lines, is_late, is_part, late_plain, parts_are, pushes, taken_push}
 use Rattle.rec_audit.proofs.Rising.{from_epoch, journal_rises, no_stamp_fault}
-use Rattle.rec_audit.proofs.RunGraph.{HasBlock, Status, Tells, quiet_tells}
-use Rattle.rec_audit.proofs.RunReach.{shown_reach, shown_unreached}
+use Rattle.rec_audit.proofs.RunGraph.{Tells}
+use Rattle.rec_audit.proofs.RunReach.{shown_reach}
 use Rattle.rec_audit.proofs.Runs.{are_numbers, run_keeps}
-use Rattle.rec_audit.proofs.RunTurns.{behind_batch, late_shut, turned_tells}
+use Rattle.rec_audit.proofs.RunTurns.{turned_tells}
 use Rattle.rec_audit.proofs.Sets.{answered}
 
 -- ---- the run of dated words behind a run

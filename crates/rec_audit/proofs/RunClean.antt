@@ -11,39 +11,33 @@ use Rattle.rec_log.specs.declared.contents.Contents.{Contents as Buffer}
 use Rattle.rec_log.specs.declared.entry.Entry.{Entry}
 use Rattle.rec_collector.specs.Next.{next_of}
 use Rattle.rec_collector.specs.Private.{blank, buffer_at, first_registers, retired}
-use Rattle.rec_collector.specs.Shown.{Batch, Shown, batch_of, completed_of, passed_of, shown_of}
+use Rattle.rec_collector.specs.Shown.{Batch, batch_of, completed_of, passed_of, shown_of}
 use Rattle.rec_collector.specs.Step.{NamesWord}
 use Rattle.rec_collector.proofs.Always.{names_word}
 use Rattle.rec_core.specs.Cells.{cell}
 use Rattle.rec_core.specs.Config.{IsConfig}
 use Rattle.rec_core.specs.Core.{Core, cells_of, heap_by}
 use Rattle.rec_core.specs.Kept.{IsKept}
-use Rattle.rec_core.specs.Logged.{last_batch, works_in}
+use Rattle.rec_core.specs.Logged.{last_batch}
 use Rattle.rec_core.specs.Moves.{AllFit, Fits, Move, after_move, after_moves, turned, turned_by}
-use Rattle.rec_core.specs.Shown.{Shows, shown_behind, shown_in, shown_over, turn_shown}
+use Rattle.rec_core.specs.Shown.{shown_behind, shown_in, shown_over, turn_shown}
 use Rattle.rec_core.specs.Turn.{seen_at}
 use Rattle.rec_core.specs.declared.config.Config.{Config}
 use Rattle.rec_core.proofs.Newborn.{none_in}
-use Rattle.rec_core.proofs.Opening.{opened_kept}
-use Rattle.rec_core.proofs.Runs.{move_kept, moves_kept}
+use Rattle.rec_core.proofs.Runs.{move_kept}
 use Rattle.rec_core.proofs.Turning.{turn_case}
 use Rattle.rec_audit.specs.Form.{number}
-use Rattle.rec_audit.specs.Graph.{IsReachedAt, is_sweep, is_taken, opens, this_block}
-use Rattle.rec_audit.specs.Journal.{batch_lines, completed_lines, journal, line_of, lines_of, op_lines, opening_lines, parts_lines, passed_lines, sets_passed}
-use Rattle.rec_audit.specs.Lines.{Line, text_of}
-use Rattle.rec_audit.specs.Runs.{IsReachedIn, heap_for}
-use Rattle.rec_audit.specs.Verdicts.{HasReachFault, IsVerdict}
-use Rattle.rec_audit.specs.declared.verdict.Verdict.TheVariants.{Yes}
+use Rattle.rec_audit.specs.Graph.{is_sweep, is_taken, opens, this_block}
+use Rattle.rec_audit.specs.Journal.{batch_lines, completed_lines, line_of, lines_of, op_lines, opening_lines, parts_lines, passed_lines}
+use Rattle.rec_audit.specs.Lines.{Line}
+use Rattle.rec_audit.specs.Runs.{heap_for}
+use Rattle.rec_audit.specs.Verdicts.{HasReachFault}
 use Rattle.rec_audit.specs.declared.kind.Kind.{Kind}
 use Rattle.rec_audit.specs.declared.kind.Kind.TheVariants as kinds
-use Rattle.rec_audit.specs.Keeping.{Place, behind_steps, first_place}
 use Rattle.rec_audit.proofs.Blocks.{Each, block_more, dead_more, each_at, each_both, heap_more_lines, is_late, is_part, late_plain, parts_are, pushes, taken_push}
-use Rattle.rec_audit.proofs.Rising.{from_epoch, journal_rises, no_stamp_fault}
 use Rattle.rec_audit.proofs.RunGraph.{HasBlock, Status, Tells, quiet_tells}
-use Rattle.rec_audit.proofs.RunReach.{shown_reach, shown_unreached}
-use Rattle.rec_audit.proofs.Runs.{are_numbers, run_keeps}
+use Rattle.rec_audit.proofs.RunReach.{shown_unreached}
 use Rattle.rec_audit.proofs.RunTurns.{behind_batch, late_shut, turned_tells}
-use Rattle.rec_audit.proofs.Sets.{answered}
 
 -- ---- lines that tell nothing of the graph
 

@@ -1,5 +1,5 @@
 -- Commands in straight code.
-use Rattle.std.proofs.Common.{◌≡◌, ℕ, ◌+◌, ◌%◌, ◌^◌, ◌<◌, Bool, true, false, List, [], ◌∷◌, ◌++◌, Option, Some, None, length, refl, sym, ap, subst, ◌∙◌, append-nil, append_assoc, arith}
+use Rattle.std.proofs.Common.{◌≡◌, ℕ, ◌+◌, ◌%◌, ◌^◌, ◌<◌, Bool, true, false, List, [], ◌++◌, Option, Some, None, refl, sym, ap, subst, ◌∙◌, append-nil, arith}
 use Rattle.atomic_table.specs.Seated.{TableId}
 use Rattle.atomic_table.specs.Table.{Me}
 use Rattle.rec_model.specs.declared.command.Cmd.{Cmd}
@@ -18,16 +18,15 @@ use Rattle.rec_mutator.specs.declared.work.Work.TheVariants as works
 use Rattle.rec_mutator.proofs.Around.{behind_near}
 use Rattle.rec_mutator.proofs.Steps.{TakesNone, here_same}
 use Rattle.rec_mutator.proofs.Straight.{scanning, scans_is}
-use Rattle.rec_table.specs.Answered.{worked}
 use Rattle.rec_table.specs.Rule.{MayBegin}
 use Rattle.rec_table.specs.Straight.{Bears, Carried, CarriesIf, IsPlainOp, Polled, Stands, record_of}
 use Rattle.rec_table.specs.declared.start.Start.{Start}
-use Rattle.rec_table.proofs.Common.{Op, Private, IsMachine, KeepsSizes, IsBetween, Contents, is_busy, is_busy_at, is_full, work_of, answer_at, answer_of, begun_of, took_of, spare, IsMutator, Core, mutator, MutatorView, mutator_view, mutator_now, IsOf, Works, told, learnt, ready, MayGo, births_of, births_told, beats, longer, seated_of, hands, me_after, taken_by, Saw, Beat, Seated, View, Mutates, index_of, IsWorld}
-use Rattle.rec_table.proofs.Acting.{opened_is, told_beats, ready_names}
+use Rattle.rec_table.proofs.Common.{Op, Private, IsMachine, KeepsSizes, IsBetween, Contents, is_busy, is_busy_at, is_full, work_of, answer_at, answer_of, begun_of, took_of, spare, IsMutator, Core, mutator, MutatorView, mutator_view, mutator_now, IsOf, Works, told, learnt, ready, MayGo, births_of, births_told, beats, longer, seated_of, hands, me_after, Saw, Beat, Seated, View, Mutates}
+use Rattle.rec_table.proofs.Acting.{opened_is, told_beats}
 use Rattle.rec_table.proofs.Answering.{Path, answered, begun_slots, path_first, path_on, polled}
 use Rattle.rec_table.proofs.Leaving.{leaves, poll_stays}
 use Rattle.rec_table.proofs.Lines.{tells}
-use Rattle.rec_table.proofs.Making.{begun_work, births_more, counted, keeps_on, learnt_between, learns_word, plain_hand, plain_taken, plain_phase, ready_between, ready_busy, ready_keeps, works_first}
+use Rattle.rec_table.proofs.Making.{begun_work, births_more, counted, keeps_on, learnt_between, learns_word, plain_hand, plain_taken, plain_phase, ready_between, ready_busy, works_first}
 use Rattle.rec_table.proofs.Steps.{IsPlain, begun_busy, plain_takes_none}
 use Rattle.rec_table.proofs.Within.{there}
 

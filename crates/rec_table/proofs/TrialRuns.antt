@@ -1,23 +1,20 @@
 -- A run of the collector's trial on the table.
-use Rattle.std.proofs.Common.{◌≡◌, ◌≢◌, ℕ, ◌+◌, ◌-◌, ◌<◌, ◌≤◌, length, Option, None, Some, List, [], ◌∷◌, ◌++◌, IsSome, refl, sym, ap, subst, ◌∙◌, arith}
+use Rattle.std.proofs.Common.{◌≡◌, ◌≢◌, ℕ, ◌+◌, ◌-◌, ◌≤◌, Option, Some, [], ◌∷◌, ◌++◌, IsSome, refl, sym, ap, subst, ◌∙◌, arith}
 use Rattle.atomic_table.specs.Seated.{TableId}
 use Rattle.atomic_table.specs.Table.{Me}
 use Rattle.rec_trial.specs.Rules.{LeadsToUnreleased, visible}
-use Rattle.rec_trial.specs.Trial.{Machine as Trial, Work, next_of as trial_next, op_at, took_of as trial_took}
-use Rattle.rec_collector.specs.Given.{IsGiven, IsGivenAt, IsTryingIn}
+use Rattle.rec_trial.specs.Trial.{Machine as Trial, Work, next_of as trial_next, took_of as trial_took}
+use Rattle.rec_collector.specs.Given.{IsGiven, IsGivenAt}
 use Rattle.rec_collector.specs.Kept.{IsMachine, KeepsSizes}
-use Rattle.rec_collector.specs.Kind.{kind_of}
 use Rattle.rec_collector.specs.Next.{next_at, next_of}
 use Rattle.rec_collector.specs.Private.{Private}
 use Rattle.rec_collector.specs.Running.{IsTrialOf, RunsTo}
-use Rattle.rec_collector.specs.Step.{IsBetween}
 use Rattle.rec_collector.specs.Took.{took_of, turn_of}
 use Rattle.rec_collector.specs.declared.phase.Phase.{Phase}
-use Rattle.rec_collector.specs.declared.phase.Phase.TheVariants.{Trying}
 use Rattle.rec_collector.specs.declared.turn.Turn.{Turn}
 use Rattle.rec_collector.specs.declared.turn.Turn.TheVariants as turns
 use Rattle.rec_collector.proofs.Running.{run_works, word_keeps}
-use Rattle.rec_table.proofs.Common.{Op, Contents, Core, IsWorld, CollectorView, collector_view, collector_now, gathered, gathered_all, index_of, collecting_of, collecting_more, boxes_at, boxes_out, word_of, NotLooking, Beat, Saw, CollectorSeat, View, Collects}
+use Rattle.rec_table.proofs.Common.{Op, Contents, Core, CollectorView, collector_view, gathered_all, collecting_of, collecting_more, boxes_at, boxes_out, NotLooking, Saw, CollectorSeat, View, Collects}
 use Rattle.rec_word.specs.declared.op.Op.TheVariants as ops
 use Rattle.rec_table.specs.TrialRuns.{Made, Stands}
 use Rattle.rec_table.specs.Turn.{MakesSome, MakesTurn, MovesTo}

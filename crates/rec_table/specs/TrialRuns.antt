@@ -1,5 +1,5 @@
 -- A run of the collector's trial on the table.
-use Rattle.std.specs.Prelude.{◌≡◌, ℕ, ◌+◌, Option, List, []}
+use Rattle.std.specs.Prelude.{◌≡◌, ℕ, ◌+◌, Option, []}
 use Rattle.atomic_table.specs.Seated.{TableId}
 use Rattle.atomic_table.specs.Table.{Me}
 use Rattle.rec_log.specs.declared.contents.Contents.{Contents}

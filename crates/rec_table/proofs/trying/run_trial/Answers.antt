@@ -1,12 +1,12 @@
 -- The contract of `run_trial`: makes turns of the trial that is at work.
-use Rattle.std.proofs.Common.{◌≡◌, refl, sym, ap, subst, ◌∙◌}
+use Rattle.std.proofs.Common.{◌≡◌, sym, ap, subst, ◌∙◌}
 use Rattle.rec_collector.specs.Kept.{KeepsSizes}
 use Rattle.rec_collector.specs.Private.{Private}
 use Rattle.rec_collector.specs.Running.{IsTrialOf, RunsTo}
 use Rattle.rec_collector.specs.Step.{IsBetween}
 use Rattle.rec_collector.specs.declared.turn.Turn.{Turn}
 use Rattle.rec_collector.specs.declared.turn.Turn.TheVariants as turns
-use Rattle.rec_table.proofs.Common.{Core, CollectorSeat, CollectorView, Collects, boxes_out, collecting_of, collector_view, gathered_all}
+use Rattle.rec_table.proofs.Common.{Core, CollectorSeat, Collects, boxes_out, collecting_of, collector_view, gathered_all}
 use Rattle.rec_table.specs.TrialRuns.{Made}
 use Rattle.rec_table.proofs.TrialRuns.{trial_looks}
 use Rattle.rec_table.proofs.trying.run_trial.Goals as goal

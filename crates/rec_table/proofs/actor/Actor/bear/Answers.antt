@@ -1,24 +1,20 @@
 -- The contract of `Actor::bear`: a birth, where the log has room.
-use Rattle.std.proofs.Common.{◌≡◌, ℕ, ◌+◌, ◌<◌, ◌++◌, [], if◌then◌else◌, Bool, true, Option, Some, None, false, refl, sym, ap, subst, ◌∙◌, ne_eqb, arith}
+use Rattle.std.proofs.Common.{◌≡◌, ℕ, ◌<◌, ◌++◌, if◌then◌else◌, Bool, Option, Some, None, false, refl, sym, ap, subst, ◌∙◌, ne_eqb, arith}
 use Rattle.atomic_table.specs.Table.{Me}
-use Rattle.rec_word.specs.Header.{header_word}
 use Rattle.rec_word.specs.declared.op.Op.TheVariants as ops
 use Rattle.rec_model.specs.Asking.{allocation, plain}
 use Rattle.rec_model.specs.declared.answer.Answer.TheVariants as answers
 use Rattle.rec_model.specs.declared.command.Cmd.{Cmd}
 use Rattle.rec_mutator.specs.Next.{next_of}
-use Rattle.rec_mutator.specs.Private.{HasOperands}
-use Rattle.rec_mutator.specs.declared.made.Made.{Made}
-use Rattle.rec_mutator.specs.declared.made.Made.TheVariants as makes
 use Rattle.rec_mutator.specs.declared.work.Work.{Work}
 use Rattle.rec_mutator.specs.declared.work.Work.TheVariants as works
-use Rattle.rec_mutator.proofs.Straight.{begun_machine, scanning, scans_is, scans_machine}
+use Rattle.rec_mutator.proofs.Straight.{begun_machine, scanning, scans_machine}
 use Rattle.rec_table.specs.Rule.{MayBegin}
-use Rattle.rec_table.specs.Straight.{Path, Stands, record_of}
+use Rattle.rec_table.specs.Straight.{Path, record_of}
 use Rattle.rec_table.specs.declared.start.Start.{Start}
-use Rattle.rec_table.proofs.Common.{Op, Private, IsBetween, IsMachine, IsMutator, Contents, Core, actor_of, world_kept, is_full, KeepsSizes, IsTold, Works, answer_of, births_of, is_busy, work_of, begun_of, took_of, told, mutator_now, mutator_view, MutatorView, Saw, beats, ready, MayGo, learnt, seated_of, View}
+use Rattle.rec_table.proofs.Common.{Private, IsBetween, IsMachine, Contents, Core, is_full, KeepsSizes, IsTold, Works, answer_of, births_of, is_busy, work_of, begun_of, told, mutator_now, mutator_view, MutatorView, Saw, beats, MayGo, learnt, seated_of, View}
 use Rattle.rec_table.proofs.Making.{counted, keeps_on}
-use Rattle.rec_table.proofs.Straight.{Kept, Owns, answered_idle, born_first, born_last, born_mid, born_second, carried_path, carried_twice, path_twice, works_twice, kept_by, learns_first, learns_second, none_born, one_born, opened_on, owns, seen_on}
+use Rattle.rec_table.proofs.Straight.{Owns, answered_idle, born_first, born_last, born_mid, born_second, carried_path, carried_twice, path_twice, works_twice, kept_by, none_born, one_born, opened_on, owns, seen_on}
 use Rattle.rec_table.proofs.actor.Actor.bear.Goals as goal
 use Rattle.rec_table.proofs.actor.Actor.bear.Goals.{After-pack-header}
 

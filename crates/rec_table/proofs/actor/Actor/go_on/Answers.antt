@@ -1,8 +1,7 @@
 -- The contract of `Actor::go_on`: makes the steps of a work that is under way, to its end.
-use Rattle.std.proofs.Common.{◌≡◌, ◌+◌, ◌++◌, ℕ, ◌∙◌, None, Some, refl, ap, sym, subst}
-use Rattle.rec_table.proofs.Common.{Private, KeepsSizes, work_of, beats, MutatorView, told, mutator_now, HasScanned, saw_all}
+use Rattle.std.proofs.Common.{◌≡◌, ◌++◌, ◌∙◌, None, Some, refl, ap, sym}
+use Rattle.rec_table.proofs.Common.{KeepsSizes, beats, MutatorView, told, mutator_now, HasScanned, saw_all}
 use Rattle.rec_mutator.specs.declared.work.Work.{Work}
-use Rattle.rec_table.specs.declared.start.Start.{Start}
 use Rattle.rec_table.proofs.Answering.{busy_still, path_on, path_slots}
 use Rattle.rec_table.proofs.Beats.{told_both}
 use Rattle.rec_table.proofs.Making.{keeps_on, works_after}

@@ -1,21 +1,18 @@
 -- The contract of `Actor::poll`: a look at the epoch word, and the steps by which the mutator crosses.
-use Rattle.std.proofs.Common.{◌++◌, ◌≡◌, ℕ, ◌<◌, [], Option, Some, None, false, refl, sym, ap, subst, ◌∙◌}
+use Rattle.std.proofs.Common.{◌++◌, ◌≡◌, ℕ, ◌<◌, [], Option, Some, refl, sym, ap, subst, ◌∙◌}
 use Rattle.rec_word.specs.declared.op.Op.TheVariants as ops
-use Rattle.rec_model.specs.declared.command.Cmd.TheVariants as commands
 use Rattle.rec_mutator.specs.Next.{next_of, next_at}
-use Rattle.rec_mutator.specs.Private.{HasOperands}
-use Rattle.rec_mutator.specs.declared.made.Made.TheVariants as makes
 use Rattle.rec_mutator.specs.declared.work.Work.{Work}
 use Rattle.rec_mutator.specs.declared.work.Work.TheVariants as works
 use Rattle.rec_mutator.proofs.Straight.{begun_machine}
 use Rattle.rec_table.specs.Rule.{MayBegin}
-use Rattle.rec_table.specs.Straight.{Stands, record_of}
+use Rattle.rec_table.specs.Straight.{record_of}
 use Rattle.rec_table.specs.declared.start.Start.{Start}
-use Rattle.rec_table.proofs.Common.{Op, Private, IsBetween, IsFound, IsMachine, IsTold, Contents, Core, KeepsSizes, answer_of, is_busy, work_of, begun_of, told, mutator_now, mutator_view, MutatorView, Mutates, Saw, View, beats, longer, ready, MayGo, learnt, seated_of}
+use Rattle.rec_table.proofs.Common.{Private, IsBetween, IsFound, IsMachine, IsTold, Contents, Core, answer_of, work_of, begun_of, told, mutator_now, mutator_view, MutatorView, Mutates, Saw, View, beats, longer, MayGo, learnt, seated_of}
 use Rattle.rec_table.proofs.Making.{begun_work, counted, keeps_on}
 use Rattle.rec_mutator.specs.Took.{IsRequested}
 use Rattle.atomic_table.specs.Table.{Me}
-use Rattle.rec_table.proofs.Straight.{Kept, Owns, path_once, polled_once, polled_path, kept_by, learns_first, none_born, opened_on, owns, seen_on}
+use Rattle.rec_table.proofs.Straight.{Owns, path_once, polled_once, polled_path, kept_by, learns_first, none_born, opened_on, owns, seen_on}
 use Rattle.rec_table.proofs.actor.Actor.poll.Goals as goal
 use Rattle.rec_table.proofs.actor.Actor.poll.Goals.{After-from-from}
 

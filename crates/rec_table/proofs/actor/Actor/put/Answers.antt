@@ -1,5 +1,5 @@
 -- The contract of `Actor::put`: a write of a field, where there is an object and the log has room.
-use Rattle.std.proofs.Common.{◌≡◌, ℕ, ◌<◌, [], Bool, true, Option, Some, None, false, refl, sym, ap, subst, ◌∙◌}
+use Rattle.std.proofs.Common.{◌≡◌, ℕ, ◌<◌, Option, Some, None, false, refl, sym, ap, subst, ◌∙◌}
 use Rattle.atomic_table.specs.Table.{Me}
 use Rattle.rec_word.specs.Header.{is_leaf, IsTakenHeader}
 use Rattle.rec_word.specs.Place.{place_of}
@@ -9,17 +9,16 @@ use Rattle.rec_model.specs.Asking.{plain}
 use Rattle.rec_model.specs.declared.answer.Answer.TheVariants as answers
 use Rattle.rec_model.specs.declared.told.Told.{Told}
 use Rattle.rec_mutator.specs.Next.{next_of, next_at, write_op}
-use Rattle.rec_mutator.specs.Private.{HasOperands, HasStamp, word_for}
-use Rattle.rec_mutator.specs.declared.made.Made.TheVariants as makes
+use Rattle.rec_mutator.specs.Private.{word_for}
 use Rattle.rec_mutator.specs.declared.phase.Phase.TheVariants.{Storing}
 use Rattle.rec_mutator.specs.declared.work.Work.{Work}
 use Rattle.rec_mutator.specs.declared.work.Work.TheVariants as works
 use Rattle.rec_mutator.proofs.Straight.{begun_machine, looked_is, looked_machine}
 use Rattle.rec_table.specs.Rule.{MayBegin}
-use Rattle.rec_table.specs.Straight.{Stands, record_of}
+use Rattle.rec_table.specs.Straight.{record_of}
 use Rattle.rec_table.specs.declared.start.Start.{Start}
-use Rattle.rec_table.proofs.Common.{Op, Private, IsBetween, IsMachine, Contents, Core, is_full, register, answer_of, is_busy, begun_of, took_of, mutator_now, MutatorView, Saw, beats, ready, MayGo, learnt, seated_of, View}
-use Rattle.rec_table.proofs.Straight.{Kept, Owns, answered_idle, carried_once, carried_twice, kept_by, learns_first, learns_second, none_born, opened_on, owns, seen_on}
+use Rattle.rec_table.proofs.Common.{Private, IsBetween, IsMachine, Contents, Core, is_full, register, answer_of, is_busy, begun_of, took_of, mutator_now, Saw, beats, MayGo, learnt, View}
+use Rattle.rec_table.proofs.Straight.{Owns, answered_idle, carried_once, carried_twice, kept_by, learns_first, learns_second, none_born, opened_on, owns, seen_on}
 use Rattle.rec_table.proofs.actor.Actor.put.Goals as goal
 use Rattle.rec_table.proofs.actor.Actor.put.Goals.{After-from-from}
 

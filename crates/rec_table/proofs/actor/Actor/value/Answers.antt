@@ -1,21 +1,18 @@
 -- The contract of `Actor::value`: a look at the label of an object.
-use Rattle.std.proofs.Common.{◌≡◌, ℕ, ◌<◌, [], Option, Some, None, false, refl, sym, ap, subst, ◌∙◌}
+use Rattle.std.proofs.Common.{◌≡◌, ℕ, ◌<◌, Some, refl, sym, ap, subst, ◌∙◌}
 use Rattle.rec_word.specs.declared.op.Op.TheVariants as ops
 use Rattle.rec_model.specs.declared.command.Cmd.TheVariants as commands
 use Rattle.rec_model.specs.Asking.{plain}
 use Rattle.rec_model.specs.declared.told.Told.{Told}
 use Rattle.rec_mutator.specs.Next.{next_of, next_at, label_op}
-use Rattle.rec_mutator.specs.Private.{HasOperands}
-use Rattle.rec_mutator.specs.declared.made.Made.TheVariants as makes
 use Rattle.rec_mutator.specs.declared.work.Work.{Work}
 use Rattle.rec_mutator.specs.declared.work.Work.TheVariants as works
 use Rattle.rec_mutator.proofs.Straight.{begun_machine}
-use Rattle.rec_word.specs.Place.{place_of}
 use Rattle.rec_table.specs.Rule.{MayBegin}
-use Rattle.rec_table.specs.Straight.{Stands, record_of}
+use Rattle.rec_table.specs.Straight.{record_of}
 use Rattle.rec_table.specs.declared.start.Start.{Start}
-use Rattle.rec_table.proofs.Common.{Op, Private, IsBetween, IsMachine, Core, register, answer_of, is_busy, begun_of, mutator_now, MutatorView, Saw, beats, ready, MayGo, learnt, seated_of}
-use Rattle.rec_table.proofs.Straight.{Kept, Owns, carried_once, kept_by, learns_first, none_born, opened_on, owns, seen_on}
+use Rattle.rec_table.proofs.Common.{Private, IsBetween, IsMachine, Core, register, answer_of, begun_of, beats, MayGo}
+use Rattle.rec_table.proofs.Straight.{Owns, carried_once, kept_by, learns_first, none_born, opened_on, owns, seen_on}
 use Rattle.rec_table.proofs.actor.Actor.value.Goals as goal
 use Rattle.rec_table.proofs.actor.Actor.value.Goals.{After-from-from}
 

@@ -1,7 +1,7 @@
 -- The contract of `Actor::work`: begins a work, makes its first step and goes on to the end.
-use Rattle.std.proofs.Common.{◌≡◌, ◌+◌, ◌++◌, ℕ, ◌∙◌, refl, ap, sym, subst}
+use Rattle.std.proofs.Common.{◌≡◌, ◌∙◌, refl, ap, subst}
 use Rattle.std.proofs.Common.{Some}
-use Rattle.rec_table.proofs.Common.{Private, Works, KeepsSizes, IsMachine, IsValid, work_of, HasLabel, Saw, beats, ready, MutatorView, told, learnt, mutator_now, HasScanned, saw_all}
+use Rattle.rec_table.proofs.Common.{Private, Works, MutatorView, mutator_now}
 use Rattle.rec_mutator.specs.declared.made.Made.{Made}
 use Rattle.rec_mutator.specs.declared.work.Work.{Work}
 use Rattle.rec_mutator.specs.declared.work.Work.TheVariants as works

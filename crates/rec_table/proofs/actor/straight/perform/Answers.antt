@@ -1,8 +1,7 @@
 -- The contract of `perform`: makes the atomic operation of a step that moves no mailbox.
-use Rattle.std.proofs.Common.{◌≡◌, ◌<◌, ℕ, [], length, refl, sym, ap, subst, ◌∙◌, arith}
-use Rattle.rec_mutator.specs.Next.{next_of}
+use Rattle.std.proofs.Common.{◌<◌, [], length, refl, sym, ap, subst, ◌∙◌, arith}
 use Rattle.rec_table.specs.Straight.{Stands, record_of}
-use Rattle.rec_table.proofs.Common.{Op, Private, Core, mutator, index_of, ready, seated_of, hands, Mutates}
+use Rattle.rec_table.proofs.Common.{Op, Private, Core, mutator, index_of, ready, seated_of, Mutates}
 use Rattle.rec_table.proofs.Acting.{ready_names}
 use Rattle.rec_table.proofs.Making.{keeps_on, plain_phase, ready_between, ready_hands, ready_keeps}
 use Rattle.rec_table.proofs.Straight.{after_plain, learns_on, stands_on}

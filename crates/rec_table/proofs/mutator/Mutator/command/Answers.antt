@@ -1,6 +1,5 @@
 -- The contract of `Mutator::command`: carries out a command, and tells the answer.
-use Rattle.std.proofs.Common.{◌≡◌, Some, true, false, [], ◌∷◌, sym, ◌∙◌, subst}
-use Rattle.rec_model.specs.declared.told.Told.{Told}
+use Rattle.std.proofs.Common.{◌≡◌, true, sym, subst}
 use Rattle.rec_table.proofs.Common.{IsMutatorOf, MutatorView, mutator_now}
 use Rattle.rec_table.specs.Rule.{MayAsk}
 use Rattle.rec_table.specs.Straight.{Carried, CarriesIf}

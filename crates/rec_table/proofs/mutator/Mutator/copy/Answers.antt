@@ -1,8 +1,8 @@
 -- The contract of `Mutator::copy`: copies a register.
-use Rattle.std.proofs.Common.{◌≡◌, IsSome, false, sym, subst}
+use Rattle.std.proofs.Common.{sym, subst}
 use Rattle.rec_model.specs.declared.answer.Answer.TheVariants as answers
 use Rattle.rec_model.specs.declared.command.Cmd.TheVariants as commands
-use Rattle.rec_table.proofs.Common.{IsMutatorOf, IsWorld, MutatorView, Started, is_full, mutator_now, register, started}
+use Rattle.rec_table.proofs.Common.{IsMutatorOf, IsWorld, MutatorView, Started, mutator_now, started}
 use Rattle.rec_table.specs.Rule.{MayAsk}
 use Rattle.rec_table.specs.Straight.{Carries}
 use Rattle.rec_table.proofs.mutator.Mutator.copy.Goals as goal

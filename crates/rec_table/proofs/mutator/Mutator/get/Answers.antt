@@ -1,7 +1,7 @@
 -- The contract of `Mutator::get`: reads a field.
-use Rattle.std.proofs.Common.{◌≡◌, IsSome, false, sym, subst}
+use Rattle.std.proofs.Common.{IsSome, sym, subst}
 use Rattle.rec_model.specs.declared.command.Cmd.TheVariants as commands
-use Rattle.rec_table.proofs.Common.{IsMutatorOf, IsWorld, MutatorView, Started, is_full, mutator_now, register, started}
+use Rattle.rec_table.proofs.Common.{IsMutatorOf, IsWorld, MutatorView, Started, mutator_now, register, started}
 use Rattle.rec_table.specs.Rule.{MayAsk}
 use Rattle.rec_table.specs.Straight.{Carries}
 use Rattle.rec_table.proofs.mutator.Mutator.get.Goals as goal

@@ -1,7 +1,6 @@
 -- The contract of `Mutator::poll`: looks at the epoch word, and crosses.
-use Rattle.std.proofs.Common.{◌≡◌, [], false, sym, ◌∙◌, subst}
-use Rattle.rec_mutator.specs.declared.work.Work.TheVariants as works
-use Rattle.rec_table.proofs.Common.{KeepsSizes, IsMutatorOf, IsWorld, MutatorView, Started, Works, mutator_now, started}
+use Rattle.std.proofs.Common.{◌≡◌, false, sym, subst}
+use Rattle.rec_table.proofs.Common.{IsMutatorOf, IsWorld, MutatorView, Started, mutator_now, started}
 use Rattle.rec_table.specs.Straight.{Polled}
 use Rattle.rec_table.proofs.mutator.Mutator.poll.Goals as goal
 use Rattle.rec_table.proofs.mutator.Mutator.poll.Goals.{After-poll}

@@ -1,5 +1,5 @@
 -- The contract of `Trying`'s `load`: a turn of a trial.
-use Rattle.std.proofs.Common.{◌≡◌, refl, sym, ap, subst, ◌∙◌, arith}
+use Rattle.std.proofs.Common.{refl, sym, ap, subst, ◌∙◌, arith}
 use Rattle.rec_word.specs.declared.op.Op.TheVariants as ops
 use Rattle.rec_collector.specs.Given.{IsGiven}
 use Rattle.rec_collector.specs.Next.{next_of}

@@ -15,7 +15,7 @@ use Rattle.rec_core.specs.Preconditions.{MayTurn}
 use Rattle.rec_core.specs.Turn.{IsTurn, told_at, turn_told}
 use Rattle.rec_core.proofs.Turn.{turn_is_one}
 use Rattle.rec_core.proofs.BareRuns.{may_turn}
-use Rattle.rec_world.proofs.Calls.{ReadyToTurn, ready_to_turn, box_read, moved_world, world_kept}
+use Rattle.rec_world.proofs.Calls.{ReadyToTurn, ready_to_turn, box_read, moved_world}
 use Rattle.rec_world.proofs.Turnings.{holds_looked, home_still, turned_is}
 use Rattle.rec_world.proofs.world.World.turn_as.Goals as goal
 use Rattle.rec_world.proofs.world.World.turn_as.Goals.{In_default, In-Some, After-gather}
