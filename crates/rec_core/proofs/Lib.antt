@@ -12,6 +12,7 @@ pub mod Begun
 pub mod Common
 pub mod Counts
 pub mod Crossings
+pub mod CutOff
 pub mod CyclesBatch
 pub mod CyclesLess
 pub mod CyclesMarked

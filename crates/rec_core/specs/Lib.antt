@@ -3,6 +3,7 @@ pub mod Bare
 pub mod Cells
 pub mod Config
 pub mod Core
+pub mod CutOff
 pub mod Cycles
 pub mod CyclesAt
 pub mod Freed

@@ -25,6 +25,7 @@ ghost use Rattle.rec_core.specs.Core.{Core, sight, mutator, heap_by, opened};
 ghost use Rattle.rec_word.specs.declared.op.Op.TheVariants.{FreeHeader};
 ghost use Rattle.rec_word.specs.Header.{header_word};
 ghost use Rattle.rec_word.specs.Place.{places_of};
+ghost use Rattle.rec_core.specs.CutOff.{IsClear, IsCutOff};
 ghost use Rattle.rec_core.specs.Freed.{AreGone, IsForgotten, IsGone, IsProvenGarbage, Passes, TestsSets};
 ghost use Rattle.rec_core.specs.Kept.{IsKept};
 ghost use Rattle.rec_core.specs.Logged.{HasOwnBuffers};
@@ -105,6 +106,17 @@ pub fn sets_that_pass_are_garbage()
 /// the epochs of the heap of dated words behind.
 pub fn freed_slots_are_forgotten()
     ensures { (w : Core) → IsConfig w.config → EndsRun w → Behind w (λ v. (slot : ℕ) → collector_next v.collector ≡ Some (FreeHeader slot) → IsForgotten v slot) }
+{}
+
+/// Nothing of the heap's own leads to what is given up. A member of a set that passes both tests is reached from no register. No register
+/// names a slot that was given up, nor a member of the set that a watch is shown, and no field of a slot that isn't given up leads to it.
+/// And where a header is set to 0, no register and no field of any slot leads there, and no list of the collector but the free list has
+/// the slot. It holds in every state of every run of a heap with its collector.
+pub fn nothing_leads_to_what_is_given_up()
+    ensures passed { (w : Core) (number slot : ℕ) → IsConfig w.config → EndsRun w → TestsSets w.collector.phase → Passes w number → (slot_at w.collector.counts slot).set ≡ Some number → Reaches (sight w) slot → ⊥ }
+    ensures given_up { (w : Core) (slot : ℕ) → IsConfig w.config → EndsRun w → slot < w.config.slots → (slot_at w.collector.counts slot).released ≡ true → IsCutOff w slot }
+    ensures shown { (w : Core) (members : List ℕ) (slot : ℕ) → IsConfig w.config → EndsRun w → passed_of w.collector ≡ Some members → 0 < times slot members → IsCutOff w slot }
+    ensures freed { (w : Core) (slot : ℕ) → IsConfig w.config → EndsRun w → collector_next w.collector ≡ Some (FreeHeader slot) → IsClear w slot }
 {}
 
 /// The true count of every slot is the count formula of its node at the epoch of the last batch, in every state of every run
