@@ -9,6 +9,7 @@ pub mod BareRuns
 pub mod BareSeen
 pub mod Batches
 pub mod Begun
+pub mod ByStamps
 pub mod Common
 pub mod Counts
 pub mod Crossings
@@ -61,6 +62,7 @@ pub mod Shapes
 pub mod Showing
 pub mod Shows
 pub mod Stamped
+pub mod StampDates
 pub mod Step
 pub mod Steps
 pub mod Sums

@@ -1,5 +1,6 @@
 -- The modules of the definitions.
 pub mod Bare
+pub mod ByStamps
 pub mod Cells
 pub mod Config
 pub mod Core

@@ -20,6 +20,7 @@ ghost use Rattle.rec_collector.specs.Touched.{IsOrangeIn, WasUntouched};
 ghost use Rattle.rec_collector.specs.Zeros.{AreTheZeros};
 ghost use Rattle.rec_sigma.specs.Prepared.{seen};
 ghost use Rattle.rec_core.specs.Bare.{bare_core, Behind};
+ghost use Rattle.rec_core.specs.ByStamps.{by_stamps};
 ghost use Rattle.rec_core.specs.Config.{IsConfig, IsMutator};
 ghost use Rattle.rec_core.specs.Core.{Core, sight, mutator, heap_by, opened};
 ghost use Rattle.rec_word.specs.declared.op.Op.TheVariants.{FreeHeader};
@@ -62,6 +63,13 @@ pub fn runs_go_on()
 pub fn dated_runs_stand_beside()
     ensures opens { (config : Config) (moves : List Move) → IsConfig config → AllFit (opened config) moves → AllFit (heap_by true config) moves × ((bare_core (after_moves (heap_by true config) moves) ≡ after_moves (opened config) moves) × IsKept true (after_moves (heap_by true config) moves)) }
     ensures opens_from { (config : Config) (o : Objects) (moves : List Move) → IsConfig config → AreObjects config o → HaveLabels o.nodes → AllFit (opened_from config o) moves → AllFit (heap_from_by true config o) moves × ((bare_core (after_moves (heap_from_by true config o) moves) ≡ after_moves (opened_from config o) moves) × IsKept true (after_moves (heap_from_by true config o) moves)) }
+{}
+
+/// Stamps are dates. Take a run, and the run of dated words beside it. What the dated heap has to account for is what the heap itself has,
+/// where each word in a field or in a buffer is dated by its own stamp. So the date of each such word is the epoch that its stamp tells.
+pub fn stamps_are_dates()
+    ensures opens { (config : Config) (moves : List Move) → IsConfig config → AllFit (opened config) moves → pending (after_moves (heap_by true config) moves) ≡ pending (by_stamps (after_moves (opened config) moves)) }
+    ensures opens_from { (config : Config) (o : Objects) (moves : List Move) → IsConfig config → AreObjects config o → HaveLabels o.nodes → AllFit (opened_from config o) moves → pending (after_moves (heap_from_by true config o) moves) ≡ pending (by_stamps (after_moves (opened_from config o) moves)) }
 {}
 
 /// Whatever heap of dated words keeps this, its true counts are the count formula. A set of it that passes both tests is garbage, as is
