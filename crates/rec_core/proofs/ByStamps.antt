@@ -1,16 +1,12 @@
 -- A heap whose words are dated by their stamps has to account for the same as the heap of dated words behind it.
-use Rattle.std.proofs.Common.{◌≡◌, ℕ, ◌+◌, ◌-◌, ◌*◌, ◌/◌, ◌%◌, ◌^◌, ◌<◌, ◌≤◌, ◌==◌, ◌||◌, if◌then◌else◌, true, suc, Option, Some, List, [], ◌∷◌, ◌++◌, flat_map, map, slice_index_or, refl, sym, ap, subst, ◌∙◌, arith}
+use Rattle.std.proofs.Common.{◌≡◌, ℕ, ◌+◌, ◌-◌, ◌*◌, ◌/◌, ◌%◌, ◌^◌, ◌==◌, ◌||◌, if◌then◌else◌, true, suc, List, [], ◌∷◌, ◌++◌, flat_map, map, slice_index_or, refl, sym, ap, ◌∙◌, arith}
 use Rattle.std.specs.List.{sum_by, zip}
 use Rattle.std.proofs.lemmas.List.Sums.{sum_by-cons}
-use Rattle.rec_core.proofs.Common.{Contents, Core, Dated, Entry, Filed, IsConfig, IsKept, Op, Pending, Private, births_in, buffers, dated_all, dated_names, dated_registers, epoch_at, epoch_of, filed, filed_box, has_let_go, is_member_of, is_parting, older_at, pending, slot_at, stamp_of, times, writes_in}
+use Rattle.rec_core.proofs.Common.{Contents, Core, Entry, Filed, Private, births_in, buffers, dated_all, dated_names, dated_registers, epoch_at, epoch_of, filed, filed_box, has_let_go, is_parting, older_at, pending, stamp_of, writes_in}
 use Rattle.rec_word.specs.Bare.{bare, dated_word}
-use Rattle.rec_word.specs.declared.op.Op.TheVariants as ops
 use Rattle.rec_word.specs.declared.stamps.Stamp.{Stamp}
 use Rattle.rec_log.specs.Words.{buffer_by, entry_by}
 use Rattle.rec_log.specs.declared.entry.Entry.TheVariants as entries
-use Rattle.rec_model.specs.Accounted.{named, named_anywhere}
-use Rattle.rec_model.specs.References.{IsInReach, count_formula}
-use Rattle.rec_model.specs.Sets.{PassesTests}
 use Rattle.rec_mutator.specs.Bare as mutators
 use Rattle.rec_mutator.specs.Causes.{gives_back}
 use Rattle.rec_mutator.proofs.BareKept.{said_bare}

@@ -108,7 +108,7 @@ pub given_up_is_cut_off : (v w : Core) (slot : ℕ) → Explains v w → slot < 
 given_up_is_cut_off v w slot e = subst (λ (u : Core). slot < u.config.slots → (slot_at u.collector.counts slot).released ≡ true → IsCutOff u slot) e.bare
     (λ there released. cut_off_bare v slot (cut_off v slot e.kept ((given_up_are_gone v e.kept).released slot there released).unnamed))
 
-passed_bare : (c : collectors.Private) (phase : Phase) → passed_in (collectors_bare.bare_private c) phase ≡ passed_in c phase
+pub passed_bare : (c : collectors.Private) (phase : Phase) → passed_in (collectors_bare.bare_private c) phase ≡ passed_in c phase
 passed_bare c (Freeing m) = refl
 passed_bare c _ = refl
 
@@ -171,7 +171,7 @@ is_member v number slot set =
     let at : slot + 1 - 1 ≡ slot = omega arith in
     ap (λ n. slots.is_in number (slot_at v.collector.counts n).set) at ∙ (ap (slots.is_in number) set ∙ eq-eqb number number refl)
 
-passes_behind : (v : Core) (number : ℕ) → Passes (bare_core v) number → Passes v number
+pub passes_behind : (v : Core) (number : ℕ) → Passes (bare_core v) number → Passes v number
 passes_behind v number p = record { there = p.there; orange = p.orange; none = p.none }
 
 pub passed_are_unreached : (v w : Core) (number slot : ℕ) → Explains v w → TestsSets w.collector.phase → Passes w number → (slot_at w.collector.counts slot).set ≡ Some number → Reaches (sight w) slot → ⊥

@@ -62,6 +62,7 @@ pub mod Shapes
 pub mod Showing
 pub mod Shows
 pub mod Stamped
+pub mod StampedLate
 pub mod StampDates
 pub mod Step
 pub mod Steps

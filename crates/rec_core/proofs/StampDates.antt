@@ -4,13 +4,11 @@ use Rattle.std.specs.List.{All, sum_by}
 use Rattle.std.proofs.lemmas.Bool.{cases_eq, cases_lt, cond-false, eq-eqb, eqb-true, ne_eqb}
 use Rattle.std.proofs.lemmas.List.{get_or-set_other, get_or-set_same, get_or_past, length-set, set-get_or}
 use Rattle.std.proofs.lemmas.List.Elements.{All-head, All-tail}
-use Rattle.rec_core.proofs.Common.{AllFit, Config, Core, Fits, IsConfig, IsKept, IsMutator, IsRun, IsStart, IsTarget, Move, Op, Private, Write, after_move, after_moves, begun_from, cell, cells_of, epoch_of, is_busy, mutator, next_of, stamp_of, stepped, turned, turned_by, whole_made, with_cell, writes_of}
+use Rattle.rec_core.proofs.Common.{AllFit, Config, Core, Fits, IsConfig, IsKept, IsMutator, IsStart, IsTarget, Move, Op, Private, Write, after_move, after_moves, cell, cells_of, epoch_of, is_busy, mutator, stamp_of, stepped, turned, turned_by, whole_made, with_cell, writes_of}
 use Rattle.rec_word.specs.Op.{written}
 use Rattle.rec_word.specs.declared.op.Op.TheVariants as ops
 use Rattle.rec_word.specs.declared.stamps.Stamp.{Stamp}
 use Rattle.rec_word.proofs.Packing.{stamp_of-packed}
-use Rattle.rec_mutator.specs.declared.work.Work.{Work}
-use Rattle.rec_collector.specs.Next as collectors_next
 use Rattle.rec_collector.specs.Step as collectors_step
 use Rattle.rec_collector.proofs.Always.{names_word}
 use Rattle.rec_core.specs.ByStamps.{stamp_epoch}
@@ -18,12 +16,14 @@ use Rattle.rec_core.specs.Core.{box, heap_by}
 use Rattle.rec_core.specs.Moves.{EndsRun, found_by}
 use Rattle.rec_core.specs.Objects.{AreObjects, HaveLabels, Objects, early_stamp, early_word, early_words}
 use Rattle.rec_core.specs.OpenedFrom.{heap_from_by}
+use Rattle.rec_core.proofs.BareOpened.{heap_bare, heap_from_bare}
+use Rattle.rec_core.proofs.Dated.{Explains, moves_explained}
 use Rattle.rec_core.proofs.EarlyWords.{early_epoch, early_is}
-use Rattle.rec_core.proofs.Lasting.{IsPlain, IsPut, begun_less, op_less, step_less, step_logs, step_sums}
-use Rattle.rec_core.proofs.OpenedFrom.{pending_begins}
+use Rattle.rec_core.proofs.Lasting.{begun_less, op_less, step_logs, step_sums}
+use Rattle.rec_core.proofs.OpenedFrom.{opened_from_kept, pending_begins}
 use Rattle.rec_core.proofs.OpenedFromSeen.{all_targets, few_fields}
-use Rattle.rec_core.proofs.Opening.{pending_opens}
-use Rattle.rec_core.proofs.Runs.{move_kept}
+use Rattle.rec_core.proofs.Opening.{opened_kept, pending_opens}
+use Rattle.rec_core.proofs.Runs.{config_after, move_kept}
 use Rattle.rec_core.proofs.Steps.{actor_of}
 use Rattle.rec_core.proofs.Turning.{turn_case}
 
@@ -159,3 +159,18 @@ opened_from_dated config o is are labels = record {
   words = λ place. all_early_dated 0 o.fields ((config.slots - length o.nodes) * config.fields) place (few_fields config o is are labels) (all_targets config o is are labels);
   writes = (pending_begins config o is are labels).writes misdates;
 }
+
+-- ---- runs
+
+-- the dated start behind a start
+start_dated : (start : Core) → IsConfig start.config → IsStart start → (v : Core) × Explains v start × AreDatedSo v
+start_dated start is (IsStart.opens opens) = (heap_by true start.config, record { bare = heap_bare start.config ∙ sym opens; kept = opened_kept start.config is }, opened_dated start.config is)
+start_dated start is (IsStart.opens_from o are labels opens) =
+    (heap_from_by true start.config o, record { bare = heap_from_bare start.config o is are labels ∙ sym opens; kept = opened_from_kept start.config o is are labels }, opened_from_dated start.config o is are labels)
+
+-- and the dated end behind an end
+pub end_dated : (w : Core) → IsConfig w.config → EndsRun w → (v : Core) × Explains v w × AreDatedSo v
+end_dated w is (start, moves, run) =
+    let (v, e, all) = start_dated start (subst IsConfig (ap (λ (u : Core). u.config) (sym run.ends) ∙ config_after start moves) is) run.starts in
+    let made = moves_explained v start moves e run.fit in
+    (after_moves v moves, subst (Explains (after_moves v moves)) run.ends made.1, moves_dated v moves e.kept made.0 all)

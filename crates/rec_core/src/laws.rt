@@ -72,6 +72,19 @@ pub fn stamps_are_dates()
     ensures opens_from { (config : Config) (o : Objects) (moves : List Move) → IsConfig config → AreObjects config o → HaveLabels o.nodes → AllFit (opened_from config o) moves → pending (after_moves (heap_from_by true config o) moves) ≡ pending (by_stamps (after_moves (opened_from config o) moves)) }
 {}
 
+/// A heap counts late, by the epochs that its own stamps tell, in every state of every run of it with its collector. The true count of
+/// every slot is the count formula of its node at the epoch of the last batch. A set that passes both tests is garbage: no member is in the
+/// reach of that epoch. What was given up, as the members of the set that a watch is shown, is in the reach of no epoch from that one on.
+/// No register, no field of a slot that isn't given up and nothing that is pending names it. And no register, no field of any slot and
+/// nothing that is pending names a slot whose header is set to 0.
+pub fn stamped_heaps_count_late()
+    ensures counts { (w : Core) (slot : ℕ) → IsConfig w.config → EndsRun w → slot < w.config.slots → (slot_at w.collector.counts slot).count ≡ count_formula (pending (by_stamps w)) (pending (by_stamps w)).applied (slot + 1) }
+    ensures passed { (w : Core) (number : ℕ) → IsConfig w.config → EndsRun w → TestsSets w.collector.phase → Passes w number → IsProvenGarbage (by_stamps w) number }
+    ensures gone { (w : Core) → IsConfig w.config → EndsRun w → AreGone (by_stamps w) }
+    ensures forgotten { (w : Core) (slot : ℕ) → IsConfig w.config → EndsRun w → collector_next w.collector ≡ Some (FreeHeader slot) → IsForgotten (by_stamps w) slot }
+    ensures shown { (w : Core) (members : List ℕ) (slot : ℕ) → IsConfig w.config → EndsRun w → passed_of w.collector ≡ Some members → 0 < times slot members → IsGone (by_stamps w) slot }
+{}
+
 /// Whatever heap of dated words keeps this, its true counts are the count formula. A set of it that passes both tests is garbage, as is
 /// the one that a watch is shown, and stays so once it is given up. And nothing names a slot that it frees.
 pub fn dated_heaps_count_late()
