@@ -30,7 +30,7 @@ bare_stamp word = λ i. record { writer = writer i; epoch = its_epoch i; index =
     index = omega arith
 
 -- the bare word with its date is the dated one
-dated_again : (word : ℕ) → IsDatedSo word → by_stamp (bare word) ≡ word
+pub dated_again : (word : ℕ) → IsDatedSo word → by_stamp (bare word) ≡ word
 unfolding epoch_of
 dated_again word same =
     let told : stamp_epoch (bare word) ≡ stamp_epoch word = ap (λ (s : Stamp). if s.writer == 0 then 0 else s.epoch) (bare_stamp word) in

@@ -63,6 +63,7 @@ pub mod Showing
 pub mod Shows
 pub mod Stamped
 pub mod StampedLate
+pub mod StampedLoads
 pub mod StampDates
 pub mod Step
 pub mod Steps

@@ -124,7 +124,7 @@ turn_dated v kept all = turn_case v (λ o u. AreDatedSo u) (λ none. all) (λ op
       writes = omega (arith, op_less v op kept named misdates, all.writes);
     })
 
-move_dated : (v : Core) (m : Move) → IsKept true v → Fits v m → AreDatedSo v → AreDatedSo (after_move v m)
+pub move_dated : (v : Core) (m : Move) → IsKept true v → Fits v m → AreDatedSo v → AreDatedSo (after_move v m)
 move_dated v (Move.Begins t work from) kept fits all = record { words = all.words; writes = omega (arith, begun_less v t work from kept fits.0 misdates, all.writes) }
 move_dated v (Move.Steps t) kept fits all = step_dated v t kept fits.0 fits.1 all
 move_dated v Move.Turns kept fits all = turn_dated v kept all

@@ -2,10 +2,12 @@
 use Rattle.std.specs.Prelude.{ℕ, ◌==◌, if◌then◌else◌, true, map}
 use Rattle.rec_word.specs.Bare.{dated_word}
 use Rattle.rec_word.specs.Word.{stamp_of}
+use Rattle.rec_model.specs.Sets.{Cleared}
 use Rattle.rec_log.specs.Words.{buffer_by}
 use Rattle.rec_mutator.specs.Private as mutators
 use Rattle.rec_collector.specs.Private as collectors
 use Rattle.rec_core.specs.Core.{Core}
+use Rattle.rec_core.specs.Loads.{Loaded}
 
 -- the epoch in which a word was put, by its stamp; a word of writer 0 was put by no mutator, and before all epochs
 abbrev pub stamp_epoch : (word : ℕ) → ℕ
@@ -31,3 +33,10 @@ by_stamps w =
       mutators = map mutator_by_stamps w.mutators;
       collector = collector_by_stamps w.collector;
     }
+
+-- what the collector loaded from a field, and what it took out of one, dated so
+abbrev pub load_by_stamp : Loaded → Loaded
+load_by_stamp l = record l { word = by_stamp l.word }
+
+abbrev pub cleared_by_stamp : Cleared → Cleared
+cleared_by_stamp c = record c { word = by_stamp c.word }

@@ -20,7 +20,7 @@ ghost use Rattle.rec_collector.specs.Touched.{IsOrangeIn, WasUntouched};
 ghost use Rattle.rec_collector.specs.Zeros.{AreTheZeros};
 ghost use Rattle.rec_sigma.specs.Prepared.{seen};
 ghost use Rattle.rec_core.specs.Bare.{bare_core, Behind};
-ghost use Rattle.rec_core.specs.ByStamps.{by_stamps};
+ghost use Rattle.rec_core.specs.ByStamps.{by_stamps, cleared_by_stamp, load_by_stamp};
 ghost use Rattle.rec_core.specs.Config.{IsConfig, IsMutator};
 ghost use Rattle.rec_core.specs.Core.{Core, sight, mutator, heap_by, opened};
 ghost use Rattle.rec_word.specs.declared.op.Op.TheVariants.{FreeHeader};
@@ -160,6 +160,14 @@ pub fn failed_allocations_probed_every_slot()
 /// that one to the heap behind the heap that they lead to.
 pub fn loaded_words_stay_references()
     ensures { (w : Core) → IsConfig w.config → EndsRun w → Behind w (λ v. (moves : List Move) → AllFit w moves → (bare_core (after_moves v moves) ≡ after_moves w moves) × ((l : Loaded) → IsSameTrial v (after_moves v moves) → Contains (loaded_over v moves) l → IsReferenceStill (after_moves v moves) (cleared_over v moves) l)) }
+{}
+
+/// What the collector loads from fields stays what it is, by the epochs that the heap's own stamps tell. Take any moves of mutators and
+/// collector, in any state of any run, over which no other trial begins. Each word that they loaded was put in the epoch requested then,
+/// or before. At their end it stands in its field, or a write of that epoch or of a later one replaced it there, or the collector took it
+/// out.
+pub fn stamped_words_stay_references()
+    ensures { (w : Core) (moves : List Move) (l : Loaded) → IsConfig w.config → EndsRun w → AllFit w moves → IsSameTrial w (after_moves w moves) → Contains (loaded_over w moves) l → IsReferenceStill (by_stamps (after_moves w moves)) (map cleared_by_stamp (cleared_over w moves)) (load_by_stamp l) }
 {}
 
 /// A member of a prepared set that is Orange still was touched by nothing since. Take any moves of mutators and collector over which no
