@@ -115,17 +115,18 @@ known_lasts v gone l (inr (inl some)) =
 known_lasts v gone l (inr (inr c)) = IsKnown.taken_out c
 
 -- A step of a mutator, told by what it does to words and logs: it leaves the words, and log and mailbox hold the same writes,
-record IsPlain (op : Op) (word : ℕ) (p q : Private) (box left : Contents) : Type 0 where
+pub record IsPlain (op : Op) (word : ℕ) (p q : Private) (box left : Contents) : Type 0 where
   pub words : (cells : Cells) → cell cells op ≡ word → (with_cell cells op (written op word)).words ≡ cells.words
   pub same : (g : Write → ℕ) → wrote g q.log + wrote g left ≡ wrote g p.log + wrote g box
 
 -- or it exchanges a word and logs it.
-record IsPut (op : Op) (word : ℕ) (p q : Private) (box left : Contents) : Type 0 where
+pub record IsPut (op : Op) (word : ℕ) (p q : Private) (box left : Contents) : Type 0 where
   pub place : ℕ
   pub new : ℕ
   pub operation : op ≡ ops.SwapField place new
   pub stamp : epoch_of new ≡ p.epoch
   pub stamped : (stamp_of new).epoch ≡ p.epoch
+  pub writer : (stamp_of new).writer ≡ p.number
   pub here : TakesBox p.phase → ⊥
   pub settled : p.phase ≢ at.Giving
   pub more : (g : Write → ℕ) → wrote g q.log + wrote g left ≡ wrote g p.log + wrote g box + g (record { place = place; new = new; old = word })
@@ -156,7 +157,7 @@ module _ {p q : Private} {word : ℕ} {box left : Contents} {op : Op} (leaves : 
 load_leaves : (place word : ℕ) → LeavesWords word (ops.LoadField place)
 load_leaves place word cells e = ap (slice_set cells.words place) (sym e) ∙ set-get_or cells.words place 0
 
-step_logs : {p q : Private} {word : ℕ} {box left : Contents} {op : Op} → p.dates ≡ true → IsMachine p → Step p word box op q → LeavesBox p box left → IsPlain op word p q box left ⊎ IsPut op word p q box left
+pub step_logs : {p q : Private} {word : ℕ} {box left : Contents} {op : Op} → p.dates ≡ true → IsMachine p → Step p word box op q → LeavesBox p box left → IsPlain op word p q box left ⊎ IsPut op word p q box left
 step_logs some m (Step.null reg d) b = inl (plain_decides b d (λ cells e. refl) (λ e. e))
 step_logs some m (Step.copy dst src d) b = inl (plain_decides b d (λ cells e. refl) (λ e. e))
 step_logs some m (Step.compare x y d) b = inl (plain_decides b d (λ cells e. refl) (λ e. e))
@@ -177,6 +178,7 @@ step_logs {p} {q} {word} {box} {left} some m (Step.put src f val slot d) b =
       operation = d.operation;
       stamp = epoch_of_put p val m store.stamp room some;
       stamped = ap (λ (x : Stamp). x.epoch) (word_stamp p val m store.stamp room);
+      writer = ap (λ (x : Stamp). x.writer) (word_stamp p val m store.stamp room);
       here = other;
       settled = settled;
       more = λ g. omega (arith, ap (λ (x : Private). wrote g x.log) d.after, writes_more g p.log.entries (place_of slot f p.fields) (word_for p val) word, ap (wrote g) (box_stays b other));
@@ -259,7 +261,7 @@ module _ (w : Core) (t : ℕ) (kept : IsKept true w) (is : IsMutator w.config t)
   abbrev left : Contents
   left = left_of (took_of p word) own_box
 
-  step_sums : (g : Write → ℕ) → sum_by g (writes_of (stepped w t)) + (wrote g p.log + wrote g own_box) ≡ sum_by g (writes_of w) + (wrote g own.log + wrote g left)
+  pub step_sums : (g : Write → ℕ) → sum_by g (writes_of (stepped w t)) + (wrote g p.log + wrote g own_box) ≡ sum_by g (writes_of w) + (wrote g own.log + wrote g left)
   step_sums g =
       let boxes : length w.boxes ≡ w.config.mutators = kept.mutators.mailboxes in
       omega (

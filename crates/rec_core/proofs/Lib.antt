@@ -9,9 +9,11 @@ pub mod BareRuns
 pub mod BareSeen
 pub mod Batches
 pub mod Begun
+pub mod ByStamps
 pub mod Common
 pub mod Counts
 pub mod Crossings
+pub mod CutOff
 pub mod CyclesBatch
 pub mod CyclesLess
 pub mod CyclesMarked
@@ -60,6 +62,9 @@ pub mod Shapes
 pub mod Showing
 pub mod Shows
 pub mod Stamped
+pub mod StampedLate
+pub mod StampedLoads
+pub mod StampDates
 pub mod Step
 pub mod Steps
 pub mod Sums

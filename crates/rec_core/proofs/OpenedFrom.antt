@@ -289,7 +289,7 @@ module _ (config : Config) (o : Objects) (is : IsConfig config) (are : AreObject
   not_wrong : (n : ℕ) → is_wrong_register last config.first_epoch (dated config.first_epoch n) ≡ 0
   not_wrong n = grind (arith, nat_tests, some_epoch)
 
-  pending_begins : IsBeginning (pending w)
+  pub pending_begins : IsBeginning (pending w)
   pending_begins = record {
     near = omega (arith, some_epoch);
     early = λ weight. early_none_late last weight 0 o.fields ((config.slots - many) * config.fields) (few_fields config o is are labels) (all_targets config o is are labels);

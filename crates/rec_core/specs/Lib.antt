@@ -1,8 +1,10 @@
 -- The modules of the definitions.
 pub mod Bare
+pub mod ByStamps
 pub mod Cells
 pub mod Config
 pub mod Core
+pub mod CutOff
 pub mod Cycles
 pub mod CyclesAt
 pub mod Freed

@@ -20,11 +20,13 @@ ghost use Rattle.rec_collector.specs.Touched.{IsOrangeIn, WasUntouched};
 ghost use Rattle.rec_collector.specs.Zeros.{AreTheZeros};
 ghost use Rattle.rec_sigma.specs.Prepared.{seen};
 ghost use Rattle.rec_core.specs.Bare.{bare_core, Behind};
+ghost use Rattle.rec_core.specs.ByStamps.{by_stamps, cleared_by_stamp, load_by_stamp};
 ghost use Rattle.rec_core.specs.Config.{IsConfig, IsMutator};
 ghost use Rattle.rec_core.specs.Core.{Core, sight, mutator, heap_by, opened};
 ghost use Rattle.rec_word.specs.declared.op.Op.TheVariants.{FreeHeader};
 ghost use Rattle.rec_word.specs.Header.{header_word};
 ghost use Rattle.rec_word.specs.Place.{places_of};
+ghost use Rattle.rec_core.specs.CutOff.{IsClear, IsCutOff};
 ghost use Rattle.rec_core.specs.Freed.{AreGone, IsForgotten, IsGone, IsProvenGarbage, Passes, TestsSets};
 ghost use Rattle.rec_core.specs.Kept.{IsKept};
 ghost use Rattle.rec_core.specs.Logged.{HasOwnBuffers};
@@ -61,6 +63,26 @@ pub fn runs_go_on()
 pub fn dated_runs_stand_beside()
     ensures opens { (config : Config) (moves : List Move) → IsConfig config → AllFit (opened config) moves → AllFit (heap_by true config) moves × ((bare_core (after_moves (heap_by true config) moves) ≡ after_moves (opened config) moves) × IsKept true (after_moves (heap_by true config) moves)) }
     ensures opens_from { (config : Config) (o : Objects) (moves : List Move) → IsConfig config → AreObjects config o → HaveLabels o.nodes → AllFit (opened_from config o) moves → AllFit (heap_from_by true config o) moves × ((bare_core (after_moves (heap_from_by true config o) moves) ≡ after_moves (opened_from config o) moves) × IsKept true (after_moves (heap_from_by true config o) moves)) }
+{}
+
+/// Stamps are dates. Take a run, and the run of dated words beside it. What the dated heap has to account for is what the heap itself has,
+/// where each word in a field or in a buffer is dated by its own stamp. So the date of each such word is the epoch that its stamp tells.
+pub fn stamps_are_dates()
+    ensures opens { (config : Config) (moves : List Move) → IsConfig config → AllFit (opened config) moves → pending (after_moves (heap_by true config) moves) ≡ pending (by_stamps (after_moves (opened config) moves)) }
+    ensures opens_from { (config : Config) (o : Objects) (moves : List Move) → IsConfig config → AreObjects config o → HaveLabels o.nodes → AllFit (opened_from config o) moves → pending (after_moves (heap_from_by true config o) moves) ≡ pending (by_stamps (after_moves (opened_from config o) moves)) }
+{}
+
+/// A heap counts late, by the epochs that its own stamps tell, in every state of every run of it with its collector. The true count of
+/// every slot is the count formula of its node at the epoch of the last batch. A set that passes both tests is garbage: no member is in the
+/// reach of that epoch. What was given up, as the members of the set that a watch is shown, is in the reach of no epoch from that one on.
+/// No register, no field of a slot that isn't given up and nothing that is pending names it. And no register, no field of any slot and
+/// nothing that is pending names a slot whose header is set to 0.
+pub fn stamped_heaps_count_late()
+    ensures counts { (w : Core) (slot : ℕ) → IsConfig w.config → EndsRun w → slot < w.config.slots → (slot_at w.collector.counts slot).count ≡ count_formula (pending (by_stamps w)) (pending (by_stamps w)).applied (slot + 1) }
+    ensures passed { (w : Core) (number : ℕ) → IsConfig w.config → EndsRun w → TestsSets w.collector.phase → Passes w number → IsProvenGarbage (by_stamps w) number }
+    ensures gone { (w : Core) → IsConfig w.config → EndsRun w → AreGone (by_stamps w) }
+    ensures forgotten { (w : Core) (slot : ℕ) → IsConfig w.config → EndsRun w → collector_next w.collector ≡ Some (FreeHeader slot) → IsForgotten (by_stamps w) slot }
+    ensures shown { (w : Core) (members : List ℕ) (slot : ℕ) → IsConfig w.config → EndsRun w → passed_of w.collector ≡ Some members → 0 < times slot members → IsGone (by_stamps w) slot }
 {}
 
 /// Whatever heap of dated words keeps this, its true counts are the count formula. A set of it that passes both tests is garbage, as is
@@ -107,6 +129,17 @@ pub fn freed_slots_are_forgotten()
     ensures { (w : Core) → IsConfig w.config → EndsRun w → Behind w (λ v. (slot : ℕ) → collector_next v.collector ≡ Some (FreeHeader slot) → IsForgotten v slot) }
 {}
 
+/// Nothing of the heap's own leads to what is given up. A member of a set that passes both tests is reached from no register. No register
+/// names a slot that was given up, nor a member of the set that a watch is shown, and no field of a slot that isn't given up leads to it.
+/// And where a header is set to 0, no register and no field of any slot leads there, and no list of the collector but the free list has
+/// the slot. It holds in every state of every run of a heap with its collector.
+pub fn nothing_leads_to_what_is_given_up()
+    ensures passed { (w : Core) (number slot : ℕ) → IsConfig w.config → EndsRun w → TestsSets w.collector.phase → Passes w number → (slot_at w.collector.counts slot).set ≡ Some number → Reaches (sight w) slot → ⊥ }
+    ensures given_up { (w : Core) (slot : ℕ) → IsConfig w.config → EndsRun w → slot < w.config.slots → (slot_at w.collector.counts slot).released ≡ true → IsCutOff w slot }
+    ensures shown { (w : Core) (members : List ℕ) (slot : ℕ) → IsConfig w.config → EndsRun w → passed_of w.collector ≡ Some members → 0 < times slot members → IsCutOff w slot }
+    ensures freed { (w : Core) (slot : ℕ) → IsConfig w.config → EndsRun w → collector_next w.collector ≡ Some (FreeHeader slot) → IsClear w slot }
+{}
+
 /// The true count of every slot is the count formula of its node at the epoch of the last batch, in every state of every run
 /// of a heap with its collector, by the epochs of the heap of dated words behind it.
 pub fn true_counts_are_the_formula()
@@ -127,6 +160,14 @@ pub fn failed_allocations_probed_every_slot()
 /// that one to the heap behind the heap that they lead to.
 pub fn loaded_words_stay_references()
     ensures { (w : Core) → IsConfig w.config → EndsRun w → Behind w (λ v. (moves : List Move) → AllFit w moves → (bare_core (after_moves v moves) ≡ after_moves w moves) × ((l : Loaded) → IsSameTrial v (after_moves v moves) → Contains (loaded_over v moves) l → IsReferenceStill (after_moves v moves) (cleared_over v moves) l)) }
+{}
+
+/// What the collector loads from fields stays what it is, by the epochs that the heap's own stamps tell. Take any moves of mutators and
+/// collector, in any state of any run, over which no other trial begins. Each word that they loaded was put in the epoch requested then,
+/// or before. At their end it stands in its field, or a write of that epoch or of a later one replaced it there, or the collector took it
+/// out.
+pub fn stamped_words_stay_references()
+    ensures { (w : Core) (moves : List Move) (l : Loaded) → IsConfig w.config → EndsRun w → AllFit w moves → IsSameTrial w (after_moves w moves) → Contains (loaded_over w moves) l → IsReferenceStill (by_stamps (after_moves w moves)) (map cleared_by_stamp (cleared_over w moves)) (load_by_stamp l) }
 {}
 
 /// A member of a prepared set that is Orange still was touched by nothing since. Take any moves of mutators and collector over which no
