@@ -3,10 +3,8 @@ use Rattle.std.proofs.Common.{◌≡◌, Some, ap, refl, sym, subst, ◌∙◌, 
 use Rattle.rec_model.specs.declared.command.Cmd.{Cmd}
 use Rattle.rec_table.specs.Rule.{MayAsk}
 use Rattle.rec_table.specs.Views.{mutator_now}
-use Rattle.recycler_c.specs.Calls.{HasAsked}
 use Rattle.recycler_c.specs.Standing.{mutates_in}
 use Rattle.recycler_c.specs.declared.end.End.{End}
-use Rattle.recycler_c.specs.declared.end.End.TheVariants as ends
 use Rattle.rec_table.specs.Straight.{Carried}
 use Rattle.rec_table.specs.Views.{IsMutatorOf, Started}
 use Rattle.recycler_c.proofs.Straight.{asked_by}

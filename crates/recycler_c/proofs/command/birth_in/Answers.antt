@@ -1,5 +1,5 @@
 -- The contract of `birth_in`: makes an object or a leaf, in straight code.
-use Rattle.std.proofs.Common.{◌≡◌, Some, true, false, refl, ap, sym, subst, ◌∙◌}
+use Rattle.std.proofs.Common.{refl, subst}
 use Rattle.rec_model.specs.Asking.{allocation}
 use Rattle.rec_model.specs.declared.answer.Answer.TheVariants as answers
 use Rattle.rec_table.specs.Straight.{Bears}
