@@ -4,6 +4,7 @@ pub mod Applying
 pub mod Asked
 pub mod Bare
 pub mod BareKept
+pub mod BareLoads
 pub mod BareOpened
 pub mod BareRuns
 pub mod BareSeen

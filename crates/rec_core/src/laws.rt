@@ -129,10 +129,10 @@ pub fn freed_slots_are_forgotten()
     ensures { (w : Core) → IsConfig w.config → EndsRun w → Behind w (λ v. (slot : ℕ) → collector_next v.collector ≡ Some (FreeHeader slot) → IsForgotten v slot) }
 {}
 
-/// Nothing of the heap's own leads to what is given up. A member of a set that passes both tests is reached from no register. No register
-/// names a slot that was given up, nor a member of the set that a watch is shown, and no field of a slot that isn't given up leads to it.
-/// And where a header is set to 0, no register and no field of any slot leads there, and no list of the collector but the free list has
-/// the slot. It holds in every state of every run of a heap with its collector.
+/// Nothing leads to what is given up, in every state of every run of a heap with its collector: it is said of the heap's own registers and
+/// field words. A member of a set that passes both tests is reached from no register. No register names a slot that was given up, or a
+/// member of the set that a watch is shown. Nor does a field of a slot that isn't given up lead to it. Where a header is set to 0, no
+/// register and no field of any slot leads to the slot, and no list of the collector but the free list has it.
 pub fn nothing_leads_to_what_is_given_up()
     ensures passed { (w : Core) (number slot : ℕ) → IsConfig w.config → EndsRun w → TestsSets w.collector.phase → Passes w number → (slot_at w.collector.counts slot).set ≡ Some number → Reaches (sight w) slot → ⊥ }
     ensures given_up { (w : Core) (slot : ℕ) → IsConfig w.config → EndsRun w → slot < w.config.slots → (slot_at w.collector.counts slot).released ≡ true → IsCutOff w slot }
@@ -188,6 +188,16 @@ pub fn outside_counts_are_of_the_run()
     ensures places { (w : Core) → IsConfig w.config → EndsRun w → Behind w (λ v. (moves : List Move) → BeginsPreparing v → AllFit (turned w) moves → (bare_core (after_moves (turned v) moves) ≡ after_moves (turned w) moves) × (IsSameTrial (turned v) (after_moves (turned v) moves) → HasSets (after_moves (turned v) moves).collector.phase → map (λ (l : Loaded). l.place) (loaded_over (turned v) moves) ≡ places_of v.config.fields (concat (turned v).collector.counts.sets))) }
     ensures passed { (w : Core) → IsConfig w.config → EndsRun w → Behind w (λ v. (moves : List Move) → BeginsPreparing v → AllFit (turned w) moves → (bare_core (after_moves (turned v) moves) ≡ after_moves (turned w) moves) × ((number x : ℕ) → IsSameTrial (turned v) (after_moves (turned v) moves) → HasSets (after_moves (turned v) moves).collector.phase → Passes (after_moves (turned v) moves) number → (slot_at (after_moves (turned v) moves).collector.counts x).set ≡ Some number → (slot_at (after_moves (turned v) moves).collector.counts x).count ≤ seen (turned v).collector.counts number (fields_loaded v.config.fields (loaded_over (turned v) moves)) x)) }
     ensures members { (w : Core) → IsConfig w.config → EndsRun w → Behind w (λ v. (moves : List Move) → BeginsPreparing v → AllFit (turned w) moves → (bare_core (after_moves (turned v) moves) ≡ after_moves (turned w) moves) × ((number x : ℕ) → IsSameTrial (turned v) (after_moves (turned v) moves) → HasSets (after_moves (turned v) moves).collector.phase → IsOrangeIn (after_moves (turned v) moves).collector.counts number x → IsOutside (turned v).collector.counts (after_moves (turned v) moves).collector.counts (fields_loaded v.config.fields (loaded_over (turned v) moves)) number x)) }
+{}
+
+/// So it is of the heap's own run and its own words. Take the turn with which the preparation of sets begins, and any moves behind it over
+/// which no trial begins, once the preparation is done. They loaded each field of each member once, in order, and no other. By these words
+/// the cyclic count of a member that is Orange still is its outside count, less what was lowered since. And a member of a set that passes
+/// both tests has no more references than there are words of its own set that lead to it.
+pub fn outside_counts_are_of_own_words()
+    ensures places { (w : Core) (moves : List Move) → IsConfig w.config → EndsRun w → BeginsPreparing w → AllFit (turned w) moves → IsSameTrial (turned w) (after_moves (turned w) moves) → HasSets (after_moves (turned w) moves).collector.phase → map (λ (l : Loaded). l.place) (loaded_over (turned w) moves) ≡ places_of w.config.fields (concat (turned w).collector.counts.sets) }
+    ensures passed { (w : Core) (moves : List Move) (number x : ℕ) → IsConfig w.config → EndsRun w → BeginsPreparing w → AllFit (turned w) moves → IsSameTrial (turned w) (after_moves (turned w) moves) → HasSets (after_moves (turned w) moves).collector.phase → Passes (after_moves (turned w) moves) number → (slot_at (after_moves (turned w) moves).collector.counts x).set ≡ Some number → (slot_at (after_moves (turned w) moves).collector.counts x).count ≤ seen (turned w).collector.counts number (fields_loaded w.config.fields (loaded_over (turned w) moves)) x }
+    ensures members { (w : Core) (moves : List Move) (number x : ℕ) → IsConfig w.config → EndsRun w → BeginsPreparing w → AllFit (turned w) moves → IsSameTrial (turned w) (after_moves (turned w) moves) → HasSets (after_moves (turned w) moves).collector.phase → IsOrangeIn (after_moves (turned w) moves).collector.counts number x → IsOutside (turned w).collector.counts (after_moves (turned w) moves).collector.counts (fields_loaded w.config.fields (loaded_over (turned w) moves)) number x }
 {}
 
 /// In every state of every run of a heap with its collector, the zeros are exactly the slots without a count that are neither
