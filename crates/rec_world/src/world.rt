@@ -7,7 +7,6 @@ ghost use Rattle.rec_model.specs.Sight.{IsTaken, Represents, NumbersSlots};
 ghost use Rattle.rec_mutator.specs.Private.{is_busy, answer_of, work_of};
 ghost use Rattle.rec_mutator.specs.declared.made.Made.TheVariants as makes;
 ghost use Rattle.rec_mutator.specs.declared.work.Work.TheVariants as works;
-ghost use Rattle.rec_collector.specs.Kind.{kind_of};
 ghost use Rattle.rec_collector.specs.declared.turn.Turn as turns;
 ghost use Rattle.rec_core.specs.Config.{IsConfig, IsMutator, IsValid, IsWork, HasLabel};
 ghost use Rattle.rec_core.specs.Core.{Core, sight, mutator, opened, opened_mutator, opened_mutators};
@@ -31,7 +30,7 @@ mod opening;
 use crate::mailbox::{gather, open_boxes, swap_own};
 use crate::memory::Memory;
 use crate::{Config, Numbering, OpenError, Parts};
-use rec_collector::{Kind, Machine as Collector, Sets, Turn};
+use rec_collector::{Machine as Collector, Sets, Turn};
 use rec_core::Layout;
 use rec_log::Buffer;
 use rec_model::{Cmd, Told};
@@ -212,38 +211,11 @@ impl World {
         ensures unseen { IsNone result.1 ↔ (result.0 ≡ turns.Turn.EpochsSpent) }
         ensures kept { IsWorld self.new }
     {
-        match self.turn_kind() {
-            Kind::Releasing => self.turn_as(Kind::Releasing),
-            Kind::Freeing => self.turn_as(Kind::Freeing),
-            Kind::Trying => self.turn_as(Kind::Trying),
-            Kind::Preparing => self.turn_as(Kind::Preparing),
-            Kind::Sweeping => self.turn_as(Kind::Sweeping),
-            Kind::Other => self.turn_as(Kind::Other),
-        }
-    }
-
-    // What kind of phase the collector is in.
-    #[inline(always)]
-    fn turn_kind(&self) -> Kind
-        ensures { result ≡ kind_of self.now.collector.phase }
-    {
-        self.collector.kind()
-    }
-
-    // One turn of a collector in a phase of this kind. The phase is looked at once, and each kind has a turn of its own.
-    #[inline(always)]
-    fn turn_as(&mut self, kind: Kind) -> (Turn, Option<(Op, u64)>)
-        requires { kind ≡ kind_of self.old.collector.phase }
-        ensures turn { IsTurn self.old self.new result.0 }
-        ensures seen { result.1 ≡ step_seen self.old }
-        ensures unseen { IsNone result.1 ↔ (result.0 ≡ turns.Turn.EpochsSpent) }
-        ensures kept { IsWorld self.new }
-    {
         let Some(op) = self.collector.next() else {
             return (Turn::EpochsSpent, None);
         };
         let found = self.memory.perform(op);
-        let turn = self.collector.took_as(kind, found);
+        let turn = self.collector.took(found);
         gather(&mut self.collector, &mut self.boxes);
         (turn, Some((op, found)))
     }
