@@ -214,8 +214,9 @@ impl World {
         let Some(op) = self.collector.next() else {
             return (Turn::EpochsSpent, None);
         };
+        let kind = self.collector.kind();
         let found = self.memory.perform(op);
-        let turn = self.collector.took(found);
+        let turn = self.collector.took_as(kind, found);
         gather(&mut self.collector, &mut self.boxes);
         (turn, Some((op, found)))
     }

@@ -44,8 +44,8 @@ may c = subst (λ (x : Option Op). IfSome x (MayTurn (core c.self.inside))) (nam
 pub perform-found-requires : goal.perform-found-requires
 perform-found-requires c = (may (goal.at.perform-found-requires c).In-Some).within
 
-pub took-turn-requires : goal.took-turn-requires
-took-turn-requires c = subst (IsGiven c.self.inside.collector) (sym c.perform-found.ensures.found) (may (goal.at.took-turn-requires c).In-Some).given
+pub took_as-turn-requires-clause-given : goal.took_as-turn-requires-clause-given
+took_as-turn-requires-clause-given c = subst (IsGiven c.self.inside.collector) (sym c.perform-found.ensures.found) (may (goal.at.took_as-turn-requires-clause-given c).In-Some).given
 
 -- the mailbox that is held, if any, is the one that was looked at: it is there, and as large as the buffers
 looked : (c : In-Some) (found : ℕ) (p : Private) → p ≡ took_of c.self.inside.collector found → IfSome (swapping_for p.phase) (λ t. t ≡ looked_at c.self.inside.collector.phase)
@@ -58,8 +58,8 @@ with_looked P (Some t) n same holds = subst P (sym same) holds
 pub gather-requires-clause-there : goal.gather-requires-clause-there
 gather-requires-clause-there c =
     let at : In-Some = (goal.at.gather-requires-clause-there c).In-Some in
-    let p : Private = c.took-turn.new.self in
-    with_looked (λ t. (1 ≤ t) × (t - 1 < length c.self.inside.boxes.items)) (swapping_for p.phase) (looked_at c.self.inside.collector.phase) (looked at c.perform-found.result p c.took-turn.ensures.took) ((begins at).is.0, (begins at).boxed)
+    let p : Private = c.took_as-turn.new.self in
+    with_looked (λ t. (1 ≤ t) × (t - 1 < length c.self.inside.boxes.items)) (swapping_for p.phase) (looked_at c.self.inside.collector.phase) (looked at c.perform-found.result p c.took_as-turn.ensures.took) ((begins at).is.0, (begins at).boxed)
 
 pub gather-requires-clause-home : goal.gather-requires-clause-home
 gather-requires-clause-home c = c.self.invariant.home
@@ -70,8 +70,8 @@ gather-requires-clause-sized c =
     let w : Core = core c.self.inside in
     let t : ℕ = looked_at w.collector.phase in
     let its : held_by c.self.inside.boxes.items t ≡ box w t = box_read c.self.inside.boxes.items t t (slice_index_or c.self.inside.boxes.items (t - 1) None) refl (begins at).boxed (get_or_default c.self.inside.boxes.items (t - 1) None (slice_index_or c.self.inside.boxes.items (t - 1) None) (begins at).boxed) in
-    let sized : IsSized c.took-turn.new.self.registers c.took-turn.new.self.capacity (box w t) = (let P : ℕ → ℕ → Contents → Type 0 = IsSized in rw (c.took-turn.ensures.same.registers, c.took-turn.ensures.same.capacity) (may at).sized) in
-    with_looked (λ u. IsSized c.took-turn.new.self.registers c.took-turn.new.self.capacity (held_by c.self.inside.boxes.items u)) (swapping_for c.took-turn.new.self.phase) t (looked at c.perform-found.result c.took-turn.new.self c.took-turn.ensures.took) (subst (IsSized c.took-turn.new.self.registers c.took-turn.new.self.capacity) (sym its) sized)
+    let sized : IsSized c.took_as-turn.new.self.registers c.took_as-turn.new.self.capacity (box w t) = (let P : ℕ → ℕ → Contents → Type 0 = IsSized in rw (c.took_as-turn.ensures.same.registers, c.took_as-turn.ensures.same.capacity) (may at).sized) in
+    with_looked (λ u. IsSized c.took_as-turn.new.self.registers c.took_as-turn.new.self.capacity (held_by c.self.inside.boxes.items u)) (swapping_for c.took_as-turn.new.self.phase) t (looked at c.perform-found.result c.took_as-turn.new.self c.took_as-turn.ensures.took) (subst (IsSized c.took_as-turn.new.self.registers c.took_as-turn.new.self.capacity) (sym its) sized)
 
 -- the core that is left
 abbrev after : After-gather → Core
@@ -96,8 +96,8 @@ its_op c = sym c.next.ensures.next ∙ c.in-Some.is
 -- it is the one of the definitions
 left : (c : After-gather) → after c ≡ turned (core c.self.inside)
 left c =
-    turned_is (core c.self.inside) c.self.inside.boxes.items c.gather.new.boxes.items c.in-Some.op c.perform-found.result c.took-turn.new.self c.gather.new.collector c.perform-found.new.self
-    (ends c).kept.collector.between refl (ends c).boxed c.self.invariant.home (its_op c) c.perform-found.ensures.found c.perform-found.ensures.left c.took-turn.ensures.took c.gather.ensures.collector c.gather.ensures.boxes
+    turned_is (core c.self.inside) c.self.inside.boxes.items c.gather.new.boxes.items c.in-Some.op c.perform-found.result c.took_as-turn.new.self c.gather.new.collector c.perform-found.new.self
+    (ends c).kept.collector.between refl (ends c).boxed c.self.invariant.home (its_op c) c.perform-found.ensures.found c.perform-found.ensures.left c.took_as-turn.ensures.took c.gather.ensures.collector c.gather.ensures.boxes
 
 world : (c : After-gather) → IsWorld (after c)
 world c = subst IsWorld (sym (left c)) (moved_world (core c.self.inside) Move.Turns c.self.invariant.world tt)
@@ -106,7 +106,7 @@ pub invariant_of-self : goal.invariant_of-self
 invariant_of-self c =
     record {
       world = world (goal.at.invariant_of-self c).After-gather;
-      home = subst (λ (bs : List (Option Contents)). (i : ℕ) → i < length bs → IsSome (slice_index_or bs i None)) (sym c.gather.ensures.boxes) (home_still c.took-turn.new.self c.self.inside.boxes.items (swapping_for c.took-turn.new.self.phase) c.self.invariant.home);
+      home = subst (λ (bs : List (Option Contents)). (i : ℕ) → i < length bs → IsSome (slice_index_or bs i None)) (sym c.gather.ensures.boxes) (home_still c.took_as-turn.new.self c.self.inside.boxes.items (swapping_for c.took_as-turn.new.self.phase) c.self.invariant.home);
     }
 
 -- the turn that was made
@@ -114,8 +114,8 @@ pub returns-clause-turn : goal.returns-clause-turn
 returns-clause-turn c =
     let at : After-gather = (goal.at.returns-clause-turn c).After-gather in
     let w : Core = core c.self.inside in
-    let told : turn_told w ≡ c.took-turn.result = ap (told_at w) (its_op at) ∙ sym (c.took-turn.ensures.turn ∙ ap (turn_of w.collector) c.perform-found.ensures.found) in
-    subst (λ (x : Core). IsTurn x (after at) c.took-turn.result) c.self.view_is (subst (λ (x : Core × Turn). IsTurn w x.0 x.1) (λ i. (sym (left at) i, told i)) (turn_of_world w c.self.invariant.world))
+    let told : turn_told w ≡ c.took_as-turn.result = ap (told_at w) (its_op at) ∙ sym (c.took_as-turn.ensures.turn ∙ ap (turn_of w.collector) c.perform-found.ensures.found) in
+    subst (λ (x : Core). IsTurn x (after at) c.took_as-turn.result) c.self.view_is (subst (λ (x : Core × Turn). IsTurn w x.0 x.1) (λ i. (sym (left at) i, told i)) (turn_of_world w c.self.invariant.world))
 
 pub returns-clause-kept : goal.returns-clause-kept
 returns-clause-kept c = world (goal.at.returns-clause-kept c).After-gather
