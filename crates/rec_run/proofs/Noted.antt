@@ -17,7 +17,7 @@ use Rattle.rec_audit.specs.Lines.{text_of, text_of_line}
 use Rattle.rec_audit.specs.Runs.{heap_for}
 use Rattle.rec_audit.specs.Verdicts.{IsVerdict}
 use Rattle.rec_audit.specs.declared.verdict.Verdict.TheVariants.{Yes}
-use Rattle.rec_audit.proofs.RunClean.{run_answered as of_runs}
+use Rattle.rec_audit.proofs.RunAnswers.{run_answered as of_runs}
 use Rattle.rec_run.specs.Audited.{GoesOn, noted_then}
 
 -- it is the journal of all of them
