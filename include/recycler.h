@@ -40,7 +40,7 @@
  *
  *     recycler_stop(&r), recycler_settle(&r, &settled), recycler_renew(&r, slots), recycler_start(&r);
  *
- * Where objects with two fields take all of 65,535 slots, these four calls take some 15 milliseconds, most of them for settling
+ * Where objects with two fields take all of 65,535 slots, these four calls take some 13 milliseconds, most of them for settling
  * (bench/README.md). At one collection a millisecond that is once in 4.7 hours.
  *
  * A mutator has registers, numbered from 0, and reaches objects by them alone. An object has a label, which the caller chooses as it
