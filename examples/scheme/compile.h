@@ -13,7 +13,7 @@ static int number_of_text(const char *text) {
     pthread_mutex_lock(&shared);
     while (number < text_count && strcmp(texts[number], text) != 0)
         number++;
-    must(number < (int)(sizeof texts / sizeof *texts) ? RECYCLER_OK : RECYCLER_NO_MEMORY);
+    must(number < (int)(sizeof texts / sizeof *texts) ? RECYCLER_OK : RECYCLER_E_NO_MEMORY);
     if (number == text_count)
         texts[text_count++] = strcpy(grown(NULL, 0, strlen(text) + 1), text);
     pthread_mutex_unlock(&shared);

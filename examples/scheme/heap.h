@@ -77,7 +77,7 @@ static void give_way(mutator *m, int round) {
 
 static bool is_done(uint32_t code, const recycler_asked *told) {
     must(code);
-    return told->answer == RECYCLER_DONE;
+    return told->answer == RECYCLER_A_DONE;
 }
 
 static void make(mutator *m, int reg, kind of, int number) {
@@ -97,7 +97,7 @@ static void put(mutator *m, int into, int field, int from) {
 static bool get(mutator *m, int to, int from, int field) {
     recycler_asked told;
     must(recycler_get(m->handle, to, from, field, &told));
-    return told.answer == RECYCLER_OBJECT;
+    return told.answer == RECYCLER_A_OBJECT;
 }
 
 static void copy(mutator *m, int to, int from) {
@@ -140,7 +140,7 @@ static pthread_mutex_t shared = PTHREAD_MUTEX_INITIALIZER; /* of what threads sh
 static void *grown(void *items, int count, size_t size) {
     if ((count & (count - 1)) == 0)
         items = realloc(items, (count == 0 ? 1 : 2 * (size_t)count) * size);
-    must(items != NULL ? RECYCLER_OK : RECYCLER_NO_MEMORY);
+    must(items != NULL ? RECYCLER_OK : RECYCLER_E_NO_MEMORY);
     return items;
 }
 
@@ -181,13 +181,13 @@ static void collect(void) {
             pthread_mutex_unlock(&shared);
         }
     }
-    if (turned.what == RECYCLER_WAITING) {
+    if (turned.what == RECYCLER_W_WAITING) {
         pthread_mutex_lock(&shared);
         if (states[turned.mutator - 1] < RUNS)
             must(recycler_poll(&heap.mutators[turned.mutator - 1], &crossed));
         pthread_mutex_unlock(&shared);
         sched_yield();
-    } else if (turned.what == RECYCLER_NO_EPOCH || (turned.what == RECYCLER_COLLECTED && turned.freed == 0)) {
+    } else if (turned.what == RECYCLER_W_NO_EPOCH || (turned.what == RECYCLER_W_COLLECTED && turned.freed == 0)) {
         nanosleep(&(struct timespec){ 0, 200000 }, NULL); /* since each collection spends an epoch */
     }
 }
@@ -212,6 +212,6 @@ static void start(int number, int line) {
     pthread_t thread;
     mutators[number] = (mutator){ .handle = &heap.mutators[number], .number = number, .line = line };
     change(&states[number], 1, TAKEN, RUNS);
-    must(pthread_create(&thread, NULL, work, &mutators[number]) == 0 ? RECYCLER_OK : RECYCLER_NO_MEMORY);
+    must(pthread_create(&thread, NULL, work, &mutators[number]) == 0 ? RECYCLER_OK : RECYCLER_E_NO_MEMORY);
     pthread_detach(thread);
 }

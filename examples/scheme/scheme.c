@@ -36,7 +36,7 @@ static void is_same(mutator *m, const call *c) {
     recycler_asked told;
     label a = label_of(m, c->first), b = label_of(m, c->first + 1);
     must(recycler_same(m->handle, c->first, c->first + 1, &told));
-    make(m, c->first, told.answer == RECYCLER_YES || (a.of < PAIR && a.of == b.of && a.number == b.number) ? TRUE : FALSE, 0);
+    make(m, c->first, told.answer == RECYCLER_A_YES || (a.of < PAIR && a.of == b.of && a.number == b.number) ? TRUE : FALSE, 0);
 }
 
 static void is_of_kind(mutator *m, const call *c) {
@@ -351,7 +351,8 @@ int main(int argc, char **argv) {
         fputs("usage: scheme [-s SLOTS] [-t THREADS] [-v] FILE\n", stderr);
         return 2;
     }
-    must(recycler_open(&heap, slots, FIELDS, REGISTERS, thread_count, 1024, 1));
+    const recycler_config config = { slots, FIELDS, REGISTERS, thread_count, 1024, 1 };
+    must(recycler_open(&heap, &config));
     must(recycler_notices(&heap, 256));
     must(recycler_start(&heap));
     start(change(states, 1, UNUSED, TAKEN), 1);
