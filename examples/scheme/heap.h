@@ -1,5 +1,8 @@
 /* What a Scheme asks of librecycler_c: objects, and the threads that make and collect them. A thread reaches objects by the registers of
  * its mutator alone. So what a program holds is in a register or hangs on one, and C keeps no pointer to an object. */
+#ifndef SCHEME_HEAP_H
+#define SCHEME_HEAP_H
+
 #define _POSIX_C_SOURCE 200809L
 #include <pthread.h>
 #include <sched.h>
@@ -156,6 +159,13 @@ static int change(int *numbers, int count, int from, int to) {
     return which < count ? which : -1;
 }
 
+static int new_token(void) {
+    pthread_mutex_lock(&shared);
+    int token = ++token_count;
+    pthread_mutex_unlock(&shared);
+    return token;
+}
+
 /* A token that was freed, or 0: each once. A thread with a lock gets none, since what is called then may want the lock. */
 static int freed_token(mutator *m) {
     int token = 0;
@@ -197,8 +207,10 @@ static void carry_out(mutator *m);
 static void *work(void *given) {
     mutator *m = given;
     recycler_asked told;
-    bool failed = setjmp(m->failed) != 0;
-    if (!failed)
+    bool failed = false;
+    if (setjmp(m->failed) != 0)
+        failed = true;
+    else
         carry_out(m);
     while (change(holders, LOCKS, m->number, NOBODY) >= 0)
         continue;
@@ -215,3 +227,5 @@ static void start(int number, int line) {
     must(pthread_create(&thread, NULL, work, &mutators[number]) == 0 ? RECYCLER_OK : RECYCLER_E_NO_MEMORY);
     pthread_detach(thread);
 }
+
+#endif
