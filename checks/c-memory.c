@@ -51,7 +51,8 @@ static void must(int is_so, const char *what, int line) {
 #define MUST(what) must((what), #what, __LINE__)
 
 static uint32_t open_small(recycler *r) {
-    return recycler_open(r, SLOTS, 2, 4, MUTATORS, LOG, 1);
+    const recycler_config config = { SLOTS, 2, 4, MUTATORS, LOG, 1 };
+    return recycler_open(r, &config);
 }
 
 /* Opens a heap, and answers how many allocations that takes. One of them is refused before: then all is closed, and nothing is held. */
@@ -64,10 +65,10 @@ static long open_refused(recycler *r) {
     for (long which = 1; which <= takes; which++) {
         uint32_t crossed;
         refuse(which);
-        MUST(open_small(r) == RECYCLER_NO_MEMORY && asked == which && held == 0);
-        MUST(recycler_close(r) == RECYCLER_CLOSED_HANDLE && recycler_start(r) == RECYCLER_CLOSED_HANDLE);
+        MUST(open_small(r) == RECYCLER_E_NO_MEMORY && asked == which && held == 0);
+        MUST(recycler_close(r) == RECYCLER_E_CLOSED_HANDLE && recycler_start(r) == RECYCLER_E_CLOSED_HANDLE);
         for (int k = 0; k < RECYCLER_MOST_MUTATORS; k++) {
-            MUST(recycler_poll(&r->mutators[k], &crossed) == RECYCLER_CLOSED_HANDLE);
+            MUST(recycler_poll(&r->mutators[k], &crossed) == RECYCLER_E_CLOSED_HANDLE);
         }
     }
     refuse(0);
@@ -85,8 +86,8 @@ static long notices_refused(recycler *r) {
     MUST(recycler_close(r) == RECYCLER_OK && held == 0 && open_small(r) == RECYCLER_OK);
     for (long which = 1; which <= takes; which++) {
         refuse(which);
-        MUST(recycler_notices(r, ROOM) == RECYCLER_NO_MEMORY && held == rests);
-        MUST(recycler_hear(&r->listener, &heard) == RECYCLER_CLOSED_HANDLE);
+        MUST(recycler_notices(r, ROOM) == RECYCLER_E_NO_MEMORY && held == rests);
+        MUST(recycler_hear(&r->listener, &heard) == RECYCLER_E_CLOSED_HANDLE);
     }
     refuse(0);
     MUST(recycler_notices(r, ROOM) == RECYCLER_OK && asked == takes);
@@ -104,9 +105,9 @@ static long start_refused(recycler *r) {
     for (long which = 1; which <= takes; which++) {
         uint32_t crossed;
         refuse(which);
-        MUST(recycler_start(r) == RECYCLER_NO_MEMORY && held == rests && recycler_stop(r) == RECYCLER_RESTS);
+        MUST(recycler_start(r) == RECYCLER_E_NO_MEMORY && held == rests && recycler_stop(r) == RECYCLER_E_RESTS);
         for (int k = 0; k < MUTATORS; k++) {
-            MUST(recycler_poll(&r->mutators[k], &crossed) == RECYCLER_RESTS);
+            MUST(recycler_poll(&r->mutators[k], &crossed) == RECYCLER_E_RESTS);
         }
         MUST(recycler_totals(r, &after) == RECYCLER_OK && memcmp(&before, &after, sizeof before) == 0);
     }
@@ -124,7 +125,7 @@ static long renew_refused(recycler *r) {
     takes = asked;
     for (long which = 1; which <= takes; which++) {
         refuse(which);
-        MUST(recycler_renew(r, SLOTS) == RECYCLER_NO_MEMORY && asked == which && held == rests);
+        MUST(recycler_renew(r, SLOTS) == RECYCLER_E_NO_MEMORY && asked == which && held == rests);
         MUST(recycler_totals(r, &after) == RECYCLER_OK && memcmp(&before, &after, sizeof before) == 0);
     }
     refuse(0);
@@ -150,7 +151,7 @@ static void carry_on(recycler *r) {
             MUST(recycler_poll(m, &crossed) == RECYCLER_OK);
         }
         MUST(recycler_turn(&r->collector, &turned) == RECYCLER_OK);
-        collections += turned.what == RECYCLER_COLLECTED;
+        collections += turned.what == RECYCLER_W_COLLECTED;
         do {
             MUST(recycler_hear(&r->listener, &heard) == RECYCLER_OK);
             labels += heard.any;

@@ -1,70 +1,104 @@
-/* librecycler_c: a proved concurrent reference-counting collector.
+/* recycler.h: a proved concurrent reference-counting collector, as a library for runtimes.
  *
- * A `recycler` lies in memory of the caller's, and holds a handle for the collector, one for each mutator and one for a listener. Begin
- * it with RECYCLER_CLOSED; bytes that are all zero are closed too. Its bytes are the library's: a caller passes addresses of it and of its
- * handles, and copies or writes nothing. Two heaps have nothing in common: calls on one may run beside calls on the other.
+ * A `recycler` lies in memory of the caller's. It holds a handle for the collector, one for each
+ * mutator and one for a listener. Begin it with RECYCLER_CLOSED; bytes that are all zero are
+ * closed too. Its bytes are the library's: a caller passes addresses of it and of its handles,
+ * and copies or writes nothing. Two heaps have nothing in common: calls on one may run beside
+ * calls on another.
  *
- * Linking. `make -C include install PREFIX=..` installs this header, the library and what pkg-config says of them:
+ * Linking. `make -C include install PREFIX=..` installs this header, both libraries, and what
+ * pkg-config and CMake say of them. A program is built by
  *     cc program.c $(pkg-config --cflags --libs recycler) -lpthread
- * In a checkout the library calls malloc, realloc and free through an archive of the kit, in the folder c beside the page that `rt doc` names:
- *     cc -Iinclude program.c crates/recycler_c/out/librecycler_c.a "$(dirname "$(rt doc)")/c/liblibc_c.a" -lpthread
+ * or with --static behind --libs. In a checkout, `make -C include` leaves both in include/out.
  *
- * Pointers. None is null. What an out-parameter points to lies outside every `recycler`, belongs to one call at a time, and needs no
- * value before.
+ * Pointers. None is null. What an out-parameter points to lies outside every `recycler`, belongs
+ * to one call at a time, and needs no value before.
  *
- * Codes. Every call answers a recycler_code. Each function below names the codes that it can answer; a code means the same everywhere.
- * A code other than RECYCLER_OK says that the call did nothing: handles and out-parameters are as before. The one exception is
- * RECYCLER_SHARED. No call aborts, prints or waits, and none takes a lock beside those of malloc and free.
+ * Codes. Every call but recycler_version answers a recycler_code. Each function below names the
+ * codes that it can answer; a code means the same everywhere. A code other than RECYCLER_OK says
+ * that the call did nothing: handles and out-parameters are as before. The one exception is
+ * RECYCLER_E_SHARED. No call aborts, prints or waits, and none takes a lock beside malloc's.
  *
- * Wrong callers. Codes tell of calls in a wrong order and of numbers out of range. Nothing is promised after a null pointer, a copied
- * `recycler`, two calls at once on one handle, a call on a handle during recycler_stop, or an out-parameter inside a `recycler`. A
- * `recycler` that isn't closed leaks. The handles past `mutators` stay closed, and answer RECYCLER_CLOSED_HANDLE.
+ * Wrong callers. Codes tell of calls in a wrong order and of numbers out of range. Nothing is
+ * promised after a null pointer, a copied `recycler`, two calls at once on one handle, a call on
+ * a handle during recycler_stop, or an out-parameter inside a `recycler`. A `recycler` that isn't
+ * closed leaks. The handles past `mutators` stay closed, and answer RECYCLER_E_CLOSED_HANDLE.
  *
- * Threads. A call that takes a whole `recycler` wants it to itself, with all its handles. While the heap runs, each handle is given to
- * one call at a time, and calls on different handles may run beside each other: one thread turns &r.collector, and one thread each
- * carries on &r.mutators[k], which is the mutator with number k + 1, and one may hear on &r.listener. A handle may move to another
- * thread. Order that by the start or the join of a thread, a lock, or a sequentially consistent atomic. That a handle may move, with what it holds and the pointer to the
- * heap, is proved (Owned of crates/recycler_c is Send). No call is made from a signal handler, or from the forked child of a process
- * with threads.
+ * Threads. A call that takes a whole `recycler` wants it to itself, with all its handles. While
+ * the heap runs, each handle is given to one call at a time, and calls on different handles may
+ * run beside each other. One thread turns &r.collector, one thread each carries on
+ * &r.mutators[k], which is the mutator with number k + 1, and one may hear on &r.listener. A
+ * handle may move to another thread. Order that by the start or the join of a thread, a lock, or
+ * a sequentially consistent atomic. That a handle may move, with what it holds and the pointer to
+ * the heap, is proved (Owned of crates/recycler_c is Send). No call is made from a signal
+ * handler, or from the forked child of a process with threads.
  *
- * Memory. recycler_open, recycler_notices, recycler_start and recycler_renew take memory, by malloc; recycler_close, recycler_stop,
- * recycler_renew and a refused call give it back. No other call answers RECYCLER_NO_MEMORY. malloc aligns as C says, and malloc, realloc and free are of one allocator.
+ * Memory. recycler_open, recycler_notices, recycler_start and recycler_renew take memory, by
+ * malloc; recycler_close, recycler_stop, recycler_renew and a refused call give it back. No other
+ * call answers RECYCLER_E_NO_MEMORY. malloc aligns as C says, and malloc, realloc and free are of
+ * one allocator.
  *
- * Epochs. Each collection spends an epoch, recycler_settle spends three, and 16,777,215 is the last. A small collection takes some 8
- * microseconds (bench/README.md, the table of bench/pauses). So a collector that is turned without pause may spend all epochs within
- * minutes. Let its thread rest after RECYCLER_COLLECTED while slots are free: at one collection a millisecond the epochs last 4.7
- * hours, at one a second 194 days. Each log has to hold what its mutator makes and puts in such a rest. From RECYCLER_NO_EPOCH on
- * nothing is freed, and a heap with fewer than four epochs left isn't settled. Its mutators may go on until slots or logs are full, and
- * it may be stopped, and closed or renewed. A heap that is to last stops, settles, is renewed and starts once in so many collections;
- * recycler_totals tells the epoch. Renewing gives it all epochs again, and as many slots as are asked:
+ * Epochs. Each collection spends an epoch, recycler_settle spends three, and 16,777,215 is the
+ * last. A small collection takes some 8 microseconds (bench/README.md, the table of
+ * bench/pauses). So a collector that is turned without pause may spend all epochs within minutes.
+ * Let its thread rest after RECYCLER_W_COLLECTED while slots are free: at one collection a
+ * millisecond the epochs last 4.7 hours, at one a second 194 days. Each log has to hold what its
+ * mutator makes and puts in such a rest. From RECYCLER_W_NO_EPOCH on nothing is freed, and a heap
+ * with fewer than four epochs left isn't settled. Its mutators may go on until slots or logs are
+ * full, and it may be stopped, and closed or renewed. A heap that is to last stops, settles, is
+ * renewed and starts once in so many collections; recycler_totals tells the epoch. Renewing gives
+ * it all epochs again, and as many slots as are asked:
  *
  *     recycler_stop(&r), recycler_settle(&r, &settled), recycler_renew(&r, slots), recycler_start(&r);
  *
- * Where objects with two fields take all of 65,535 slots, these four calls take some 13 milliseconds, most of them for settling
- * (bench/README.md). At one collection a millisecond that is once in 4.7 hours.
+ * Where objects with two fields take all of 65,535 slots, these four calls take some 13
+ * milliseconds, most of them for settling (bench/README.md). At one collection a millisecond that
+ * is once in 4.7 hours.
  *
- * A mutator has registers, numbered from 0, and reaches objects by them alone. An object has a label, which the caller chooses as it
- * makes it, and fields, numbered from 0. A register or a field is null or leads to one object.
+ * A mutator has registers, numbered from 0, and reaches objects by them alone. An object has a
+ * label, which the caller chooses as it makes it, and fields, numbered from 0. A register or a
+ * field is null or leads to one object.
  *
- * Notices. A heap that recycler_notices was called on tells the label of each object that its collector frees, in the order of freeing,
- * and recycler_hear hears each once. So a finalizer is an entry of a table of the caller's, whose index is the object's label. Any thread
- * may hear; here the one that turns the collector does:
+ * Notices. A heap that recycler_notices was called on tells the label of each object that its
+ * collector frees, in the order of freeing, and recycler_hear hears each once. recycler_settle
+ * and recycler_renew tell nobody of what they free. So a finalizer is an entry of a table of the
+ * caller's, whose index is the object's label. Any thread may hear; here the one that turns the
+ * collector does:
  *
- *     static void (*finalizers[OBJECTS])(uint32_t);                        an object's label is its index here
+ *     static void (*finalizers[OBJECTS])(uint32_t);           an object's label is its index here
  *     ..
- *     recycler_notices(&r, 64);                                            room for 64 labels; before recycler_start
+ *     recycler_notices(&r, 64);                               room for 64 labels; before recycler_start
  *     ..
  *     recycler_heard heard = { 0, 0 };
- *     recycler_collect(&r.collector, 1000, &turned);                       ends with RECYCLER_HELD where there is no room
+ *     recycler_collect(&r.collector, 1000, &turned);          ends with RECYCLER_W_HELD without room
  *     while (recycler_hear(&r.listener, &heard) == RECYCLER_OK && heard.any)
  *         if (finalizers[heard.label])
- *             finalizers[heard.label](heard.label);                        the object is gone: its label is free for another
+ *             finalizers[heard.label](heard.label);           gone: its label is free for another
+ *
+ * Versions. The numbers below are of this header, and recycler_version tells that of the library.
+ * The first is raised where a program that was built before may not be linked any more. Before
+ * 1.0 the codes, answers and what a turn came to had no E_, A_ and W_ in their names, and
+ * recycler_open took six numbers.
  */
 #ifndef RECYCLER_H
 #define RECYCLER_H
 
 #include <stdbool.h>
+#include <stddef.h>
 #include <stdint.h>
+
+#define RECYCLER_VERSION_MAJOR 1
+#define RECYCLER_VERSION_MINOR 0
+#define RECYCLER_VERSION_PATCH 0
+#define RECYCLER_VERSION \
+    (10000 * RECYCLER_VERSION_MAJOR + 100 * RECYCLER_VERSION_MINOR + RECYCLER_VERSION_PATCH)
+
+/* Of each call that answers a code: no pointer is null, and the code is looked at. */
+#if defined(__GNUC__)
+#define RECYCLER_CALL __attribute__((nonnull, warn_unused_result))
+#else
+#define RECYCLER_CALL
+#endif
 
 #ifdef __cplusplus
 extern "C" {
@@ -72,35 +106,36 @@ extern "C" {
 
 typedef enum recycler_code {
     RECYCLER_OK = 0,
-    RECYCLER_NO_MEMORY = 1,
-    /* the first number of recycler_open that is out of its range; SLOTS also the one of recycler_renew */
-    RECYCLER_SLOTS = 2,
-    RECYCLER_FIELDS = 3,
-    RECYCLER_REGISTERS = 4,
-    RECYCLER_MUTATORS = 5,
-    RECYCLER_LOG_ENTRIES = 6,
-    RECYCLER_FIRST_EPOCH = 7,
+    RECYCLER_E_NO_MEMORY = 1,
+    /* the first number of recycler_open that is out of its range; SLOTS also recycler_renew's */
+    RECYCLER_E_SLOTS = 2,
+    RECYCLER_E_FIELDS = 3,
+    RECYCLER_E_REGISTERS = 4,
+    RECYCLER_E_MUTATORS = 5,
+    RECYCLER_E_LOG_ENTRIES = 6,
+    RECYCLER_E_FIRST_EPOCH = 7,
     /* the handle is not open; it is open already */
-    RECYCLER_CLOSED_HANDLE = 8,
-    RECYCLER_OPEN_ALREADY = 9,
+    RECYCLER_E_CLOSED_HANDLE = 8,
+    RECYCLER_E_OPEN_ALREADY = 9,
     /* the heap runs, and the call is for one at rest; it rests, and the call is for one that runs */
-    RECYCLER_RUNS = 10,
-    RECYCLER_RESTS = 11,
-    /* the handle is open, and it is not of the kind that the call is for: a mutator's, the collector's or the listener's */
-    RECYCLER_OTHER_HANDLE = 12,
+    RECYCLER_E_RUNS = 10,
+    RECYCLER_E_RESTS = 11,
+    /* the handle is open, and of another kind: a mutator's, the collector's or the listener's */
+    RECYCLER_E_OTHER_HANDLE = 12,
     /* a register, a field or a slot is not there; the room for notices is not from 1 to 65,535 */
-    RECYCLER_RANGE = 13,
+    RECYCLER_E_RANGE = 13,
     /* fewer than four epochs are left to request; 16,777,215 is the last */
-    RECYCLER_EPOCHS_SPENT = 14,
-    /* something else than its handles holds the running heap: no call of this library was seen to make it so */
-    RECYCLER_SHARED = 15,
+    RECYCLER_E_EPOCHS_SPENT = 14,
+    /* something else than its handles holds the running heap: no call was seen to make it so */
+    RECYCLER_E_SHARED = 15,
     /* the mutator has left: nothing is asked of it any more */
-    RECYCLER_LEFT = 16,
+    RECYCLER_E_LEFT = 16,
     /* registers reach more objects than there would be slots */
-    RECYCLER_FEW_SLOTS = 17
+    RECYCLER_E_FEW_SLOTS = 17
 } recycler_code;
 
-/* It takes 64 bytes, so that no two handles lie in one line of memory, where threads that call with them would hold up each other. */
+/* It takes 64 bytes, so that no two handles lie in one line of memory, where threads that call
+ * with them would hold up each other. */
 typedef struct recycler_handle {
     bool full;
     struct { void *at; } owned;
@@ -119,26 +154,58 @@ typedef struct recycler {
 /* All handles are closed: what an initializer does not name is zero. */
 #define RECYCLER_CLOSED { { false, { 0 }, { 0 } }, { { false, { 0 }, { 0 } } }, { false, { 0 }, { 0 } } }
 
+/* What a heap is opened with. */
+typedef struct recycler_config {
+    uint32_t slots;       /* objects that fit: 1 to 65,535 */
+    uint32_t fields;      /* of each object: 1 to 16 */
+    uint32_t registers;   /* of each mutator: 1 to 64 */
+    uint32_t mutators;    /* 1 to 63 */
+    uint32_t log_entries; /* that the log of each mutator holds: 1 to 262,143 */
+    uint32_t first_epoch; /* 1 to 16,777,215; 1 but for trials of what comes behind the last one */
+} recycler_config;
+
+/* How many entries a log is best given where so many slots are free beside the objects that stay
+ * live. Each allocation and each field write, null included, uses one entry; a refused command
+ * uses none. A poll that crosses empties the log, and there is an epoch to cross into once the
+ * collector's turns have begun a collection. So a log bounds how much of the heap its mutator
+ * takes in one epoch. With fewer entries mutators wait for the collector sooner than they have
+ * to. With more they fill the heap, and each birth looks at many headers (bench/README.md, "The
+ * size of logs"). Where registers walk over a large live structure, more entries serve better:
+ * each collection tries what such a register reached, and there are fewer collections. */
+#define RECYCLER_LOG_ENTRIES(free_slots, mutators) \
+    ((free_slots) < 64 * (mutators) ? 16 : (free_slots) / (4 * (mutators)))
+
+/* A heap of all slots for one mutator, whose objects have two fields. A caller changes what it
+ * likes:
+ *     recycler_config config = RECYCLER_DEFAULTS;
+ *     config.mutators = 4; */
+#define RECYCLER_DEFAULTS { 65535, 2, 16, 1, RECYCLER_LOG_ENTRIES(65535, 1), 1 }
+
 /* What a command was answered. */
 typedef enum recycler_answer {
-    RECYCLER_DONE = 0,      /* it was made */
-    RECYCLER_NULL = 1,      /* recycler_get: the field is null, and so is the register now */
-    RECYCLER_OBJECT = 2,    /* recycler_get: the field leads to an object, and so does the register now */
-    RECYCLER_VALUE = 3,     /* recycler_value: the object's label is in `label` */
-    RECYCLER_YES = 4,       /* recycler_same: both name one object, or both are null */
-    RECYCLER_NO = 5,        /* recycler_same: they do not */
+    RECYCLER_A_DONE = 0,   /* it was made */
+    RECYCLER_A_NULL = 1,   /* recycler_get: the field is null, and so is the register now */
+    RECYCLER_A_OBJECT = 2, /* recycler_get: the field leads to an object, and so does the register */
+    RECYCLER_A_VALUE = 3,  /* recycler_value: the object's label is in `label` */
+    RECYCLER_A_YES = 4,    /* recycler_same: both name one object, or both are null */
+    RECYCLER_A_NO = 5,     /* recycler_same: they do not */
     /* the heap refuses; nothing changed */
-    RECYCLER_NO_OBJECT = 6, /* the register that should name an object is null */
-    RECYCLER_FULL = 7,      /* recycler_new: every slot was taken */
-    RECYCLER_BUSY = 8,      /* recycler_new: no free slot was found, but a sweep ran. `before` and `after` have the freed word, which is odd
-                              * within a sweep and greater after it */
-    RECYCLER_LOG_FULL = 9,  /* the mutator's log has no room: let the collector turn, poll until the poll crosses, and ask again */
-    RECYCLER_NO_FIELD = 10, /* recycler_put: the object is a leaf, whose fields are null for good */
-    RECYCLER_NOT_YET = 11   /* recycler_leave: the log that the mutator handed over last is not collected yet: let the collector turn, and
-                              * ask again */
+    RECYCLER_A_NO_OBJECT = 6, /* the register that should name an object is null */
+    RECYCLER_A_FULL = 7,      /* recycler_new: every slot was taken */
+    /* recycler_new: no free slot was found, but a sweep ran. `before` and `after` have the freed word,
+     * which is odd within a sweep and greater after it */
+    RECYCLER_A_BUSY = 8,
+    /* the mutator's log has no room: let the collector turn, poll until the poll crosses, and ask
+     * again */
+    RECYCLER_A_LOG_FULL = 9,
+    RECYCLER_A_NO_FIELD = 10, /* recycler_put: the object is a leaf, whose fields are null for good */
+    /* recycler_leave: the log that the mutator handed over last is not collected yet: let the
+     * collector turn, and ask again */
+    RECYCLER_A_NOT_YET = 11
 } recycler_answer;
 
-/* `label`, `before` and `after` are 0 where the answer says nothing of them. */
+/* `answer` is a recycler_answer. `label`, `before` and `after` are 0 where it says nothing of
+ * them. */
 typedef struct recycler_asked {
     uint32_t answer, label;
     uint64_t before, after;
@@ -146,156 +213,262 @@ typedef struct recycler_asked {
 
 /* What a turn of the collector came to. */
 typedef enum recycler_what {
-    RECYCLER_MOVED = 0,
-    /* the mutator with the number `mutator` has not crossed into the requested epoch: it has still to poll or to leave, or is in the
-     * middle of that; nothing changed */
-    RECYCLER_WAITING = 1,
-    RECYCLER_COLLECTED = 2, /* the collection of `epoch` is complete, with so many slots `freed` */
-    RECYCLER_NO_EPOCH = 3,  /* no epoch is left to request, so no collection begins any more; nothing changed */
-    RECYCLER_HELD = 4       /* a label waits that the listener has no room for; the collection stands still until it hears */
+    RECYCLER_W_MOVED = 0,
+    /* the mutator with the number `mutator` has not crossed into the requested epoch: it has still to
+     * poll or to leave, or is in the middle of that; nothing changed */
+    RECYCLER_W_WAITING = 1,
+    /* the collection of `epoch` is complete, with so many slots `freed` */
+    RECYCLER_W_COLLECTED = 2,
+    /* no epoch is left to request, so no collection begins any more; nothing changed */
+    RECYCLER_W_NO_EPOCH = 3,
+    /* a label waits that the listener has no room for; the collection stands still until it hears */
+    RECYCLER_W_HELD = 4
 } recycler_what;
 
+/* `what` is a recycler_what. */
 typedef struct recycler_turned {
     uint32_t what, mutator, epoch, freed;
 } recycler_turned;
 
-/* What the listener heard: `any` is 1, and `label` that of an object that was freed; or both are 0, where it saw none. */
+/* What the listener heard: `any` is 1, and `label` that of an object that was freed; or both are
+ * 0, where it saw none. */
 typedef struct recycler_heard {
     uint32_t any, label;
 } recycler_heard;
 
-/* How many collections settling completed, how many slots they freed, and how many slots hold objects afterwards. */
+/* How many collections settling completed, how many slots they freed, and how many slots hold
+ * objects afterwards. */
 typedef struct recycler_settled {
     uint32_t epochs, freed, live;
 } recycler_settled;
 
-/* Whether a slot holds an object (1 or 0), the object's label (0 where it holds none), and its true count: how many references to it
- * were counted, which is an epoch or two behind; 1 where the slot is free. */
+/* Whether a slot holds an object (1 or 0), the object's label (0 where it holds none), and its
+ * true count: how many references to it were counted, which is an epoch or two behind; 1 where
+ * the slot is free. */
 typedef struct recycler_slot_told {
     uint32_t taken, label;
     uint64_t count;
 } recycler_slot_told;
 
-/* Since the opening, or since the heap was renewed: objects born, with the first one; slots freed; the requested epoch; collections completed; and of the sets of
- * possible garbage cycles, how many were freed, and how many the Delta test and the Sigma test refused: the first where an object of
- * the set was touched since it was found, the second where something outside still refers to it. */
+/* Since the opening, or since the heap was renewed: objects born, with the first one; slots
+ * freed; the requested epoch; collections completed; and of the sets of possible garbage cycles,
+ * how many were freed, and how many the Delta test and the Sigma test refused: the first where an
+ * object of the set was touched since it was found, the second where something outside still
+ * refers to it. */
 typedef struct recycler_totals_told {
     uint64_t born, freed;
     uint32_t epoch, collections;
     uint64_t cycles_freed, cycles_refused_delta, cycles_refused_sigma;
 } recycler_totals_told;
 
-/* How many entries a log is best given where so many slots are free beside the objects that stay live. */
-#define RECYCLER_LOG_ENTRIES(free_slots, mutators) ((free_slots) < 64 * (mutators) ? 16 : (free_slots) / (4 * (mutators)))
+/* The version of the library, as RECYCLER_VERSION is that of the header. */
+uint32_t recycler_version(void);
 
-/* Opens a heap at rest, in a closed `recycler`. One object with label 0 stands in slot 0 and in register 0 of each mutator. The memory of
- * the heap at rest and of its handles is taken here. The heap is steady: a register that holds the same object at two successive crossings
- * costs the collector one comparison, and no trial of what that object reaches. If a register has changed, the object that it held before
- * becomes a candidate root, unless it is a leaf or is freed: the next trial looks at everything that it reaches.
- * slots: objects that fit, 1 to 65,535. fields: of each object, 1 to 16. registers: of each mutator, 1 to 64. mutators: 1 to 63.
- * log_entries: that the log of each mutator holds, 1 to 262,143. Each allocation and each field write, null included, uses one entry; a
- * refused command uses none. A poll that crosses empties the log, and there is an epoch to cross into once the collector's turns have begun
- * a collection. So a log bounds how much of the heap its mutator takes in one epoch. RECYCLER_LOG_ENTRIES(free, mutators) is a good number,
- * where `free` slots are left beside the objects that stay live. With fewer entries mutators wait for the collector sooner than they have
- * to. With more they fill the heap, and each birth looks at many headers (bench/README.md, "The size of logs"). Where registers walk over a
- * large live structure, more entries serve better: each collection tries what such a register reached, and there are fewer collections.
- * first_epoch: 1 to 16,777,215.
- * Codes: OPEN_ALREADY, the six of the numbers, NO_MEMORY. */
-uint32_t recycler_open(recycler *r, uint32_t slots, uint32_t fields, uint32_t registers, uint32_t mutators, uint32_t log_entries,
-                       uint32_t first_epoch);
+/* Opens a heap at rest, in a closed `recycler`. One object with label 0 stands in slot 0 and in
+ * register 0 of each mutator. The memory of the heap at rest and of its handles is taken here.
+ * The heap is steady: a register that holds the same object at two successive crossings costs the
+ * collector one comparison, and no trial of what that object reaches. If a register has changed,
+ * the object that it held before becomes a candidate root, unless it is a leaf or is freed: the
+ * next trial looks at everything that it reaches. Codes: OPEN_ALREADY, the six of the numbers,
+ * NO_MEMORY. */
+RECYCLER_CALL uint32_t recycler_open(recycler *r, const recycler_config *config);
 
-/* Closes a heap at rest, and gives back its memory. Another heap may be opened there. Codes: CLOSED_HANDLE, RUNS. */
-uint32_t recycler_close(recycler *r);
+/* Closes a heap at rest, and gives back its memory. Another heap may be opened there.
+ * Codes: CLOSED_HANDLE, RUNS. */
+RECYCLER_CALL uint32_t recycler_close(recycler *r);
 
-/* Asks for notices: from its next start on, the collector of this heap at rest tells the label of each object that it frees, and
- * &r->listener hears them. There is room for so many labels between them: 1 to 65,535. It is asked once for a heap. Stopping and starting
- * keep it, recycler_settle tells nobody, and recycler_close ends it.
+/* Asks for notices: from its next start on, the collector of this heap at rest tells the label of
+ * each object that it frees, and &r->listener hears them. There is room for so many labels
+ * between them: 1 to 65,535. It is asked once for a heap. Stopping and starting keep it,
+ * recycler_settle and recycler_renew tell nobody, and recycler_close ends it.
  * Codes: CLOSED_HANDLE, RUNS, OPEN_ALREADY (it was asked before), RANGE, NO_MEMORY. */
-uint32_t recycler_notices(recycler *r, uint32_t room);
+RECYCLER_CALL uint32_t recycler_notices(recycler *r, uint32_t room);
 
-/* Hears the next label of an object that was freed, on &r->listener, be the heap running or at rest. It waits for nobody. Codes:
- * CLOSED_HANDLE (no notices were asked for), OTHER_HANDLE. */
-uint32_t recycler_hear(recycler_handle *listener, recycler_heard *told);
+/* Hears the next label of an object that was freed, on &r->listener, be the heap running or at
+ * rest. It waits for nobody. Codes: CLOSED_HANDLE (no notices were asked for), OTHER_HANDLE. */
+RECYCLER_CALL uint32_t recycler_hear(recycler_handle *listener, recycler_heard *told);
 
-/* Sets a heap at rest running: &r->collector is its collector's handle then, and &r->mutators[k] the handle of mutator k + 1.
- * Codes: CLOSED_HANDLE, RUNS, NO_MEMORY, SHARED. After SHARED it runs with all mutators at home, whose handles answer RESTS: stop it. */
-uint32_t recycler_start(recycler *r);
+/* Sets a heap at rest running: &r->collector is its collector's handle then, and &r->mutators[k]
+ * the handle of mutator k + 1. Codes: CLOSED_HANDLE, RUNS, NO_MEMORY, SHARED. After SHARED it
+ * runs with all mutators at home, whose handles answer RESTS: stop it. */
+RECYCLER_CALL uint32_t recycler_start(recycler *r);
 
-/* Stops a running heap: it rests, as its threads left it. No mutator has to be called first. It may be started again, settled or not.
- * Codes: CLOSED_HANDLE, RESTS, SHARED. After SHARED it still runs, but all its mutators are at home: they can be asked nothing
- * (RESTS), and recycler_stop may be called again. */
-uint32_t recycler_stop(recycler *r);
+/* Stops a running heap: it rests, as its threads left it. No mutator has to be called first. It
+ * may be started again, settled or not. Codes: CLOSED_HANDLE, RESTS, SHARED. After SHARED it
+ * still runs, but all its mutators are at home: they can be asked nothing (RESTS), and
+ * recycler_stop may be called again. */
+RECYCLER_CALL uint32_t recycler_stop(recycler *r);
 
-/* Settles a heap at rest: afterwards just the slots that registers reach hold objects, with true counts. It completes three collections,
- * or four where one was under way. Codes: CLOSED_HANDLE, RUNS, EPOCHS_SPENT. */
-uint32_t recycler_settle(recycler *r, recycler_settled *told);
+/* Settles a heap at rest: afterwards just the slots that registers reach hold objects, with true
+ * counts. It completes three collections, or four where one was under way.
+ * Codes: CLOSED_HANDLE, RUNS, EPOCHS_SPENT. */
+RECYCLER_CALL uint32_t recycler_settle(recycler *r, recycler_settled *told);
 
-/* Lets a heap at rest begin anew, with epochs from 1 and with so many slots, 1 to 65,535, be they more or fewer than before. Each register
- * names the object that it named, and each object that registers reach has its label, its fields and whether it is a leaf; counts are
- * true. The heap's other numbers stay. It is as settled. What no register reaches is gone, and nobody is told: a caller who wants to know of it
- * settles or turns before. That is no condition, so a heap whose epochs are spent is renewed too. A label that is still to be heard stays so.
- * Objects stand in other slots than before, in the first ones, and the totals are those of a heap that was opened with these objects. A
- * mutator that had left is there again, with null registers, and has to poll or to leave. For so long as the call takes there is memory for
- * both heaps. Codes: CLOSED_HANDLE, RUNS, SLOTS, FEW_SLOTS, NO_MEMORY. */
-uint32_t recycler_renew(recycler *r, uint32_t slots);
+/* Lets a heap at rest begin anew, with epochs from 1 and with so many slots, 1 to 65,535, be they
+ * more or fewer than before. Each register names the object that it named, and each object that
+ * registers reach has its label, its fields and whether it is a leaf; counts are true. The heap's
+ * other numbers stay. It is as settled. What no register reaches is gone, and nobody is told: a
+ * caller who wants to know of it turns before. That is no condition, so a heap whose epochs are
+ * spent is renewed too. A label that is still to be heard stays so. Objects stand in other slots
+ * than before, in the first ones, and the totals are those of a heap that was opened with these
+ * objects. A mutator that had left is there again, with null registers, and has to poll or to
+ * leave. For so long as the call takes there is memory for both heaps. Codes: CLOSED_HANDLE,
+ * RUNS, SLOTS, FEW_SLOTS, NO_MEMORY. */
+RECYCLER_CALL uint32_t recycler_renew(recycler *r, uint32_t slots);
 
 /* Looks at a slot of a heap at rest: slot, from 0. Codes: CLOSED_HANDLE, RUNS, RANGE. */
-uint32_t recycler_slot(recycler *r, uint32_t slot, recycler_slot_told *told);
+RECYCLER_CALL uint32_t recycler_slot(recycler *r, uint32_t slot, recycler_slot_told *told);
 
 /* Tells how many slots of a heap at rest hold objects. Codes: CLOSED_HANDLE, RUNS. */
-uint32_t recycler_taken(recycler *r, uint32_t *taken);
+RECYCLER_CALL uint32_t recycler_taken(recycler *r, uint32_t *taken);
 
 /* Tells the totals of a heap at rest. Codes: CLOSED_HANDLE, RUNS. */
-uint32_t recycler_totals(recycler *r, recycler_totals_told *told);
+RECYCLER_CALL uint32_t recycler_totals(recycler *r, recycler_totals_told *told);
 
-/* One step of a collection, on &r->collector. It waits for nobody. Where notices were asked for, the label of an object that the step freed
- * is told. A label that found no room is kept, and told before the next step; as long as it finds none it comes to HELD, and no step is
- * made. Codes: CLOSED_HANDLE, RESTS, OTHER_HANDLE. */
-uint32_t recycler_turn(recycler_handle *collector, recycler_turned *told);
+/* One step of a collection, on &r->collector. It waits for nobody. Where notices were asked for,
+ * the label of an object that the step freed is told. A label that found no room is kept, and
+ * told before the next step; as long as it finds none it comes to HELD, and no step is made.
+ * Codes: CLOSED_HANDLE, RESTS, OTHER_HANDLE. */
+RECYCLER_CALL uint32_t recycler_turn(recycler_handle *collector, recycler_turned *told);
 
-/* Up to so many steps of a collection, on &r->collector, in one call: it ends behind the first one that does not come to MOVED, and
- * before one that is HELD. `told` is what the last one came to, and MOVED where turns is 0. It waits for nobody, and its steps are those
- * of as many calls of recycler_turn. Codes: CLOSED_HANDLE, RESTS, OTHER_HANDLE. */
-uint32_t recycler_collect(recycler_handle *collector, uint32_t turns, recycler_turned *told);
+/* Up to so many steps of a collection, on &r->collector, in one call: it ends behind the first
+ * one that does not come to MOVED, and before one that is HELD. `told` is what the last one came
+ * to, and MOVED where turns is 0. It waits for nobody, and its steps are those of as many calls
+ * of recycler_turn.
+ * Codes: CLOSED_HANDLE, RESTS, OTHER_HANDLE. */
+RECYCLER_CALL uint32_t recycler_collect(recycler_handle *collector, uint32_t turns,
+                                        recycler_turned *told);
 
-/* The calls below are for &r->mutators[k]. Codes of each: CLOSED_HANDLE, RESTS, OTHER_HANDLE, LEFT; of the commands RANGE too, where a
- * register or the field is not there. A command that the heap refuses is answered RECYCLER_OK, with the refusal in `answer`. */
+/* The calls below are for &r->mutators[k]. Codes of each: CLOSED_HANDLE, RESTS, OTHER_HANDLE,
+ * LEFT; of the commands RANGE too, where a register or the field is not there. A command that the
+ * heap refuses is answered RECYCLER_OK, with the refusal in `answer`. */
 
-/* Crosses into the requested epoch, if the mutator is not in it: `crossed` is that epoch, or 0. A mutator that does not poll holds up
- * the collector, so one with nothing to do polls too, or leaves. */
-uint32_t recycler_poll(recycler_handle *mutator, uint32_t *crossed);
+/* Crosses into the requested epoch, if the mutator is not in it: `crossed` is that epoch, or 0. A
+ * mutator that does not poll holds up the collector, so one with nothing to do polls too, or
+ * leaves. */
+RECYCLER_CALL uint32_t recycler_poll(recycler_handle *mutator, uint32_t *crossed);
 
-/* Leaves the heap for good: the mutator's registers become null, and the collector waits for it no more once its last log is collected.
- * From then on its calls are answered LEFT, also after the heap was stopped and started again, unless it was renewed. Answers: DONE,
- * NOT_YET. */
-uint32_t recycler_leave(recycler_handle *mutator, recycler_asked *told);
+/* Leaves the heap for good: the mutator's registers become null, and the collector waits for it
+ * no more once its last log is collected. From then on its calls are answered LEFT, also after
+ * the heap was stopped and started again, unless it was renewed. Answers: DONE, NOT_YET. */
+RECYCLER_CALL uint32_t recycler_leave(recycler_handle *mutator, recycler_asked *told);
 
-/* Makes an object with this label and null fields, and lets `reg` name it. Any label fits. Answers: DONE, FULL, BUSY, LOG_FULL. A birth that
- * is answered FULL or BUSY has looked at every slot. A poll that crosses tells that a collection is over: so poll until one does, or a few
+/* Makes an object with this label and null fields, and lets `reg` name it. Any label fits.
+ * Answers: DONE, FULL, BUSY, LOG_FULL. A birth that is answered FULL or BUSY has looked at every
+ * slot. A poll that crosses tells that a collection is over: so poll until one does, or a few
  * hundred times, before asking again (give_way in bench/rings/over_recycler.h). */
-uint32_t recycler_new(recycler_handle *mutator, uint32_t reg, uint32_t label, recycler_asked *told);
+RECYCLER_CALL uint32_t recycler_new(recycler_handle *mutator, uint32_t reg, uint32_t label,
+                                    recycler_asked *told);
 
-/* Makes a leaf, and lets `reg` name it: an object whose fields are null for good, for what leads to no object. The collector looks into no
- * leaf, and no leaf is a part of a cycle that it searches for. Answers: DONE, FULL, BUSY, LOG_FULL. */
-uint32_t recycler_leaf(recycler_handle *mutator, uint32_t reg, uint32_t label, recycler_asked *told);
+/* Makes a leaf, and lets `reg` name it: an object whose fields are null for good, for what leads
+ * to no object. The collector looks into no leaf, and no leaf is a part of a cycle that it
+ * searches for.
+ * Answers: DONE, FULL, BUSY, LOG_FULL. */
+RECYCLER_CALL uint32_t recycler_leaf(recycler_handle *mutator, uint32_t reg, uint32_t label,
+                                     recycler_asked *told);
 
 /* Lets `reg` be null. Answers: DONE. */
-uint32_t recycler_null(recycler_handle *mutator, uint32_t reg, recycler_asked *told);
+RECYCLER_CALL uint32_t recycler_null(recycler_handle *mutator, uint32_t reg, recycler_asked *told);
 
 /* Lets `dst` name what `src` names, null too. Answers: DONE. */
-uint32_t recycler_copy(recycler_handle *mutator, uint32_t dst, uint32_t src, recycler_asked *told);
+RECYCLER_CALL uint32_t recycler_copy(recycler_handle *mutator, uint32_t dst, uint32_t src,
+                                     recycler_asked *told);
 
-/* Lets `dst` name what the field of the object in `src` leads to. Answers: NULL, OBJECT, NO_OBJECT. */
-uint32_t recycler_get(recycler_handle *mutator, uint32_t dst, uint32_t src, uint32_t field, recycler_asked *told);
+/* Lets `dst` name what the field of the object in `src` leads to. Answers: NULL, OBJECT,
+ * NO_OBJECT. */
+RECYCLER_CALL uint32_t recycler_get(recycler_handle *mutator, uint32_t dst, uint32_t src,
+                                    uint32_t field, recycler_asked *told);
 
-/* Lets the field of the object in `src` lead to what `val` names, null too. Answers: DONE, NO_OBJECT, LOG_FULL, NO_FIELD. */
-uint32_t recycler_put(recycler_handle *mutator, uint32_t src, uint32_t field, uint32_t val, recycler_asked *told);
+/* Lets the field of the object in `src` lead to what `val` names, null too.
+ * Answers: DONE, NO_OBJECT, LOG_FULL, NO_FIELD. */
+RECYCLER_CALL uint32_t recycler_put(recycler_handle *mutator, uint32_t src, uint32_t field,
+                                    uint32_t val, recycler_asked *told);
 
 /* Tells the label of the object in `reg`. Answers: VALUE, NO_OBJECT. */
-uint32_t recycler_value(recycler_handle *mutator, uint32_t reg, recycler_asked *told);
+RECYCLER_CALL uint32_t recycler_value(recycler_handle *mutator, uint32_t reg, recycler_asked *told);
 
 /* Tells whether both registers name one object, or both are null. Answers: YES, NO. */
-uint32_t recycler_same(recycler_handle *mutator, uint32_t a, uint32_t b, recycler_asked *told);
+RECYCLER_CALL uint32_t recycler_same(recycler_handle *mutator, uint32_t a, uint32_t b,
+                                     recycler_asked *told);
+
+/* What a code, an answer, or what a turn came to says, in words. */
+
+static inline const char *recycler_code_text(uint32_t code) {
+    switch (code) {
+    case RECYCLER_OK: return "done";
+    case RECYCLER_E_NO_MEMORY: return "out of memory";
+    case RECYCLER_E_SLOTS: return "the number of slots is out of its range";
+    case RECYCLER_E_FIELDS: return "the number of fields is out of its range";
+    case RECYCLER_E_REGISTERS: return "the number of registers is out of its range";
+    case RECYCLER_E_MUTATORS: return "the number of mutators is out of its range";
+    case RECYCLER_E_LOG_ENTRIES: return "the number of log entries is out of its range";
+    case RECYCLER_E_FIRST_EPOCH: return "the first epoch is out of its range";
+    case RECYCLER_E_CLOSED_HANDLE: return "the handle is closed";
+    case RECYCLER_E_OPEN_ALREADY: return "it is open already";
+    case RECYCLER_E_RUNS: return "the heap runs";
+    case RECYCLER_E_RESTS: return "the heap is at rest";
+    case RECYCLER_E_OTHER_HANDLE: return "the handle is of another kind";
+    case RECYCLER_E_RANGE: return "a register, a field, a slot or the room is out of its range";
+    case RECYCLER_E_EPOCHS_SPENT: return "fewer than four epochs are left";
+    case RECYCLER_E_SHARED: return "something else than its handles holds the heap";
+    case RECYCLER_E_LEFT: return "the mutator has left";
+    case RECYCLER_E_FEW_SLOTS: return "registers reach more objects than there would be slots";
+    default: return "no code of this library";
+    }
+}
+
+static inline const char *recycler_answer_text(uint32_t answer) {
+    switch (answer) {
+    case RECYCLER_A_DONE: return "done";
+    case RECYCLER_A_NULL: return "the field is null";
+    case RECYCLER_A_OBJECT: return "the field leads to an object";
+    case RECYCLER_A_VALUE: return "a label";
+    case RECYCLER_A_YES: return "the same";
+    case RECYCLER_A_NO: return "not the same";
+    case RECYCLER_A_NO_OBJECT: return "the register is null";
+    case RECYCLER_A_FULL: return "every slot was taken";
+    case RECYCLER_A_BUSY: return "no free slot was found while a sweep ran";
+    case RECYCLER_A_LOG_FULL: return "the log is full";
+    case RECYCLER_A_NO_FIELD: return "a leaf's fields are null for good";
+    case RECYCLER_A_NOT_YET: return "the last log is not collected yet";
+    default: return "no answer of this library";
+    }
+}
+
+static inline const char *recycler_what_text(uint32_t what) {
+    switch (what) {
+    case RECYCLER_W_MOVED: return "moved";
+    case RECYCLER_W_WAITING: return "a mutator has still to cross";
+    case RECYCLER_W_COLLECTED: return "a collection is complete";
+    case RECYCLER_W_NO_EPOCH: return "no epoch is left";
+    case RECYCLER_W_HELD: return "a label waits for room";
+    default: return "nothing that a turn of this library comes to";
+    }
+}
+
+/* The library has these sizes and places too. */
+#if defined(__cplusplus) && __cplusplus >= 201103L
+#define RECYCLER_HAS(what) static_assert(what, #what)
+#elif !defined(__cplusplus) && defined(__STDC_VERSION__) && __STDC_VERSION__ >= 201112L
+#define RECYCLER_HAS(what) _Static_assert(what, #what)
+#endif
+#ifdef RECYCLER_HAS
+RECYCLER_HAS(sizeof(recycler_handle) == 64);
+RECYCLER_HAS(offsetof(recycler_handle, owned) == 8);
+RECYCLER_HAS(sizeof(recycler) == 65 * 64);
+RECYCLER_HAS(offsetof(recycler, listener) == 64 * 64);
+RECYCLER_HAS(sizeof(recycler_config) == 24);
+RECYCLER_HAS(sizeof(recycler_asked) == 24);
+RECYCLER_HAS(offsetof(recycler_asked, before) == 8);
+RECYCLER_HAS(sizeof(recycler_turned) == 16);
+RECYCLER_HAS(sizeof(recycler_heard) == 8);
+RECYCLER_HAS(sizeof(recycler_settled) == 12);
+RECYCLER_HAS(sizeof(recycler_slot_told) == 16);
+RECYCLER_HAS(offsetof(recycler_slot_told, count) == 8);
+RECYCLER_HAS(sizeof(recycler_totals_told) == 48);
+RECYCLER_HAS(offsetof(recycler_totals_told, cycles_freed) == 24);
+#undef RECYCLER_HAS
+#endif
 
 #ifdef __cplusplus
 }

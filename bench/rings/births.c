@@ -23,7 +23,7 @@ static void must(uint32_t code, const char *call) {
 
 static void must_do(uint32_t code, const recycler_asked *told, const char *call) {
     must(code, call);
-    if (told->answer != RECYCLER_DONE) {
+    if (told->answer != RECYCLER_A_DONE) {
         fprintf(stderr, "recycler_%s has answer %u\n", call, (unsigned)told->answer);
         exit(1);
     }
@@ -45,7 +45,7 @@ static void drop(uint32_t reg) {
     recycler_turned told = {0, 0, 0, 0};
     uint32_t crossed;
     must_do(recycler_null(mutator, reg, &asked), &asked, "null");
-    while (told.what != RECYCLER_COLLECTED || told.freed == 0) {
+    while (told.what != RECYCLER_W_COLLECTED || told.freed == 0) {
         must(recycler_poll(mutator, &crossed), "poll");
         must(recycler_turn(&heap.collector, &told), "turn");
     }
@@ -76,7 +76,8 @@ static void count_births(void) {
 int main(int argc, char **argv) {
     uint32_t slots = argc > 1 ? (uint32_t)atol(argv[1]) : 0;
     uint32_t taken = 0;
-    must(recycler_open(&heap, slots, 1, REGISTERS, 1, LOG_ENTRIES, 1), "open");
+    const recycler_config config = { slots, 1, REGISTERS, 1, LOG_ENTRIES, 1 };
+    must(recycler_open(&heap, &config), "open");
     must(recycler_start(&heap), "start");
     drop(FIRST);
     for (int word = 2; word < argc; word++) {

@@ -27,32 +27,32 @@ static void new(uint32_t answer) {
 
 static void get(void) {
     recycler_asked told;
-    must(recycler_get(mutator, 1, 0, 0, &told), &told, RECYCLER_OBJECT, "get");
+    must(recycler_get(mutator, 1, 0, 0, &told), &told, RECYCLER_A_OBJECT, "get");
 }
 
 static void put(void) {
     recycler_asked told;
-    must(recycler_put(mutator, 0, 0, 0, &told), &told, RECYCLER_DONE, "put");
+    must(recycler_put(mutator, 0, 0, 0, &told), &told, RECYCLER_A_DONE, "put");
 }
 
 static void copy(void) {
     recycler_asked told;
-    must(recycler_copy(mutator, 1, 0, &told), &told, RECYCLER_DONE, "copy");
+    must(recycler_copy(mutator, 1, 0, &told), &told, RECYCLER_A_DONE, "copy");
 }
 
 static void value(void) {
     recycler_asked told;
-    must(recycler_value(mutator, 0, &told), &told, RECYCLER_VALUE, "value");
+    must(recycler_value(mutator, 0, &told), &told, RECYCLER_A_VALUE, "value");
 }
 
 static void same(void) {
     recycler_asked told;
-    must(recycler_same(mutator, 0, 1, &told), &told, RECYCLER_YES, "same");
+    must(recycler_same(mutator, 0, 1, &told), &told, RECYCLER_A_YES, "same");
 }
 
 static void null(void) {
     recycler_asked told;
-    must(recycler_null(mutator, 1, &told), &told, RECYCLER_DONE, "null");
+    must(recycler_null(mutator, 1, &told), &told, RECYCLER_A_DONE, "null");
 }
 
 static void poll(void) {
@@ -61,7 +61,7 @@ static void poll(void) {
 }
 
 static void refused(void) {
-    new(RECYCLER_FULL);
+    new(RECYCLER_A_FULL);
 }
 
 static void count(void (*command)(void), const char *name) {
@@ -75,10 +75,11 @@ static void count(void (*command)(void), const char *name) {
 
 int main(int argc, char **argv) {
     uint32_t slots = argc > 1 ? (uint32_t)atol(argv[1]) : 0;
-    must(recycler_open(&heap, slots, 1, 2, 1, LOG_ENTRIES, 1), NULL, 0, "open");
+    const recycler_config config = { slots, 1, 2, 1, LOG_ENTRIES, 1 };
+    must(recycler_open(&heap, &config), NULL, 0, "open");
     must(recycler_start(&heap), NULL, 0, "start");
     for (uint32_t taken = 1; taken < slots; taken++) {
-        new(RECYCLER_DONE);
+        new(RECYCLER_A_DONE);
     }
     put();
     count(get, "get");

@@ -12,7 +12,7 @@ static recycler heap = RECYCLER_CLOSED;
 static recycler_handle *const mutator = &heap.mutators[0];
 
 static void must(uint32_t code, const recycler_asked *told, const char *call) {
-    if (code != RECYCLER_OK || (told != NULL && told->answer != RECYCLER_DONE)) {
+    if (code != RECYCLER_OK || (told != NULL && told->answer != RECYCLER_A_DONE)) {
         fprintf(stderr, "recycler_%s answers code %u\n", call, (unsigned)code);
         exit(1);
     }
@@ -31,7 +31,8 @@ int main(int argc, char **argv) {
     uint32_t objects = argc > 1 ? (uint32_t)atol(argv[1]) : 0;
     recycler_asked told;
     recycler_settled settled;
-    must(recycler_open(&heap, SLOTS, FIELDS, REGISTERS, 1, LOG_ENTRIES, 1), NULL, "open");
+    const recycler_config config = { SLOTS, FIELDS, REGISTERS, 1, LOG_ENTRIES, 1 };
+    must(recycler_open(&heap, &config), NULL, "open");
     must(recycler_start(&heap), NULL, "start");
     must(recycler_new(mutator, FIRST, 0, &told), &told, "new");
     must(recycler_copy(mutator, LAST, FIRST, &told), &told, "copy");

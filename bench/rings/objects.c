@@ -18,7 +18,7 @@ static recycler heap = RECYCLER_CLOSED;
 static recycler_handle *const mutator = &heap.mutators[0];
 
 static void must(uint32_t code, const recycler_asked *told, const char *call) {
-    if (code != RECYCLER_OK || (told != NULL && told->answer != RECYCLER_DONE)) {
+    if (code != RECYCLER_OK || (told != NULL && told->answer != RECYCLER_A_DONE)) {
         fprintf(stderr, "recycler_%s answers code %u\n", call, (unsigned)code);
         exit(1);
     }
@@ -73,7 +73,7 @@ static void make_ring(void) {
 static void collect(bool counts) {
     recycler_turned told = {0, 0, 0, 0};
     uint32_t crossed;
-    for (int complete = 0; complete < COLLECTIONS; complete += told.what == RECYCLER_COLLECTED) {
+    for (int complete = 0; complete < COLLECTIONS; complete += told.what == RECYCLER_W_COLLECTED) {
         if (counts) {
             CALLGRIND_START_INSTRUMENTATION;
         }
@@ -99,7 +99,8 @@ static void round_of(uint32_t rings, const char *turns) {
 int main(int argc, char **argv) {
     uint32_t slots = argc > 1 ? (uint32_t)atol(argv[1]) : 0;
     uint32_t live = argc > 2 ? (uint32_t)atol(argv[2]) : 0;
-    must(recycler_open(&heap, slots, 1, REGISTERS, 1, LOG_ENTRIES, 1), NULL, "open");
+    const recycler_config config = { slots, 1, REGISTERS, 1, LOG_ENTRIES, 1 };
+    must(recycler_open(&heap, &config), NULL, "open");
     must(recycler_start(&heap), NULL, "start");
     make_list(live);
     collect(false);

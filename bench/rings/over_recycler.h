@@ -23,7 +23,7 @@ static void *collect(void *nothing) {
     recycler_turned told;
     while (!is_open(&end, 0)) {
         must(recycler_collect(&heap.collector, 100, &told), "collect");
-        if (told.what == RECYCLER_WAITING) {
+        if (told.what == RECYCLER_W_WAITING) {
             sched_yield();
         }
     }
@@ -41,7 +41,8 @@ static void open_heap(uint64_t most_bytes, bool whole) {
     (void)most_bytes;
     (void)whole;
     uint64_t before = given_out();
-    must(recycler_open(&heap, SLOTS, FIELDS, ALL_REGISTERS, THREADS, LOG_ENTRIES, 1), "open");
+    const recycler_config config = { SLOTS, FIELDS, ALL_REGISTERS, THREADS, LOG_ENTRIES, 1 };
+    must(recycler_open(&heap, &config), "open");
     must(recycler_start(&heap), "start");
     taken = given_out() - before;
     start_thread(&collector, collect, NULL);
@@ -94,13 +95,13 @@ static void give_way(seat *s) {
 static bool make(seat *s, int reg, uint32_t label) {
     recycler_asked told;
     must(recycler_new(s->mutator, reg, label, &told), "new");
-    return told.answer == RECYCLER_DONE;
+    return told.answer == RECYCLER_A_DONE;
 }
 
 static bool links(seat *s, int from, int field, int to) {
     recycler_asked told;
     must(recycler_put(s->mutator, from, field, to, &told), "put");
-    return told.answer == RECYCLER_DONE;
+    return told.answer == RECYCLER_A_DONE;
 }
 
 static void link_to(seat *s, int from, int field, int to) {
@@ -112,7 +113,7 @@ static void link_to(seat *s, int from, int field, int to) {
 static bool follow(seat *s, int reg, int field) {
     recycler_asked told;
     must(recycler_get(s->mutator, reg, reg, field, &told), "get");
-    return told.answer == RECYCLER_OBJECT;
+    return told.answer == RECYCLER_A_OBJECT;
 }
 
 static void copy(seat *s, int to, int from) {

@@ -13,7 +13,7 @@ static recycler heap = RECYCLER_CLOSED;
 static recycler_handle *const mutator = &heap.mutators[0];
 
 static void must(uint32_t code, const recycler_asked *told, const char *call) {
-    if (code != RECYCLER_OK || (told != NULL && told->answer != RECYCLER_DONE)) {
+    if (code != RECYCLER_OK || (told != NULL && told->answer != RECYCLER_A_DONE)) {
         fprintf(stderr, "recycler_%s answers code %u\n", call, (unsigned)code);
         exit(1);
     }
@@ -36,17 +36,18 @@ static void collect(void) {
     uint32_t crossed;
     do {
         must(recycler_collect(&heap.collector, UINT32_MAX, &turned), NULL, "collect");
-        if (turned.what == RECYCLER_WAITING) {
+        if (turned.what == RECYCLER_W_WAITING) {
             must(recycler_poll(mutator, &crossed), NULL, "poll");
         }
-    } while (turned.what != RECYCLER_COLLECTED);
+    } while (turned.what != RECYCLER_W_COLLECTED);
 }
 
 int main(int argc, char **argv) {
     const char *kind = argc > 1 ? argv[1] : "null";
     uint32_t registers = argc > 2 ? (uint32_t)atol(argv[2]) : 1;
     long collections = argc > 3 ? atol(argv[3]) : 0;
-    must(recycler_open(&heap, SLOTS, 1, registers, 1, LOG_ENTRIES, 1), NULL, "open");
+    const recycler_config config = { SLOTS, 1, registers, 1, LOG_ENTRIES, 1 };
+    must(recycler_open(&heap, &config), NULL, "open");
     must(recycler_start(&heap), NULL, "start");
     for (uint32_t reg = 1; reg < registers; reg++) {
         fill(kind, reg);

@@ -25,7 +25,7 @@ static void must(uint32_t code, const char *call) {
 
 static void must_do(uint32_t code, const recycler_asked *told, const char *call) {
     must(code, call);
-    if (told->answer != RECYCLER_DONE) {
+    if (told->answer != RECYCLER_A_DONE) {
         fprintf(stderr, "recycler_%s has answer %u\n", call, (unsigned)told->answer);
         exit(1);
     }
@@ -56,7 +56,8 @@ static void counted(uint32_t code, const char *call) {
 int main(int argc, char **argv) {
     uint32_t slots = argc > 1 ? (uint32_t)atol(argv[1]) : 0;
     recycler_settled settled;
-    must(recycler_open(&heap, slots, FIELDS, REGISTERS, 1, LOG_ENTRIES, 1), "open");
+    const recycler_config config = { slots, FIELDS, REGISTERS, 1, LOG_ENTRIES, 1 };
+    must(recycler_open(&heap, &config), "open");
     must(recycler_start(&heap), "start");
     /* the object of the opening is the list's last one */
     for (uint32_t taken = 1; taken < slots; taken++) {

@@ -52,8 +52,14 @@ static void want_true(int is_so, const char *what) {
 
 #define WANT_TRUE(what) want_true((what), #what)
 
+static uint32_t open_with(recycler *r, uint32_t slots, uint32_t fields, uint32_t registers,
+                          uint32_t mutators, uint32_t log_entries, uint32_t first_epoch) {
+    const recycler_config config = { slots, fields, registers, mutators, log_entries, first_epoch };
+    return recycler_open(r, &config);
+}
+
 static uint32_t open_small(recycler *r, uint32_t first_epoch) {
-    return recycler_open(r, SLOTS, 1, REGISTERS, MUTATORS, LOG, first_epoch);
+    return open_with(r, SLOTS, 1, REGISTERS, MUTATORS, LOG, first_epoch);
 }
 
 /* What is seen of a heap at rest. */
@@ -94,20 +100,20 @@ static void want_commands(recycler_handle *handle, uint32_t code) {
 
 /* Each number just out of its range: below, above, and two at once, of which the first is named. */
 static void want_numbers(recycler *r) {
-    WANT(recycler_open(r, 0, 1, 4, 2, 64, 1), RECYCLER_SLOTS);
-    WANT(recycler_open(r, 8, 0, 4, 2, 64, 1), RECYCLER_FIELDS);
-    WANT(recycler_open(r, 8, 1, 0, 2, 64, 1), RECYCLER_REGISTERS);
-    WANT(recycler_open(r, 8, 1, 4, 0, 64, 1), RECYCLER_MUTATORS);
-    WANT(recycler_open(r, 8, 1, 4, 2, 0, 1), RECYCLER_LOG_ENTRIES);
-    WANT(recycler_open(r, 8, 1, 4, 2, 64, 0), RECYCLER_FIRST_EPOCH);
-    WANT(recycler_open(r, 65536, 1, 4, 2, 64, 1), RECYCLER_SLOTS);
-    WANT(recycler_open(r, 8, 17, 4, 2, 64, 1), RECYCLER_FIELDS);
-    WANT(recycler_open(r, 8, 1, 65, 2, 64, 1), RECYCLER_REGISTERS);
-    WANT(recycler_open(r, 8, 1, 4, RECYCLER_MOST_MUTATORS + 1, 64, 1), RECYCLER_MUTATORS);
-    WANT(recycler_open(r, 8, 1, 4, 2, 262144, 1), RECYCLER_LOG_ENTRIES);
-    WANT(recycler_open(r, 8, 1, 4, 2, 64, LAST_EPOCH + 1), RECYCLER_FIRST_EPOCH);
-    WANT(recycler_open(r, 0, 0, 0, 0, 0, 0), RECYCLER_SLOTS);
-    WANT(recycler_open(r, 8, 1, 4, UINT32_MAX, UINT32_MAX, 0), RECYCLER_MUTATORS);
+    WANT(open_with(r, 0, 1, 4, 2, 64, 1), RECYCLER_E_SLOTS);
+    WANT(open_with(r, 8, 0, 4, 2, 64, 1), RECYCLER_E_FIELDS);
+    WANT(open_with(r, 8, 1, 0, 2, 64, 1), RECYCLER_E_REGISTERS);
+    WANT(open_with(r, 8, 1, 4, 0, 64, 1), RECYCLER_E_MUTATORS);
+    WANT(open_with(r, 8, 1, 4, 2, 0, 1), RECYCLER_E_LOG_ENTRIES);
+    WANT(open_with(r, 8, 1, 4, 2, 64, 0), RECYCLER_E_FIRST_EPOCH);
+    WANT(open_with(r, 65536, 1, 4, 2, 64, 1), RECYCLER_E_SLOTS);
+    WANT(open_with(r, 8, 17, 4, 2, 64, 1), RECYCLER_E_FIELDS);
+    WANT(open_with(r, 8, 1, 65, 2, 64, 1), RECYCLER_E_REGISTERS);
+    WANT(open_with(r, 8, 1, 4, RECYCLER_MOST_MUTATORS + 1, 64, 1), RECYCLER_E_MUTATORS);
+    WANT(open_with(r, 8, 1, 4, 2, 262144, 1), RECYCLER_E_LOG_ENTRIES);
+    WANT(open_with(r, 8, 1, 4, 2, 64, LAST_EPOCH + 1), RECYCLER_E_FIRST_EPOCH);
+    WANT(open_with(r, 0, 0, 0, 0, 0, 0), RECYCLER_E_SLOTS);
+    WANT(open_with(r, 8, 1, 4, UINT32_MAX, UINT32_MAX, 0), RECYCLER_E_MUTATORS);
 }
 
 /* Heaps with the least and the greatest numbers. */
@@ -118,52 +124,52 @@ static void open_bounds(recycler *r) {
         if (part >= 0) {
             n[part] = most[part];
         }
-        WANT(recycler_open(r, n[0], n[1], n[2], n[3], n[4], n[5]), RECYCLER_OK);
+        WANT(open_with(r, n[0], n[1], n[2], n[3], n[4], n[5]), RECYCLER_OK);
         WANT(recycler_close(r), RECYCLER_OK);
     }
 }
 
 static void while_closed(recycler *r) {
-    WANT(recycler_close(r), RECYCLER_CLOSED_HANDLE);
-    WANT(recycler_start(r), RECYCLER_CLOSED_HANDLE);
-    WANT(recycler_stop(r), RECYCLER_CLOSED_HANDLE);
-    WANT(recycler_settle(r, &told.settled), RECYCLER_CLOSED_HANDLE);
-    WANT(recycler_renew(r, SLOTS), RECYCLER_CLOSED_HANDLE);
-    WANT(recycler_renew(r, 0), RECYCLER_CLOSED_HANDLE);
-    WANT(recycler_slot(r, 0, &told.slot), RECYCLER_CLOSED_HANDLE);
-    WANT(recycler_taken(r, &told.number), RECYCLER_CLOSED_HANDLE);
-    WANT(recycler_totals(r, &told.totals), RECYCLER_CLOSED_HANDLE);
-    WANT(recycler_turn(&r->collector, &told.turned), RECYCLER_CLOSED_HANDLE);
-    WANT(recycler_collect(&r->collector, 1, &told.turned), RECYCLER_CLOSED_HANDLE);
-    WANT(recycler_turn(&r->mutators[0], &told.turned), RECYCLER_CLOSED_HANDLE);
-    WANT(recycler_notices(r, 4), RECYCLER_CLOSED_HANDLE);
-    WANT(recycler_hear(&r->listener, &told.heard), RECYCLER_CLOSED_HANDLE);
-    want_commands(&r->collector, RECYCLER_CLOSED_HANDLE);
-    want_commands(&r->mutators[0], RECYCLER_CLOSED_HANDLE);
+    WANT(recycler_close(r), RECYCLER_E_CLOSED_HANDLE);
+    WANT(recycler_start(r), RECYCLER_E_CLOSED_HANDLE);
+    WANT(recycler_stop(r), RECYCLER_E_CLOSED_HANDLE);
+    WANT(recycler_settle(r, &told.settled), RECYCLER_E_CLOSED_HANDLE);
+    WANT(recycler_renew(r, SLOTS), RECYCLER_E_CLOSED_HANDLE);
+    WANT(recycler_renew(r, 0), RECYCLER_E_CLOSED_HANDLE);
+    WANT(recycler_slot(r, 0, &told.slot), RECYCLER_E_CLOSED_HANDLE);
+    WANT(recycler_taken(r, &told.number), RECYCLER_E_CLOSED_HANDLE);
+    WANT(recycler_totals(r, &told.totals), RECYCLER_E_CLOSED_HANDLE);
+    WANT(recycler_turn(&r->collector, &told.turned), RECYCLER_E_CLOSED_HANDLE);
+    WANT(recycler_collect(&r->collector, 1, &told.turned), RECYCLER_E_CLOSED_HANDLE);
+    WANT(recycler_turn(&r->mutators[0], &told.turned), RECYCLER_E_CLOSED_HANDLE);
+    WANT(recycler_notices(r, 4), RECYCLER_E_CLOSED_HANDLE);
+    WANT(recycler_hear(&r->listener, &told.heard), RECYCLER_E_CLOSED_HANDLE);
+    want_commands(&r->collector, RECYCLER_E_CLOSED_HANDLE);
+    want_commands(&r->mutators[0], RECYCLER_E_CLOSED_HANDLE);
     want_numbers(r);
-    WANT(recycler_close(r), RECYCLER_CLOSED_HANDLE);
+    WANT(recycler_close(r), RECYCLER_E_CLOSED_HANDLE);
 }
 
 static void while_at_rest(recycler *r) {
     view before = look(r), after;
-    WANT(open_small(r, 1), RECYCLER_OPEN_ALREADY);
-    WANT(recycler_open(r, 0, 1, 4, 2, 64, 1), RECYCLER_OPEN_ALREADY);
-    WANT(recycler_stop(r), RECYCLER_RESTS);
-    WANT(recycler_turn(&r->collector, &told.turned), RECYCLER_RESTS);
-    WANT(recycler_collect(&r->collector, 1, &told.turned), RECYCLER_RESTS);
-    WANT(recycler_turn(&r->mutators[0], &told.turned), RECYCLER_RESTS);
-    want_commands(&r->collector, RECYCLER_RESTS);
-    want_commands(&r->mutators[0], RECYCLER_RESTS);
-    want_commands(&r->mutators[MUTATORS - 1], RECYCLER_RESTS);
-    want_commands(&r->mutators[MUTATORS], RECYCLER_CLOSED_HANDLE);
-    WANT(recycler_notices(r, 0), RECYCLER_RANGE);
-    WANT(recycler_notices(r, 65536), RECYCLER_RANGE);
-    WANT(recycler_hear(&r->listener, &told.heard), RECYCLER_CLOSED_HANDLE);
-    WANT(recycler_renew(r, 0), RECYCLER_SLOTS);
-    WANT(recycler_renew(r, 65536), RECYCLER_SLOTS);
-    WANT(recycler_renew(r, UINT32_MAX), RECYCLER_SLOTS);
-    WANT(recycler_slot(r, SLOTS, &told.slot), RECYCLER_RANGE);
-    WANT(recycler_slot(r, UINT32_MAX, &told.slot), RECYCLER_RANGE);
+    WANT(open_small(r, 1), RECYCLER_E_OPEN_ALREADY);
+    WANT(open_with(r, 0, 1, 4, 2, 64, 1), RECYCLER_E_OPEN_ALREADY);
+    WANT(recycler_stop(r), RECYCLER_E_RESTS);
+    WANT(recycler_turn(&r->collector, &told.turned), RECYCLER_E_RESTS);
+    WANT(recycler_collect(&r->collector, 1, &told.turned), RECYCLER_E_RESTS);
+    WANT(recycler_turn(&r->mutators[0], &told.turned), RECYCLER_E_RESTS);
+    want_commands(&r->collector, RECYCLER_E_RESTS);
+    want_commands(&r->mutators[0], RECYCLER_E_RESTS);
+    want_commands(&r->mutators[MUTATORS - 1], RECYCLER_E_RESTS);
+    want_commands(&r->mutators[MUTATORS], RECYCLER_E_CLOSED_HANDLE);
+    WANT(recycler_notices(r, 0), RECYCLER_E_RANGE);
+    WANT(recycler_notices(r, 65536), RECYCLER_E_RANGE);
+    WANT(recycler_hear(&r->listener, &told.heard), RECYCLER_E_CLOSED_HANDLE);
+    WANT(recycler_renew(r, 0), RECYCLER_E_SLOTS);
+    WANT(recycler_renew(r, 65536), RECYCLER_E_SLOTS);
+    WANT(recycler_renew(r, UINT32_MAX), RECYCLER_E_SLOTS);
+    WANT(recycler_slot(r, SLOTS, &told.slot), RECYCLER_E_RANGE);
+    WANT(recycler_slot(r, UINT32_MAX, &told.slot), RECYCLER_E_RANGE);
     after = look(r);
     want_same(&before, &after);
 }
@@ -172,43 +178,43 @@ static void while_at_rest(recycler *r) {
 static void while_it_runs(recycler *r) {
     recycler_asked asked;
     recycler_handle *m = &r->mutators[0];
-    WANT(open_small(r, 1), RECYCLER_OPEN_ALREADY);
-    WANT(recycler_start(r), RECYCLER_RUNS);
-    WANT(recycler_close(r), RECYCLER_RUNS);
-    WANT(recycler_notices(r, 4), RECYCLER_RUNS);
-    WANT(recycler_hear(&r->collector, &told.heard), RECYCLER_OTHER_HANDLE);
-    WANT(recycler_hear(m, &told.heard), RECYCLER_OTHER_HANDLE);
-    WANT(recycler_settle(r, &told.settled), RECYCLER_RUNS);
-    WANT(recycler_renew(r, SLOTS), RECYCLER_RUNS);
-    WANT(recycler_slot(r, 0, &told.slot), RECYCLER_RUNS);
-    WANT(recycler_taken(r, &told.number), RECYCLER_RUNS);
-    WANT(recycler_totals(r, &told.totals), RECYCLER_RUNS);
-    WANT(recycler_turn(m, &told.turned), RECYCLER_OTHER_HANDLE);
-    WANT(recycler_collect(m, 1, &told.turned), RECYCLER_OTHER_HANDLE);
-    WANT(recycler_turn(&r->mutators[MUTATORS], &told.turned), RECYCLER_CLOSED_HANDLE);
-    want_commands(&r->collector, RECYCLER_OTHER_HANDLE);
-    want_commands(&r->mutators[MUTATORS], RECYCLER_CLOSED_HANDLE);
-    WANT(recycler_new(m, REGISTERS, 1, &told.asked), RECYCLER_RANGE);
-    WANT(recycler_leaf(m, REGISTERS, 1, &told.asked), RECYCLER_RANGE);
-    WANT(recycler_null(m, REGISTERS, &told.asked), RECYCLER_RANGE);
-    WANT(recycler_null(m, 256, &told.asked), RECYCLER_RANGE);
-    WANT(recycler_copy(m, 0, REGISTERS, &told.asked), RECYCLER_RANGE);
-    WANT(recycler_copy(m, REGISTERS, 0, &told.asked), RECYCLER_RANGE);
-    WANT(recycler_get(m, 1, 0, 1, &told.asked), RECYCLER_RANGE);
-    WANT(recycler_get(m, 1, 0, 256, &told.asked), RECYCLER_RANGE);
-    WANT(recycler_get(m, REGISTERS, 0, 0, &told.asked), RECYCLER_RANGE);
-    WANT(recycler_get(m, 1, REGISTERS, 0, &told.asked), RECYCLER_RANGE);
-    WANT(recycler_put(m, 0, 1, 0, &told.asked), RECYCLER_RANGE);
-    WANT(recycler_put(m, REGISTERS, 0, 0, &told.asked), RECYCLER_RANGE);
-    WANT(recycler_put(m, 0, 0, REGISTERS, &told.asked), RECYCLER_RANGE);
-    WANT(recycler_value(m, REGISTERS, &told.asked), RECYCLER_RANGE);
-    WANT(recycler_value(m, UINT32_MAX, &told.asked), RECYCLER_RANGE);
-    WANT(recycler_same(m, 0, REGISTERS, &told.asked), RECYCLER_RANGE);
-    WANT(recycler_same(m, REGISTERS, 0, &told.asked), RECYCLER_RANGE);
+    WANT(open_small(r, 1), RECYCLER_E_OPEN_ALREADY);
+    WANT(recycler_start(r), RECYCLER_E_RUNS);
+    WANT(recycler_close(r), RECYCLER_E_RUNS);
+    WANT(recycler_notices(r, 4), RECYCLER_E_RUNS);
+    WANT(recycler_hear(&r->collector, &told.heard), RECYCLER_E_OTHER_HANDLE);
+    WANT(recycler_hear(m, &told.heard), RECYCLER_E_OTHER_HANDLE);
+    WANT(recycler_settle(r, &told.settled), RECYCLER_E_RUNS);
+    WANT(recycler_renew(r, SLOTS), RECYCLER_E_RUNS);
+    WANT(recycler_slot(r, 0, &told.slot), RECYCLER_E_RUNS);
+    WANT(recycler_taken(r, &told.number), RECYCLER_E_RUNS);
+    WANT(recycler_totals(r, &told.totals), RECYCLER_E_RUNS);
+    WANT(recycler_turn(m, &told.turned), RECYCLER_E_OTHER_HANDLE);
+    WANT(recycler_collect(m, 1, &told.turned), RECYCLER_E_OTHER_HANDLE);
+    WANT(recycler_turn(&r->mutators[MUTATORS], &told.turned), RECYCLER_E_CLOSED_HANDLE);
+    want_commands(&r->collector, RECYCLER_E_OTHER_HANDLE);
+    want_commands(&r->mutators[MUTATORS], RECYCLER_E_CLOSED_HANDLE);
+    WANT(recycler_new(m, REGISTERS, 1, &told.asked), RECYCLER_E_RANGE);
+    WANT(recycler_leaf(m, REGISTERS, 1, &told.asked), RECYCLER_E_RANGE);
+    WANT(recycler_null(m, REGISTERS, &told.asked), RECYCLER_E_RANGE);
+    WANT(recycler_null(m, 256, &told.asked), RECYCLER_E_RANGE);
+    WANT(recycler_copy(m, 0, REGISTERS, &told.asked), RECYCLER_E_RANGE);
+    WANT(recycler_copy(m, REGISTERS, 0, &told.asked), RECYCLER_E_RANGE);
+    WANT(recycler_get(m, 1, 0, 1, &told.asked), RECYCLER_E_RANGE);
+    WANT(recycler_get(m, 1, 0, 256, &told.asked), RECYCLER_E_RANGE);
+    WANT(recycler_get(m, REGISTERS, 0, 0, &told.asked), RECYCLER_E_RANGE);
+    WANT(recycler_get(m, 1, REGISTERS, 0, &told.asked), RECYCLER_E_RANGE);
+    WANT(recycler_put(m, 0, 1, 0, &told.asked), RECYCLER_E_RANGE);
+    WANT(recycler_put(m, REGISTERS, 0, 0, &told.asked), RECYCLER_E_RANGE);
+    WANT(recycler_put(m, 0, 0, REGISTERS, &told.asked), RECYCLER_E_RANGE);
+    WANT(recycler_value(m, REGISTERS, &told.asked), RECYCLER_E_RANGE);
+    WANT(recycler_value(m, UINT32_MAX, &told.asked), RECYCLER_E_RANGE);
+    WANT(recycler_same(m, 0, REGISTERS, &told.asked), RECYCLER_E_RANGE);
+    WANT(recycler_same(m, REGISTERS, 0, &told.asked), RECYCLER_E_RANGE);
     WANT(recycler_value(m, 0, &asked), RECYCLER_OK);
-    WANT_TRUE(asked.answer == RECYCLER_VALUE && asked.label == 0);
+    WANT_TRUE(asked.answer == RECYCLER_A_VALUE && asked.label == 0);
     WANT(recycler_value(m, 1, &asked), RECYCLER_OK);
-    WANT_TRUE(asked.answer == RECYCLER_NO_OBJECT);
+    WANT_TRUE(asked.answer == RECYCLER_A_NO_OBJECT);
 }
 
 /* A heap goes round: refused calls leave it as it was, running or not. */
@@ -248,15 +254,15 @@ static void make_leaf(recycler *r) {
     WANT(open_small(r, 1), RECYCLER_OK);
     WANT(recycler_start(r), RECYCLER_OK);
     WANT(recycler_leaf(m, 1, 9, &asked), RECYCLER_OK);
-    WANT_TRUE(asked.answer == RECYCLER_DONE);
+    WANT_TRUE(asked.answer == RECYCLER_A_DONE);
     WANT(recycler_value(m, 1, &asked), RECYCLER_OK);
-    WANT_TRUE(asked.answer == RECYCLER_VALUE && asked.label == 9);
+    WANT_TRUE(asked.answer == RECYCLER_A_VALUE && asked.label == 9);
     WANT(recycler_put(m, 1, 0, 0, &asked), RECYCLER_OK);
-    WANT_TRUE(asked.answer == RECYCLER_NO_FIELD);
+    WANT_TRUE(asked.answer == RECYCLER_A_NO_FIELD);
     WANT(recycler_get(m, 2, 1, 0, &asked), RECYCLER_OK);
-    WANT_TRUE(asked.answer == RECYCLER_NULL);
+    WANT_TRUE(asked.answer == RECYCLER_A_NULL);
     WANT(recycler_put(m, 0, 0, 1, &asked), RECYCLER_OK);
-    WANT_TRUE(asked.answer == RECYCLER_DONE);
+    WANT_TRUE(asked.answer == RECYCLER_A_DONE);
     WANT(recycler_null(m, 1, &asked), RECYCLER_OK);
     WANT(recycler_stop(r), RECYCLER_OK);
     WANT(recycler_settle(r, &settled), RECYCLER_OK);
@@ -275,10 +281,10 @@ static recycler_turned collect(recycler *r) {
     uint32_t crossed;
     do {
         WANT(recycler_collect(&r->collector, 1000, &turned), RECYCLER_OK);
-        if (turned.what == RECYCLER_WAITING) {
+        if (turned.what == RECYCLER_W_WAITING) {
             WANT(recycler_poll(&r->mutators[turned.mutator - 1], &crossed), RECYCLER_OK);
         }
-    } while (turned.what == RECYCLER_MOVED || turned.what == RECYCLER_WAITING);
+    } while (turned.what == RECYCLER_W_MOVED || turned.what == RECYCLER_W_WAITING);
     return turned;
 }
 
@@ -288,30 +294,30 @@ static void hear_all(recycler *r) {
     recycler_heard heard;
     WANT(open_small(r, 1), RECYCLER_OK);
     WANT(recycler_notices(r, 1), RECYCLER_OK);
-    WANT(recycler_notices(r, 1), RECYCLER_OPEN_ALREADY);
+    WANT(recycler_notices(r, 1), RECYCLER_E_OPEN_ALREADY);
     WANT(recycler_start(r), RECYCLER_OK);
-    want_commands(&r->listener, RECYCLER_OTHER_HANDLE);
-    WANT(recycler_turn(&r->listener, &told.turned), RECYCLER_OTHER_HANDLE);
-    WANT(recycler_collect(&r->listener, 1, &told.turned), RECYCLER_OTHER_HANDLE);
+    want_commands(&r->listener, RECYCLER_E_OTHER_HANDLE);
+    WANT(recycler_turn(&r->listener, &told.turned), RECYCLER_E_OTHER_HANDLE);
+    WANT(recycler_collect(&r->listener, 1, &told.turned), RECYCLER_E_OTHER_HANDLE);
     for (uint32_t label = 1; label <= 2; label++) {
         WANT(recycler_new(&r->mutators[0], 1, label, &asked), RECYCLER_OK);
     }
     WANT(recycler_null(&r->mutators[0], 1, &asked), RECYCLER_OK);
-    WANT_TRUE(collect(r).what == RECYCLER_COLLECTED);
-    WANT_TRUE(collect(r).what == RECYCLER_HELD);
+    WANT_TRUE(collect(r).what == RECYCLER_W_COLLECTED);
+    WANT_TRUE(collect(r).what == RECYCLER_W_HELD);
     WANT(recycler_stop(r), RECYCLER_OK);
     WANT(recycler_start(r), RECYCLER_OK);
-    WANT_TRUE(collect(r).what == RECYCLER_HELD);
+    WANT_TRUE(collect(r).what == RECYCLER_W_HELD);
     WANT(recycler_hear(&r->listener, &heard), RECYCLER_OK);
     WANT_TRUE(heard.any == 1 && heard.label == 1);
-    WANT_TRUE(collect(r).what == RECYCLER_COLLECTED);
+    WANT_TRUE(collect(r).what == RECYCLER_W_COLLECTED);
     WANT(recycler_stop(r), RECYCLER_OK);
     WANT(recycler_hear(&r->listener, &heard), RECYCLER_OK);
     WANT_TRUE(heard.any == 1 && heard.label == 2);
     WANT(recycler_hear(&r->listener, &heard), RECYCLER_OK);
     WANT_TRUE(heard.any == 0 && heard.label == 0);
     WANT(recycler_close(r), RECYCLER_OK);
-    WANT(recycler_hear(&r->listener, &told.heard), RECYCLER_CLOSED_HANDLE);
+    WANT(recycler_hear(&r->listener, &told.heard), RECYCLER_E_CLOSED_HANDLE);
 }
 
 /* Both mutators leave, the first once the log that it handed over is collected. They are asked nothing then, nor after a stop and a start. */
@@ -326,24 +332,24 @@ static void leave_all(recycler *r) {
     WANT(recycler_turn(&r->collector, &turned), RECYCLER_OK);
     WANT(recycler_poll(first, &crossed), RECYCLER_OK);
     WANT(recycler_leave(first, &asked), RECYCLER_OK);
-    WANT_TRUE(crossed == 2 && asked.answer == RECYCLER_NOT_YET);
+    WANT_TRUE(crossed == 2 && asked.answer == RECYCLER_A_NOT_YET);
     WANT(recycler_leave(second, &asked), RECYCLER_OK);
-    WANT_TRUE(asked.answer == RECYCLER_DONE);
-    want_commands(second, RECYCLER_LEFT);
-    WANT(recycler_null(second, REGISTERS, &told.asked), RECYCLER_LEFT);
-    for (int turn = 0; turn < 100 && turned.what != RECYCLER_COLLECTED; turn++) {
+    WANT_TRUE(asked.answer == RECYCLER_A_DONE);
+    want_commands(second, RECYCLER_E_LEFT);
+    WANT(recycler_null(second, REGISTERS, &told.asked), RECYCLER_E_LEFT);
+    for (int turn = 0; turn < 100 && turned.what != RECYCLER_W_COLLECTED; turn++) {
         WANT(recycler_turn(&r->collector, &turned), RECYCLER_OK);
-        WANT_TRUE(turned.what != RECYCLER_WAITING);
+        WANT_TRUE(turned.what != RECYCLER_W_WAITING);
     }
     WANT(recycler_leave(first, &asked), RECYCLER_OK);
-    WANT_TRUE(asked.answer == RECYCLER_DONE);
+    WANT_TRUE(asked.answer == RECYCLER_A_DONE);
     WANT(recycler_stop(r), RECYCLER_OK);
-    want_commands(first, RECYCLER_RESTS);
+    want_commands(first, RECYCLER_E_RESTS);
     WANT(recycler_settle(r, &settled), RECYCLER_OK);
     WANT_TRUE(settled.live == 0);
     WANT(recycler_start(r), RECYCLER_OK);
-    want_commands(first, RECYCLER_LEFT);
-    want_commands(second, RECYCLER_LEFT);
+    want_commands(first, RECYCLER_E_LEFT);
+    want_commands(second, RECYCLER_E_LEFT);
     WANT(recycler_stop(r), RECYCLER_OK);
     WANT(recycler_close(r), RECYCLER_OK);
 }
@@ -361,14 +367,14 @@ static void begin_anew(recycler *r) {
     WANT(recycler_leaf(m, 2, 6, &asked), RECYCLER_OK);
     WANT(recycler_null(m, 2, &asked), RECYCLER_OK);
     WANT(recycler_leave(&r->mutators[1], &asked), RECYCLER_OK);
-    WANT_TRUE(asked.answer == RECYCLER_DONE);
+    WANT_TRUE(asked.answer == RECYCLER_A_DONE);
     WANT(recycler_stop(r), RECYCLER_OK);
     before = look(r);
-    WANT(recycler_renew(r, 1), RECYCLER_FEW_SLOTS);
+    WANT(recycler_renew(r, 1), RECYCLER_E_FEW_SLOTS);
     after = look(r);
     want_same(&before, &after);
     WANT(recycler_renew(r, 2), RECYCLER_OK);
-    WANT(recycler_slot(r, 2, &told.slot), RECYCLER_RANGE);
+    WANT(recycler_slot(r, 2, &told.slot), RECYCLER_E_RANGE);
     WANT(recycler_renew(r, 65535), RECYCLER_OK);
     WANT(recycler_slot(r, 65534, &slot), RECYCLER_OK);
     WANT_TRUE(slot.taken == 0);
@@ -377,14 +383,14 @@ static void begin_anew(recycler *r) {
     WANT_TRUE(after.slots[0].label == 0 && after.slots[0].count == 2 && after.slots[1].label == 5 && after.slots[1].count == 1);
     WANT(recycler_start(r), RECYCLER_OK);
     WANT(recycler_get(m, 3, 1, 0, &asked), RECYCLER_OK);
-    WANT_TRUE(asked.answer == RECYCLER_OBJECT);
+    WANT_TRUE(asked.answer == RECYCLER_A_OBJECT);
     WANT(recycler_same(m, 3, 0, &asked), RECYCLER_OK);
-    WANT_TRUE(asked.answer == RECYCLER_YES);
+    WANT_TRUE(asked.answer == RECYCLER_A_YES);
     WANT(recycler_value(m, 2, &asked), RECYCLER_OK);
-    WANT_TRUE(asked.answer == RECYCLER_NO_OBJECT);
+    WANT_TRUE(asked.answer == RECYCLER_A_NO_OBJECT);
     /* the mutator that had left is there again */
     WANT(recycler_value(&r->mutators[1], 0, &asked), RECYCLER_OK);
-    WANT_TRUE(asked.answer == RECYCLER_NO_OBJECT);
+    WANT_TRUE(asked.answer == RECYCLER_A_NO_OBJECT);
     WANT(recycler_stop(r), RECYCLER_OK);
     WANT(recycler_close(r), RECYCLER_OK);
 }
@@ -393,13 +399,13 @@ static void begin_anew(recycler *r) {
 static uint32_t spend(recycler *r) {
     recycler_turned turned;
     uint32_t crossed, collections = 0;
-    turned.what = RECYCLER_MOVED;
-    for (int turn = 0; turn < 1000 && turned.what != RECYCLER_NO_EPOCH; turn++) {
+    turned.what = RECYCLER_W_MOVED;
+    for (int turn = 0; turn < 1000 && turned.what != RECYCLER_W_NO_EPOCH; turn++) {
         WANT(recycler_turn(&r->collector, &turned), RECYCLER_OK);
-        if (turned.what == RECYCLER_WAITING) {
+        if (turned.what == RECYCLER_W_WAITING) {
             WANT(recycler_poll(&r->mutators[turned.mutator - 1], &crossed), RECYCLER_OK);
         }
-        collections += turned.what == RECYCLER_COLLECTED;
+        collections += turned.what == RECYCLER_W_COLLECTED;
     }
     return collections;
 }
@@ -411,7 +417,7 @@ static void use_up(recycler *r) {
     recycler_asked asked;
     uint32_t crossed;
     for (uint32_t made = 1; made <= LOG + 1; made++) {
-        uint32_t answer = made <= LOG ? RECYCLER_DONE : RECYCLER_LOG_FULL;
+        uint32_t answer = made <= LOG ? RECYCLER_A_DONE : RECYCLER_A_LOG_FULL;
         if (made < SLOTS) {
             WANT(recycler_new(m, 1, made, &asked), RECYCLER_OK);
         } else {
@@ -419,12 +425,12 @@ static void use_up(recycler *r) {
         }
         WANT_TRUE(asked.answer == answer);
         WANT(recycler_turn(&r->collector, &turned), RECYCLER_OK);
-        WANT_TRUE(turned.what == RECYCLER_NO_EPOCH);
+        WANT_TRUE(turned.what == RECYCLER_W_NO_EPOCH);
         WANT(recycler_poll(m, &crossed), RECYCLER_OK);
         WANT_TRUE(crossed == 0);
         if (made == SLOTS) {
             WANT(recycler_new(m, 1, made, &asked), RECYCLER_OK);
-            WANT_TRUE(asked.answer == RECYCLER_FULL);
+            WANT_TRUE(asked.answer == RECYCLER_A_FULL);
         }
     }
 }
@@ -435,7 +441,7 @@ static void without_epochs(recycler *r) {
     view before, after;
     WANT(open_small(r, LAST_EPOCH - 2), RECYCLER_OK);
     before = look(r);
-    WANT(recycler_settle(r, &told.settled), RECYCLER_EPOCHS_SPENT);
+    WANT(recycler_settle(r, &told.settled), RECYCLER_E_EPOCHS_SPENT);
     after = look(r);
     want_same(&before, &after);
     WANT(recycler_start(r), RECYCLER_OK);
@@ -444,7 +450,7 @@ static void without_epochs(recycler *r) {
     WANT(recycler_stop(r), RECYCLER_OK);
     before = look(r);
     WANT_TRUE(before.taken == SLOTS && before.totals.freed == 0 && before.totals.epoch == LAST_EPOCH);
-    WANT(recycler_settle(r, &told.settled), RECYCLER_EPOCHS_SPENT);
+    WANT(recycler_settle(r, &told.settled), RECYCLER_E_EPOCHS_SPENT);
     WANT(recycler_start(r), RECYCLER_OK);
     WANT(recycler_stop(r), RECYCLER_OK);
     after = look(r);
@@ -459,10 +465,10 @@ static void without_epochs(recycler *r) {
     /* with four epochs left a heap is settled once */
     WANT(open_small(r, LAST_EPOCH - 4), RECYCLER_OK);
     WANT(recycler_settle(r, &told.settled), RECYCLER_OK);
-    WANT(recycler_settle(r, &told.settled), RECYCLER_EPOCHS_SPENT);
+    WANT(recycler_settle(r, &told.settled), RECYCLER_E_EPOCHS_SPENT);
     WANT(recycler_close(r), RECYCLER_OK);
     WANT(open_small(r, LAST_EPOCH - 3), RECYCLER_OK);
-    WANT(recycler_settle(r, &told.settled), RECYCLER_EPOCHS_SPENT);
+    WANT(recycler_settle(r, &told.settled), RECYCLER_E_EPOCHS_SPENT);
     WANT(recycler_close(r), RECYCLER_OK);
 }
 

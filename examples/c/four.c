@@ -35,7 +35,7 @@ static void cross(recycler_handle *m) {
 static void make(recycler_handle *m, uint32_t reg, uint32_t label) {
     recycler_asked told;
     must(recycler_new(m, reg, label, &told), "new");
-    while (told.answer != RECYCLER_DONE) {
+    while (told.answer != RECYCLER_A_DONE) {
         cross(m);
         must(recycler_new(m, reg, label, &told), "new");
     }
@@ -45,7 +45,7 @@ static void make(recycler_handle *m, uint32_t reg, uint32_t label) {
 static void link_to(recycler_handle *m, uint32_t from, uint32_t to) {
     recycler_asked told;
     must(recycler_put(m, from, 0, to, &told), "put");
-    while (told.answer != RECYCLER_DONE) {
+    while (told.answer != RECYCLER_A_DONE) {
         cross(m);
         must(recycler_put(m, from, 0, to, &told), "put");
     }
@@ -96,9 +96,9 @@ static void *collect(void *handle) {
     recycler_turned told;
     while (!all_done(0)) {
         must(recycler_collect(handle, 100, &told), "collect");
-        if (told.what == RECYCLER_WAITING) {
+        if (told.what == RECYCLER_W_WAITING) {
             sched_yield();
-        } else if (told.what == RECYCLER_COLLECTED && told.freed == 0) {
+        } else if (told.what == RECYCLER_W_COLLECTED && told.freed == 0) {
             nanosleep(&shortly, NULL);
         }
     }
@@ -113,10 +113,14 @@ static void start_thread(pthread_t *thread, void *(*work)(void *), recycler_hand
 }
 
 int main(void) {
+    const recycler_config config = {
+        .slots = SLOTS, .fields = 1, .registers = 4, .mutators = MUTATORS,
+        .log_entries = RECYCLER_LOG_ENTRIES(SLOTS, MUTATORS), .first_epoch = 1,
+    };
     pthread_t threads[MUTATORS + 1];
     recycler_settled settled;
     recycler_totals_told totals;
-    must(recycler_open(&heap, SLOTS, 1, 4, MUTATORS, RECYCLER_LOG_ENTRIES(SLOTS, MUTATORS), 1), "open");
+    must(recycler_open(&heap, &config), "open");
     must(recycler_start(&heap), "start");
     for (int i = 0; i < MUTATORS; i++) {
         start_thread(&threads[i], mutate, &heap.mutators[i]);

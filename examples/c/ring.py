@@ -1,70 +1,64 @@
 #!/usr/bin/env python3
 """Four mutators on a thread each build and drop rings of three objects; a fifth thread turns the collector. Then the heap is stopped and
-settles. It wants librecycler.so, which `make` makes of the archive. Other threads run while one is in a call."""
+settles. Other threads run while one is in a call. The module `recycler` stands in bindings/python, or where `make install` put it."""
 import os
 import sys
 import threading
 import time
-from ctypes import CDLL, Structure, byref, c_uint32 as u32, c_uint64 as u64
 
-LIBRARY = CDLL(sys.argv[1] if len(sys.argv) > 1 else "out/librecycler.so")
-HEAP = (u64 * 520)()  # a `recycler`: 65 handles of 64 bytes, the collector's first and the listener's last; all zero is closed
+sys.path.append(os.path.join(os.path.dirname(os.path.abspath(__file__)), "..", "..", "bindings", "python"))
+from recycler import Answer, Heap, What
+
 WORKING = {1, 2, 3, 4}  # the mutators that still build
 
 
-def struct(**fields):
-    return type("Told", (Structure,), {"_fields_": list(fields.items())})
+def done(mutator, command, *numbers):
+    """Asks until it is done. Where no slot is free or the log is full the mutator polls, and the collector turns."""
+    while (answer := command(*numbers)) in (Answer.FULL, Answer.BUSY, Answer.LOG_FULL):
+        mutator.poll()
+    assert answer is Answer.DONE, answer
 
 
-Asked = struct(answer=u32, label=u32, before=u64, after=u64)
-Turned = struct(what=u32, mutator=u32, epoch=u32, freed=u32)
-Settled = struct(epochs=u32, freed=u32, live=u32)
-Totals = struct(born=u64, freed=u64, epoch=u32, collections=u32, cycles_freed=u64, refused_delta=u64, refused_sigma=u64)
+def ring(mutator, label):
+    done(mutator, mutator.new, 1, label)
+    mutator.copy(2, 1)
+    for _ in range(2):
+        done(mutator, mutator.new, 3, 0)
+        done(mutator, mutator.put, 2, 0, 3)
+        mutator.copy(2, 3)
+    done(mutator, mutator.put, 2, 0, 1)
+    for register in 1, 2, 3:
+        mutator.null(register)
 
 
-def call(name, handle, *numbers, told=None):
-    """Calls with the handle of the mutator with this number; 0 is the collector's, and the whole heap."""
-    code = getattr(LIBRARY, "recycler_" + name)(byref(HEAP, 64 * handle), *numbers, *(() if told is None else (byref(told),)))
-    if code != 0:
-        raise RuntimeError(f"recycler_{name}: code {code}")
-    return told
+def mutate(heap, number):
+    with heap.mutator(number) as mutator:
+        for label in range(200):
+            ring(mutator, label)
+            mutator.poll()
+        WORKING.discard(number)
+        while WORKING:
+            mutator.poll()
 
 
-def ask(mutator, name, *numbers):
-    """Asks until it is done. Where no slot is free or the log is full (FULL, BUSY, LOG_FULL) the mutator polls, and the collector turns."""
-    while (answer := call(name, mutator, *numbers, told=Asked()).answer) in (7, 8, 9):
-        call("poll", mutator, told=u32())
-    assert answer == 0, f"recycler_{name}: answer {answer}"
-
-
-def mutate(mutator):
-    link = ("new", 3, 0), ("put", 2, 0, 3), ("copy", 2, 3)
-    for label in range(200):
-        for command in ("new", 1, label), ("copy", 2, 1), *link, *link, ("put", 2, 0, 1), ("null", 1), ("null", 2), ("null", 3):
-            ask(mutator, *command)
-        call("poll", mutator, told=u32())
-    WORKING.discard(mutator)
-    while WORKING:
-        call("poll", mutator, told=u32())
-
-
-def collect():
-    while WORKING:
-        turned = call("turn", 0, told=Turned())
-        if turned.what == 2 and turned.freed == 0:  # RECYCLER_COLLECTED
-            time.sleep(0.0001)
+def collect(heap):
+    with heap.collector() as collector:
+        while WORKING:
+            turned = collector.turn()
+            if turned.what is What.COLLECTED and turned.freed == 0:
+                time.sleep(0.0001)
 
 
 # A thread that fails ends the program, since the others would wait for it.
 threading.excepthook = lambda failed: (print(failed.exc_value, file=sys.stderr, flush=True), os._exit(1))
-threads = [threading.Thread(target=mutate, args=(mutator,)) for mutator in WORKING] + [threading.Thread(target=collect)]
-call("open", 0, 64, 1, 4, len(WORKING), 64, 1)
-call("start", 0)
-for thread in threads:
-    thread.start()
-for thread in threads:
-    thread.join()
-call("stop", 0)
-settled, totals = call("settle", 0, told=Settled()), call("totals", 0, told=Totals())
-call("close", 0)
+with Heap(slots=64, fields=1, registers=4, mutators=len(WORKING), log_entries=64) as heap:
+    heap.start()
+    threads = [threading.Thread(target=mutate, args=(heap, number)) for number in WORKING]
+    threads.append(threading.Thread(target=collect, args=(heap,)))
+    for thread in threads:
+        thread.start()
+    for thread in threads:
+        thread.join()
+    heap.stop()
+    settled, totals = heap.settle(), heap.totals()
 print(f"made {totals.born}, freed {totals.freed}, live {settled.live}")

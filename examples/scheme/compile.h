@@ -1,22 +1,40 @@
 /* From a text to instructions. */
+#ifndef SCHEME_COMPILE_H
+#define SCHEME_COMPILE_H
+
 #include <ctype.h>
 #include <string.h>
 
+#include "heap.h"
+
 /* ---- texts, which stay */
 
-static char *texts[1 << 16];
-static int text_count;
+enum { MOST_TEXTS = 1 << 16, BUCKETS = 2 * MOST_TEXTS };
+
+static char *texts[MOST_TEXTS];
+static int text_count, buckets[BUCKETS]; /* a bucket has the number of a text and 1, or 0 */
+
+/* The bucket of a text, or the free one where it goes: from its hash (FNV-1a) on. */
+static int *bucket_of(const char *text) {
+    uint32_t at = 2166136261u;
+    for (const char *letter = text; *letter != '\0'; letter++)
+        at = (at ^ (unsigned char)*letter) * 16777619u;
+    while (buckets[at %= BUCKETS] != 0 && strcmp(texts[buckets[at] - 1], text) != 0)
+        at++;
+    return &buckets[at];
+}
 
 /* The same text has the same number. */
-static int number_of_text(const char *text) {
-    int number = 0;
+static int number_of_text(mutator *m, const char *text) {
     pthread_mutex_lock(&shared);
-    while (number < text_count && strcmp(texts[number], text) != 0)
-        number++;
-    must(number < (int)(sizeof texts / sizeof *texts) ? RECYCLER_OK : RECYCLER_NO_MEMORY);
-    if (number == text_count)
-        texts[text_count++] = strcpy(grown(NULL, 0, strlen(text) + 1), text);
+    int *bucket = bucket_of(text);
+    if (*bucket == 0 && text_count < MOST_TEXTS) {
+        texts[text_count] = strcpy(grown(NULL, 0, strlen(text) + 1), text);
+        *bucket = ++text_count;
+    }
+    int number = *bucket - 1;
     pthread_mutex_unlock(&shared);
+    check(m, number >= 0, "a program has %d texts at most", MOST_TEXTS);
     return number;
 }
 
@@ -74,7 +92,7 @@ static datum *read_word(void) {
             return new_datum(of, 0, NULL, NULL);
     long number = strtol(word, &end, 10);
     if (quoted || end == word || *end != '\0')
-        return new_datum(quoted ? STRING : SYMBOL, number_of_text(word), NULL, NULL);
+        return new_datum(quoted ? STRING : SYMBOL, number_of_text(reader, word), NULL, NULL);
     check(reader, number >= LEAST_NUMBER && number <= MOST_NUMBER, "%s is no number from %d to %d", word, LEAST_NUMBER, MOST_NUMBER);
     return new_datum(NUMBER, (int)number, NULL, NULL);
 }
@@ -107,7 +125,7 @@ static datum *read_datum(void) {
     if (*rest++ == '(')
         return read_items(')');
     datum *quoted = pair(read_datum(), &nothing);
-    return pair(new_datum(SYMBOL, number_of_text("quote"), NULL, NULL), quoted);
+    return pair(new_datum(SYMBOL, number_of_text(reader, "quote"), NULL, NULL), quoted);
 }
 
 static datum *read_text(const char *text, int line) {
@@ -312,3 +330,5 @@ static void compile(datum *d, datum *scope, int to) {
         }
     }
 }
+
+#endif

@@ -1,5 +1,8 @@
 /* What a Scheme asks of librecycler_c: objects, and the threads that make and collect them. A thread reaches objects by the registers of
  * its mutator alone. So what a program holds is in a register or hangs on one, and C keeps no pointer to an object. */
+#ifndef SCHEME_HEAP_H
+#define SCHEME_HEAP_H
+
 #define _POSIX_C_SOURCE 200809L
 #include <pthread.h>
 #include <sched.h>
@@ -77,7 +80,7 @@ static void give_way(mutator *m, int round) {
 
 static bool is_done(uint32_t code, const recycler_asked *told) {
     must(code);
-    return told->answer == RECYCLER_DONE;
+    return told->answer == RECYCLER_A_DONE;
 }
 
 static void make(mutator *m, int reg, kind of, int number) {
@@ -97,7 +100,7 @@ static void put(mutator *m, int into, int field, int from) {
 static bool get(mutator *m, int to, int from, int field) {
     recycler_asked told;
     must(recycler_get(m->handle, to, from, field, &told));
-    return told.answer == RECYCLER_OBJECT;
+    return told.answer == RECYCLER_A_OBJECT;
 }
 
 static void copy(mutator *m, int to, int from) {
@@ -140,7 +143,7 @@ static pthread_mutex_t shared = PTHREAD_MUTEX_INITIALIZER; /* of what threads sh
 static void *grown(void *items, int count, size_t size) {
     if ((count & (count - 1)) == 0)
         items = realloc(items, (count == 0 ? 1 : 2 * (size_t)count) * size);
-    must(items != NULL ? RECYCLER_OK : RECYCLER_NO_MEMORY);
+    must(items != NULL ? RECYCLER_OK : RECYCLER_E_NO_MEMORY);
     return items;
 }
 
@@ -154,6 +157,13 @@ static int change(int *numbers, int count, int from, int to) {
         numbers[which] = to;
     pthread_mutex_unlock(&shared);
     return which < count ? which : -1;
+}
+
+static int new_token(void) {
+    pthread_mutex_lock(&shared);
+    int token = ++token_count;
+    pthread_mutex_unlock(&shared);
+    return token;
 }
 
 /* A token that was freed, or 0: each once. A thread with a lock gets none, since what is called then may want the lock. */
@@ -181,13 +191,13 @@ static void collect(void) {
             pthread_mutex_unlock(&shared);
         }
     }
-    if (turned.what == RECYCLER_WAITING) {
+    if (turned.what == RECYCLER_W_WAITING) {
         pthread_mutex_lock(&shared);
         if (states[turned.mutator - 1] < RUNS)
             must(recycler_poll(&heap.mutators[turned.mutator - 1], &crossed));
         pthread_mutex_unlock(&shared);
         sched_yield();
-    } else if (turned.what == RECYCLER_NO_EPOCH || (turned.what == RECYCLER_COLLECTED && turned.freed == 0)) {
+    } else if (turned.what == RECYCLER_W_NO_EPOCH || (turned.what == RECYCLER_W_COLLECTED && turned.freed == 0)) {
         nanosleep(&(struct timespec){ 0, 200000 }, NULL); /* since each collection spends an epoch */
     }
 }
@@ -197,8 +207,10 @@ static void carry_out(mutator *m);
 static void *work(void *given) {
     mutator *m = given;
     recycler_asked told;
-    bool failed = setjmp(m->failed) != 0;
-    if (!failed)
+    bool failed = false;
+    if (setjmp(m->failed) != 0)
+        failed = true;
+    else
         carry_out(m);
     while (change(holders, LOCKS, m->number, NOBODY) >= 0)
         continue;
@@ -212,6 +224,8 @@ static void start(int number, int line) {
     pthread_t thread;
     mutators[number] = (mutator){ .handle = &heap.mutators[number], .number = number, .line = line };
     change(&states[number], 1, TAKEN, RUNS);
-    must(pthread_create(&thread, NULL, work, &mutators[number]) == 0 ? RECYCLER_OK : RECYCLER_NO_MEMORY);
+    must(pthread_create(&thread, NULL, work, &mutators[number]) == 0 ? RECYCLER_OK : RECYCLER_E_NO_MEMORY);
     pthread_detach(thread);
 }
+
+#endif

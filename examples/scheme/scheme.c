@@ -11,13 +11,23 @@ enum { LESS = 1, EQUAL = 2, MORE = 4, TO_SEE = 0, TO_READ, AS_STRING, AS_FAILURE
 /* Operands are in registers from `first` on, and the value is in `first` then. Operands that have to be of a kind have numbers. */
 typedef struct call { int of, first, count, numbers[2 * FIELDS]; } call;
 
+static long long calculated(int operation, long long all, int next) {
+    switch (operation) {
+    case '+': return all + next;
+    case '-': return all - next;
+    case '*': return all * next;
+    case '/': return all / next;
+    default: return all % next;
+    }
+}
+
 static void calculate(mutator *m, const call *c) {
     bool alone = c->count == 0 || (c->count == 1 && c->of == '-');
     long long all = alone ? c->of == '*' : c->numbers[0];
     for (int each = !alone; each < c->count; each++) {
         int next = c->numbers[each];
         check(m, next != 0 || (c->of != '/' && c->of != '%'), "a division by zero");
-        all = c->of == '+' ? all + next : c->of == '-' ? all - next : c->of == '*' ? all * next : c->of == '/' ? all / next : all % next;
+        all = calculated(c->of, all, next);
         check(m, all >= LEAST_NUMBER && all <= MOST_NUMBER, "a number isn't from %d to %d", LEAST_NUMBER, MOST_NUMBER);
     }
     make(m, c->first, NUMBER, (int)all);
@@ -36,7 +46,7 @@ static void is_same(mutator *m, const call *c) {
     recycler_asked told;
     label a = label_of(m, c->first), b = label_of(m, c->first + 1);
     must(recycler_same(m->handle, c->first, c->first + 1, &told));
-    make(m, c->first, told.answer == RECYCLER_YES || (a.of < PAIR && a.of == b.of && a.number == b.number) ? TRUE : FALSE, 0);
+    make(m, c->first, told.answer == RECYCLER_A_YES || (a.of < PAIR && a.of == b.of && a.number == b.number) ? TRUE : FALSE, 0);
 }
 
 static void is_of_kind(mutator *m, const call *c) {
@@ -103,12 +113,15 @@ static void use_text(mutator *m, const call *c) {
             fputs(SHOWN[is.of], out);
     }
     fclose(out);
-    check(m, c->of != AS_FAILURE, "%s", text);
-    if (c->of == AS_STRING)
-        make(m, c->first, STRING, number_of_text(text));
-    else
+    if (c->of == TO_SEE || c->of == TO_READ)
         fputs(text, stdout);
-    free(text);
+    char sentence[200];
+    snprintf(sentence, sizeof sentence, "%s", text);
+    int number = c->of == AS_STRING ? number_of_text(m, text) : 0;
+    free(text); /* before a failure, which goes on elsewhere */
+    check(m, c->of != AS_FAILURE, "%s", sentence);
+    if (c->of == AS_STRING)
+        make(m, c->first, STRING, number);
 }
 
 static void spawn(mutator *m, const call *c) {
@@ -141,11 +154,12 @@ static void use_lock(mutator *m, const call *c) {
 static void hang_token(mutator *m, const call *c) {
     kind of = label_of(m, c->first).of;
     check(m, of == PAIR || of == CLOSURE, "a pair or a procedure is wanted");
-    make(m, FRESH, TOKEN, ++token_count);
+    int token = new_token();
+    make(m, FRESH, TOKEN, token);
     get(m, SPARE, c->first, TOKENS);
     put(m, FRESH, 0, SPARE);
     put(m, c->first, TOKENS, FRESH);
-    make(m, c->first, NUMBER, token_count);
+    make(m, c->first, NUMBER, token);
 }
 
 static void next_token(mutator *m, const call *c) {
@@ -306,7 +320,7 @@ static void run(mutator *m, int next) {
 static const char PRELUDE[] = {
 #include "prelude.h" /* the letters of prelude.scm, and 0 */
 };
-static char *program;
+static char *program; /* the text of the file */
 
 /* Each primitive is the value of a global. */
 static void compile_program(void) {
@@ -315,7 +329,7 @@ static void compile_program(void) {
         rules = pair(pair(read_text(WORDS[each], 0)->head, new_datum(PRIMITIVE, each, NULL, NULL)), rules);
     for (int each = 0; each < PRIMITIVE_COUNT; each++) {
         emit(CONSTANT, STACK, PRIMITIVE, each);
-        emit_variable(STORE, new_datum(SYMBOL, number_of_text(PRIMITIVES[each].name), NULL, NULL), scope, STACK);
+        emit_variable(STORE, new_datum(SYMBOL, number_of_text(reader, PRIMITIVES[each].name), NULL, NULL), scope, STACK);
     }
     compile_all(read_text(PRELUDE, -9999), scope, STACK); /* its lines aren't told */
     compile_all(read_text(program, 1), scope, STACK);
@@ -347,11 +361,14 @@ int main(int argc, char **argv) {
         tells = tells || option == 'v';
     }
     FILE *file = optind + 1 == argc ? fopen(argv[optind], "r") : NULL;
-    if (file == NULL || getdelim(&program, &room, '\0', file) < 0) {
+    if (file == NULL) {
         fputs("usage: scheme [-s SLOTS] [-t THREADS] [-v] FILE\n", stderr);
         return 2;
     }
-    must(recycler_open(&heap, slots, FIELDS, REGISTERS, thread_count, 1024, 1));
+    if (getdelim(&program, &room, '\0', file) < 0)
+        program = ""; /* an empty file */
+    const recycler_config config = { slots, FIELDS, REGISTERS, thread_count, 1024, 1 };
+    must(recycler_open(&heap, &config));
     must(recycler_notices(&heap, 256));
     must(recycler_start(&heap));
     start(change(states, 1, UNUSED, TAKEN), 1);

@@ -5,5 +5,6 @@ pub mod Codes
 pub mod First
 pub mod Narrow
 pub mod Shown
+pub mod Sizes
 pub mod Standing
 pub mod Telling

@@ -1,43 +1,35 @@
 //! What C calls. Each export calls one function of the modules beside this one.
-ghost use Rattle.std.specs.Prelude.{true, ◌≡◌, Some};
+ghost use Rattle.std.specs.Prelude.{◌≡◌, Some};
 ghost use Rattle.rec_model.specs.declared.command.Cmd.TheVariants as commands;
 ghost use Rattle.recycler_c.specs.Calls.{Asks, AsksNotices, CollectsIn, Closes, Counts, HearsIn, Looks, Opens, Polls, Renews, Settles, Starts, Stops, Tallies, TurnsIn, held};
 ghost use Rattle.recycler_c.specs.Codes.{Answers};
 ghost use Rattle.recycler_c.specs.Narrow.{narrow};
+ghost use Rattle.recycler_c.specs.Sizes.{config_of};
 
 use crate::handle::Handle;
 use crate::recycler::Recycler;
+use crate::sizes::{Sizes, config};
 use crate::told::{Asked, Heard, Settled, Slot, Totals, Turned};
+use crate::version::VERSION;
 use crate::{collecting, command, looking, noticing, opening, renewing, running};
 use rec_model::Cmd;
-use rec_world::Config;
 use std::alloc::Global;
+
+/// The version of the library: 10,000 times the major number, 100 times the minor one, and the patch.
+#[unsafe(no_mangle)]
+pub extern "C" fn recycler_version() -> u32
+    ensures { result ≡ 10000 }
+{
+    VERSION
+}
 
 /// Opens a heap at rest, in closed handles. It is steady: registers that didn't change touch nothing.
 #[unsafe(no_mangle)]
-pub extern "C" fn recycler_open(
-    alloc: Global,
-    r: &mut Recycler,
-    slots: u32,
-    fields: u32,
-    registers: u32,
-    mutators: u32,
-    log_entries: u32,
-    first_epoch: u32,
-) -> u32
-    ensures opens { Answers result (λ code. Opens (record { slots = slots; fields = fields; registers = registers; mutators = mutators; log_entries = log_entries; first_epoch = first_epoch; steady = true }) (held r.old) r.old.mutators code (held r.new) r.new.mutators) }
+pub extern "C" fn recycler_open(alloc: Global, r: &mut Recycler, sizes: &Sizes) -> u32
+    ensures opens { Answers result (λ code. Opens (config_of sizes.now) (held r.old) r.old.mutators code (held r.new) r.new.mutators) }
     ensures listener { r.new.listener ≡ r.old.listener }
 {
-    let config = Config {
-        slots,
-        fields,
-        registers,
-        mutators,
-        log_entries,
-        first_epoch,
-        steady: true,
-    };
-    opening::open(alloc, &mut r.collector, &mut r.mutators, config).number()
+    opening::open(alloc, &mut r.collector, &mut r.mutators, config(sizes)).number()
 }
 
 /// Closes a heap at rest.

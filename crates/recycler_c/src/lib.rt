@@ -25,11 +25,15 @@ mod recycler;
 mod renewing;
 mod running;
 mod seating;
+mod sizes;
 mod told;
+mod version;
 
 pub use code::Code;
 pub use end::{Collecting, End, Mutating, Resting};
 pub use handle::Handle;
 pub use owned::Owned;
 pub use recycler::Recycler;
+pub use sizes::Sizes;
 pub use told::{Asked, Heard, Settled, Slot, Totals, Turned};
+pub use version::VERSION;
