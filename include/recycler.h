@@ -8,8 +8,8 @@
  * Linking. `make -C include install PREFIX=..` installs this header, both libraries, and files
  * for pkg-config and CMake. Build a program by
  *     cc program.c $(pkg-config --cflags --libs recycler) -lpthread
- * and add --static after --libs for the static library. In a checkout, `make -C include`
- * leaves both libraries in include/out.
+ * or with $(pkg-config --variable=archive recycler), the static library, in place of --libs. In
+ * a checkout, `make -C include` leaves both libraries in include/out.
  *
  * Pointers. Pass no null pointer. An out-parameter points outside every `recycler`, belongs to
  * one call at a time, and needs no value before.
@@ -154,7 +154,8 @@ typedef struct recycler {
 } recycler;
 
 /* All handles are closed: an initializer leaves the rest zero. */
-#define RECYCLER_CLOSED { { false, { 0 }, { 0 } }, { { false, { 0 }, { 0 } } }, { false, { 0 }, { 0 } } }
+#define RECYCLER_CLOSED \
+    { { false, { 0 }, { 0 } }, { { false, { 0 }, { 0 } } }, { false, { 0 }, { 0 } } }
 
 /* What a heap is opened with. */
 typedef struct recycler_config {
