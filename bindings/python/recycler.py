@@ -14,9 +14,9 @@ A heap is closed where its `with` ends, and stopped before, if it runs. A mutato
 ...         print(mutator.new(1, 7).name, mutator.put(1, 0, 1).name, mutator.value(1))
 ...         print(mutator.get(2, 1, 0).name, mutator.same(1, 2), mutator.value(3))
 ...         for register in 1, 2:
-...             mutator.null(register)
+...             _ = mutator.null(register)
 ...     with heap.collector() as collector:
-...         for _ in range(4):
+...         for _ in range(12):
 ...             while collector.collect(100).what is What.MOVED:
 ...                 pass
 ...             with heap.mutator(1) as mutator:
