@@ -162,9 +162,9 @@ static void put(uint32_t m) {
     }
     const int to = model.registers[m][src];
     WANT((told.answer == RECYCLER_A_NO_OBJECT) == (to == NONE));
-    WANT((told.answer == RECYCLER_A_NO_FIELD) == (to != NONE && model.objects[to].leaf));
-    if (to != NONE && !model.objects[to].leaf) {
-        WANT(told.answer == (model.logged[m] < model.config.log_entries ? RECYCLER_A_DONE : RECYCLER_A_LOG_FULL));
+    if (to != NONE) {
+        const bool has_room = model.logged[m] < model.config.log_entries;
+        WANT(told.answer == (!has_room ? RECYCLER_A_LOG_FULL : model.objects[to].leaf ? RECYCLER_A_NO_FIELD : RECYCLER_A_DONE));
         if (told.answer == RECYCLER_A_DONE) {
             model.objects[to].fields[field] = model.registers[m][val];
             model.logged[m]++;
@@ -306,10 +306,11 @@ static uint32_t totals(void) {
 
 static void settle(void) {
     recycler_settled told;
-    const bool can = model.runs || totals() + 4 <= LAST_EPOCH + 1;
+    const bool can = model.runs || totals() + 4 <= LAST_EPOCH;
     call = "settle";
     if (made(recycler_settle(&heap, &told), model.runs ? RECYCLER_E_RUNS : can ? RECYCLER_OK : RECYCLER_E_EPOCHS_SPENT)) {
         WANT(told.epochs == 3 || told.epochs == 4);
+        memset(model.logged, 0, sizeof model.logged); /* each mutator has crossed */
         look();
         WANT(totals() <= LAST_EPOCH);
     }
@@ -347,7 +348,7 @@ static void start_or_stop(void) {
 
 static void ask_for_notices(void) {
     const uint32_t room = below(9);
-    const uint32_t code = model.runs ? RECYCLER_E_RUNS : model.listens ? RECYCLER_E_OPEN_ALREADY : room == 0 ? RECYCLER_E_RANGE : RECYCLER_OK;
+    const uint32_t code = model.listens ? RECYCLER_E_OPEN_ALREADY : model.runs ? RECYCLER_E_RUNS : room == 0 ? RECYCLER_E_RANGE : RECYCLER_OK;
     call = "notices";
     model.listens = made(recycler_notices(&heap, room), code) || model.listens;
 }
