@@ -453,7 +453,7 @@ impl Trial {
 }
 
 // A trial that has come this far, once it has gone on. It is handed over by its parts, so that a caller's trial needs no place in memory.
-#[inline(never)]
+#[inline(always)]
 fn gone_on(
     fields: u8,
     phase: Phase,

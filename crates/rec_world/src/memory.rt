@@ -224,8 +224,8 @@ impl Memory {
     }
 }
 
-// Puts there what the operation leaves, and answers the word that it found.
-#[inline(always)]
+// Puts there what the operation leaves, and answers the word that it found. `perform` has it seven times, and with a mark that takes it in
+// always, a step and a turn would be too large for their own marks (`bench/README.md`). As it is, the compiler takes it in by itself.
 fn exchange(word: &mut u64, op: Op) -> u64
     ensures found { result ≡ word.old }
     ensures left { word.new ≡ written op word.old }

@@ -127,7 +127,7 @@ impl Machine {
 
     /// Learns the freed word with which a scan began, and that the claim of its first slot was lost: its header was found taken. The scan
     /// goes on.
-    #[inline(never)]
+    #[cold]
     pub fn lost(&mut self, reg: u8, label: u32, leaf: bool, from: u16, before: u64, found: u64)
         requires idle { is_busy self.old ≡ false }
         requires stays { self.old.left ≡ false }
@@ -233,7 +233,7 @@ impl Machine {
     }
 
     /// Learns that another epoch is requested than the own one: a poll goes on, and crosses.
-    #[inline(never)]
+    #[cold]
     pub fn summoned(&mut self, requested: u64)
         requires idle { is_busy self.old ≡ false }
         requires stays { self.old.left ≡ false }
