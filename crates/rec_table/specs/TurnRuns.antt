@@ -1,12 +1,10 @@
--- A run of the collector's trial on the table.
+-- A run of the collector's turns on the table.
 use Rattle.std.specs.Prelude.{◌≡◌, ℕ, ◌+◌, Option, []}
 use Rattle.atomic_table.specs.Seated.{TableId}
 use Rattle.atomic_table.specs.Table.{Me}
 use Rattle.rec_log.specs.declared.contents.Contents.{Contents}
-use Rattle.rec_trial.specs.Trial.{Work}
 use Rattle.rec_collector.specs.Kept.{IsMachine, KeepsSizes}
 use Rattle.rec_collector.specs.Private.{Private}
-use Rattle.rec_collector.specs.Running.{RunsTo}
 use Rattle.rec_collector.specs.Step.{IsBetween}
 use Rattle.rec_collector.specs.declared.turn.Turn.{Turn}
 use Rattle.rec_collector.specs.declared.turn.Turn.TheVariants.{Moved}
@@ -29,18 +27,15 @@ pub data Made (first : CollectorView) : CollectorView → ℕ → Turn → Type 
   none : Made first first 0 Moved
   more : (n : ℕ) (u v : CollectorView) (turn : Turn) → MovesTo first n u → MakesTurn u v turn → Made first v (n + 1) turn
 
--- From a seat that knew this, so many words were loaded for the trial, whose work is this now: what the seat has and knows.
-pub record Stands (z : TableId) (key : Core) (start : CollectorSeat) (own : TableId) (has : Me (Option Contents) View) (n : ℕ) (w : Work) : Type 0 where
+-- From a seat that knew this, so many turns were made, which came to this machine, and the last one answered this: what the seat has and
+-- knows.
+pub record Stands (z : TableId) (key : Core) (start : CollectorSeat) (own : TableId) (has : Me (Option Contents) View) (n : ℕ) (p : Private) (turn : Turn) : Type 0 where
   pub world : IsWorld key
   pub table : own ≡ z
-  pub me : has ≡ (Collects (collecting_of has.0), [])
+  pub me : has ≡ (Collects (collecting_of has.0), boxes_out p)
   pub same : collecting_of has.0 ≡ record start { log = (collecting_of has.0).log }
-  pub now : Private
-  pub turn : Turn
-  pub runs : RunsTo (gathered_all key.collector start.log) n w now turn
-  pub is : now ≡ gathered_all key.collector (collecting_of has.0).log
-  pub kept : IsMachine now
-  pub sizes : KeepsSizes key.collector now
-  pub between : IsBetween now.phase
-  pub out : boxes_out now ≡ []
+  pub is : p ≡ gathered_all key.collector (collecting_of has.0).log
+  pub kept : IsMachine p
+  pub sizes : KeepsSizes key.collector p
+  pub between : IsBetween p.phase
   pub made : Made (collector_view z key.collector start) (collector_view z key.collector (collecting_of has.0)) n turn

@@ -1,12 +1,12 @@
--- The contract of `Collector::run_trying_on`: makes turns of a trial.
+-- The contract of `Collector::run_loop_on`: makes turns of a kind with a loop.
 use Rattle.std.proofs.Common.{◌≡◌, ℕ, ◌+◌, ◌≤◌, ap, sym, subst, ◌∙◌, arith}
 use Rattle.rec_collector.specs.declared.turn.Turn.{Turn}
 use Rattle.rec_table.proofs.Common.{Core, CollectorSeat, CollectorView, collecting_of, collector_view}
-use Rattle.rec_table.specs.TrialRuns.{Made}
+use Rattle.rec_table.specs.TurnRuns.{Made}
 use Rattle.rec_table.specs.Turn.{MakesSome}
-use Rattle.rec_table.proofs.TrialRuns.{made_ended, made_some}
-use Rattle.rec_table.proofs.collector.Collector.run_trying_on.Goals as goal
-use Rattle.rec_table.proofs.collector.Collector.run_trying_on.Goals.{in-Moved, in_default}
+use Rattle.rec_table.proofs.TurnRuns.{made_ended, made_some}
+use Rattle.rec_table.proofs.collector.Collector.run_loop_on.Goals as goal
+use Rattle.rec_table.proofs.collector.Collector.run_loop_on.Goals.{in-Moved, in_default}
 
 pub returns-clause-made : goal.returns-clause-made
 returns-clause-made c = λ first before.
@@ -15,7 +15,7 @@ returns-clause-made c = λ first before.
     let s = c.self.inside in
     let opened : s.opened.value ≡ key.collector = ap (λ (g : CollectorView). g.opened) c.self.view_is ∙ c.requires.own.1 in
     let table : s.seat.table_id ≡ z = ap (λ (g : CollectorView). g.table) c.self.view_is ∙ c.requires.own.0 in
-    let run = c.run_trial-made in
+    let run = c.run_turns-made in
     let from : CollectorSeat = collecting_of s.seat.me.0 in
     let to : CollectorSeat = collecting_of run.new.seat.me.0 in
     let after : CollectorView = collector_view run.new.seat.table_id s.opened.value to in
