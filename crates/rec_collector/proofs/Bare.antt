@@ -1,5 +1,5 @@
 -- What the collector does next and what it learns is the same in a heap of bare words: it reads of a word where it leads, and nothing else.
-use Rattle.std.proofs.Common.{◌≡◌, Bool, true, false, ℕ, ◌+◌, ◌-◌, ◌^◌, ◌<◌, ◌≤◌, ◌==◌, if◌then◌else◌, List, [], ◌∷◌, ◌++◌, Option, None, Some, IfSome, flat_map, length, map, slice_index_or, slice_set, refl, sym, ap, subst, ◌∙◌, arith}
+use Rattle.std.proofs.Common.{◌≡◌, Bool, true, false, ℕ, ◌+◌, ◌-◌, ◌^◌, ◌<◌, ◌≤◌, ◌==◌, if◌then◌else◌, List, [], ◌∷◌, ◌++◌, Option, None, Some, IfSome, flat_map, map, slice_set, refl, sym, ap, subst, ◌∙◌, arith}
 use Rattle.std.specs.List.{sum_by}
 use Rattle.std.proofs.Math.ListN.{get_or-map}
 use Rattle.std.proofs.lemmas.List.{map-set}
@@ -36,13 +36,13 @@ use Rattle.rec_trial.specs.declared.phase.Phase as trying
 use Rattle.rec_trial.specs.declared.phase.Phase.TheVariants as trying_at
 use Rattle.rec_walk.specs.declared.member.Member.{Member}
 use Rattle.rec_collector.specs.Bare.{bare_buffers, bare_private}
-use Rattle.rec_collector.specs.Followed.{Next, followed, prepared, tried, with_freed, with_loaded, with_released, with_tried, relieved, worked}
+use Rattle.rec_collector.specs.Followed.{Next, followed, prepared, tried, relieved, worked}
 use Rattle.rec_collector.specs.Next.{is_spent, next_at, next_of}
 use Rattle.rec_collector.specs.Parts.{Parts}
 use Rattle.rec_collector.specs.Present.{next_present}
-use Rattle.rec_collector.specs.Private.{Private, blank, buffer_at, parts_of, spare, with_parts}
+use Rattle.rec_collector.specs.Private.{Private, blank, buffer_at, parts_of, with_parts}
 use Rattle.rec_collector.specs.Testing.{with_release, zeros_released}
-use Rattle.rec_collector.specs.Took.{batch_next, batched as batched_parts, behind, came, cleared, ended, ended_if, gathering_on, moved, noted, requested, step_of, swapped_at, swapped_of, swept_one, took_at, took_of, turn_at, turn_of, behind_turn, came_turn, gathering_turn}
+use Rattle.rec_collector.specs.Took.{batch_next, behind, came, cleared, ended, ended_if, gathering_on, moved, noted, requested, step_of, swapped_at, swapped_of, took_at, took_of, turn_at, turn_of, behind_turn, came_turn, gathering_turn}
 use Rattle.rec_collector.specs.declared.phase.Phase.{Phase}
 use Rattle.rec_collector.specs.declared.turn.Turn.TheVariants.{Moved, Waiting, EpochsSpent}
 use Rattle.rec_collector.specs.declared.phase.Phase.TheVariants.{Idle, Looking, Swapping, Returning, Releasing, Freeing, Trying, Preparing, Opening, Sweeping, Closing}

@@ -1,13 +1,13 @@
 -- What every machine keeps, the collector of a heap of bare words keeps too.
-use Rattle.std.proofs.Common.{◌≡◌, ℕ, ◌+◌, ◌*◌, ◌^◌, ◌<◌, ◌≤◌, length, map, refl, sym, ap, subst, ◌∙◌, List, arith}
+use Rattle.std.proofs.Common.{◌≡◌, ℕ, ◌+◌, ◌*◌, ◌^◌, ◌<◌, ◌≤◌, length, sym, ap, subst, ◌∙◌, List}
 use Rattle.std.proofs.lemmas.List.{length-map}
 use Rattle.rec_word.specs.Bare.{bare}
 use Rattle.rec_log.specs.Words.{buffer_by}
 use Rattle.rec_log.specs.declared.contents.Contents.{Contents}
 use Rattle.rec_collector.specs.Bare.{bare_buffers, bare_private}
 use Rattle.rec_collector.specs.Given.{IsSized}
-use Rattle.rec_collector.specs.Kept.{AreRows, AreSized, AreSpare, IsAt, IsGathering, IsLooking, IsMachine, IsPreparing, IsSweeping, IsTesting, IsTold, IsTrying}
-use Rattle.rec_collector.specs.Private.{Private, buffer_at, spare}
+use Rattle.rec_collector.specs.Kept.{AreRows, AreSized, AreSpare, IsAt, IsGathering, IsLooking, IsMachine, IsSweeping, IsTesting, IsTold}
+use Rattle.rec_collector.specs.Private.{Private}
 use Rattle.rec_collector.specs.declared.phase.Phase.{Phase}
 use Rattle.rec_collector.specs.declared.phase.Phase.TheVariants.{Idle, Looking, Swapping, Returning, Releasing, Freeing, Trying, Preparing, Opening, Sweeping, Closing}
 use Rattle.rec_collector.proofs.Bare.{buffer_bare}

@@ -8,7 +8,8 @@ use Rattle.rec_word.specs.Mailbox.{crossing_word}
 use Rattle.rec_word.specs.declared.mailbox.Mailbox.TheVariants.{Retired}
 use Rattle.rec_apply.specs.Batch.{applied, IsCovered}
 use Rattle.rec_release.proofs.Kept.{sweep_kept}
-use Rattle.rec_collector.specs.Works.{MayWork}
+use Rattle.rec_collector.specs.Given.{IsFreeingIn}
+use Rattle.rec_collector.specs.Works.{MayFree, MayWork}
 use Rattle.rec_collector.specs.Next.{is_spent}
 use Rattle.rec_collector.specs.declared.turn.Turn.{Turn}
 use Rattle.rec_collector.specs.Step.{IsBetween}
@@ -99,8 +100,13 @@ may_work p word (Trying m) k e at_work g = let a : IsAt p (Trying m) = now_at p 
 may_work p word (Preparing m) k e at_work g = let a : IsAt p (Preparing m) = now_at p (Preparing m) k e in (a.busy, a.kept, g)
 may_work p word _ k e at_work g = absurd at_work
 
+-- and what the freeing of a set may be given to
+pub may_free : (p : Private) (phase : Phase) → IsMachine p → p.phase ≡ phase → IsFreeingIn phase → MayFree (parts_of p) phase
+may_free p (Freeing m) k e f = let a : IsAt p (Freeing m) = now_at p (Freeing m) k e in record { clearing = a.clearing; exchanged = a.exchanged; exchanges = a.exchanges; few = omega (arith, told_at p (Freeing m) k e, k.collections, k.epoch) }
+may_free p _ k e f = absurd f
+
 -- what is learnt and answered then
-work_took : (p : Private) (word : ℕ) (phase : Phase) → IsWork phase → (came p (worked (parts_of p) word phase) ≡ took_at p word phase) × (came_turn p.epoch (worked (parts_of p) word phase).phase ≡ turn_at p word phase)
+pub work_took : (p : Private) (word : ℕ) (phase : Phase) → IsWork phase → (came p (worked (parts_of p) word phase) ≡ took_at p word phase) × (came_turn p.epoch (worked (parts_of p) word phase).phase ≡ turn_at p word phase)
 unfolding took_at turn_at
 work_took p word (Releasing m) w = (refl, refl)
 work_took p word (Freeing m) w = (refl, refl)

@@ -3,12 +3,14 @@ pub mod Always
 pub mod Answering
 pub mod Bare
 pub mod BareKept
+pub mod ByTurns
 pub mod Clearing
 pub mod Common
 pub mod Counting
 pub mod Exchanging
 pub mod Following
 pub mod Freeing
+pub mod FreeingRuns
 pub mod Gathering
 pub mod Goings
 pub mod Greens

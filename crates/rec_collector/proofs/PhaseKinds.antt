@@ -1,5 +1,7 @@
 -- Which phase it is, by its kind.
 use Rattle.std.proofs.Common.{◌≡◌, refl}
+use Rattle.rec_release.specs.CycleFree.{Machine as Free}
+use Rattle.rec_sigma.specs.Prepare.{Machine as Prep}
 use Rattle.rec_trial.specs.Trial.{Machine}
 use Rattle.rec_collector.specs.Given.{IsWork, IsReleasingIn, IsFreeingIn, IsTryingIn, IsPreparingIn, IsSweepingIn}
 use Rattle.rec_collector.specs.Kind.{kind_of}
@@ -24,6 +26,15 @@ trying_works _ is = absurd is
 pub trying_is : (phase : Phase) → IsTryingIn phase → (m : Machine) × (phase ≡ Trying m)
 trying_is (Trying trial) is = (trial, refl)
 trying_is _ is = absurd is
+
+-- so it is of a preparation, and of the freeing of a set
+pub preparing_is : (phase : Phase) → IsPreparingIn phase → (m : Prep) × (phase ≡ Preparing m)
+preparing_is (Preparing prep) is = (prep, refl)
+preparing_is _ is = absurd is
+
+pub freeing_is : (phase : Phase) → IsFreeingIn phase → (m : Free) × (phase ≡ Freeing m)
+freeing_is (Freeing freeing) is = (freeing, refl)
+freeing_is _ is = absurd is
 
 pub preparing_works : (phase : Phase) → IsPreparingIn phase → IsWork phase
 preparing_works (Preparing prep) is = tt

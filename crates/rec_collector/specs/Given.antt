@@ -74,3 +74,11 @@ IsPreparingIn _ = ⊥
 abbrev pub IsSweepingIn : Phase → Type 0
 IsSweepingIn (Sweeping due swept) = Unit {0}
 IsSweepingIn _ = ⊥
+
+-- a machine or a sweep is at work whose turns are made in a loop of their own
+abbrev pub IsLooped : Phase → Type 0
+IsLooped (Freeing freeing) = Unit {0}
+IsLooped (Trying trial) = Unit {0}
+IsLooped (Preparing prep) = Unit {0}
+IsLooped (Sweeping due swept) = Unit {0}
+IsLooped _ = ⊥

@@ -11,3 +11,11 @@ kind_of (Trying trial) = kinds.Trying
 kind_of (Preparing prep) = kinds.Preparing
 kind_of (Sweeping due swept) = kinds.Sweeping
 kind_of _ = kinds.Other
+
+-- turns of this kind are made in a loop of their own
+abbrev pub HasLoop : Kind → Type 0
+HasLoop kinds.Freeing = Unit {0}
+HasLoop kinds.Trying = Unit {0}
+HasLoop kinds.Preparing = Unit {0}
+HasLoop kinds.Sweeping = Unit {0}
+HasLoop _ = ⊥

@@ -24,3 +24,13 @@ MayWork w word _ = ⊥
 abbrev pub MayTry : Parts → Phase → Type 0
 MayTry w (Trying m) = IsSome (trial_next m) × IsTrying m w.counts
 MayTry w _ = ⊥
+
+-- a preparation is
+abbrev pub MayPrepare : Parts → Phase → Type 0
+MayPrepare w (Preparing m) = IsSome m.at × IsPreparing m w.counts
+MayPrepare w _ = ⊥
+
+-- the freeing of a set is
+abbrev pub MayFree : Parts → Phase → Type 0
+MayFree w (Freeing m) = IsClear (record { parts = w; phase = Some (Freeing m) })
+MayFree w _ = ⊥

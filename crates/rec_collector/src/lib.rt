@@ -30,7 +30,9 @@ mod present;
 mod sets;
 mod shown;
 mod turn;
+mod turns;
 mod verdict;
+mod words;
 
 pub use kind::Kind;
 pub use laws::{
@@ -42,3 +44,4 @@ pub use machine::Machine;
 pub use phase::Phase;
 pub use sets::Sets;
 pub use turn::Turn;
+pub use turns::Turns;

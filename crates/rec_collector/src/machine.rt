@@ -11,10 +11,10 @@ ghost use Rattle.rec_collector.specs.Kept.{IsMachine, KeepsSizes, limit_of};
 ghost use Rattle.rec_collector.specs.Next.{next_of};
 ghost use Rattle.rec_collector.specs.Present.{HaveLeft};
 ghost use Rattle.rec_collector.specs.Private.{Private, opened, opened_from};
-ghost use Rattle.rec_collector.specs.Running.{IsTrialOf, RunsTo};
 ghost use Rattle.rec_collector.specs.declared.turn.Turn.{Turn};
-ghost use Rattle.rec_trial.specs.Trial.{Work};
 ghost use Rattle.rec_collector.specs.Took.{behind, behind_turn, came_turn, ended_if, left_of, swapped_of, took_at, took_of, turn_at, turn_of};
+
+mod runs;
 
 use crate::buffers::{clear_all, open_row, open_rows, open_spares};
 use crate::kind::Kind;
@@ -26,7 +26,6 @@ use crate::turn::Turn;
 use rec_counts::Counts;
 use rec_log::{Buffer, Frame};
 use rec_release::Sweep;
-use rec_trial::Loads;
 use rec_word::{Mailbox, Op, crossing};
 use std::alloc::{AllocError as NoMemory, Global};
 use std::marker::Model;
@@ -250,33 +249,6 @@ impl Machine {
     {
         self.rules();
         self.learn_as(kind, word)
-    }
-
-    /// Makes turns of the trial that is at work, at least one and at most so many, on the words that `L` loads. It tells how many it
-    /// made, and what the last one came to. Only that one may come to something else than `Moved`.
-    #[inline(always)]
-    pub fn run_trial<B, S, L: Loads<B, S>>(
-        &mut self,
-        board: &B,
-        seat: &mut S,
-        most: u32,
-    ) -> (u32, Turn)
-        requires trying { IsTryingIn self.old.phase }
-        requires some { 0 < most }
-        requires stands { (w : Work) → IsTrialOf self.old w → L.StandsAt board.now seat.old 0 w }
-
-        // Whatever a heap's machine has become that started as this one and learnt the same words, this one is now.
-        ensures ran { (w : Work) × L.StandsAt board.now seat.new result.0 w × ((q : Private) (turn : Turn) → RunsTo self.old result.0 w q turn → (self.new ≡ q) × (result.1 ≡ turn)) }
-        ensures some { 0 < result.0 }
-        ensures few { result.0 ≤ most }
-        ensures same { KeepsSizes self.old self.new }
-        ensures kept { IsMachine self.new }
-    {
-        let made = self
-            .parts
-            .run_trial::<B, S, L>(&mut self.phase, board, seat, most);
-        self.turns += u64::from(made);
-        (made, self.end_if_nothing_is_free())
     }
 
     /// Takes the buffer of a mailbox that is held, and gives the cleared one that takes its place there.

@@ -1,17 +1,23 @@
 ghost use Rattle.std.specs.Prelude.{◌≡◌, ◌+◌, ◌<◌, ◌≤◌, None, Some, length, false, true};
 ghost use Rattle.rec_apply.specs.Batch.{applied, AreAlike, IsCovered};
 ghost use Rattle.rec_release.specs.CycleFree.{IsFreeable, started_of};
+ghost use Rattle.rec_release.specs.CycleFree as frees;
+ghost use Rattle.rec_release.specs.CycleFree.{Machine as Freeing};
+ghost use Rattle.rec_release.specs.Ran.{RanFreeing};
+ghost use Rattle.rec_sigma.specs.Prepare as preps;
+ghost use Rattle.rec_sigma.specs.Prepare.{Machine as Preparing};
+ghost use Rattle.rec_sigma.specs.Ran.{Ran as RanPrep};
 ghost use Rattle.rec_release.specs.Release.{IsReady};
 ghost use Rattle.rec_trial.specs.Rules.{IsReady as IsReadyForTrial};
 ghost use Rattle.rec_collector.specs.Clearing.{IsClear, IsCleared, IsFewTold};
-ghost use Rattle.rec_collector.specs.Followed.{followed, prep_started, prepared, sweep_phase, trial_started, tried, with_offers, worked};
+ghost use Rattle.rec_collector.specs.Followed.{followed, prep_started, prepared, relieved, sweep_phase, trial_started, tried, with_offers, worked};
 ghost use Rattle.rec_collector.specs.Given.{IsFreeingIn, IsPreparingIn, IsReleasingIn, IsTryingIn};
 ghost use Rattle.rec_collector.specs.Kept.{NoneReleased};
 ghost use Rattle.rec_collector.specs.Zeros.{AreCounted};
 ghost use Rattle.rec_collector.specs.Parts.{new_freeing, new_parts};
 ghost use Rattle.rec_trial.specs.Loaded.{Ran};
 ghost use Rattle.rec_trial.specs.Trial.{Machine as Trying, Work};
-ghost use Rattle.rec_collector.specs.Works.{MayTry, MayWork};
+ghost use Rattle.rec_collector.specs.Works.{MayFree, MayPrepare, MayTry, MayWork};
 ghost use Rattle.rec_collector.specs.Testing.{last_tested, with_freeing, zeros_released};
 
 use crate::offer::offer_slots;
@@ -21,8 +27,8 @@ use crate::verdict::{Verdict, judge};
 use rec_apply::apply;
 use rec_counts::Counts;
 use rec_log::Buffer;
-use rec_release::{CycleFree, Release};
-use rec_sigma::{Prep, refurbish};
+use rec_release::{Clears, CycleFree, Release};
+use rec_sigma::{Loads as Prepares, Prep, refurbish};
 use rec_trial::{Loads, Trial};
 use std::marker::Model;
 
@@ -189,6 +195,61 @@ impl Parts {
         if prep.next().is_none() {
             self.end_preparing(phase);
         }
+    }
+
+    /// Fields are loaded for the preparation, at least one and at most so many. It answers how many were.
+    #[inline(always)]
+    pub(crate) fn run_prep<B, S, L: Prepares<B, S>>(
+        &mut self,
+        phase: &mut Phase,
+        board: &B,
+        seat: &mut S,
+        most: u32,
+    ) -> u32
+        requires may { MayPrepare self.old phase.old }
+        requires some { 0 < most }
+        requires stands { (m : Preparing) → phase.old ≡ Phase.Preparing m → L.StandsAt board.now seat.old 0 (record { machine = m; counts = self.old.counts }) }
+
+        ensures ran { (m : Preparing) → phase.old ≡ Phase.Preparing m → (w : preps.Work) × RanPrep (record { machine = m; counts = self.old.counts }) result w × L.StandsAt board.now seat.new result w × (record { parts = self.new; phase = phase.new } ≡ prepared self.old w) }
+        ensures some { 0 < result }
+        ensures few { result ≤ most }
+    {
+        let Phase::Preparing(prep) = phase else {
+            unreachable!()
+        };
+        let made = prep.run::<B, S, L>(&mut self.counts, board, seat, most);
+        if prep.next().is_none() {
+            self.end_preparing(phase);
+        }
+        made
+    }
+
+    /// Fields of members of the set that is freed are cleared, at least one and at most so many. It answers how many were.
+    #[inline(always)]
+    pub(crate) fn run_freeing<B, S, C: Clears<B, S>>(
+        &mut self,
+        phase: &mut Phase,
+        board: &B,
+        seat: &mut S,
+        most: u32,
+    ) -> u32
+        requires may { MayFree self.old phase.old }
+        requires some { 0 < most }
+        requires stands { (m : Freeing) → phase.old ≡ Phase.Freeing m → C.StandsAt board.now seat.old 0 (record { machine = m; counts = self.old.counts }) }
+
+        ensures ran { (m : Freeing) → phase.old ≡ Phase.Freeing m → (w : frees.Work) × RanFreeing (record { machine = m; counts = self.old.counts }) result w × C.StandsAt board.now seat.new result w × (record { parts = self.new; phase = phase.new } ≡ followed (relieved self.old w)) }
+        ensures some { 0 < result }
+        ensures few { result ≤ most }
+    {
+        let Phase::Freeing(freeing) = phase else {
+            unreachable!()
+        };
+        self.counts.rules();
+        let made = freeing.run::<B, S, C>(&mut self.counts, board, seat, most);
+        if freeing.next().is_none() {
+            self.end_freeing(phase);
+        }
+        made
     }
 
     // After a release the next set is tested.

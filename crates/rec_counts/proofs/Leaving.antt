@@ -2,8 +2,11 @@
 use Rattle.std.proofs.Common.{◌≡◌, ℕ, ◌+◌, ◌-◌, ◌<◌, ◌≤◌, Bool, true, false, ltb, Option, Some, None, List, ◌++◌, length, map, get_or, refl, arith, sym, ◌∙◌, ap}
 use Rattle.std.proofs.lemmas.List.{length-map, get_or-map, ext_get_or, length-append}
 use Rattle.std.proofs.lemmas.Bool.{ltb-true, ltb-false}
+use Rattle.rec_counts.specs.Colour.{whitened}
+use Rattle.rec_counts.specs.declared.colour.Colour.{Colour}
+use Rattle.rec_counts.specs.declared.colour.Colour.TheVariants.{Black, Purple, Gray, White, Orange, Green}
 use Rattle.rec_counts.specs.declared.slot.Slot.{Slot}
-use Rattle.rec_counts.specs.Slot.{absent, dead_if, renewed_if, is_in, unbuffered, unrooted, unrooted_if, unbuffered_if, out_of_set}
+use Rattle.rec_counts.specs.Slot.{absent, dead_if, renewed_if, white_if, is_in, unbuffered, unrooted, unrooted_if, unbuffered_if, out_of_set}
 use Rattle.rec_counts.specs.Lists.{times}
 use Rattle.rec_counts.specs.Groups.{last_set}
 use Rattle.rec_counts.specs.Kept.{Kept}
@@ -21,6 +24,18 @@ renewed_twice false v = refl
 pub dead_twice : (b : Bool) (v : Slot) → dead_if true (dead_if b v) ≡ dead_if true v
 dead_twice true v = refl
 dead_twice false v = refl
+
+pub white_twice : (b : Bool) (v : Slot) → white_if true (white_if b v) ≡ white_if true v
+white_twice true v = ap (λ (to : Colour). record v { colour = to }) (go v.colour)
+  where
+    go : (c : Colour) → whitened (whitened c) ≡ whitened c
+    go Black = refl
+    go Purple = refl
+    go Gray = refl
+    go White = refl
+    go Orange = refl
+    go Green = refl
+white_twice false v = refl
 
 -- lists with the same changes are one list
 pub all_of : (f : Slot → Slot) (slots slots' : List Slot) → length slots' ≡ length slots → ((x : ℕ) → get_or slots' x absent ≡ f (get_or slots x absent)) → slots' ≡ map f slots

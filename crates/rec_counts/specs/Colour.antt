@@ -55,3 +55,12 @@ is_green Green = true
 abbrev pub in_use : Colour → Colour
 in_use Green = Green
 in_use _ = Black
+
+-- Gray becomes White, and any other colour stays
+abbrev pub whitened : Colour → Colour
+whitened Gray = White
+whitened Black = Black
+whitened Purple = Purple
+whitened White = White
+whitened Orange = Orange
+whitened Green = Green

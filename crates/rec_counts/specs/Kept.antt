@@ -18,12 +18,12 @@ pub record Kept (slots : List Slot) (roots : List ℕ) (sets : List (List ℕ)) 
   pub free_once : EachOnce (length slots) free
   pub few_slots : length slots < 2 ^ 16
 
--- the room of each list: a queue has room for every slot twice, the cycle buffer for every slot once; and no slot is touched between
--- two batches
+-- the room of each list: a queue has room for every slot twice, the marked list and the cycle buffer for every slot once; and no slot is
+-- touched between two batches
 pub record HasRoom (slots roots sets marked work zeros free : ℕ) (touched : Touching) : Type 0 where
   pub roots_room : roots ≡ slots + slots
   pub sets_room : sets ≡ slots
-  pub marked_room : marked ≡ slots + slots
+  pub marked_room : marked ≡ slots
   pub work_room : work ≡ slots + slots
   pub zeros_room : zeros ≡ slots + slots
   pub free_room : free ≡ slots + slots

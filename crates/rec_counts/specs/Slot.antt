@@ -1,6 +1,6 @@
 -- What is kept of one slot, and how the calls change it.
 use Rattle.std.specs.Prelude.{ℕ, ◌+◌, ◌-◌, ◌==◌, ◌||◌, Bool, true, false, Option, Some, None}
-use Rattle.rec_counts.specs.Colour.{in_use, is_green}
+use Rattle.rec_counts.specs.Colour.{in_use, is_green, whitened}
 use Rattle.rec_counts.specs.declared.slot.Slot.{Slot}
 use Rattle.rec_counts.specs.declared.slot.Due.{Due}
 use Rattle.rec_counts.specs.declared.slot.Due.TheVariants.{Nothing, Zero, Root}
@@ -103,3 +103,8 @@ renewed_if false v = v
 abbrev pub dead_if : Bool → Slot → Slot
 dead_if true v = record v { released = true; colour = Black }
 dead_if false v = v
+
+-- White where it was Gray
+abbrev pub white_if : Bool → Slot → Slot
+white_if true v = record v { colour = whitened v.colour }
+white_if false v = v

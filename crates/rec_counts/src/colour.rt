@@ -1,6 +1,6 @@
 //! The six colours.
 ghost use Rattle.std.specs.Prelude.{◌≡◌};
-ghost use Rattle.rec_counts.specs.Colour.{in_use, is_green};
+ghost use Rattle.rec_counts.specs.Colour.{in_use, is_green, whitened};
 
 /// The colour of a slot, which says what the collector knows of it.
 #[derive(Clone, Copy, PartialEq, Eq, Debug, Drop)]
@@ -28,6 +28,17 @@ impl Colour {
         match self {
             Colour::Green => Colour::Green,
             _ => Colour::Black,
+        }
+    }
+
+    /// White where this is Gray; any other colour stays.
+    #[inline(always)]
+    pub fn whitened(self) -> Colour
+        ensures { result ≡ whitened self }
+    {
+        match self {
+            Colour::Gray => Colour::White,
+            _ => self,
         }
     }
 

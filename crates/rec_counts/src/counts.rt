@@ -6,15 +6,16 @@ ghost use Rattle.rec_counts.specs.Groups.{last_set};
 ghost use Rattle.rec_counts.specs.Kept.{Kept};
 ghost use Rattle.rec_counts.specs.Lists.{EachOnce, times};
 ghost use Rattle.rec_counts.specs.Shelf.{empty};
-ghost use Rattle.rec_counts.specs.Slot.{absent, dead_if, lowered, raised, renewed_if, swept_clean, unbuffered_if, unrooted};
+ghost use Rattle.rec_counts.specs.Slot.{absent, dead_if, lowered, raised, renewed_if, swept_clean, unbuffered_if, unrooted, white_if};
 
 use crate::changes::{Changes, make_changes};
 use crate::colour::Colour;
 use crate::cycle_buffer::CycleBuffer;
 use crate::queue::Queue;
+use crate::row::Row;
 use crate::slot::{Due, Slot};
 use crate::touched::Touched;
-use crate::unbuffer::{give_up, renew, unbuffer};
+use crate::unbuffer::{give_up, renew, unbuffer, whiten};
 use std::alloc::{AllocError as NoMemory, Global};
 use std::marker::Model;
 
@@ -25,7 +26,7 @@ pub struct Counts {
     slots: Vec<Slot>,
     roots: Queue,
     sets: CycleBuffer,
-    marked: Queue,
+    marked: Row,
     work: Queue,
     zeros: Queue,
     free: Queue,
@@ -83,23 +84,23 @@ fn counted_slots(alloc: Global, number: u16, counts: &[u64]) -> Result<Vec<Slot>
     Ok(slots)
 }
 
-/// The lists of slots that are no sets, as they are opened: empty, each with the same room.
+/// The lists of slots that are no sets, as they are opened: empty. Those that are worked off have the same room.
 #[derive(Drop)]
 struct Queues {
     roots: Queue,
-    marked: Queue,
+    marked: Row,
     work: Queue,
     zeros: Queue,
     free: Queue,
 }
 
 impl Queues {
-    fn open(alloc: Global, room: usize) -> Result<Queues, NoMemory>
-        ensures { IfOk result (λ queues. queues ≡ record { roots = empty room; marked = empty room; work = empty room; zeros = empty room; free = empty room }) }
+    fn open(alloc: Global, room: usize, marks: usize) -> Result<Queues, NoMemory>
+        ensures { IfOk result (λ queues. queues ≡ record { roots = empty room; marked = empty marks; work = empty room; zeros = empty room; free = empty room }) }
     {
         Ok(Queues {
             roots: Queue::open(alloc, room)?,
-            marked: Queue::open(alloc, room)?,
+            marked: Row::open(alloc, marks)?,
             work: Queue::open(alloc, room)?,
             zeros: Queue::open(alloc, room)?,
             free: Queue::open(alloc, room)?,
@@ -116,7 +117,7 @@ impl Counts {
     {
         let sets = CycleBuffer::open(alloc, number)?;
         let touched = Touched::open(alloc, number)?;
-        let queues = Queues::open(alloc, usize::from(number) * 2)?;
+        let queues = Queues::open(alloc, usize::from(number) * 2, usize::from(number))?;
         Ok(Counts {
             slots,
             roots: queues.roots,
@@ -414,14 +415,6 @@ impl Counts {
         Some(slot)
     }
 
-    /// Takes the first slot out of the marked list, or answers None where that is empty.
-    pub fn pop_marked(&mut self) -> Option<u16>
-        ensures first { result ≡ slice_get self.old.marked 0 }
-        ensures rest { self.new ≡ record self.old { marked = drop 1 self.old.marked } }
-    {
-        self.marked.pop()
-    }
-
     /// Takes the first slot out of the work list, or answers None where that is empty.
     pub fn pop_work(&mut self) -> Option<u16>
         ensures first { result ≡ slice_get self.old.work 0 }
@@ -458,7 +451,7 @@ impl Counts {
     pub fn clear_marked(&mut self)
         ensures { self.new ≡ record self.old { marked = [] } }
     {
-        self.marked.clear();
+        self.marked.truncate(0);
     }
 
     /// Empties the work list.
@@ -499,6 +492,15 @@ impl Counts {
         ensures slots { (x : ℕ) → slot_at self.new x ≡ renewed_if (nat_lt 0 (times x (item_at self.old.sets i []))) (slot_at self.old x) }
     {
         renew(&mut self.slots, self.sets.set(i as usize));
+    }
+
+    /// Makes each slot of the marked list White that is Gray.
+    pub fn whiten_marked(&mut self)
+        ensures rest { self.new ≡ record self.old { slots = self.new.slots } }
+        ensures many { length self.new.slots ≡ length self.old.slots }
+        ensures slots { (x : ℕ) → slot_at self.new x ≡ white_if (nat_lt 0 (times x self.old.marked)) (slot_at self.old x) }
+    {
+        whiten(&mut self.slots, self.marked.as_slice());
     }
 
     /// Says that each slot of the work list is released, and makes it Black.

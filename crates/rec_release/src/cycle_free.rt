@@ -1,14 +1,17 @@
-ghost use Rattle.std.specs.Prelude.{◌≡◌, ◌+◌, ◌<◌, ◌↔◌, ◌++◌, ℕ, List, [], None, length, true, IfSome, IsNone, IsSome};
+ghost use Rattle.std.specs.Prelude.{◌≡◌, ◌+◌, ◌<◌, ◌↔◌, ◌++◌, ℕ, List, [], None, length, true, IfSome, IsNone, IsSome, IsTrue, ◌≤◌, Some};
 ghost use Rattle.rec_word.specs.Word.{target_of};
+ghost use Rattle.rec_word.specs.declared.op.Op.TheVariants.{ClearField};
 ghost use Rattle.rec_counts.specs.Counts.{State, slot_at};
 ghost use Rattle.rec_counts.specs.Groups.{earlier_sets, last_set};
 ghost use Rattle.rec_counts.specs.Lists.{times};
 ghost use Rattle.rec_walk.specs.Load.{Load, loaded_at};
 ghost use Rattle.rec_walk.specs.Walk.{IsOf, first_member};
-ghost use Rattle.rec_release.specs.CycleFree.{IsAtWork, IsFreeable, given_up, gone_on, listed, next_of, started_of, took_of};
+ghost use Rattle.rec_release.specs.CycleFree.{IsAtWork, IsFreeable, Work, given_up, gone_on, listed, next_of, started_of, took_of};
 ghost use Rattle.rec_release.specs.Freed.{FreedTo};
+ghost use Rattle.rec_release.specs.Ran.{RanFreeing};
 ghost use Rattle.rec_release.specs.TakenOff.{AllZerosButOrange, IsApart, KeepsOrange};
 
+use crate::clears::Clears;
 use crate::take_off::take_off;
 use rec_counts::Counts;
 use rec_walk::Member;
@@ -108,6 +111,83 @@ impl CycleFree {
     {
         take_off(counts, target(word), true);
         go_on(counts, &mut self.at, self.fields);
+    }
+
+    /// Clears fields and learns what came out, at least one and at most so many, as long as something comes next. It answers how many.
+    /// Where it stands is kept in locals meanwhile: the compiler loads nothing of it again behind an exchange that others may see.
+    #[inline(always)]
+    pub fn run<B, S, C: Clears<B, S>>(
+        &mut self,
+        counts: &mut Counts,
+        board: &B,
+        seat: &mut S,
+        most: u32,
+    ) -> u32
+        requires busy { IsSome (next_of self.old) }
+        requires kept { IsAtWork self.old counts.old }
+        requires some { 0 < most }
+        requires stands { C.StandsAt board.now seat.old 0 (record { machine = self.old; counts = counts.old }) }
+
+        ensures ran { RanFreeing (record { machine = self.old; counts = counts.old }) result (record { machine = self.new; counts = counts.new }) }
+        ensures kept { IsAtWork self.new counts.new }
+        ensures some { 0 < result }
+        ensures few { result ≤ most }
+        ensures stands { C.StandsAt board.now seat.new result (record { machine = self.new; counts = counts.new }) }
+    {
+        let mut freeing = CycleFree {
+            fields: self.fields,
+            at: self.at,
+        };
+        let made = freeing.run_on::<B, S, C>(counts, board, seat, most);
+        *self = freeing;
+        made
+    }
+
+    // The loop of `run`.
+    #[inline(always)]
+    fn run_on<B, S, C: Clears<B, S>>(
+        &mut self,
+        counts: &mut Counts,
+        board: &B,
+        seat: &mut S,
+        most: u32,
+    ) -> u32
+        requires busy { IsSome (next_of self.old) }
+        requires kept { IsAtWork self.old counts.old }
+        requires some { 0 < most }
+        requires stands { C.StandsAt board.now seat.old 0 (record { machine = self.old; counts = counts.old }) }
+
+        ensures ran { RanFreeing (record { machine = self.old; counts = counts.old }) result (record { machine = self.new; counts = counts.new }) }
+        ensures kept { IsAtWork self.new counts.new }
+        ensures some { 0 < result }
+        ensures few { result ≤ most }
+        ensures stands { C.StandsAt board.now seat.new result (record { machine = self.new; counts = counts.new }) }
+    {
+        for made in 0..most {
+            let word = C::clear(board, seat, self.place());
+            self.took(counts, word);
+            if !self.is_busy() {
+                return made + 1;
+            }
+        }
+        most
+    }
+
+    // The place of the field that is exchanged next.
+    #[inline(always)]
+    fn place(&self) -> u32
+        requires { IsSome (next_of self.now) }
+        ensures { next_of self.now ≡ Some (ClearField result) }
+    {
+        let Some(at) = self.at else { unreachable!() };
+        place(at.slot, at.field, self.fields)
+    }
+
+    #[inline(always)]
+    fn is_busy(&self) -> bool
+        ensures { IsTrue result ↔ IsSome (next_of self.now) }
+    {
+        self.next().is_some()
     }
 }
 

@@ -22,14 +22,18 @@
 #![tactic(auto)]
 
 mod at;
+mod clears;
 mod cycle_free;
+mod frees;
 mod laws;
 mod release;
 mod sweep;
 mod take_off;
 
 pub use at::At;
+pub use clears::Clears;
 pub use cycle_free::CycleFree;
+pub use frees::Frees;
 pub use laws::{cycle_is_whole, release_is_whole, sweep_is_whole};
 pub use release::Release;
 pub use sweep::Sweep;

@@ -1,6 +1,9 @@
-ghost use Rattle.std.specs.Prelude.{◌≡◌, ◌<◌, ◌↔◌, None, length, IsNone, IsSome};
-ghost use Rattle.rec_release.specs.Sweep.{AreUnbuffered, IsAtWork, next_of, started_of, took_of};
+ghost use Rattle.std.specs.Prelude.{◌≡◌, ◌<◌, ◌≤◌, ◌↔◌, None, Some, length, IsNone, IsSome, IsTrue};
+ghost use Rattle.rec_word.specs.declared.op.Op.TheVariants.{FreeHeader};
+ghost use Rattle.rec_release.specs.Sweep.{AreUnbuffered, IsAtWork, Work, next_of, started_of, took_of};
+ghost use Rattle.rec_release.specs.Ran.{RanSweep};
 
+use crate::frees::Frees;
 use rec_counts::Counts;
 use rec_word::Op;
 use std::marker::Model;
@@ -53,6 +56,7 @@ impl Sweep {
     }
 
     /// Learns that the header is freed: the slot leaves the free list with one reference, Black and not released.
+    #[inline(always)]
     #[tactic(auto, unfolding(crate::specs::Sweep::took_of, crate::specs::Sweep::next_of))]
     pub fn took(&mut self, counts: &mut Counts, _word: u64)
         requires busy { IsSome (next_of self.old) }
@@ -67,5 +71,76 @@ impl Sweep {
             counts.swept(slot);
         }
         self.due = counts.free_list().first().copied();
+    }
+
+    /// Frees headers and learns that, at least one and at most so many, as long as something comes next. It answers how many.
+    #[inline(always)]
+    pub fn run<B, S, F: Frees<B, S>>(
+        &mut self,
+        counts: &mut Counts,
+        board: &B,
+        seat: &mut S,
+        most: u32,
+    ) -> u32
+        requires busy { IsSome (next_of self.old) }
+        requires kept { IsAtWork self.old counts.old }
+        requires some { 0 < most }
+        requires stands { F.StandsAt board.now seat.old 0 (record { due = self.old; counts = counts.old }) }
+
+        ensures ran { RanSweep (record { due = self.old; counts = counts.old }) result (record { due = self.new; counts = counts.new }) }
+        ensures some { 0 < result }
+        ensures few { result ≤ most }
+        ensures stands { F.StandsAt board.now seat.new result (record { due = self.new; counts = counts.new }) }
+    {
+        let mut sweep = Sweep { due: self.due };
+        let made = sweep.run_on::<B, S, F>(counts, board, seat, most);
+        *self = sweep;
+        made
+    }
+
+    // The loop of `run`.
+    #[inline(always)]
+    fn run_on<B, S, F: Frees<B, S>>(
+        &mut self,
+        counts: &mut Counts,
+        board: &B,
+        seat: &mut S,
+        most: u32,
+    ) -> u32
+        requires busy { IsSome (next_of self.old) }
+        requires kept { IsAtWork self.old counts.old }
+        requires some { 0 < most }
+        requires stands { F.StandsAt board.now seat.old 0 (record { due = self.old; counts = counts.old }) }
+
+        ensures ran { RanSweep (record { due = self.old; counts = counts.old }) result (record { due = self.new; counts = counts.new }) }
+        ensures some { 0 < result }
+        ensures few { result ≤ most }
+        ensures stands { F.StandsAt board.now seat.new result (record { due = self.new; counts = counts.new }) }
+    {
+        for made in 0..most {
+            let word = F::free(board, seat, self.slot());
+            self.took(counts, word);
+            if !self.is_busy() {
+                return made + 1;
+            }
+        }
+        most
+    }
+
+    // The slot whose header is freed next.
+    #[inline(always)]
+    fn slot(&self) -> u16
+        requires { IsSome (next_of self.now) }
+        ensures { next_of self.now ≡ Some (FreeHeader result) }
+    {
+        let Some(slot) = self.due else { unreachable!() };
+        slot
+    }
+
+    #[inline(always)]
+    fn is_busy(&self) -> bool
+        ensures { IsTrue result ↔ IsSome (next_of self.now) }
+    {
+        self.next().is_some()
     }
 }

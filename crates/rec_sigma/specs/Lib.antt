@@ -2,5 +2,6 @@
 pub mod Judged
 pub mod Prepare
 pub mod Prepared
+pub mod Ran
 pub mod Refurbish
 pub mod Settling

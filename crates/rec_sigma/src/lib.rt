@@ -20,6 +20,7 @@ mod at;
 mod fate;
 mod judge;
 mod laws;
+mod loads;
 mod prepare;
 mod renewal;
 
@@ -30,5 +31,6 @@ pub use laws::{
     preparation_is_bounded, preparation_is_whole, preparation_names_places,
     sigma_sums_outside_counts,
 };
+pub use loads::Loads;
 pub use prepare::Prep;
 pub use renewal::refurbish;

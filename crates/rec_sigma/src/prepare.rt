@@ -1,12 +1,15 @@
-ghost use Rattle.std.specs.Prelude.{◌≡◌, ◌+◌, ◌<◌, ◌≤◌, ◌↔◌, ◌++◌, ℕ, List, [], None, length, drop, IfSome, IsNone, IsSome, true};
+ghost use Rattle.std.specs.Prelude.{◌≡◌, ◌+◌, ◌<◌, ◌≤◌, ◌↔◌, ◌++◌, ℕ, List, [], None, length, drop, IfSome, IsNone, IsSome, IsTrue, Some, true};
 ghost use Rattle.rec_word.specs.Word.{target_of};
+ghost use Rattle.rec_word.specs.declared.op.Op.TheVariants.{LoadChild};
 ghost use Rattle.rec_counts.specs.Counts.{State};
 ghost use Rattle.rec_walk.specs.Load.{Load};
 ghost use Rattle.rec_sigma.specs.declared.at.At.{At};
-ghost use Rattle.rec_sigma.specs.Prepare.{IsAtWork, IsHeld, first_of, gone_on, next_of, next_set, renewed, started_of, taken_off, took_of};
+ghost use Rattle.rec_sigma.specs.Prepare.{IsAtWork, IsHeld, Work, first_of, gone_on, next_of, next_set, renewed, started_of, taken_off, took_of};
 ghost use Rattle.rec_sigma.specs.Prepared.{KeepsOthers, PreparedTo, loaded_at};
+ghost use Rattle.rec_sigma.specs.Ran.{Ran};
 
 use crate::at::At;
+use crate::loads::Loads;
 use rec_counts::Counts;
 use rec_walk::Member;
 use rec_word::{Op, place, target};
@@ -88,6 +91,81 @@ impl Prep {
         };
         take_off(counts, at.set, target(word));
         go_on(counts, &mut self.at, self.fields);
+    }
+
+    /// Loads words and learns them, at least one and at most so many, as long as something comes next. It answers how many. Where it
+    /// stands is kept in locals meanwhile: the compiler loads nothing of it again behind a load that others may see.
+    #[inline(always)]
+    pub fn run<B, S, L: Loads<B, S>>(
+        &mut self,
+        counts: &mut Counts,
+        board: &B,
+        seat: &mut S,
+        most: u32,
+    ) -> u32
+        requires busy { IsSome (next_of self.old) }
+        requires kept { IsAtWork self.old counts.old }
+        requires some { 0 < most }
+        requires stands { L.StandsAt board.now seat.old 0 (record { machine = self.old; counts = counts.old }) }
+
+        ensures ran { Ran (record { machine = self.old; counts = counts.old }) result (record { machine = self.new; counts = counts.new }) }
+        ensures some { 0 < result }
+        ensures few { result ≤ most }
+        ensures stands { L.StandsAt board.now seat.new result (record { machine = self.new; counts = counts.new }) }
+    {
+        let mut prep = Prep {
+            fields: self.fields,
+            at: self.at,
+        };
+        let made = prep.run_on::<B, S, L>(counts, board, seat, most);
+        *self = prep;
+        made
+    }
+
+    // The loop of `run`.
+    #[inline(always)]
+    fn run_on<B, S, L: Loads<B, S>>(
+        &mut self,
+        counts: &mut Counts,
+        board: &B,
+        seat: &mut S,
+        most: u32,
+    ) -> u32
+        requires busy { IsSome (next_of self.old) }
+        requires kept { IsAtWork self.old counts.old }
+        requires some { 0 < most }
+        requires stands { L.StandsAt board.now seat.old 0 (record { machine = self.old; counts = counts.old }) }
+
+        ensures ran { Ran (record { machine = self.old; counts = counts.old }) result (record { machine = self.new; counts = counts.new }) }
+        ensures some { 0 < result }
+        ensures few { result ≤ most }
+        ensures stands { L.StandsAt board.now seat.new result (record { machine = self.new; counts = counts.new }) }
+    {
+        for made in 0..most {
+            let word = L::load(board, seat, self.place());
+            self.took(counts, word);
+            if !self.is_busy() {
+                return made + 1;
+            }
+        }
+        most
+    }
+
+    // The place of the field that is loaded next.
+    #[inline(always)]
+    fn place(&self) -> u32
+        requires { IsSome (next_of self.now) }
+        ensures { next_of self.now ≡ Some (LoadChild result) }
+    {
+        let Some(at) = self.at else { unreachable!() };
+        place(at.member.slot, at.member.field, self.fields)
+    }
+
+    #[inline(always)]
+    fn is_busy(&self) -> bool
+        ensures { IsTrue result ↔ IsSome (next_of self.now) }
+    {
+        self.next().is_some()
     }
 }
 

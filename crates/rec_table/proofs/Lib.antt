@@ -27,7 +27,7 @@ pub mod Stopped
 pub mod Straight
 pub mod Stopping
 pub mod Turn
-pub mod TrialRuns
+pub mod TurnRuns
 pub mod Turns
 pub mod Within
 pub mod Freeing

@@ -11,7 +11,7 @@ pub mod Answered
 pub mod Scan
 pub mod Operations
 pub mod Turn
-pub mod TrialRuns
+pub mod TurnRuns
 pub mod Telling
 pub mod Named
 pub mod Straight

@@ -2,7 +2,7 @@
 ghost use Rattle.std.specs.Prelude.{◌≡◌, ◌+◌, ◌%◌, ◌^◌, ◌<◌, ◌≤◌, ◌↔◌, IsTrue, [], ◌∷◌, ◌++◌, false, length, None, Some, Option, IfNone, IfSome, IsSome};
 ghost use Rattle.rec_collector.specs.Given.{IsGiven};
 ghost use Rattle.rec_collector.specs.Kept.{KeepsSizes};
-ghost use Rattle.rec_collector.specs.Kind.{kind_of};
+ghost use Rattle.rec_collector.specs.Kind.{HasLoop, kind_of};
 ghost use Rattle.rec_collector.specs.Next.{next_of as turn_next};
 ghost use Rattle.rec_collector.specs.Step.{IsBetween as IsBetweenTurns};
 ghost use Rattle.rec_collector.specs.Took.{turn_of};
@@ -30,8 +30,8 @@ use crate::board::Board;
 use crate::heap::Heap;
 use crate::operating::{compare_exchange, fetch_add, join_seat, load, split_seat, swap};
 use crate::rule::{Glanced, Looked, Returned, Turned, Turning};
+use crate::runs::run_turns;
 use crate::telling::Telling;
-use crate::trying::run_trial;
 use crate::views::View;
 use atomic_table::Seat;
 use rec_collector::{Kind, Machine, Sets, Turn};
@@ -345,43 +345,46 @@ impl Collector {
     {
         match self.kind() {
             Kind::Releasing => self.run_as(heap, Kind::Releasing, from, most),
-            Kind::Freeing => self.run_as(heap, Kind::Freeing, from, most),
-            Kind::Trying => self.run_trying(heap, from, most),
-            Kind::Preparing => self.run_as(heap, Kind::Preparing, from, most),
-            Kind::Sweeping => self.run_as(heap, Kind::Sweeping, from, most),
+            Kind::Freeing => self.run_loop(heap, Kind::Freeing, from, most),
+            Kind::Trying => self.run_loop(heap, Kind::Trying, from, most),
+            Kind::Preparing => self.run_loop(heap, Kind::Preparing, from, most),
+            Kind::Sweeping => self.run_loop(heap, Kind::Sweeping, from, most),
             Kind::Other => self.run_as(heap, Kind::Other, from, most),
         }
     }
 
-    // The same for turns of a trial, which the machine makes in a loop of its own.
+    // The same for turns of a kind that the machine makes in a loop of its own.
     #[inline(always)]
-    fn run_trying(&mut self, heap: &Heap, from: u32, most: u32) -> (u32, Turn)
+    fn run_loop(&mut self, heap: &Heap, kind: Kind, from: u32, most: u32) -> (u32, Turn)
         requires own { IsCollectorOf heap.now self.old }
         requires fewer { from < most }
-        requires kind { Kind.Trying ≡ kind_of (collector_now self.old).phase }
+        requires kind { kind ≡ kind_of (collector_now self.old).phase }
+        requires looped { HasLoop kind }
 
         ensures made { (first : CollectorView) → MovesTo first from self.old → MakesSome first self.new result.0 most result.1 }
         ensures further { result.1 ≡ Turn.Moved → from < result.0 }
         ensures own { IsCollectorOf heap.now self.new }
     {
-        self.run_trying_on(heap.board(), from, most)
+        self.run_loop_on(heap.board(), kind, from, most)
     }
 
     #[inline(always)]
-    fn run_trying_on(&mut self, board: &Board, from: u32, most: u32) -> (u32, Turn)
+    fn run_loop_on(&mut self, board: &Board, kind: Kind, from: u32, most: u32) -> (u32, Turn)
         requires own { IsOwn board.now.table.shared.table_id board.now.table.shared.key.value self.old }
         requires world { IsWorld board.now.table.shared.key.value }
         requires fewer { from < most }
-        requires kind { Kind.Trying ≡ kind_of (collector_now self.old).phase }
+        requires kind { kind ≡ kind_of (collector_now self.old).phase }
+        requires looped { HasLoop kind }
 
         ensures made { (first : CollectorView) → MovesTo first from self.old → MakesSome first self.new result.0 most result.1 }
         ensures further { result.1 ≡ Turn.Moved → from < result.0 }
         ensures same { self.new ≡ record self.old { collecting = record self.old.collecting { log = self.new.collecting.log } } }
     {
-        let (made, turn) = run_trial::<Brand>(
+        let (made, turn) = run_turns::<Brand>(
             board,
             &mut self.seat,
             &mut self.machine,
+            kind,
             most - from,
         );
         match turn {

@@ -23,12 +23,12 @@ mod laws;
 mod mutator;
 mod operating;
 mod rule;
+mod runs;
 mod scan;
 mod seating;
 mod spare;
 mod start;
 mod telling;
-mod trying;
 mod views;
 
 pub use collector::Collector;

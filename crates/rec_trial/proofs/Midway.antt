@@ -3,6 +3,7 @@ use Rattle.std.proofs.Common.{◌≡◌, ℕ, ◌+◌, ◌<◌, Bool, true, fals
 use Rattle.std.specs.List.{concat}
 use Rattle.std.proofs.lemmas.Bool.Decides.{nat_tests}
 use Rattle.rec_trial.proofs.Common.{State, IsKept, slot_at, one, is_gray, roots_once, Phase, Idle, Marking, Scanning, Collecting, IsAtWork, GoesOn, begins, learns, run_of, IsReady, RulesAt, released_among, Machine, Work, is_due, moved_at, settled}
+use Rattle.rec_trial.specs.Loaded.{HasMoved}
 use Rattle.rec_counts.specs.Lists as in_counts
 use Rattle.rec_counts.proofs.Times.{times-nil, times-cons, times-append, one-le}
 use Rattle.rec_trial.proofs.Course.{Course, learnt_course, first_view, moved_course, released_same}
@@ -95,3 +96,12 @@ moved_on first now o d = record { midway = moved_midway now o.midway d; same = s
 
 pub arrived : (first now : Work) → OnTheWay first now → is_due now ≡ true → now ≡ settled first
 arrived first now o d = sym (settled_at_once now d) ∙ o.same
+
+-- so after each of them
+pub on_the_way : (first : Work) → GoesOn first.machine first.counts → (n : ℕ) (now : Work) → HasMoved first n now → OnTheWay first now
+on_the_way first g n now HasMoved.none = record { midway = going_midway g; same = refl }
+on_the_way first g n now (HasMoved.more i w h d) = moved_on first w (on_the_way first g i w h) d
+
+-- one move more, in a phase that is known
+pub moves_more : (first w v : Work) (n : ℕ) (phase : Phase) → HasMoved first n w → w.machine.phase ≡ phase → is_due w ≡ false → v ≡ moved_at phase w → HasMoved first (n + 1) v
+moves_more first w v n phase h at d is = subst (λ (u : Work). HasMoved first (n + 1) u) (ap (λ (p : Phase). moved_at p w) at ∙ sym is) (HasMoved.more n w h d)

@@ -1,5 +1,5 @@
 -- Runs of a trial.
-use Rattle.std.proofs.Common.{◌≡◌, ◌≢◌, ℕ, ◌+◌, IsSome, Option, None, Some, refl, sym, ap, subst, ◌∙◌}
+use Rattle.std.proofs.Common.{◌≡◌, ℕ, ◌+◌, IsSome, Option, Some, refl, sym, subst}
 use Rattle.std.proofs.lemmas.Bool.{false≢true}
 use Rattle.rec_word.specs.Place.{place_of}
 use Rattle.rec_word.specs.declared.op.Op.{Op}
@@ -7,7 +7,7 @@ use Rattle.rec_word.specs.declared.op.Op.TheVariants.{LoadChild}
 use Rattle.rec_trial.specs.Loaded.{Ran}
 use Rattle.rec_trial.specs.Rules.{LeadsToUnreleased}
 use Rattle.rec_trial.specs.Trial.{op_at}
-use Rattle.rec_trial.proofs.Common.{Machine, State, Work, Phase, Idle, Marking, Scanning, Collecting, next_of, took_of, visible}
+use Rattle.rec_trial.proofs.Common.{Machine, Work, Phase, Idle, Marking, Scanning, Collecting, next_of, took_of, visible}
 
 -- what comes next is the load of the due field
 pub due_op : (m : Machine) → IsSome (next_of m) → ◌≡◌ {A = Option Op} (next_of m) (Some (LoadChild (place_of m.slot m.field m.fields)))

@@ -1,12 +1,12 @@
 -- A trial with what it loaded: the record that proofs keep of it.
-use Rattle.std.specs.Prelude.{◌≡◌, ℕ, ◌+◌, ◌<◌, List, [], ◌∷◌, fold, IsSome}
+use Rattle.std.specs.Prelude.{◌≡◌, ℕ, ◌+◌, ◌<◌, false, List, [], ◌∷◌, fold, IsSome}
 use Rattle.rec_word.specs.Word.{target_of}
 use Rattle.rec_counts.specs.Counts.{State, IsKept}
 use Rattle.rec_walk.specs.Load.{Load}
 use Rattle.rec_trial.specs.declared.phase.Phase.{Phase}
 use Rattle.rec_trial.specs.declared.phase.Phase.TheVariants.{Idle, Marking, Scanning, Collecting}
 use Rattle.rec_trial.specs.Rules.{IsReady, LeadsToUnreleased, LeadsToVisible, AllLeadToVisible, visible}
-use Rattle.rec_trial.specs.Trial.{Machine, Work, next_of, took_of, started_of, opened_of, advanced, learnt_at}
+use Rattle.rec_trial.specs.Trial.{Machine, Work, next_of, took_of, started_of, opened_of, advanced, learnt_at, is_due, moved_at}
 
 -- a trial, with what marking loaded, what blackening loaded and what collecting loaded, the last load first
 pub record Run : Type 0 where
@@ -56,3 +56,8 @@ pub data GoesOn : Machine → State → Type 0 where
 pub data Ran (first : Work) : ℕ → Work → Type 0 where
   none : Ran first 0 first
   more : (n : ℕ) (w : Work) (word : ℕ) → Ran first n w → IsSome (next_of w.machine) → LeadsToUnreleased w.counts word → Ran first (n + 1) (took_of w (visible w.counts word))
+
+-- From the first work a trial made so many moves, each where no load was due, and came to this one.
+pub data HasMoved (first : Work) : ℕ → Work → Type 0 where
+  none : HasMoved first 0 first
+  more : (n : ℕ) (w : Work) → HasMoved first n w → is_due w ≡ false → HasMoved first (n + 1) (moved_at w.machine.phase w)

@@ -52,12 +52,5 @@ pub(crate) fn whiten(counts: &mut Counts)
     requires rules { CanScan counts.old }
     ensures { counts.new ≡ all_whitened counts.old }
 {
-    counts.rules();
-    for index in 0..counts.marked().len() {
-        let slot = counts.marked()[index];
-        match counts.colour(slot) {
-            Colour::Gray => counts.set_colour(slot, Colour::White),
-            _ => {}
-        }
-    }
+    counts.whiten_marked();
 }

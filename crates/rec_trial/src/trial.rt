@@ -3,7 +3,7 @@ ghost use Rattle.rec_word.specs.Word.{target_of};
 ghost use Rattle.rec_counts.specs.Colour.{is_white as is_white_colour};
 ghost use Rattle.rec_counts.specs.Counts.{IsKept, State, slot_at};
 ghost use Rattle.rec_trial.specs.Moves.{has_rest};
-ghost use Rattle.rec_trial.specs.Loaded.{GoesOn, IsAtWork, Ran, Run, noted};
+ghost use Rattle.rec_trial.specs.Loaded.{GoesOn, HasMoved, IsAtWork, Ran, Run, noted};
 ghost use Rattle.rec_trial.specs.Promised.{IsTrial, unloaded};
 ghost use Rattle.rec_trial.specs.declared.phase.Phase.TheVariants.{Collecting, Scanning};
 ghost use Rattle.rec_trial.specs.Rules.{CanCollect, CanMark, CanScan, IsReady, LeadsToUnreleased, RulesAt, visible};
@@ -318,6 +318,16 @@ impl Trial {
             self.point(phase, counts);
             return;
         }
+        self.go_far(counts);
+        self.point(self.phase, counts);
+    }
+
+    // The same moves as `go_on`, out of the way of a loop that seldom makes any: what `gone_on` answers has its place in memory here.
+    #[inline(always)]
+    fn go_far(&mut self, counts: &mut Counts)
+        requires { GoesOn self.old counts.old }
+        ensures { record { machine = self.new; counts = counts.new } ≡ settled (record { machine = self.old; counts = counts.old }) }
+    {
         *self = gone_on(
             self.fields,
             self.phase,
@@ -327,7 +337,6 @@ impl Trial {
             self.field,
             counts,
         );
-        self.point(self.phase, counts);
     }
 
     // The moves up to the next load, or to the end. Those that look at a marked slot and leave it are made together.
@@ -335,10 +344,22 @@ impl Trial {
         requires { GoesOn self.old counts.old }
         ensures { record { machine = self.new; counts = counts.new } ≡ settled (record { machine = self.old; counts = counts.old }) }
     {
+        self.take_roots(counts);
         while !self.is_due(counts) {
             counts.rules();
             self.pass(counts);
             self.move_on(counts);
+        }
+    }
+
+    // Takes roots up to one that is to be marked, or up to scanning where there is none. The loop knows its phase.
+    fn take_roots(&mut self, counts: &mut Counts)
+        requires { GoesOn self.old counts.old }
+        ensures { (n : ℕ) × HasMoved (record { machine = self.old; counts = counts.old }) n (record { machine = self.new; counts = counts.new }) }
+    {
+        while self.is_in(Phase::Marking) && !is_due_in(Phase::Marking, self.done, counts) {
+            counts.rules();
+            self.take_root(counts);
         }
     }
 
@@ -384,6 +405,7 @@ impl Trial {
     }
 
     // The first root leaves the root buffer; where there is none, scanning begins.
+    #[inline(always)]
     fn take_root(&mut self, counts: &mut Counts)
         requires { CanMark counts.old }
         ensures { record { machine = self.new; counts = counts.new } ≡ roots_moved counts.old.roots (record { machine = self.old; counts = counts.old }) }

@@ -1,5 +1,5 @@
 -- The contract of `renew`.
-use Rattle.std.proofs.Common.{◌≡◌, ◌<◌, length, get_or, arith, refl, ap, ◌∙◌}
+use Rattle.std.proofs.Common.{◌<◌, length, get_or, arith, refl}
 use Rattle.std.proofs.lemmas.List.{get_or_default}
 use Rattle.rec_counts.specs.Slot.{absent, renewed_if}
 use Rattle.rec_counts.proofs.Times.{times-nil, times_at, in_range_once}

@@ -1,5 +1,5 @@
 -- The contract of `renew`: the cyclic count of each member becomes its true count.
-use Rattle.std.proofs.Common.{◌≡◌, ℕ, ◌∙◌, ltb, List, length, arith, sym, ap}
+use Rattle.std.proofs.Common.{ℕ, ◌∙◌, ltb, List, length, arith, sym, ap}
 use Rattle.std.proofs.lemmas.List.{length-map, take_all}
 use Rattle.rec_counts.specs.declared.slot.Slot.{Slot}
 use Rattle.rec_counts.specs.Counts.{State, slot_at}

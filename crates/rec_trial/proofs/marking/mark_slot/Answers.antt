@@ -1,5 +1,5 @@
 -- The contract of `mark_slot`: a slot that is not Gray becomes Gray and is marked, and one is taken off its cyclic count.
-use Rattle.std.proofs.Common.{◌≡◌, true, false, refl, rules}
+use Rattle.std.proofs.Common.{◌≡◌, false, rules}
 use Rattle.rec_trial.proofs.Common.{slot_at, is_gray}
 use Rattle.rec_trial.proofs.Conditions.{touched_off}
 use Rattle.rec_trial.proofs.marking.mark_slot.Goals as goal

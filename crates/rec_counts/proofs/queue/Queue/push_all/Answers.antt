@@ -1,5 +1,5 @@
 -- The contract of `Queue::push_all`: appends all of `slots`, in their order.
-use Rattle.std.proofs.Common.{◌≡◌, ℕ, ◌+◌, ◌≤◌, List, ◌++◌, length, take, drop, arith, ap, ap₂, subst, ◌∙◌}
+use Rattle.std.proofs.Common.{◌≡◌, ℕ, ◌+◌, List, ◌++◌, length, take, drop, ap, ap₂, ◌∙◌}
 use Rattle.std.proofs.lemmas.List.{take_at}
 use Rattle.rec_counts.specs.Shelf.{Shelf}
 use Rattle.rec_counts.proofs.Windows.{window_more}

@@ -1,13 +1,15 @@
 -- The contract of `Trial::go_on`: the moves up to the next load, or to the end.
-use Rattle.std.proofs.Common.{◌≡◌, ◌<◌, true, false, refl, rules, sym, subst, arith}
+use Rattle.std.proofs.Common.{◌≡◌, ◌<◌, true, false, rules, sym, subst, arith}
 use Rattle.rec_trial.proofs.Common.{Work, is_due, moves_left}
-use Rattle.rec_trial.proofs.Midway.{going_midway, rules_midway, moved_on, arrived}
+use Rattle.rec_trial.proofs.Midway.{rules_midway, moved_on, on_the_way, arrived}
 use Rattle.rec_trial.proofs.Moving.{moved_less}
 use Rattle.rec_trial.proofs.Passing.{passes, no_more_left}
 use Rattle.rec_trial.proofs.trial.Trial.go_on.Goals as goal
 
 pub loop-counts-init : goal.loop-counts-init
-loop-counts-init c = record { midway = going_midway c.requires; same = refl }
+loop-counts-init c =
+    let first : Work = record { machine = c.args.self.now; counts = c.args.counts.now } in
+    on_the_way first c.requires c.take_roots.ensures.0 (record { machine = c.take_roots.new.self; counts = c.take_roots.new.counts }) c.take_roots.ensures.1
 
 pub pass-requires : goal.pass-requires
 pass-requires c = c.rules.ensures

@@ -1,5 +1,5 @@
 -- The contract of `Trial::run`: loads words and learns them.
-use Rattle.std.proofs.Common.{◌≡◌, ◌<◌, IsSome, IsTrue, inl, inr, sym, subst, arith}
+use Rattle.std.proofs.Common.{IsSome, IsTrue, inl, inr, sym, subst, arith}
 use Rattle.std.proofs.lemmas.Bool.{cases_lt, false≢true}
 use Rattle.rec_trial.specs.Loaded.{IsAtWork, Ran}
 use Rattle.rec_trial.proofs.Common.{Machine, Work, next_of}

@@ -1,11 +1,9 @@
 -- The contract of `Trial::run_in`: goes on with a run up to the end of a phase.
-use Rattle.std.proofs.Common.{◌≡◌, ℕ, ◌+◌, IsSome, Option, Some, refl, sym, ap, subst, ◌∙◌, rules}
+use Rattle.std.proofs.Common.{◌≡◌, ℕ, ◌+◌, IsSome, Option, Some, sym, ap, subst, ◌∙◌, rules}
 use Rattle.rec_word.specs.Place.{place_of}
 use Rattle.rec_word.specs.declared.op.Op.{Op}
 use Rattle.rec_word.specs.declared.op.Op.TheVariants.{LoadChild}
-use Rattle.rec_trial.specs.Loaded.{Ran}
-use Rattle.rec_trial.specs.Rules.{LeadsToUnreleased}
-use Rattle.rec_trial.proofs.Common.{Machine, State, Work, next_of, took_of, visible}
+use Rattle.rec_trial.proofs.Common.{Machine, Work, next_of}
 use Rattle.rec_trial.proofs.Running.{busy_still, due_op, ran_more}
 use Rattle.rec_trial.proofs.trial.Trial.run_in.Goals as goal
 use Rattle.rec_trial.proofs.trial.Trial.run_in.Goals.{After-took_in}

@@ -1,6 +1,6 @@
 -- The contract of `Trial::settle`: goes on without a load up to the next one, or to the end, and finds its slot.
 use Rattle.std.proofs.Common.{◌≡◌, true, sym, ap, ◌∙◌}
-use Rattle.rec_trial.proofs.Common.{Machine, Phase, Work, is_due, is_due_at, pointed, settled}
+use Rattle.rec_trial.proofs.Common.{Machine, Phase, Work, is_due, is_due_at, pointed}
 use Rattle.rec_trial.proofs.Moving.{settled_at_once}
 use Rattle.rec_trial.proofs.trial.Trial.settle.Goals as goal
 
@@ -14,6 +14,4 @@ returns-then-is_due_in c =
     c.point.ensures ∙ ap (λ (v : Work). pointed v) (sym (settled_at_once w d))
 
 pub returns : goal.returns
-returns c =
-    c.point-3.ensures ∙ ap (λ (m : Machine). pointed (record { machine = m; counts = c.gone_on.new.counts })) c.self-2.view_is
-    ∙ ap (λ (v : Work). pointed v) (c.gone_on.ensures ∙ ap (λ (m : Machine). settled (record { machine = m; counts = c.args.counts.now })) c.self.view_is)
+returns c = c.point-3.ensures ∙ ap (λ (v : Work). pointed v) c.go_far.ensures
