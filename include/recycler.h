@@ -46,9 +46,10 @@
  * A mutator has registers, numbered from 0, and reaches objects by them alone. An object has a label, which the caller chooses as it
  * makes it, and fields, numbered from 0. A register or a field is null or leads to one object.
  *
- * Notices. A heap that recycler_notices was called on tells the label of each object that its collector frees, in the order of freeing,
- * and recycler_hear hears each once. So a finalizer is an entry of a table of the caller's, whose index is the object's label. Any thread
- * may hear; here the one that turns the collector does:
+ * Notices. A heap that recycler_notices was called on tells the label of each object that a turn of its collector frees, in the order of
+ * freeing, and recycler_hear hears each once. What recycler_settle and recycler_renew free is told to nobody: a caller who has to know of
+ * it reads the labels by recycler_slot before and after. A finalizer is an entry of a table of the caller's, whose index is the object's
+ * label. Any thread may hear; here the one that turns the collector does:
  *
  *     static void (*finalizers[OBJECTS])(uint32_t);                        an object's label is its index here
  *     ..
@@ -209,7 +210,7 @@ uint32_t recycler_close(recycler *r);
 
 /* Asks for notices: from its next start on, the collector of this heap at rest tells the label of each object that it frees, and
  * &r->listener hears them. There is room for so many labels between them: 1 to 65,535. It is asked once for a heap. Stopping and starting
- * keep it, recycler_settle tells nobody, and recycler_close ends it.
+ * keep it, and recycler_close ends it. recycler_settle and recycler_renew tell nobody.
  * Codes: CLOSED_HANDLE, RUNS, OPEN_ALREADY (it was asked before), RANGE, NO_MEMORY. */
 uint32_t recycler_notices(recycler *r, uint32_t room);
 
@@ -232,8 +233,8 @@ uint32_t recycler_settle(recycler *r, recycler_settled *told);
 
 /* Lets a heap at rest begin anew, with epochs from 1 and with so many slots, 1 to 65,535, be they more or fewer than before. Each register
  * names the object that it named, and each object that registers reach has its label, its fields and whether it is a leaf; counts are
- * true. The heap's other numbers stay. It is as settled. What no register reaches is gone, and nobody is told: a caller who wants to know of it
- * settles or turns before. That is no condition, so a heap whose epochs are spent is renewed too. A label that is still to be heard stays so.
+ * true. The heap's other numbers stay. It is as settled. What no register reaches is gone, and nobody is told. A caller who has to know of it
+ * settles before, and reads the labels before and after that. That is no condition, so a heap whose epochs are spent is renewed too. A label that is still to be heard stays so.
  * Objects stand in other slots than before, in the first ones, and the totals are those of a heap that was opened with these objects. A
  * mutator that had left is there again, with null registers, and has to poll or to leave. For so long as the call takes there is memory for
  * both heaps. Codes: CLOSED_HANDLE, RUNS, SLOTS, FEW_SLOTS, NO_MEMORY. */
