@@ -5,8 +5,10 @@ pub mod Texts
 pub mod Options
 pub mod Edits
 pub mod Held
-pub mod Marking
 pub mod Grown
+pub mod Pruning
+pub mod Marking
+pub mod Asked
 pub mod Sizes
 pub mod Knowing
 pub mod Telling

@@ -15,7 +15,8 @@ use Rattle.rec_model.proofs.Members.{IsDistinct-push, distinct_below, is_in-case
 use Rattle.rec_audit.specs.declared.reach.Marks.{Marks}
 use Rattle.rec_audit.specs.declared.references.Edge.{Edge}
 use Rattle.rec_audit.specs.States.{IsMarking, MarksMore}
-use Rattle.rec_audit.specs.Walks.{leads_in}
+use Rattle.rec_audit.specs.Walks.{ArePruned, IsClosedTo, live_in}
+use Rattle.rec_audit.proofs.Pruning.{pruned_none}
 
 is_in-append : (n : ℕ) (xs ys : List ℕ) → is_in n (xs ++ ys) ≡ (is_in n xs || is_in n ys)
 is_in-append n xs ys = list_any-append (λ m. m == n) xs ys
@@ -145,19 +146,32 @@ free_more_no l m taken i taken-is left =
 
 -- ---- following references
 
--- what is marked behind so many slots of the order: the slots that were marked before, all of it reached from these, and with
--- each of so many slots where its references lead
-pub record IsFollowing (edges : List (List Edge)) (m n : Marks) (i : ℕ) : Type 0 where
+-- What is marked behind so many slots of the order: the slots that were marked before, all of it reached from these, and with
+-- each of so many slots where its live references lead. From the first ones it was marked before.
+pub record IsFollowing (dead : ℕ → Bool) (old now : List (List Edge)) (start : ℕ) (m n : Marks) (i : ℕ) : Type 0 where
   pub marking : IsMarking n
   pub size : length n.marked.items ≡ length m.marked.items
   pub upto : i ≤ length n.order.items
+  pub longer : length m.order.items ≤ length n.order.items
+  pub front : take (length m.order.items) n.order.items ≡ m.order.items
+  pub pruned : ArePruned dead old now
   pub kept : (s : ℕ) → is_in s m.order.items ≡ true → is_in s n.order.items ≡ true
-  pub sound : (s : ℕ) → is_in s n.order.items ≡ true → IsReached m.order.items (leads_in edges) s
-  pub closed : (p s : ℕ) → is_in p (take i n.order.items) ≡ true → is_in s (leads_in edges p) ≡ true → is_in s n.order.items ≡ true
+  pub sound : (s : ℕ) → is_in s n.order.items ≡ true → IsReached m.order.items (live_in dead old) s
+  pub closed : IsClosedTo start m.order.items (live_in dead old) → (p s : ℕ) → is_in p (take i n.order.items) ≡ true → is_in s (live_in dead old p) ≡ true → is_in s n.order.items ≡ true
 
-pub follow_none : (edges : List (List Edge)) (m : Marks) → IsMarking m → IsFollowing edges m m 0
-follow_none edges m marking =
-    record { marking = marking; size = refl; upto = omega arith; kept = λ s there. there; sound = λ s there. root s there; closed = λ p s none there. absurd (false≢true none) }
+pub follow_none : (dead : ℕ → Bool) (old : List (List Edge)) (start : ℕ) (m : Marks) → start ≤ length m.order.items → IsMarking m → IsFollowing dead old old start m m start
+follow_none dead old start m upto marking =
+    record {
+      marking = marking;
+      size = refl;
+      upto = upto;
+      longer = omega arith;
+      front = take_all (length m.order.items) m.order.items (omega arith);
+      pruned = pruned_none dead old;
+      kept = λ s there. there;
+      sound = λ s there. root s there;
+      closed = λ closed p s there leads. closed p s there leads;
+    }
 
 either : (a b : Bool) → a ≡ true → (a || b) ≡ true
 either a b is = ap (λ c. c || b) is
@@ -168,19 +182,22 @@ other a b is = ap (λ c. a || c) is ∙ or-true a
 get_in : (xs : List ℕ) (i : ℕ) → i < length xs → is_in (get_or xs i 0) xs ≡ true
 get_in xs i within = list_any_at (λ m. m == get_or xs i 0) xs i 0 within (eq-eqb (get_or xs i 0) (get_or xs i 0) refl)
 
-pub follow_more : (edges : List (List Edge)) (m n o : Marks) (i slot : ℕ) → i < length n.order.items → slot ≡ get_or n.order.items i 0 → IsFollowing edges m n i → MarksMore n o (leads_in edges slot) → IsFollowing edges m o (i + 1)
-follow_more edges m n o i slot within is follows more =
+pub follow_more : (dead : ℕ → Bool) (old now new : List (List Edge)) (start : ℕ) (m n o : Marks) (i slot : ℕ) → i < length n.order.items → slot ≡ get_or n.order.items i 0 → IsFollowing dead old now start m n i → ArePruned dead old new → MarksMore n o (live_in dead old slot) → IsFollowing dead old new start m o (i + 1)
+follow_more dead old now new start m n o i slot within is follows pruned more =
     record {
       marking = more.marking;
       size = more.size ∙ follows.size;
       upto = omega (arith, more.longer);
-      kept = λ s there. more.has s ∙ either (is_in s n.order.items) (is_in s (leads_in edges slot)) (follows.kept s there);
+      longer = omega (arith, follows.longer, more.longer);
+      front = sym (take-take (length m.order.items) (length n.order.items) o.order.items follows.longer) ∙ ap (take (length m.order.items)) more.front ∙ follows.front;
+      pruned = pruned;
+      kept = λ s there. more.has s ∙ either (is_in s n.order.items) (is_in s (live_in dead old slot)) (follows.kept s there);
       sound = λ s there.
-          elim (or_cases (is_in s n.order.items) (is_in s (leads_in edges slot)) (sym (more.has s) ∙ there)) [
+          elim (or_cases (is_in s n.order.items) (is_in s (live_in dead old slot)) (sym (more.has s) ∙ there)) [
             | inl old ↦ follows.sound s old
             | inr new ↦ child slot s (follows.sound slot (ap (λ (k : ℕ). is_in k n.order.items) is ∙ get_in n.order.items i within)) new
           ];
-      closed = λ p s there leads. more.has s ∙ from p s (is_in-cases p (take i n.order.items) (slot ∷ []) (sym (ap (is_in p) front) ∙ there)) leads;
+      closed = λ closed p s there leads. more.has s ∙ from closed p s (is_in-cases p (take i n.order.items) (slot ∷ []) (sym (ap (is_in p) front) ∙ there)) leads;
     }
   where
     same : take i o.order.items ≡ take i n.order.items
@@ -192,18 +209,18 @@ follow_more edges m n o i slot within is follows more =
     front : take (i + 1) o.order.items ≡ take i n.order.items ++ slot ∷ []
     front = take_more o.order.items i 0 (omega (arith, more.longer)) ∙ ap (λ (t : List ℕ). t ++ get_or o.order.items i 0 ∷ []) same ∙ ap (λ (k : ℕ). take i n.order.items ++ k ∷ []) here
 
-    from : (p s : ℕ) → (is_in p (take i n.order.items) ≡ true) ⊎ (is_in p (slot ∷ []) ≡ true) → is_in s (leads_in edges p) ≡ true → (is_in s n.order.items || is_in s (leads_in edges slot)) ≡ true
-    from p s (inl old) leads = either (is_in s n.order.items) (is_in s (leads_in edges slot)) (follows.closed p s old leads)
-    from p s (inr new) leads =
-        other (is_in s n.order.items) (is_in s (leads_in edges slot))
-        (elim (is_in-cons p slot [] new) [ inl same ↦ ap (λ (k : ℕ). is_in s (leads_in edges k)) same ∙ leads | inr none ↦ absurd (false≢true none) ])
+    from : IsClosedTo start m.order.items (live_in dead old) → (p s : ℕ) → (is_in p (take i n.order.items) ≡ true) ⊎ (is_in p (slot ∷ []) ≡ true) → is_in s (live_in dead old p) ≡ true → (is_in s n.order.items || is_in s (live_in dead old slot)) ≡ true
+    from closed p s (inl before) leads = either (is_in s n.order.items) (is_in s (live_in dead old slot)) (follows.closed closed p s before leads)
+    from closed p s (inr new) leads =
+        other (is_in s n.order.items) (is_in s (live_in dead old slot))
+        (elim (is_in-cons p slot [] new) [ inl same ↦ ap (λ (k : ℕ). is_in s (live_in dead old k)) same ∙ leads | inr none ↦ absurd (false≢true none) ])
 
 -- behind all of them, what is marked is what is reached
-pub follow_all : (edges : List (List Edge)) (m n : Marks) (i : ℕ) → length n.order.items ≤ i → IsFollowing edges m n i → (s : ℕ) → (is_in s n.order.items ≡ true → IsReached m.order.items (leads_in edges) s) × (IsReached m.order.items (leads_in edges) s → is_in s n.order.items ≡ true)
-follow_all edges m n i past follows s = (
+pub follow_all : (dead : ℕ → Bool) (old now : List (List Edge)) (start : ℕ) (m n : Marks) (i : ℕ) → length n.order.items ≤ i → IsFollowing dead old now start m n i → IsClosedTo start m.order.items (live_in dead old) → (s : ℕ) → (is_in s n.order.items ≡ true → IsReached m.order.items (live_in dead old) s) × (IsReached m.order.items (live_in dead old) s → is_in s n.order.items ≡ true)
+follow_all dead old now start m n i past follows closed s = (
   follows.sound s,
-  closed_has_reached m.order.items (leads_in edges) n.order.items follows.kept
-      (λ p t there leads. follows.closed p t (ap (is_in p) (take_all i n.order.items past) ∙ there) leads) s,
+  closed_has_reached m.order.items (live_in dead old) n.order.items follows.kept
+      (λ p t there leads. follows.closed closed p t (ap (is_in p) (take_all i n.order.items past) ∙ there) leads) s,
 )
 
 -- a slot of the order is one of the heap

@@ -1,5 +1,5 @@
 -- What a graph is behind some lines, and which line each of its calls takes.
-use Rattle.std.specs.Prelude.{◌≡◌, ℕ, ◌/◌, ◌<◌, ◌==◌, nat_eq, false, List, [], length, map, filter, drop, slice_index_or, All}
+use Rattle.std.specs.Prelude.{◌≡◌, ℕ, ◌/◌, ◌<◌, ◌==◌, ◌&&◌, nat_eq, Bool, false, List, [], length, map, filter, drop, slice_index_or, All}
 use Rattle.std.specs.List.{flat_map}
 use Rattle.std.specs.HashSet.{contains}
 use Rattle.rec_audit.specs.declared.kind.Kind.TheVariants.{Epoch, Put, Born, Snap, Out, Sweep}
@@ -8,9 +8,9 @@ use Rattle.rec_audit.specs.declared.references.References.{References}
 use Rattle.rec_audit.specs.declared.graph.Graph.{Graph}
 use Rattle.rec_audit.specs.Lines.{Line}
 use Rattle.rec_audit.specs.Form.{number, heap_of}
-use Rattle.rec_audit.specs.Graph.{is_dead, is_opened, is_put, is_taken, named_by, opens_from, this_block}
-use Rattle.rec_audit.specs.Marked.{AreMarks}
-use Rattle.rec_audit.specs.States.{IsMarking, edge_of, edges_at, edges_of, without}
+use Rattle.rec_audit.specs.Graph.{is_dead, is_opened, is_put, is_taken, named_by, opens, opens_from, target_in, this_block}
+use Rattle.rec_audit.specs.Known.{AreKnown, IsRoomy}
+use Rattle.rec_audit.specs.States.{back_edge, edge_of, edges_at, edges_of, into_of, without}
 use Rattle.rec_audit.specs.Walks.{AreWithin}
 
 -- how many slots the heap has
@@ -20,14 +20,23 @@ slots_of g = length g.slots.taken.items
 -- it has room for each slot, and names no other one
 pub record IsSized (g : Graph) : Type 0 where
   pub edges : length g.references.edges.items ≡ slots_of g
-  pub marked : length g.marks.marked.items ≡ slots_of g
-  pub marking : IsMarking g.marks
+  pub into : length g.references.into.items ≡ slots_of g
+  pub roomy : IsRoomy (slots_of g) g.known
   pub targets : AreWithin (slots_of g) (edges_of g.references)
+  pub sources : AreWithin (slots_of g) (into_of g.references)
   pub named : All (λ slot. slot < slots_of g) g.slots.named.items
 
 -- the references that some lines open from a slot
 abbrev pub opened_from : List Line → (slot : ℕ) → List Edge
 opened_from lines slot = map (λ line. edge_of (number 2 line)) (filter (opens_from (heap_of lines).fields slot) lines)
+
+-- a line opens a reference to a slot
+abbrev pub opens_to : (slot : ℕ) → Line → Bool
+opens_to slot line = opens line && (target_in line == slot)
+
+-- the references that some lines open to a slot
+abbrev pub opened_to : List Line → (slot : ℕ) → List Edge
+opened_to lines slot = map (λ line. back_edge (number 1 line / (heap_of lines).fields) (number 2 line)) (filter (opens_to slot) lines)
 
 -- the words that the block that stands open has replaced
 abbrev pub closing_in : List Line → List ℕ
@@ -37,12 +46,14 @@ closing_in lines = map (number 3) (filter (λ line. is_put line.kind) (this_bloc
 abbrev pub named_in : List Line → List ℕ
 named_in lines = flat_map (λ line. named_by line.kind line.numbers) (this_block lines)
 
--- the references of some lines: those that are kept for a slot are those that were opened from it, but for dead ones
+-- the references of some lines: those that are kept for a slot are those that were opened from it
+-- or to it, but for dead ones
 pub record AreReferences (lines : List Line) (r : References) : Type 0 where
   pub opened : (word : ℕ) → contains nat_eq r.opened word ≡ is_opened lines word
   pub dead : (word : ℕ) → contains nat_eq r.dead word ≡ is_dead lines word
   pub closing : r.closing.items ≡ closing_in lines
   pub edges : (slot : ℕ) → without (is_dead lines) (edges_at (edges_of r) slot) ≡ without (is_dead lines) (opened_from lines slot)
+  pub into : (slot : ℕ) → without (is_dead lines) (edges_at (into_of r) slot) ≡ without (is_dead lines) (opened_to lines slot)
 
 -- the graph behind some lines
 pub record IsGraphOf (lines : List Line) (g : Graph) : Type 0 where
@@ -50,7 +61,7 @@ pub record IsGraphOf (lines : List Line) (g : Graph) : Type 0 where
   pub references : AreReferences lines g.references
   pub taken : (slot : ℕ) → slot < slots_of g → slice_index_or g.slots.taken.items slot false ≡ is_taken lines slot
   pub named : g.slots.named.items ≡ named_in lines
-  pub marks : AreMarks g.known lines g.marks
+  pub known : AreKnown g.is_known lines g.known
 
 -- ---- lines
 
@@ -86,5 +97,6 @@ pub record TellNothing (lines : List Line) (slots : ℕ) : Type 0 where
   pub dead : (word : ℕ) → is_dead lines word ≡ false
   pub closing : closing_in lines ≡ []
   pub edges : (slot : ℕ) → opened_from lines slot ≡ []
+  pub into : (slot : ℕ) → opened_to lines slot ≡ []
   pub taken : (slot : ℕ) → is_taken lines slot ≡ (slot == 0)
   pub named : named_in lines ≡ []

@@ -3,7 +3,7 @@ pub mod Lines
 pub mod Form
 pub mod Graph
 pub mod Graphs
-pub mod Marked
+pub mod Known
 pub mod States
 pub mod Said
 pub mod Verdicts

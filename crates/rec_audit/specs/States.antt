@@ -16,7 +16,11 @@ use Rattle.rec_audit.specs.Graph.{has_target}
 abbrev pub edges_of : References → List (List Edge)
 edges_of r = map (λ v. v.items) r.edges.items
 
--- those from one slot
+-- the references that are kept to each slot
+abbrev pub into_of : References → List (List Edge)
+into_of r = map (λ v. v.items) r.into.items
+
+-- those of one slot
 abbrev pub edges_at : List (List Edge) → (slot : ℕ) → List Edge
 edges_at edges slot = slice_index_or edges slot []
 
@@ -28,19 +32,29 @@ without dead edges = filter (λ e. not (dead e.word)) edges
 abbrev pub edge_of : (word : ℕ) → Edge
 edge_of word = record { to = target_bits word - 1; word = word }
 
+-- the same, as the slot has it to which it leads
+abbrev pub back_edge : (source word : ℕ) → Edge
+back_edge source word = record { to = source; word = word }
+
+-- a list of references more at one slot
+abbrev pub with_edge : List (List Edge) → (slot : ℕ) → Edge → List (List Edge)
+with_edge edges slot edge = slice_set edges slot (edges_at edges slot ++ edge ∷ [])
+
 -- nothing was told yet
 pub record HasNoReferences (slots : ℕ) (r : References) : Type 0 where
   pub opened : r.opened.keys ≡ []
   pub dead : r.dead.keys ≡ []
   pub closing : r.closing.items ≡ []
   pub edges : edges_of r ≡ replicate slots []
+  pub into : into_of r ≡ replicate slots []
 
 -- a word was put into a field of a slot in the place of another one
 pub record Puts (r s : References) (source new old : ℕ) : Type 0 where
   pub opened : (word : ℕ) → contains nat_eq s.opened word ≡ (contains nat_eq r.opened word || (has_target new && (new == word)))
   pub dead : s.dead ≡ r.dead
   pub closing : s.closing.items ≡ r.closing.items ++ old ∷ []
-  pub edges : edges_of s ≡ (if has_target new then slice_set (edges_of r) source (edges_at (edges_of r) source ++ edge_of new ∷ []) else edges_of r)
+  pub edges : edges_of s ≡ (if has_target new then with_edge (edges_of r) source (edge_of new) else edges_of r)
+  pub into : into_of s ≡ (if has_target new then with_edge (into_of r) (target_bits new - 1) (back_edge source new) else into_of r)
 
 -- a word was taken out of a field
 pub record TakesOut (r s : References) (word : ℕ) : Type 0 where
@@ -48,6 +62,7 @@ pub record TakesOut (r s : References) (word : ℕ) : Type 0 where
   pub dead : (w : ℕ) → contains nat_eq s.dead w ≡ (contains nat_eq r.dead w || (word == w))
   pub closing : s.closing ≡ r.closing
   pub edges : s.edges ≡ r.edges
+  pub into : s.into ≡ r.into
 
 -- the block that stood open has ended
 pub record EndsBlock (r s : References) : Type 0 where
@@ -55,13 +70,7 @@ pub record EndsBlock (r s : References) : Type 0 where
   pub dead : (w : ℕ) → contains nat_eq s.dead w ≡ (contains nat_eq r.dead w || list_any (λ v. v == w) r.closing.items)
   pub closing : s.closing.items ≡ []
   pub edges : s.edges ≡ r.edges
-
--- the references that are dead were forgotten
-pub record Prunes (r s : References) : Type 0 where
-  pub opened : s.opened ≡ r.opened
-  pub dead : s.dead ≡ r.dead
-  pub closing : s.closing ≡ r.closing
-  pub edges : edges_of s ≡ map (without (contains nat_eq r.dead)) (edges_of r)
+  pub into : s.into ≡ r.into
 
 -- ---- marks
 

@@ -82,10 +82,7 @@ fn tell(
         Kind::Born => graph.bear(numbers[1]),
         Kind::Snap => graph.hold(&numbers[1..]),
         Kind::Out => graph.take_out(numbers[1]),
-        Kind::Sweep => {
-            graph.sweep(numbers[0]);
-            Ok(())
-        }
+        Kind::Sweep => graph.sweep(numbers[0]),
         Kind::Title | Kind::Free | Kind::End => Ok(()),
     }
 }

@@ -17,6 +17,7 @@ mod checking;
 mod form;
 mod graph;
 mod kind;
+mod known;
 mod laws;
 mod lines;
 mod reach;

@@ -1,13 +1,15 @@
 //! What is reached from some slots along references.
 
-ghost use Rattle.std.specs.Prelude.{◌≡◌, ◌↔◌, ℕ, ◌<◌, ◌≤◌, ◌+◌, not, true, false, [], ◌∷◌, List, length, map, filter, All, slice_index_or, IfOk, OnOk, IsTrue};
-ghost use Rattle.std.specs.List.{range_with_len};
+ghost use Rattle.std.specs.Prelude.{◌≡◌, ◌↔◌, ℕ, ◌<◌, ◌≤◌, nat_eq, true, false, [], ◌∷◌, length, map, take, All, slice_index_or, IfOk, OnOk};
+ghost use Rattle.std.specs.List.{list_any};
+ghost use Rattle.std.specs.HashSet.{contains};
 ghost use Rattle.rec_model.specs.Reach.{IsReached, is_in};
-ghost use Rattle.rec_audit.specs.States.{IsMarking, MarksMore, edges_at};
-ghost use Rattle.rec_audit.specs.Walks.{free_slots, leads_in, AreWithin};
+ghost use Rattle.rec_audit.specs.States.{IsMarking, MarksMore};
+ghost use Rattle.rec_audit.specs.Walks.{free_slots, live_in, ArePruned, AreWithin, IsClosedTo};
 
-use crate::references::Edge;
+use crate::references::{Edge, prune_at};
 use std::alloc::{AllocError, Global};
+use std::collections::HashSet;
 
 /// Slots that are marked as reached.
 #[derive(Drop)]
@@ -48,7 +50,7 @@ impl Marks {
     }
 
     /// Marks a slot.
-    fn mark(&mut self, slot: u64) -> Result<(), AllocError>
+    pub fn mark(&mut self, slot: u64) -> Result<(), AllocError>
         requires marking { IsMarking self.old }
         requires within { slot < length self.old.marked.items }
         ensures { OnOk result (MarksMore self.old self.new (slot ∷ [])) }
@@ -98,22 +100,46 @@ impl Marks {
         Ok(())
     }
 
-    /// Marks all that is reached from marked slots along references, which are given for each slot.
-    pub fn follow(&mut self, edges: &[Vec<Edge>]) -> Result<(), AllocError>
+    /// Marks all that is reached from marked slots along references that aren't dead, which are given for each slot. What is
+    /// reached from so many slots that were marked first has been marked.
+    pub fn follow(
+        &mut self,
+        start: usize,
+        dead: &HashSet<u64>,
+        lists: &mut Vec<Vec<Edge>>,
+    ) -> Result<(), AllocError>
         requires marking { IsMarking self.old }
-        requires size { length edges.now ≡ length self.old.marked.items }
-        requires within { AreWithin (length self.old.marked.items) (map (λ v. v.items) edges.now) }
+        requires size { length lists.old.items ≡ length self.old.marked.items }
+        requires within { AreWithin (length self.old.marked.items) (map (λ v. v.items) lists.old.items) }
+        requires upto { start ≤ length self.old.order.items }
         ensures marking { OnOk result (IsMarking self.new) }
         ensures size { OnOk result (length self.new.marked.items ≡ length self.old.marked.items) }
-        ensures reached { OnOk result ((slot : ℕ) → is_in slot self.new.order.items ≡ true
-            ↔ IsReached self.old.order.items (leads_in (map (λ v. v.items) edges.now)) slot) }
+        ensures front { OnOk result (take (length self.old.order.items) self.new.order.items ≡ self.old.order.items) }
+        ensures reached { OnOk result (IsClosedTo start self.old.order.items (live_in (contains nat_eq dead.now) (map (λ v. v.items) lists.old.items))
+            → (slot : ℕ) → is_in slot self.new.order.items ≡ true
+            ↔ IsReached self.old.order.items (live_in (contains nat_eq dead.now) (map (λ v. v.items) lists.old.items)) slot) }
+        ensures pruned { OnOk result (ArePruned (contains nat_eq dead.now) (map (λ v. v.items) lists.old.items) (map (λ v. v.items) lists.new.items)) }
     {
-        let mut i = 0;
+        let mut i = start;
         while i < self.order.len() {
-            let slot = self.order[i];
-            self.mark_targets(&edges[slot as usize])?;
+            let slot = self.order[i] as usize;
+            prune_at(dead, lists, slot);
+            self.mark_targets(&lists[slot])?;
             i += 1;
         }
         Ok(())
+    }
+
+    /// One of some slots is marked.
+    pub fn has_any(&self, slots: &[u64]) -> bool
+        requires { All (λ slot. slot < length self.now.marked.items) slots.now }
+        ensures { result ≡ list_any (λ slot. slice_index_or self.now.marked.items slot false) slots.now }
+    {
+        for slot in slots {
+            if self.is_marked(*slot) {
+                return true;
+            }
+        }
+        false
     }
 }

@@ -1,17 +1,18 @@
 //! The references of a journal: those that were opened, by their words, and which of them are gone or closed.
 
-ghost use Rattle.std.specs.Prelude.{◌≡◌, ℕ, ◌<◌, ◌==◌, ◌||◌, [], nat_eq, length, map, replicate, IfOk, OnOk};
+ghost use Rattle.std.specs.Prelude.{◌≡◌, ℕ, ◌<◌, ◌≤◌, ◌==◌, ◌||◌, ◌++◌, ◌∷◌, [], nat_eq, length, map, replicate, slice_set, IfOk, OnOk};
 ghost use Rattle.std.specs.HashSet.{contains};
 ghost use Rattle.std.specs.List.{list_any};
-ghost use Rattle.rec_audit.specs.States.{EndsBlock, HasNoReferences, Prunes, Puts, TakesOut, without};
+ghost use Rattle.rec_word.specs.Word.{target_bits};
+ghost use Rattle.rec_audit.specs.States.{EndsBlock, HasNoReferences, Puts, TakesOut, edges_at, without};
 
 use std::alloc::{AllocError, Global};
 use std::collections::HashSet;
 
-/// A reference from a slot.
+/// A reference, as one of the slots at its ends has it.
 #[derive(Clone, Copy)]
 pub struct Edge {
-    /// The slot that it leads to.
+    /// The slot at the other end.
     pub to: u64,
     /// Its word.
     pub word: u64,
@@ -28,6 +29,8 @@ pub struct References {
     pub closing: Vec<u64>,
     /// For each slot the references from it; some of them may be dead.
     pub edges: Vec<Vec<Edge>>,
+    /// For each slot the references to it; some of them may be dead.
+    pub into: Vec<Vec<Edge>>,
 }
 
 /// Adds a word to a set.
@@ -55,6 +58,25 @@ fn drop_dead(dead: &HashSet<u64>, edges: &mut Vec<Edge>)
     edges.retain(|edge| !dead.contains(&edge.word));
 }
 
+/// Forgets the references of one slot whose words are dead.
+pub fn prune_at(dead: &HashSet<u64>, lists: &mut Vec<Vec<Edge>>, slot: usize)
+    requires { slot < length lists.old.items }
+    ensures { map (λ v. v.items) lists.new.items ≡ slice_set (map (λ v. v.items) lists.old.items) slot (without (contains nat_eq dead.now) (edges_at (map (λ v. v.items) lists.old.items) slot)) }
+{
+    let edges = &mut lists[slot];
+    drop_dead(dead, edges);
+}
+
+/// Adds a reference to those of one slot.
+fn push_at(lists: &mut Vec<Vec<Edge>>, slot: usize, edge: Edge) -> Result<(), AllocError>
+    requires { slot < length lists.old.items }
+    ensures { OnOk result (map (λ v. v.items) lists.new.items ≡ slice_set (map (λ v. v.items) lists.old.items) slot (edges_at (map (λ v. v.items) lists.old.items) slot ++ edge ∷ [])) }
+{
+    let edges = &mut lists[slot];
+    edges.push(edge)?;
+    Ok(())
+}
+
 /// Lists of references, one for each slot, all empty.
 fn no_edges(alloc: Global, slots: u16) -> Result<Vec<Vec<Edge>>, AllocError>
     ensures { IfOk result (λ edges. map (λ v. v.items) edges.items ≡ replicate slots []) }
@@ -72,11 +94,13 @@ impl References {
         ensures { IfOk result (HasNoReferences slots) }
     {
         let edges = no_edges(alloc, slots)?;
+        let into = no_edges(alloc, slots)?;
         Ok(References {
             opened: HashSet::new(alloc),
             dead: HashSet::new(alloc),
             closing: Vec::new(alloc),
             edges,
+            into,
         })
     }
 
@@ -89,7 +113,8 @@ impl References {
 
     /// A word is put into a field of a slot, and replaces another one.
     pub fn put(&mut self, source: usize, new: u64, old: u64) -> Result<(), AllocError>
-        requires { source < length self.old.edges.items }
+        requires source { source < length self.old.edges.items }
+        requires target { target_bits new ≤ length self.old.into.items }
         ensures { OnOk result (Puts self.old self.new source new old) }
     {
         self.closing.push(old)?;
@@ -98,11 +123,16 @@ impl References {
             return Ok(());
         }
         add_word(&mut self.opened, new)?;
-        let edges = &mut self.edges[source];
-        edges.push(Edge {
+        let from = Edge {
             to: target - 1,
             word: new,
-        })?;
+        };
+        push_at(&mut self.edges, source, from)?;
+        let back = Edge {
+            to: source as u64,
+            word: new,
+        };
+        push_at(&mut self.into, (target - 1) as usize, back)?;
         Ok(())
     }
 
@@ -120,14 +150,5 @@ impl References {
         add_words(&mut self.dead, &self.closing)?;
         self.closing.clear();
         Ok(())
-    }
-
-    /// Forgets the references that are dead.
-    pub fn prune(&mut self)
-        ensures { Prunes self.old self.new }
-    {
-        for edges in self.edges.iter_mut() {
-            drop_dead(&self.dead, edges);
-        }
     }
 }

@@ -16,22 +16,26 @@ use Rattle.rec_model.specs.LegalOrder.Event.{Answers, Frees, Marks}
 use Rattle.rec_model.specs.Numbering.{times}
 use Rattle.rec_model.specs.Sight.{Sight, IsTaken}
 use Rattle.rec_model.proofs.Operands.{operands_same}
-use Rattle.rec_mutator.specs.Causes.{IsAwaited}
+use Rattle.rec_mutator.specs.Causes.{FoundNoneAt, IsAwaited}
 use Rattle.rec_mutator.specs.Private.{Private, HasOperands, answer_of, is_busy, work_of}
+use Rattle.rec_mutator.specs.declared.made.Made.{Made}
 use Rattle.rec_mutator.specs.declared.made.Made.TheVariants as makes
+use Rattle.rec_mutator.specs.declared.phase.Phase.{Phase}
+use Rattle.rec_mutator.specs.declared.phase.Phase.TheVariants as phases
 use Rattle.rec_mutator.specs.declared.work.Work.TheVariants as works
 use Rattle.rec_collector.specs.Next.{next_of}
 use Rattle.rec_core.specs.Config.{IsMutator, HasLabel}
 use Rattle.rec_core.specs.Core.{Core, sight, mutator}
 use Rattle.rec_core.specs.Kept.{IsKept}
-use Rattle.rec_core.specs.Moves.{Move, begun as begun_in, found_by, turned}
+use Rattle.rec_core.specs.Moves.{Move, begun as begun_in, found_by, stepped, turned}
+use Rattle.rec_core.specs.StepAnswers.{IsFilled, IsShown, IsShownAt}
 use Rattle.rec_core.specs.Worked.{AreIdle, IsWorked}
 use Rattle.rec_core.specs.declared.config.Config.{Config}
 use Rattle.rec_core.proofs.Gathering.{awaited_stays}
 use Rattle.rec_core.proofs.Leaving.{IsStayingIn, polls_stay}
 use Rattle.rec_core.proofs.Runs.{config_after}
 use Rattle.rec_core.specs.Shown.{Shows}
-use Rattle.rec_core.proofs.Showing.{step_caused}
+use Rattle.rec_core.proofs.Showing.{step_caused, step_shown}
 use Rattle.rec_core.proofs.Shows.{shows_then, shows_worked}
 use Rattle.rec_core.proofs.Steps.{actor_of}
 use Rattle.rec_order.specs.Events.{swept_by}
@@ -153,10 +157,32 @@ polled_world w v t world is idle present done =
       stays_after u v t kept there done.busy stays done.steps,
     )
 
--- A command of a world is told NotYet just where its last step is the first one of leaving and finds a log that is still to be collected.
-pub told_not_yet : (script : ScriptContents) (w v : Core) (t : ℕ) (cmd : Cmd) (told : Told) → IsWorld w → w.config ≡ config_of script → 0 < t → t ≤ length script.commands → is_busy (mutator w t) ≡ false → (mutator w t).left ≡ false
-    → IsCommand script.registers script.fields cmd → (done : IsWorked w t (works.Command cmd) v) → answer_of (mutator v t) ≡ Some (makes.Answered told) → (told.answer ≡ answers.NotYet) ↔ IsAwaited (mutator done.last t) (found_by done.last t) cmd
-told_not_yet script w v t cmd told world config some most idle present command done answered =
+-- why the step that answered a command refused it
+pub record IsRefusedBy (u : Core) (t : ℕ) (cmd : Cmd) (told : Told) : Type 0 where
+  pub not_yet : (told.answer ≡ answers.NotYet) ↔ IsAwaited (mutator u t) (found_by u t) cmd
+  pub full : told.answer ≡ answers.Full → IsFilled u
+
+-- Full is told by a step that found every slot taken
+filled_at : (w v : Core) (t before : ℕ) (told : Told) (phase : Phase) → FoundNoneAt phase before → IsShownAt w t phase (Some (makes.Answered told)) v → told.answer ≡ answers.Full → IsFilled w
+filled_at w v t before told (phases.Scanned reg label leaf first) same shown full = shown.2.full full
+filled_at w v t before told _ none shown full = absurd none
+
+pub step_refused : (w : Core) (t : ℕ) (cmd : Cmd) (told : Told) → IsKept false w → IsMutator w.config t → is_busy (mutator w t) ≡ true → work_of (mutator w t) ≡ Some (works.Command cmd)
+    → answer_of (mutator (stepped w t) t) ≡ Some (makes.Answered told) → IsRefusedBy w t cmd told
+step_refused w t cmd told kept is busy work answer =
+    let cause = step_caused w t cmd told kept is busy work answer in
+    record {
+      not_yet = cause.not_yet;
+      full = λ full.
+          let found = cause.full.0 full in
+          filled_at w (stepped w t) t found.0 told (mutator w t).phase found.1.scanned (subst (λ (x : Option Made). IsShown w t x (stepped w t)) answer (step_shown w t kept is busy)) full;
+    }
+
+-- A command of a world is told NotYet just where its last step is the first one of leaving and finds a log that is still to be collected,
+-- and Full only where every slot is taken at its last step.
+pub told_why : (script : ScriptContents) (w v : Core) (t : ℕ) (cmd : Cmd) (told : Told) → IsWorld w → w.config ≡ config_of script → 0 < t → t ≤ length script.commands → is_busy (mutator w t) ≡ false → (mutator w t).left ≡ false
+    → IsCommand script.registers script.fields cmd → (done : IsWorked w t (works.Command cmd) v) → answer_of (mutator v t) ≡ Some (makes.Answered told) → IsRefusedBy done.last t cmd told
+told_why script w v t cmd told world config some most idle present command done answered =
     let is : IsMutator w.config t = is_mutator script w t config some most in
     let kept : IsKept false w = world_kept w world in
     let own = (actor_of w t kept is).own in
@@ -166,7 +192,7 @@ told_not_yet script w v t cmd told world config some most idle present command d
     let begins : IsWorld b = moved_world w (Move.Begins t (works.Command cmd) 0) world (is, idle, present, valid, label, world.shaped.config.some_slots) in
     let (last, there) = path_world b t u begins is done.path in
     let work : work_of (mutator u t) ≡ Some (works.Command cmd) = (path_counts b t u begins is done.path).1 ∙ began_work w t (works.Command cmd) kept is in
-    (step_caused u t cmd told (world_kept u last) there done.busy work (ap (λ (x : Core). answer_of (mutator x t)) (sym done.steps) ∙ answered)).not_yet
+    step_refused u t cmd told (world_kept u last) there done.busy work (ap (λ (x : Core). answer_of (mutator x t)) (sym done.steps) ∙ answered)
 
 -- A command more, behind a poll.
 pub went_command : (script : ScriptContents) (first : Core) (named : Naming) (events : List Event) (n : Naming) (before after : Core) (t : ℕ) (cmd : Cmd) (told : Told) → IsWorld before → AreIdle before → (mutator before t).left ≡ false → Carries script t (made_in events t) before cmd told after → Went script first named events n before

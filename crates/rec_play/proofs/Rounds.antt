@@ -32,7 +32,7 @@ use Rattle.rec_settle.specs.Collecting.{Follows}
 use Rattle.rec_play.specs.declared.actor.Actor.{Actor}
 use Rattle.rec_play.specs.declared.actor.Actor.TheVariants.{Mutator, Collector}
 use Rattle.rec_play.specs.Moves.{AreThere, Carries, IsSpent, MakesCommand, MakesStep, Player, made_by}
-use Rattle.rec_play.specs.Played.{AreReady, IsPlayed, config_of, lengths_of, lines_of}
+use Rattle.rec_play.specs.Played.{AreReady, IsPlayed, IsStopped, config_of, lengths_of, lines_of}
 use Rattle.rec_play.specs.Start.{IsStartOf, MayBegin, Start, names_at}
 use Rattle.rec_play.specs.Playing.{all_turns, generator_of, mutators_of, number_of_actor, order, to_come}
 use Rattle.rec_play.specs.Run.{IsPlayedRun, EndsTurn, commands_of, made_in}
@@ -75,6 +75,7 @@ run_made script first named made acted events n k before after t cmd told counte
       command = carries.command;
       answer = carries.answer;
       not_yet = carries.not_yet;
+      full = carries.full;
     })
     names
 
@@ -286,6 +287,33 @@ step_made script first named seed turns before after journals noted p q seen tur
       epochs = omega (arith, so.epochs, ap collectors makes.turn_so, makes.requested);
     }
 
+-- the lines of a journal
+lines_at : (journals : List Notes) (i : ℕ) → slice_index_or (lines_of journals) i [] ≡ (notes_at journals i).lines
+lines_at journals i = elim (cases_lt i (length journals)) [
+  | inl there ↦ get_or-map (λ (j : Notes). j.lines) journals i no_notes [] there
+  | inr past ↦
+      get_or_past (lines_of journals) i [] (subst (λ n. n ≤ i) (sym (length-map journals (λ (j : Notes). j.lines))) past)
+      ∙ sym (ap (λ (j : Notes). j.lines) (get_or_past journals i no_notes past))
+]
+
+-- A step of the collector was made, and nothing behind it.
+pub run_stopped : (script : ScriptContents) (first : Core) (named : Naming) (seed turns : ℕ) (world : Core) (journals : List Notes) (noted : Turns) (p : Player) (later : List Actor) (after : Core) → to_come p.rest ≡ Collector ∷ later → after ≡ turned world
+    → Between script first named seed turns world journals noted p → IsStopped script first named seed turns (lines_of journals) noted.list after
+run_stopped script first named seed turns world journals noted p later after next is so =
+    record {
+      acted = so.acted;
+      later = later;
+      all = ap (λ t. so.acted ++ t) (sym next) ∙ so.all;
+      events = so.events;
+      names = so.names;
+      before = world;
+      run = so.run;
+      stopped = is;
+      one_each = length-map journals (λ (j : Notes). j.lines) ∙ so.one_each;
+      lines = λ t some. so.lines t some ∙ sym (lines_at journals (t - 1));
+      order_so = so.order_so;
+    }
+
 -- After the last turn.
 module _ (script : ScriptContents) (first : Core) (named : Naming) (seed turns : ℕ) (world : Core) (journals : List Notes) (noted : Turns) (p : Player) (none : to_come p.rest ≡ []) (so : Between script first named seed turns world journals noted p) where
   -- the order is the rule's
@@ -305,12 +333,7 @@ module _ (script : ScriptContents) (first : Core) (named : Naming) (seed turns :
 
   -- the lines of a mutator are those of its journal
   own : (t : ℕ) → 0 < t → filter_map (line_by t) so.events ≡ slice_index_or (lines_of journals) (t - 1) []
-  own t some = so.lines t some ∙ sym (elim (cases_lt (t - 1) (length journals)) [
-    | inl there ↦ get_or-map (λ (j : Notes). j.lines) journals (t - 1) no_notes [] there
-    | inr past ↦
-        get_or_past (lines_of journals) (t - 1) [] (subst (λ n. n ≤ t - 1) (sym (length-map journals (λ (j : Notes). j.lines))) past)
-        ∙ sym (ap (λ (j : Notes). j.lines) (get_or_past journals (t - 1) no_notes past))
-  ])
+  own t some = so.lines t some ∙ sym (lines_at journals (t - 1))
 
   commands : map (map (λ (line : Line). line.0)) (lines_of journals) ≡ script.commands
   commands =

@@ -14,6 +14,7 @@ use Rattle.rec_mutator.specs.declared.work.Work.TheVariants as works
 use Rattle.rec_collector.specs.declared.turn.Turn.{Turn}
 use Rattle.rec_core.specs.Core.{Core, mutator}
 use Rattle.rec_core.specs.Moves.{found_by}
+use Rattle.rec_core.specs.StepAnswers.{IsFilled}
 use Rattle.rec_core.specs.Worked.{IsWorked}
 use Rattle.rec_order.specs.Naming.{Naming, NamesGoOn}
 use Rattle.rec_core.specs.Turn.{step_seen}
@@ -61,6 +62,7 @@ pub record Carries (script : ScriptContents) (t made : ℕ) (before : Core) (cmd
   pub command : IsWorked polled t (works.Command cmd) after
   pub answer : answer_of (mutator after t) ≡ Some (makes.Answered told)
   pub not_yet : (told.answer ≡ answers.NotYet) ↔ IsAwaited (mutator command.last t) (found_by command.last t) cmd
+  pub full : told.answer ≡ answers.Full → IsFilled command.last
   pub names : (n : Naming) → (k : Naming) × NamesGoOn before after (cmd, told) n k
 
 -- A command was made that was the mutator's turn of the rule. It requests no epoch.

@@ -1,14 +1,17 @@
 -- What the commands of a script gave when they were played.
-use Rattle.std.specs.Prelude.{◌≡◌, ℕ, ◌≤◌, List, [], map, length, slice_index_or}
-use Rattle.std.specs.List.{All}
+use Rattle.std.specs.Prelude.{◌≡◌, ℕ, ◌-◌, ◌<◌, ◌≤◌, List, [], ◌∷◌, ◌++◌, map, length, slice_index_or}
+use Rattle.std.specs.List.{All, filter_map}
 use Rattle.rec_model.specs.declared.command.Cmd.{Cmd}
-use Rattle.rec_model.specs.LegalOrder.{Line, Event, Limits, Moment, after_all, actors, IsLegalOrder, NoLogFull}
+use Rattle.rec_model.specs.LegalOrder.{Line, Event, Limits, Moment, after_all, actors, line_by, IsLegalOrder, NoLogFull}
 use Rattle.rec_model.specs.Sight.{StandsBy}
 use Rattle.rec_core.specs.Core.{Core, sight}
+use Rattle.rec_core.specs.Moves.{turned}
 use Rattle.rec_world.specs.Journal.{Notes, no_notes}
 use Rattle.rec_order.specs.Naming.{Naming}
 use Rattle.rec_script.specs.Script.{ScriptContents}
-use Rattle.rec_play.specs.Playing.{order, all_turns}
+use Rattle.rec_play.specs.declared.actor.Actor.{Actor}
+use Rattle.rec_play.specs.declared.actor.Actor.TheVariants.{Collector}
+use Rattle.rec_play.specs.Playing.{order, all_turns, mutators_of}
 use Rattle.rec_play.specs.Run.{IsPlayedRun}
 use Rattle.rec_play.specs.Start.{Start, moment_at, names_at}
 pub use Rattle.rec_play.specs.Numbers.{longest, log_room, config_of}
@@ -48,3 +51,18 @@ pub record IsPlayed (script : ScriptContents) (start : Start) (seed turns : ℕ)
   pub stands : StandsBy (last_moment script start events).heap (sight world) names.number
   -- no answer is that a log is full
   pub no_log_full : NoLogFull journals
+
+-- The run of a script stopped behind a step of the collector. The journals and the order tell all turns before that step, and the heap is
+-- the one that the step left.
+pub record IsStopped (script : ScriptContents) (first : Core) (named : Naming) (seed turns : ℕ) (journals : List (List Line)) (noted : List ℕ) (after : Core) : Type 0 where
+  pub acted : List Actor
+  pub later : List Actor
+  pub all : acted ++ Collector ∷ later ≡ all_turns (lengths_of script) seed turns
+  pub events : List Event
+  pub names : Naming
+  pub before : Core
+  pub run : IsPlayedRun script first named acted events names before
+  pub stopped : after ≡ turned before
+  pub one_each : length journals ≡ length script.commands
+  pub lines : (t : ℕ) → 0 < t → filter_map (line_by t) events ≡ slice_index_or journals (t - 1) []
+  pub order_so : noted ≡ mutators_of acted

@@ -13,6 +13,7 @@ use Rattle.rec_mutator.specs.declared.work.Work.TheVariants as works
 use Rattle.rec_collector.specs.Next.{next_of}
 use Rattle.rec_core.specs.Core.{Core, mutator}
 use Rattle.rec_core.specs.Moves.{found_by, turned}
+use Rattle.rec_core.specs.StepAnswers.{IsFilled}
 use Rattle.rec_core.specs.Worked.{IsWorked, WaitsFor}
 use Rattle.rec_order.specs.Events.{swept_by}
 use Rattle.rec_order.specs.Naming.{Naming, NamesGoOn}
@@ -39,6 +40,8 @@ pub record IsTurnOf (script : ScriptContents) (events : List Event) (t : ℕ) (c
   -- that is NotYet just where the step that answers is the first one of leaving, and found by the own crossing word that the log that was
   -- handed over last is still to be collected
   pub not_yet : (told.answer ≡ answers.NotYet) ↔ IsAwaited (mutator command.last t) (found_by command.last t) cmd
+  -- and Full only where every slot held an object at that step
+  pub full : told.answer ≡ answers.Full → IsFilled command.last
 
 -- How a turn of the collector ends, after its step, where each mutator has made so many commands. One for which it waited, and
 -- that has no command left, polls: no turn of its own comes in which it could cross. Else nothing follows.

@@ -9,7 +9,8 @@ ghost use Rattle.rec_collector.specs.Shown.{Shown};
 ghost use Rattle.rec_core.specs.Core.{sight};
 ghost use Rattle.rec_core.specs.Shown.{Shows};
 ghost use Rattle.rec_order.specs.Legal.{AreIdle};
-ghost use Rattle.rec_play.specs.Played.{AreReady, IsPlayed, config_of, last_moment, lengths_of, lines_of};
+ghost use Rattle.rec_order.specs.Naming.{Naming};
+ghost use Rattle.rec_play.specs.Played.{AreReady, IsPlayed, IsStopped, config_of, last_moment, lengths_of, lines_of};
 ghost use Rattle.rec_play.specs.Playing.{order as order_of};
 ghost use Rattle.rec_play.specs.Start.{IsStartOf, MayBegin, Start};
 ghost use Rattle.rec_play.specs.Shown.{IsShownWhole, StopsBehind};
@@ -89,6 +90,8 @@ pub fn play_watched<W: Watch>(
     // where it refused one, those before it.
     ensures shown { IfOk result (λ done. (shown : List Shown) × IsShownWhole script.now seed turns world.old shown world.new × W.WasShown watch.old shown watch.new × Shows world.old shown world.new) }
     ensures refused { IfErr result (λ error. (shown : List Shown) × StopsBehind script.now seed turns world.old shown world.new × W.WasShown watch.old shown watch.new) }
+    // The journals and the order tell the turns before that step then, whichever objects the slots held at first.
+    ensures stopped { IfErr result (λ error. (named : Naming) → IsStopped script.now world.old named seed turns (lines_of journals.new) order.new.list world.new) }
     ensures rose { IfErr result (λ error. Rose (W.refused watch.old) (W.refused watch.new)) }
     ensures never_falls { W.refused watch.old ≤ W.refused watch.new }
 {

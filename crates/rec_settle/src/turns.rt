@@ -99,7 +99,8 @@ impl Settling {
         ensures goes { IfOk result (λ told. Goes self.old world.old told self.new world.new) }
         ensures shown { IfOk result (λ told. W.WasShown watch.old (told_shown self.old world.old told) watch.new) }
 
-        ensures refused { IfErr result (λ error. (self.old ≡ stages.Settling.Settled → ⊥) × (world.new ≡ turned (offered self.old world.old))) }
+        // Where it was refused, the step is made, and the stage is that of the step: whether it completed a collection isn't told.
+        ensures refused { IfErr result (λ error. (self.old ≡ stages.Settling.Settled → ⊥) × (self.new ≡ begun self.old) × (world.new ≡ turned (offered self.old world.old))) }
         ensures unshown { IfErr result (λ error. W.WasShown watch.old [] watch.new) }
         ensures rose { IfErr result (λ error. Rose (W.refused watch.old) (W.refused watch.new)) }
         ensures never_falls { W.refused watch.old ≤ W.refused watch.new }

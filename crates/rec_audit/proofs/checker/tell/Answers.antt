@@ -103,10 +103,10 @@ pub sweep-requires-clause-slot : goal.sweep-requires-clause-slot
 sweep-requires-clause-slot c = let n = numbers_of c.args.form c.args.kind Sweep c.args.numbers.now c.in-Sweep.is c.requires.stands in omega (arith, n.slot, c.requires.size)
 
 pub returns-in-Sweep-clause-size : goal.returns-in-Sweep-clause-size
-returns-in-Sweep-clause-size c = c.sweep.ensures.size ∙ c.requires.size ∙ sym (heap_kept c.args.form c.args.kind Sweep c.args.numbers.now c.in-Sweep.is refl)
+returns-in-Sweep-clause-size c = on_ok_weaker c.sweep.result (λ e. e ∙ c.requires.size ∙ sym (heap_kept c.args.form c.args.kind Sweep c.args.numbers.now c.in-Sweep.is refl)) c.sweep.ensures.size
 
 pub returns-in-Sweep-clause-graph : goal.returns-in-Sweep-clause-graph
-returns-in-Sweep-clause-graph c = λ lines stand at is. c.sweep.ensures.graph lines (line_of c.args.kind c.args.numbers.now) is (record { kind = c.in-Sweep.is; slot-is = refl })
+returns-in-Sweep-clause-graph c = on_ok_weaker c.sweep.result (λ tells lines stand at is. tells lines (line_of c.args.kind c.args.numbers.now) is (record { kind = c.in-Sweep.is; slot-is = refl })) c.sweep.ensures.graph
 
 pub returns-in-Title-clause-size : goal.returns-in-Title-clause-size
 returns-in-Title-clause-size c =

@@ -6,7 +6,7 @@ use Rattle.rec_model.specs.declared.command.Cmd.{Cmd}
 use Rattle.rec_settle.proofs.Waiting.{others_idle}
 use Rattle.rec_play.specs.Run.{commands_of}
 use Rattle.rec_play.proofs.Due.{commands_are}
-use Rattle.rec_play.proofs.Going.{told_not_yet}
+use Rattle.rec_play.proofs.Going.{told_why}
 use Rattle.rec_play.proofs.Named.{names_go}
 use Rattle.rec_play.proofs.There.{stays_on}
 use Rattle.rec_play.proofs.player.give_turn.Goals as goal
@@ -17,14 +17,16 @@ returns-clause-carried c =
     let own : commands_of c.args.script.now c.args.t ≡ cmds = commands_are c.args.script.now c.args.t c.requires.some ∙ get_or_from_slice_get c.args.script.now.commands (c.args.t - 1) cmds [] c.commands.ensures.value in
     let next : c.args.made < length cmds = subst (λ (xs : List Cmd). c.args.made < length xs) own c.requires.next in
     let (slot, seen, lowest) = c.command-told.ensures.changes.seen in
+    let why = told_why c.args.script.now c.poll.new.self c.command-told.new.self c.args.t _ c.command-told.result c.poll.ensures.kept (c.poll.ensures.quiet.config ∙ c.requires.config) c.requires.some c.requires.most c.poll.ensures.idle
+    (c.poll.ensures.left ∙ c.requires.present) (c.commands.ensures.valid.in_range c.args.made _ next) c.command-told.ensures.worked c.command-told.ensures.answer in
     record {
       next = ap (λ xs. slice_get xs c.args.made) own ∙ slice_get-get_or cmds c.args.made _ next;
       polled = c.poll.new.self;
       poll = c.poll.ensures.worked;
       command = c.command-told.ensures.worked;
       answer = c.command-told.ensures.answer;
-      not_yet = told_not_yet c.args.script.now c.poll.new.self c.command-told.new.self c.args.t _ c.command-told.result c.poll.ensures.kept (c.poll.ensures.quiet.config ∙ c.requires.config) c.requires.some c.requires.most c.poll.ensures.idle
-          (c.poll.ensures.left ∙ c.requires.present) (c.commands.ensures.valid.in_range c.args.made _ next) c.command-told.ensures.worked c.command-told.ensures.answer;
+      not_yet = why.not_yet;
+      full = why.full;
       names = names_go c.args.world.now c.poll.new.self c.command-told.new.self slot c.args.t _ c.command-told.result c.poll.ensures.quiet.seen seen lowest;
     }
 

@@ -19,7 +19,7 @@ use Rattle.rec_play.specs.Played.{config_of}
 use Rattle.rec_play.specs.Playing.{to_come}
 use Rattle.rec_play.specs.Start.{names_at}
 use Rattle.rec_play.specs.Shown.{IsShownTo, first_player, told_shown}
-use Rattle.rec_play.proofs.Rounds.{Between, HasRoom, all_played, command_made, has_room, journal_is, legally, notes_at, order_made, start, step_made}
+use Rattle.rec_play.proofs.Rounds.{Between, HasRoom, all_played, command_made, has_room, journal_is, legally, notes_at, order_made, run_stopped, start, step_made}
 use Rattle.rec_core.proofs.Shows.{shows_none, shows_then}
 use Rattle.rec_play.proofs.Shows.{command_told, fewer_come, move_made, none_left, player_is, shown_more, shows_told}
 use Rattle.rec_settle.proofs.Goes.{if_err}
@@ -119,6 +119,13 @@ returns-in_err-made-clause-refused g c =
       record { player = c.loop-made.playing; before = c.loop-made.world; so = so.1; later = to_come c.next_watched.new.self.rest; next = c.in_err-made.ensures.refused.0; stopped = c.in_err-made.ensures.refused.1 },
       subst (λ xs. g.W.Watch.WasShown c.args.watch.now xs c.next_watched.new.watch) (append-nil so.0) (g.met.W.Watch.shown_then c.args.watch.now c.loop-made.watch c.next_watched.new.watch so.0 [] so.2 c.in_err-made.ensures.unshown),
     )
+
+pub returns-in_err-made-clause-stopped : goal.returns-in_err-made-clause-stopped
+returns-in_err-made-clause-stopped g c =
+    if_err c.from_residual.result
+    (λ named.
+    run_stopped c.args.script.now c.args.world.now named c.args.seed c.args.turns c.loop-made.world c.loop-made.journals c.loop-made.order c.loop-made.playing (to_come c.next_watched.new.self.rest) c.next_watched.new.world c.in_err-made.ensures.refused.0
+    c.in_err-made.ensures.refused.1 (c.loop-made.invariant.each named))
 
 pub returns-clause-played : goal.returns-clause-played
 returns-clause-played g c = λ at same is.

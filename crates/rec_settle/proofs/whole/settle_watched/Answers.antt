@@ -40,7 +40,7 @@ returns-in_err-next_watched-clause-refused g c =
     let so = c.loop.invariant.shown in
     if_err c.from_residual.result (
       so.0,
-      record { stage = c.loop.settling; before = c.loop.world; so = so.1; on = c.in_err-next_watched.ensures.refused.0; stopped = c.in_err-next_watched.ensures.refused.1 },
+      record { stage = c.loop.settling; before = c.loop.world; so = so.1; on = c.in_err-next_watched.ensures.refused.0; stopped = c.in_err-next_watched.ensures.refused.2 },
       subst (λ xs. g.W.Watch.WasShown c.args.watch.now xs c.next_watched.new.watch) (append-nil so.0) (g.met.W.Watch.shown_then c.args.watch.now c.loop.watch c.next_watched.new.watch so.0 [] so.2 c.in_err-next_watched.ensures.unshown),
     )
 

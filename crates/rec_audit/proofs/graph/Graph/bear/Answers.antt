@@ -11,7 +11,7 @@ pub returns : goal.returns
 returns c =
     let size = ap (length {A = Bool}) c.in_ok-bear.ensures.taken ∙ length-set c.args.self.now.slots.taken.items c.args.slot true in
     record {
-      sized = sized_same c.args.self.now _ c.requires.sized refl refl size
+      sized = sized_same c.args.self.now _ c.requires.sized refl refl refl size
           (subst (λ (ns : List ℕ). All (λ n. n < slots_of c.args.self.now) ns) (sym c.in_ok-bear.ensures.named) (All-push (λ n. n < slots_of c.args.self.now) c.args.self.now.slots.named.items c.args.slot c.requires.sized.named c.requires.slot));
       size = size;
       graph = λ lines line is born. graph_born lines line c.args.slot c.args.self.now _ born refl c.in_ok-bear.ensures.taken c.in_ok-bear.ensures.named refl is;

@@ -12,7 +12,7 @@ pub returns : goal.returns
 returns c =
     let size = ap (λ (v : Vec Bool Global). length v.items) c.in_ok-hold.ensures.taken in
     record {
-      sized = sized_same c.args.self.now _ c.requires.sized refl refl size
+      sized = sized_same c.args.self.now _ c.requires.sized refl refl refl size
           (subst (λ (ns : List ℕ). All (λ n. n < slots_of c.args.self.now) ns) (sym c.in_ok-hold.ensures.named)
           (All-append (λ n. n < slots_of c.args.self.now) c.args.self.now.slots.named.items (held c.args.registers.now) c.requires.sized.named (held_within (slots_of c.args.self.now) c.args.registers.now c.requires.slots)));
       size = size;

@@ -28,7 +28,7 @@ returns-clause-config g c = c.follow.ensures.config ∙ c.in_ok-turn.ensures.tur
 
 pub returns-in_err-turn-clause-refused : goal.returns-in_err-turn-clause-refused
 returns-in_err-turn-clause-refused g c =
-    if_err c.from_residual.result (c.in_default.not-Settled, c.in_err-turn.ensures.refused.1.turned ∙ ap turned c.offer.ensures.offered)
+    if_err c.from_residual.result (c.in_default.not-Settled, c.offer.ensures.stage, c.in_err-turn.ensures.refused.1.turned ∙ ap turned c.offer.ensures.offered)
 
 pub returns-in_err-turn-clause-config : goal.returns-in_err-turn-clause-config
 returns-in_err-turn-clause-config g c = c.in_err-turn.ensures.refused.1.config ∙ ap (λ (x : Core). x.config) c.offer.ensures.offered ∙ offered_config c.args.self.now c.args.world.now
