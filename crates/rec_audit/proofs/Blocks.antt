@@ -8,7 +8,7 @@ use Rattle.rec_log.specs.declared.contents.Contents.{Contents as Buffer}
 use Rattle.rec_log.specs.declared.entry.Entry.{Entry}
 use Rattle.rec_log.specs.declared.entry.Entry.TheVariants as entries
 use Rattle.rec_collector.specs.Private.{buffer_at}
-use Rattle.rec_core.proofs.Journalled.{StandsIn}
+use Rattle.rec_audit.proofs.Journalled.{StandsIn}
 use Rattle.rec_audit.specs.Form.{heap_of, is_epoch, is_heap, number}
 use Rattle.rec_audit.specs.Graph.{closes, is_born, is_dead, is_out, is_put, is_sweep, is_taken, this_block}
 use Rattle.rec_audit.specs.Graphs.{closing_in}

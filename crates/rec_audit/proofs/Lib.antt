@@ -28,3 +28,11 @@ pub mod RunClean
 pub mod Bared
 pub mod BareJournal
 pub mod RunAnswers
+pub mod JournalReach
+pub mod Journalled
+pub mod Newborn
+pub mod NewbornTurns
+pub mod Newly
+pub mod Stamped
+pub mod Logged
+pub mod LoggedTurns

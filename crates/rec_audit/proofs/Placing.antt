@@ -21,7 +21,7 @@ use Rattle.rec_collector.specs.Took.{batched, noted, requested}
 use Rattle.rec_collector.specs.declared.phase.Phase.{Phase}
 use Rattle.rec_collector.specs.declared.phase.Phase.TheVariants.{Freeing, Idle, Looking, Opening, Preparing, Releasing, Returning, Swapping, Trying}
 use Rattle.rec_collector.specs.declared.turn.Turn.{Turn}
-use Rattle.rec_core.specs.Logged.{last_batch, works_in}
+use Rattle.rec_audit.specs.Logged.{last_batch, works_in}
 use Rattle.rec_core.specs.Pending.{applied_at}
 use Rattle.rec_audit.specs.Keeping.{with_batch}
 use Rattle.rec_audit.specs.Runs.{place_of}

@@ -10,7 +10,7 @@ use Rattle.rec_core.specs.Cells.{cell}
 use Rattle.rec_core.specs.Config.{IsConfig}
 use Rattle.rec_core.specs.Core.{Core, cells_of, heap_by, opened}
 use Rattle.rec_core.specs.Kept.{IsKept}
-use Rattle.rec_core.specs.Logged.{works_in}
+use Rattle.rec_audit.specs.Logged.{works_in}
 use Rattle.rec_core.specs.Moves.{AllFit, Move, after_moves, turned, turned_by}
 use Rattle.rec_core.specs.Shown.{Shows, shown_behind, shown_over, turn_shown}
 use Rattle.rec_core.specs.Turn.{seen_at}

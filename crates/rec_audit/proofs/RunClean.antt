@@ -18,12 +18,12 @@ use Rattle.rec_core.specs.Cells.{cell}
 use Rattle.rec_core.specs.Config.{IsConfig}
 use Rattle.rec_core.specs.Core.{Core, cells_of, heap_by}
 use Rattle.rec_core.specs.Kept.{IsKept}
-use Rattle.rec_core.specs.Logged.{last_batch}
+use Rattle.rec_audit.specs.Logged.{last_batch}
 use Rattle.rec_core.specs.Moves.{AllFit, Fits, Move, after_move, after_moves, turned, turned_by}
 use Rattle.rec_core.specs.Shown.{shown_behind, shown_in, shown_over, turn_shown}
 use Rattle.rec_core.specs.Turn.{seen_at}
 use Rattle.rec_core.specs.declared.config.Config.{Config}
-use Rattle.rec_core.proofs.Newborn.{none_in}
+use Rattle.rec_audit.proofs.Newborn.{none_in}
 use Rattle.rec_core.proofs.Runs.{move_kept}
 use Rattle.rec_core.proofs.Turning.{turn_case}
 use Rattle.rec_audit.specs.Form.{number}

@@ -9,13 +9,13 @@ use Rattle.rec_core.specs.Core.{Core}
 use Rattle.rec_core.specs.Kept.{IsKept}
 use Rattle.rec_core.specs.declared.config.Config.{Config}
 use Rattle.rec_core.specs.Loads.{tried_in}
-use Rattle.rec_core.specs.Logged.{last_batch, works_in}
+use Rattle.rec_audit.specs.Logged.{last_batch, works_in}
 use Rattle.rec_core.specs.Moves.{Fits, Move, after_move, stepped}
 use Rattle.rec_core.specs.Pending.{applied_at}
-use Rattle.rec_core.proofs.Journalled.{StandsIn, applied_in}
+use Rattle.rec_audit.proofs.Journalled.{StandsIn, applied_in}
 use Rattle.rec_core.proofs.Lasting.{Keeps, Lasts, lasts_on, move_keeps}
-use Rattle.rec_core.proofs.Newborn.{IsUntold, stepped_taken, stepped_untold}
-use Rattle.rec_core.proofs.NewbornTurns.{begun_untold, offering_untold}
+use Rattle.rec_audit.proofs.Newborn.{IsUntold, stepped_taken, stepped_untold}
+use Rattle.rec_audit.proofs.NewbornTurns.{begun_untold, offering_untold}
 use Rattle.rec_core.proofs.Reach.{steps_keep_taken}
 use Rattle.rec_core.proofs.Runs.{move_kept}
 use Rattle.rec_audit.specs.Form.{heap_of, number}

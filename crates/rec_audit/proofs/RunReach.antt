@@ -23,13 +23,13 @@ use Rattle.rec_core.specs.Core.{Core}
 use Rattle.rec_core.specs.Kept.{IsKept}
 use Rattle.rec_core.specs.Kept as of_core
 use Rattle.rec_core.specs.Loads.{tried_in}
-use Rattle.rec_core.specs.Logged.{last_batch, works_in}
+use Rattle.rec_audit.specs.Logged.{last_batch, works_in}
 use Rattle.rec_core.specs.Pending.{applied_at, pending}
 use Rattle.rec_core.proofs.Freed.{shown_is_gone, shown_is_taken}
-use Rattle.rec_core.proofs.JournalReach.{batch_root, free_word, leads_on, replaced_home, snapshot_root, untold_root, worked_epoch}
-use Rattle.rec_core.proofs.Journalled.{StandsIn, applied_in, replaced_when}
+use Rattle.rec_audit.proofs.JournalReach.{batch_root, free_word, leads_on, replaced_home, snapshot_root, untold_root, worked_epoch}
+use Rattle.rec_audit.proofs.Journalled.{StandsIn, applied_in, replaced_when}
 use Rattle.rec_core.proofs.Lasting.{Lasts, closes}
-use Rattle.rec_core.proofs.Newly.{newer_weighs}
+use Rattle.rec_audit.proofs.Newly.{newer_weighs}
 use Rattle.rec_audit.specs.Form.{heap_of, number}
 use Rattle.rec_audit.specs.Graph.{HasReached, IsReachedAt, has_target, held, is_dead, is_put, is_taken, named_by, opens, opens_from, roots, target_in, targets, this_block}
 use Rattle.rec_audit.specs.Journal.{parts_lines, register_number}

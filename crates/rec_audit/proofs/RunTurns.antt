@@ -27,15 +27,15 @@ use Rattle.rec_core.specs.Core.{Core, box, cells_of}
 use Rattle.rec_core.specs.Kept.{IsKept}
 use Rattle.rec_core.specs.Kept as of_core
 use Rattle.rec_core.specs.Loads.{cleared_by, tried_in}
-use Rattle.rec_core.specs.Logged.{last_batch, works_in}
+use Rattle.rec_audit.specs.Logged.{last_batch, works_in}
 use Rattle.rec_core.specs.Moves.{looked_at, turned_by}
 use Rattle.rec_core.specs.Pending.{applied_at, writes_of}
 use Rattle.rec_core.proofs.Freed.{frees_while_sweeping}
-use Rattle.rec_core.proofs.Journalled.{StandsIn, applied_in, replaced_when}
+use Rattle.rec_audit.proofs.Journalled.{StandsIn, applied_in, replaced_when}
 use Rattle.rec_core.proofs.Lasting.{Lasts, closes, lasts_on, op_keeps}
-use Rattle.rec_core.proofs.Newborn.{IsUntold, none_in}
-use Rattle.rec_core.proofs.NewbornTurns.{IsTold, turned_taken, turned_told}
-use Rattle.rec_core.proofs.Newly.{home_taken, put_lasts}
+use Rattle.rec_audit.proofs.Newborn.{IsUntold, none_in}
+use Rattle.rec_audit.proofs.NewbornTurns.{IsTold, turned_taken, turned_told}
+use Rattle.rec_audit.proofs.Newly.{home_taken, put_lasts}
 use Rattle.rec_collector.proofs.ShownSteps.{shown_as_made}
 use Rattle.rec_core.proofs.Runs.{given_is, rule_of}
 use Rattle.rec_core.proofs.Turns.{now_at}

@@ -34,19 +34,19 @@ use Rattle.rec_core.specs.Bare.{bare_core}
 use Rattle.rec_core.specs.Core.{Core, box, cells_of, heap_by, opened}
 use Rattle.rec_core.specs.Kept.{IsKept}
 use Rattle.rec_core.specs.Kept as of_core
-use Rattle.rec_core.specs.Logged.{HasOwnBuffers, IsOwnBuffer, IsOwnEntry, works_in}
+use Rattle.rec_audit.specs.Logged.{HasOwnBuffers, IsOwnBuffer, IsOwnEntry, works_in}
 use Rattle.rec_core.specs.Moves.{AllFit, Fits, Move, after_move, after_moves, looked_at, turned, turned_by}
 use Rattle.rec_core.specs.Pending.{applied_at}
 use Rattle.rec_core.specs.Shown.{Shows, shown_behind, shown_in, shown_over, turn_shown}
 use Rattle.rec_core.specs.Turn.{seen_at}
 use Rattle.rec_core.specs.declared.config.Config.{Config}
 use Rattle.rec_core.proofs.Freed.{shown_is_within}
-use Rattle.rec_core.proofs.LoggedTurns.{move_own, opened_own}
+use Rattle.rec_audit.proofs.LoggedTurns.{move_own, opened_own}
 use Rattle.rec_core.proofs.BareRuns.{explained, given_is, move_kept, opened_kept, rule_of}
 use Rattle.rec_core.proofs.BareOpened.{heap_bare}
 use Rattle.rec_core.proofs.Dated.{Explains, move_explained}
 use Rattle.rec_core.proofs.Opening as dated_opened
-use Rattle.rec_core.proofs.Stamped.{IsStamped, move_stamped, opened_stamped, stamp_is}
+use Rattle.rec_audit.proofs.Stamped.{IsStamped, move_stamped, opened_stamped, stamp_is}
 use Rattle.rec_core.proofs.Runs.{move_stays}
 use Rattle.rec_core.proofs.Turning.{turn_case}
 use Rattle.rec_audit.specs.Form.{AreHeapNumbers}

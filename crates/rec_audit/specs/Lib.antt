@@ -12,3 +12,4 @@ pub mod Checkers
 pub mod Journal
 pub mod Keeping
 pub mod Runs
+pub mod Logged

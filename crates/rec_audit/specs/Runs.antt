@@ -2,7 +2,7 @@
 use Rattle.std.specs.Prelude.{◌≡◌, ◌⊎◌, ℕ, ◌+◌, slice_index_or}
 use Rattle.rec_model.specs.References.{IsInReach}
 use Rattle.rec_collector.specs.Private.{Private}
-use Rattle.rec_core.specs.Logged.{works_in}
+use Rattle.rec_audit.specs.Logged.{works_in}
 use Rattle.rec_core.specs.Core.{Core}
 use Rattle.rec_core.specs.Pending.{applied_at, pending}
 use Rattle.rec_core.specs.declared.config.Config.{Config}

@@ -5,8 +5,8 @@ ghost use Rattle.rec_collector.specs.Shown.{Shown};
 ghost use Rattle.rec_core.specs.Bare.{Behind};
 ghost use Rattle.rec_core.specs.Config.{IsConfig};
 ghost use Rattle.rec_core.specs.Core.{Core, opened};
-ghost use Rattle.rec_core.specs.Logged.{works_in};
-ghost use Rattle.rec_core.specs.Moves.{AllFit, Move, after_moves, turned};
+ghost use Rattle.rec_audit.specs.Logged.{HasOwnBuffers, works_in};
+ghost use Rattle.rec_core.specs.Moves.{AllFit, Move, RunsFrom, after_moves, turned};
 ghost use Rattle.rec_core.specs.Shown.{Shows, shown_over, turn_shown};
 ghost use Rattle.rec_core.specs.declared.config.Config.{Config};
 ghost use Rattle.rec_audit.specs.Form.{IsInForm, Stand};
@@ -63,4 +63,10 @@ pub fn journals_of_runs_are_answered_yes()
     ensures { (config : Config) (shown : List Shown) (end : Core) → IsConfig config → Shows (opened config) shown end
         → works_in end.collector.phase ≡ false → length (text_of (journal (heap_for config) shown)) ≤ MOST_BYTES
         → IsVerdict (text_of (journal (heap_for config) shown)) (Yes (sets_passed shown)) }
+{}
+
+/// Over every run from an opening with one object, each buffer holds what its own mutator did: places and slots of the heap, and each
+/// write under a stamp of the mutator's number and the write's place in its log.
+pub fn buffers_are_their_mutators_own()
+    ensures { (config : Config) (w : Core) → IsConfig config → RunsFrom (opened config) w → HasOwnBuffers w }
 {}

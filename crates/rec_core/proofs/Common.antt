@@ -72,6 +72,4 @@ pub use Rattle.rec_core.specs.CyclesAt.{AreSeen, HasCyclesAt, IsLoading}
 pub use Rattle.rec_core.specs.Kept.{Handshake, HasCollector, HasCrossed, HasGreens, HasLabelAt, HasLearnt, HasMutators, HasPassed, HasRetired, HaveLearnt, IsActor, IsAhead, IsBehind, IsBufferOf, IsCrossing, HasGone, IsHandshake, IsHeader, IsHeldAt, IsKept, IsKeptBy, IsLeft, IsLeftOf, IsMadeIn, IsOwn, IsSettledIn, IsSomeSwept, LetGo, entries_made, freeing_due, one_if_sweeping, release_due, stand_at, stand_in}
 pub use Rattle.rec_core.specs.Moves.{AllFit, EndsRun, Fits, IsRun, IsStart, Move, RunsFrom, after_move, after_moves, begun, begun_from, collected, found_by, left_by, looked_at, offering, performed, stepped, turned, turned_at, turned_by}
 pub use Rattle.rec_core.specs.Pending.{Filed, applied_at, births_in, births_of, buffers, code, dated_all, dated_names, dated_registers, epoch_at, filed, filed_box, has_let_go, is_parting, older_at, pending, registers_of, slot_of, snapshots_of, writes_in, writes_of}
-pub use Rattle.rec_core.specs.Resting.{AreCounted, AreFound, AreLeaves, AreUnnamed, AreWithinReach, ComesTo, FreesRest, IsHeldIn, PrepRests, RestsIn, Round, SetsRest, TrialRests, TurnsTo, epochs_before, holds}
-pub use Rattle.rec_core.specs.Settling.{AreEmptied, AreLoadsOf, AreUnheld, FindsGarbage, IsGarbage, IsLoadOf, IsOffered, IsReachable, LeadBack, LeadsFromMembers, LeadsToEarlier, heap_sum, leading, leading_outside, offered_slots, outside_sum}
 pub use Rattle.rec_core.specs.declared.config.Config.{Config}

@@ -28,19 +28,12 @@ pub mod EarlyWords
 pub mod Freed
 pub mod Freeing
 pub mod Gathering
-pub mod JournalReach
-pub mod Journalled
 pub mod Landed
 pub mod Landings
 pub mod Lasting
 pub mod Leaving
 pub mod Loads
-pub mod Logged
-pub mod LoggedTurns
 pub mod Moves
-pub mod Newborn
-pub mod NewbornTurns
-pub mod Newly
 pub mod Offering
 pub mod OpenedFrom
 pub mod OpenedFromSeen
@@ -52,7 +45,6 @@ pub mod Places
 pub mod Preparing
 pub mod Reach
 pub mod Releasing
-pub mod Rest
 pub mod Row
 pub mod Rules
 pub mod Runs
@@ -62,7 +54,6 @@ pub mod SetTests
 pub mod Shapes
 pub mod Showing
 pub mod Shows
-pub mod Stamped
 pub mod StampedLate
 pub mod StampedLoads
 pub mod StampDates

@@ -29,7 +29,6 @@ ghost use Rattle.rec_word.specs.Place.{places_of};
 ghost use Rattle.rec_core.specs.CutOff.{IsClear, IsCutOff};
 ghost use Rattle.rec_core.specs.Freed.{AreGone, IsForgotten, IsGone, IsProvenGarbage, Passes, TestsSets};
 ghost use Rattle.rec_core.specs.Kept.{IsKept};
-ghost use Rattle.rec_core.specs.Logged.{HasOwnBuffers};
 ghost use Rattle.rec_core.specs.Loads.{BeginsPreparing, cleared_over, fields_loaded, IsReferenceStill, IsSameTrial, Loaded, loaded_over, named_over};
 ghost use Rattle.rec_core.specs.Preconditions.{MayStep, MayTurn};
 ghost use Rattle.rec_core.specs.Moves.{Move, AllFit, Fits, after_move, after_moves, IsRun, EndsRun, RunsFrom, stepped, turned};
@@ -227,10 +226,4 @@ pub fn conditions_are_met()
 /// dated words behind.
 pub fn shown_sets_are_garbage()
     ensures { (w : Core) → IsConfig w.config → EndsRun w → Behind w (λ v. (members : List ℕ) (slot : ℕ) → passed_of v.collector ≡ Some members → 0 < times slot members → IsGone v slot) }
-{}
-
-/// Over every run from an opening with one object, each buffer holds what its own mutator did: places and slots of the heap, and each
-/// write under a stamp of the mutator's number and the write's place in its log.
-pub fn buffers_are_their_mutators_own()
-    ensures { (config : Config) (w : Core) → IsConfig config → RunsFrom (opened config) w → HasOwnBuffers w }
 {}

@@ -25,7 +25,7 @@ mod part;
 
 pub use config::Config;
 pub use laws::{
-    answers_are_explained, buffers_are_their_mutators_own, conditions_are_met,
+    answers_are_explained, conditions_are_met,
     dated_heaps_count_late, dated_runs_stand_beside, failed_allocations_probed_every_slot,
     freed_slots_are_forgotten, loaded_words_stay_references, nothing_leads_to_what_is_given_up,
     nothing_reached_is_freed, orange_members_stay_untouched, outside_counts_are_of_own_words,

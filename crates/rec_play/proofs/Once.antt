@@ -18,11 +18,11 @@ use Rattle.rec_collector.specs.declared.turn.Turn.TheVariants as answers
 use Rattle.rec_core.specs.Core.{Core, mutator, crossing_of}
 use Rattle.rec_core.specs.Kept.{IsKept}
 use Rattle.rec_core.specs.Moves.{begun, offering, stepped, turned}
-use Rattle.rec_core.specs.Quiet.{AreQuiet}
+use Rattle.rec_settle.specs.Quiet.{AreQuiet}
 use Rattle.rec_core.specs.Worked.{AreIdle, IsWorked, StepsTo, WaitsFor}
 use Rattle.rec_core.proofs.BareRuns.{offering_kept}
-use Rattle.rec_core.proofs.Rest.QuietTurns.{quiet_begun}
-use Rattle.rec_core.proofs.Rest.BareRest.{turn_is}
+use Rattle.rec_settle.proofs.Rest.QuietTurns.{quiet_begun}
+use Rattle.rec_settle.proofs.Rest.BareRest.{turn_is}
 use Rattle.rec_core.proofs.TurnCases.{Awaits, TurnCase}
 use Rattle.rec_order.specs.Naming.{Naming}
 use Rattle.rec_core.specs.Turn.{TurnHasCause}

@@ -5,7 +5,7 @@ use Rattle.std.proofs.lemmas.Grind.{flat_map-append}
 use Rattle.rec_collector.specs.Shown.{Shown}
 use Rattle.rec_core.specs.Config.{IsConfig}
 use Rattle.rec_core.specs.Core.{Core, opened}
-use Rattle.rec_core.specs.Logged.{works_in}
+use Rattle.rec_audit.specs.Logged.{works_in}
 use Rattle.rec_core.specs.Shown.{Shows}
 use Rattle.rec_core.specs.declared.config.Config.{Config}
 use Rattle.rec_core.proofs.Shows.{shows_then}

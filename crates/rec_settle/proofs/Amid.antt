@@ -6,12 +6,12 @@ use Rattle.rec_collector.specs.declared.phase.Phase.TheVariants.{Idle}
 use Rattle.rec_core.specs.Core.{Core}
 use Rattle.rec_core.specs.Kept.{IsKept}
 use Rattle.rec_core.specs.Moves.{turned, Move}
-use Rattle.rec_core.specs.Quiet.{AreQuiet}
-use Rattle.rec_core.specs.Resting.{Round, epochs_before, next_round}
+use Rattle.rec_settle.specs.Quiet.{AreQuiet}
+use Rattle.rec_settle.specs.Resting.{Round, epochs_before, next_round}
 use Rattle.rec_core.proofs.BareRuns.{turned_kept}
 use Rattle.rec_core.proofs.Gathering.{awaited_stays}
-use Rattle.rec_core.proofs.Rest.BareRest.{RestsBehind, TurnsBehind, quiet_turned, rests_polled, rests_turned}
-use Rattle.rec_core.proofs.Rest.QuietPolls.{polled_kept, quiet_polled}
+use Rattle.rec_settle.proofs.Rest.BareRest.{RestsBehind, TurnsBehind, quiet_turned, rests_polled, rests_turned}
+use Rattle.rec_settle.proofs.Rest.QuietPolls.{polled_kept, quiet_polled}
 use Rattle.rec_core.proofs.Runs.{move_stays}
 use Rattle.rec_settle.specs.Collecting.{IsAmid, IsCollection}
 

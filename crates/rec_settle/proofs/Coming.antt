@@ -13,8 +13,8 @@ use Rattle.rec_core.specs.Core.{Core}
 use Rattle.rec_core.specs.Kept.{IsKept}
 use Rattle.rec_core.specs.Moves.{offering, turned}
 use Rattle.rec_core.specs.declared.config.Config.{Config}
-use Rattle.rec_core.proofs.Rest.QuietTurns.{quiet_begun}
-use Rattle.rec_core.proofs.Rest.Rounds.{busy_way}
+use Rattle.rec_settle.proofs.Rest.QuietTurns.{quiet_begun}
+use Rattle.rec_settle.proofs.Rest.Rounds.{busy_way}
 use Rattle.rec_core.specs.Turn.{TurnHasCause}
 use Rattle.rec_world.specs.World.{IsWorld}
 use Rattle.rec_world.proofs.Calls.{world_kept}

@@ -2,6 +2,7 @@
 pub mod Amid
 pub mod Coming
 pub mod Goes
+pub mod Rest
 pub mod Settles
 pub mod Shows
 pub mod Stays

@@ -7,13 +7,13 @@ use Rattle.rec_collector.proofs.Landing.{under_way_most}
 use Rattle.rec_core.specs.Core.{Core}
 use Rattle.rec_core.specs.Kept.{IsKept}
 use Rattle.rec_core.specs.Moves.{offering}
-use Rattle.rec_core.specs.Quiet.{AreQuiet}
-use Rattle.rec_core.specs.Resting.{Round}
+use Rattle.rec_settle.specs.Quiet.{AreQuiet}
+use Rattle.rec_settle.specs.Resting.{Round}
 use Rattle.rec_core.specs.Settled.{IsSettled}
 use Rattle.rec_core.proofs.BareRuns.{offering_kept}
-use Rattle.rec_core.proofs.Rest.BareRest.{RestsBehind, rests_offered, settled_behind}
-use Rattle.rec_core.proofs.Rest.QuietTurns.{quiet_begun}
-use Rattle.rec_core.proofs.Rest.Rounds.{busy_way}
+use Rattle.rec_settle.proofs.Rest.BareRest.{RestsBehind, rests_offered, settled_behind}
+use Rattle.rec_settle.proofs.Rest.QuietTurns.{quiet_begun}
+use Rattle.rec_settle.proofs.Rest.Rounds.{busy_way}
 use Rattle.rec_settle.specs.Collecting.{AreIdle, IsCollection, Finishes, IsSettling}
 use Rattle.rec_settle.proofs.Amid.{quiet_after, rests_after}
 use Rattle.rec_settle.proofs.Stays.{Stays, stays_after, stays_same, stays_then}

@@ -9,13 +9,13 @@ use Rattle.rec_collector.specs.declared.phase.Phase.TheVariants.{Sweeping, Closi
 use Rattle.rec_core.specs.Core.{Core, sight}
 use Rattle.rec_core.specs.Kept.{IsKept}
 use Rattle.rec_core.specs.Moves.{turned}
-use Rattle.rec_core.specs.Quiet.{AreQuiet}
+use Rattle.rec_settle.specs.Quiet.{AreQuiet}
 use Rattle.rec_core.specs.Swept.{swept}
 use Rattle.rec_core.proofs.BareRuns.{turned_keeps}
 use Rattle.rec_core.proofs.TurnCases.{Awaits, TurnCase}
 use Rattle.rec_core.proofs.Reach.{keeps_stands_by}
 use Rattle.rec_core.proofs.Swept.{preparation_sweeps, test_sweeps, trial_sweeps}
-use Rattle.rec_core.proofs.Rest.BareRest.{turn_is}
+use Rattle.rec_settle.proofs.Rest.BareRest.{turn_is}
 use Rattle.rec_core.proofs.Turns.{now_at}
 use Rattle.rec_settle.specs.Collecting.{IsAmid, IsCollection}
 use Rattle.rec_settle.proofs.Amid.{quiet_amid}

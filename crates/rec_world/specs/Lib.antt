@@ -23,13 +23,10 @@ pub use Rattle.rec_core.specs.Moves
 pub use Rattle.rec_core.specs.Objects
 pub use Rattle.rec_core.specs.OpenedFrom
 pub use Rattle.rec_core.specs.Pending
-pub use Rattle.rec_core.specs.Quiet
 pub use Rattle.rec_core.specs.Reach
-pub use Rattle.rec_core.specs.Resting
 pub use Rattle.rec_core.specs.Row
 pub use Rattle.rec_core.specs.Scans
 pub use Rattle.rec_core.specs.Settled
-pub use Rattle.rec_core.specs.Settling
 pub use Rattle.rec_core.specs.StepAnswers
 pub use Rattle.rec_core.specs.Swept
 pub use Rattle.rec_core.specs.Unfinished
