@@ -1,0 +1,17 @@
+//! What holds of every run, as the contract of a function that does nothing.
+ghost use Rattle.std.specs.Prelude.{◌≡◌, ℕ, List};
+ghost use Rattle.rec_collector.specs.declared.phase.Phase.TheVariants.{Idle};
+ghost use Rattle.rec_core.specs.Config.{IsConfig};
+ghost use Rattle.rec_core.specs.Core.{Core, sight};
+ghost use Rattle.rec_core.specs.Moves.{Move, AllFit, EndsRun};
+ghost use Rattle.rec_prompt.specs.Lost.{IsBehindNoCycle, IsLost};
+ghost use Rattle.rec_prompt.specs.Prompt.{Complete, IsFreed};
+
+/// A lost slot to which no cycle leads is freed by the end of the second collection, whatever it leads to. Take any state of any run in
+/// which no collection is under way, and any moves of mutators and collector from there over which two collections become complete. Then
+/// a turn among these moves frees each slot that held an object in that state, that no register reached there, and to which no cycle
+/// led. What mutators do meanwhile is open. From a state in which a collection is under way, three collections are enough.
+pub fn lost_slots_behind_no_cycle_are_freed()
+    ensures idle { (w : Core) (moves : List Move) (slot : ℕ) → IsConfig w.config → EndsRun w → w.collector.phase ≡ Idle → AllFit w moves → Complete 2 w moves → IsLost (sight w) slot → IsBehindNoCycle (sight w) slot → IsFreed w moves slot }
+    ensures under_way { (w : Core) (moves : List Move) (slot : ℕ) → IsConfig w.config → EndsRun w → AllFit w moves → Complete 3 w moves → IsLost (sight w) slot → IsBehindNoCycle (sight w) slot → IsFreed w moves slot }
+{}
