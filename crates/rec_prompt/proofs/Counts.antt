@@ -1,17 +1,18 @@
 -- Between two collections each slot has a count. Where every buffer is clean of a slot, its count is the number of fields that name it.
 -- So a field leads to it.
-use Rattle.std.proofs.Common.{◌≡◌, inl, inr, ℕ, suc, ◌+◌, ◌-◌, ◌<◌, ◌≤◌, ◌==◌, nat_le, true, List, [], ◌∷◌, Option, None, Some, length, slice_index_or, refl, sym, ap, subst, ◌∙◌, arith}
+use Rattle.std.proofs.Common.{◌≡◌, inl, inr, ℕ, suc, ◌+◌, ◌-◌, ◌<◌, ◌≤◌, ◌==◌, nat_le, nat_lt, if◌then◌else◌, count_by, true, List, [], ◌∷◌, Option, None, Some, length, slice_index_or, refl, sym, ap, subst, ◌∙◌, arith}
 use Rattle.std.specs.List.{sum_by, flat_map}
 use Rattle.std.proofs.lemmas.Bool.{cases_eq, cases_lt, ne_eqb}
 use Rattle.std.proofs.lemmas.List.Sums.{sum_by-cons, sum_by-le-sum_by}
-use Rattle.rec_core.proofs.Common.{target_of, is_node, is_at, is_from, replaces_from, names, one_if_same, only_if, only_if-le, none_if_differs, node_of, epoch_of, dated, Write, sum_at, IsTaken, Contents, buffer_at, Idle, IsMutator, Core, box, mutator, nobody, sight, IsKept, Filed, writes_in, births_in, dated_names, older_at, epoch_at, buffers, pending, slot_at, Slot, writes_of, births_of, snapshots_of}
+use Rattle.rec_core.proofs.Common.{target_of, is_node, is_at, is_from, replaces_from, puts_after, names, is_slot, one_if_same, only_if, only_if-le, none_if_differs, node_of, epoch_of, dated, Write, sum_at, IsTaken, Contents, buffer_at, Idle, IsMutator, Core, box, mutator, nobody, sight, IsKept, Filed, writes_in, births_in, dated_names, older_at, epoch_at, buffers, pending, slot_at, Slot, writes_of, births_of, snapshots_of}
 use Rattle.rec_collector.specs.Kept.{under_way}
 use Rattle.rec_collector.specs.Private as collectors
 use Rattle.rec_collector.proofs.Following.{none_released}
-use Rattle.rec_core.proofs.Batches.{none_of}
+use Rattle.rec_core.proofs.Batches.{none_of, same_word}
 use Rattle.rec_core.proofs.Steps.{slot_there, taken_slot}
 use Rattle.rec_core.proofs.Sums.{share, log_share, box_share, buffers_sum, zip_sum-none}
 use Rattle.rec_core.proofs.Turns.{now_at}
+use Rattle.rec_prompt.specs.Lost.{fields_to}
 use Rattle.rec_prompt.proofs.Begun.{between}
 use Rattle.rec_prompt.proofs.Forgets.{counted, Forgets, IsClean, node_leads, spare_clean}
 
@@ -60,6 +61,11 @@ counted_leads word slot some = elim (cases_eq (slot + 1) (node_of word)) [
   | inr other ↦ absurd (omega (arith, some, none_if_differs (slot + 1) (node_of word) other))
 ]
 
+-- how many words lead to a slot
+fields_named : (slot : ℕ) (words : List ℕ) → sum_at (names (slot + 1)) words ≡ count_by (λ word. is_slot slot (target_of word)) words
+fields_named slot [] = refl
+fields_named slot (word ∷ words) = omega (arith, same_word slot word, fields_named slot words, sum_by-cons (λ word. if is_slot slot (target_of word) then 1 else 0) word words)
+
 -- Between two collections, once the buffers are late enough, a field leads to each slot that is lost and isn't freed.
 module _ (late : ℕ) (first : Core) (lost : ℕ → Type 0) (v : Core) (kept : IsKept true v) (idle : v.collector.phase ≡ Idle) (f : Forgets late first lost v) (past : late + 1 ≤ counted v) (slot : ℕ) (gone : lost slot) where
   way : under_way v.collector.phase ≡ 0
@@ -98,6 +104,13 @@ module _ (late : ℕ) (first : Core) (lost : ℕ → Type 0) (v : Core) (kept : 
     buffers_none (λ (e : Write). one_if_same (slot + 1) (node_of e.old)) (λ (b : Filed). writes_in b.buffer.entries) slot v (λ epoch b c. c.replaced) clean,
   )
 
+  puts_none : sum_by (puts_after (pending v).applied (slot + 1)) (writes_of v) ≡ 0
+  puts_none = omega (
+    arith,
+    sum_by-le-sum_by (puts_after (pending v).applied (slot + 1)) (λ (e : Write). one_if_same (slot + 1) (node_of e.new)) (writes_of v) (λ e. only_if-le (nat_lt (pending v).applied (epoch_of e.new)) (one_if_same (slot + 1) (node_of e.new))),
+    buffers_none (λ (e : Write). one_if_same (slot + 1) (node_of e.new)) (λ (b : Filed). writes_in b.buffer.entries) slot v (λ epoch b c. c.put) clean,
+  )
+
   births_none : sum_by (is_from (pending v).applied (slot + 1)) (births_of v) ≡ 0
   births_none = omega (
     arith,
@@ -128,16 +141,21 @@ module _ (late : ℕ) (first : Core) (lost : ℕ → Type 0) (v : Core) (kept : 
       let taken : IsTaken (sight v) slot = f.taken slot gone in
       ap (λ b. only_if b 1) (ap (λ n. slice_index_or v.headers n 0 == 0) at ∙ ne_eqb (slice_index_or v.headers slot 0) 0 (λ e. omega (arith, taken, e)))
 
+  counted_names : (slot_at v.collector.counts slot).count ≡ sum_at (names (slot + 1)) v.words
+  counted_names = omega (
+    arith,
+    kept.accounted.ledger (slot + 1) (omega arith),
+    ap (λ (s : Slot). s.count) (slot_there v kept slot below),
+    puts_none,
+    replaced_none,
+    births_none,
+    snapshots_none,
+    taken_none,
+  )
+
+  -- its count is the number of fields that lead to it
+  pub counted_fields : (slot_at v.collector.counts slot).count ≡ fields_to (sight v) slot
+  counted_fields = counted_names ∙ fields_named slot v.words
+
   pub led_to : (place : ℕ) × (target_of (slice_index_or v.words place 0) ≡ Some slot)
-  led_to =
-      let some = some_at (names (slot + 1)) v.words (omega (
-        arith,
-        kept.accounted.ledger (slot + 1) (omega arith),
-        ap (λ (s : Slot). s.count) (slot_there v kept slot below),
-        has_count,
-        replaced_none,
-        births_none,
-        snapshots_none,
-        taken_none,
-      )) in
-      (some.0, counted_leads (slice_index_or v.words some.0 0) slot some.1)
+  led_to = let some = some_at (names (slot + 1)) v.words (omega (arith, counted_names, has_count)) in (some.0, counted_leads (slice_index_or v.words some.0 0) slot some.1)

@@ -32,8 +32,9 @@ node_leads word slot is = go (target_of word) refl
     go None e = absurd (omega (arith, is, code_target word, ap code e))
     go (Some m) e = let same : m ≡ slot = omega (arith, is, code_target word, ap code e) in ap Some same
 
--- No write in the buffer replaced a word that leads to the slot, no birth in it is the slot's, and its snapshot doesn't name it.
+-- No write in the buffer put or replaced a word that leads to the slot, no birth in it is the slot's, and its snapshot doesn't name it.
 pub record IsClean (slot : ℕ) (b : Contents) : Type 0 where
+  pub put : sum_by (λ (e : Write). one_if_same (slot + 1) (node_of e.new)) (writes_in b.entries) ≡ 0
   pub replaced : sum_by (λ (e : Write). one_if_same (slot + 1) (node_of e.old)) (writes_in b.entries) ≡ 0
   pub births : (epoch : ℕ) → sum_by (is_node (slot + 1)) (births_in epoch b.entries) ≡ 0
   pub snapshot : (r : ℕ) → slice_index_or b.snapshot r None ≡ Some slot → ⊥
@@ -41,6 +42,7 @@ pub record IsClean (slot : ℕ) (b : Contents) : Type 0 where
 -- a buffer without entries, with a null snapshot, is clean
 pub empty_clean : (slot n : ℕ) (b : Contents) → b.entries ≡ [] → b.snapshot ≡ replicate n None → IsClean slot b
 empty_clean slot n b none null = record {
+  put = ap (λ es. sum_by (λ (e : Write). one_if_same (slot + 1) (node_of e.new)) (writes_in es)) none;
   replaced = ap (λ es. sum_by (λ (e : Write). one_if_same (slot + 1) (node_of e.old)) (writes_in es)) none;
   births = λ epoch. ap (λ es. sum_by (is_node (slot + 1)) (births_in epoch es)) none;
   snapshot = λ r names. let not_so : None ≡ Some slot = sym (ap (λ (xs : List (Option ℕ)). slice_index_or xs r None) null ∙ null_at n r) ∙ names in cc;

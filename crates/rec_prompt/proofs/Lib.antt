@@ -6,5 +6,6 @@ pub mod Forgets
 pub mod Moves
 pub mod Prompt
 pub mod Sees
+pub mod Stays
 pub mod Steps
 pub mod Turns

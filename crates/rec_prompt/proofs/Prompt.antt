@@ -62,14 +62,14 @@ module _ (v : Core) (ms : List Move) (slot : ℕ) (kept : IsKept true v) (fit : 
 -- ---- the heap itself
 
 -- a field leads where it leads in the heap of dated words behind
-leads_bare : (v : Core) (from to : ℕ) → Leads (sight v) from to → Leads (sight (bare_core v)) from to
+pub leads_bare : (v : Core) (from to : ℕ) → Leads (sight v) from to → Leads (sight (bare_core v)) from to
 leads_bare v from to (field, within, leads) = (field, within, ap target_of (get_or-map bare v.words (place_of from field v.config.fields) 0) ∙ target_of_bare (slice_index_or v.words (place_of from field v.config.fields) 0) ∙ leads)
 
 leads_on_bare : (v : Core) (from to : ℕ) → LeadsOn (sight v) from to → LeadsOn (sight (bare_core v)) from to
 leads_on_bare v from to (step one) = step (leads_bare v from to one)
 leads_on_bare v from to (further path one) = further (leads_on_bare v from _ path) (leads_bare v _ to one)
 
-lost_behind : (v : Core) (slot : ℕ) → IsLost (sight (bare_core v)) slot → IsLost (sight v) slot
+pub lost_behind : (v : Core) (slot : ℕ) → IsLost (sight (bare_core v)) slot → IsLost (sight v) slot
 lost_behind v slot gone = record { taken = gone.taken; unreached = λ from. gone.unreached (reached_bare v slot from) }
 
 no_cycle_behind : (v : Core) (slot : ℕ) → IsBehindNoCycle (sight (bare_core v)) slot → IsBehindNoCycle (sight v) slot
@@ -82,7 +82,7 @@ freed_bare v (Move.Begins t work from) = refl
 freed_bare v (Move.Steps t) = refl
 freed_bare v Move.Offers = refl
 
-freed_behind : (v w : Core) (ms : List Move) → Explains v w → AllFit w ms → freed_over w ms ≡ freed_over v ms
+pub freed_behind : (v w : Core) (ms : List Move) → Explains v w → AllFit w ms → freed_over w ms ≡ freed_over v ms
 freed_behind v w [] e fit = refl
 freed_behind v w (m ∷ ms) e fit =
     let one : freed_in w m ≡ freed_in v m = ap (λ (x : Core). freed_in x m) (sym e.bare) ∙ freed_bare v m in

@@ -23,6 +23,7 @@ use Rattle.rec_prompt.proofs.Sees.{Bears, Finds, Keeps, LeavesWords, Puts, Retir
 -- a clean buffer whose entries and snapshot are these
 clean_as : (slot : ℕ) (a b : Contents) → b.entries ≡ a.entries → ((r : ℕ) → slice_index_or b.snapshot r None ≡ Some slot → ⊥) → IsClean slot a → IsClean slot b
 clean_as slot a b same none c = record {
+  put = ap (λ es. sum_by (λ (e : Write). one_if_same (slot + 1) (node_of e.new)) (writes_in es)) same ∙ c.put;
   replaced = ap (λ es. sum_by (λ (e : Write). one_if_same (slot + 1) (node_of e.old)) (writes_in es)) same ∙ c.replaced;
   births = λ epoch. ap (λ es. sum_by (is_node (slot + 1)) (births_in epoch es)) same ∙ c.births epoch;
   snapshot = none;
@@ -31,13 +32,15 @@ clean_as slot a b same none c = record {
 -- a buffer with one entry more
 clean_with_birth : (slot : ℕ) (b : Contents) (other : ℕ) (leaf : Bool) → other ≢ slot → IsClean slot b → IsClean slot (record b { entries = b.entries ++ entries.Born other leaf ∷ [] })
 clean_with_birth slot b other leaf apart c = record {
+  put = writes_same (λ (e : Write). one_if_same (slot + 1) (node_of e.new)) b.entries other leaf ∙ c.put;
   replaced = writes_same (λ (e : Write). one_if_same (slot + 1) (node_of e.old)) b.entries other leaf ∙ c.replaced;
   births = λ epoch. omega (arith, births_more (is_node (slot + 1)) epoch b.entries other leaf, c.births epoch, none_if_differs (slot + 1) (other + 1) (λ e. apart (omega (arith, e))));
   snapshot = c.snapshot;
 }
 
-clean_with_write : (slot : ℕ) (b : Contents) (place new old : ℕ) → (target_of old ≡ Some slot → ⊥) → IsClean slot b → IsClean slot (record b { entries = b.entries ++ entries.Put place new old ∷ [] })
-clean_with_write slot b place new old apart c = record {
+clean_with_write : (slot : ℕ) (b : Contents) (place new old : ℕ) → (target_of new ≡ Some slot → ⊥) → (target_of old ≡ Some slot → ⊥) → IsClean slot b → IsClean slot (record b { entries = b.entries ++ entries.Put place new old ∷ [] })
+clean_with_write slot b place new old other apart c = record {
+  put = omega (arith, writes_more (λ (e : Write). one_if_same (slot + 1) (node_of e.new)) b.entries place new old, c.put, none_if_differs (slot + 1) (node_of new) (λ e. other (node_leads new slot (sym e))));
   replaced = omega (arith, writes_more (λ (e : Write). one_if_same (slot + 1) (node_of e.old)) b.entries place new old, c.replaced, none_if_differs (slot + 1) (node_of old) (λ e. apart (node_leads old slot (sym e))));
   births = λ epoch. births_same (is_node (slot + 1)) epoch b.entries place new old ∙ c.births epoch;
   snapshot = c.snapshot;
@@ -201,7 +204,7 @@ module _ (late : ℕ) (first : Core) (lost : ℕ → Type 0) (v : Core) (t : ℕ
       let leads_there : target_of new ≡ register p k.val = leads_to v t k.val kept is (stays_here v t kept is busy) k.room in
       record {
         registers = λ r slot names gone. f.registers t r slot is (sym (ap (λ (xs : List (Option ℕ)). slice_index_or xs r None) k.registers) ∙ names) gone;
-        log = λ slot from gone. subst (IsClean slot) (sym k.log) (clean_with_write slot p.log place new word (λ leads. held_field k.src k.slot k.field slot k.held k.within (ap target_of (sym here) ∙ leads) gone) (f.logs t slot is (omega (arith, from, k.epoch)) gone));
+        log = λ slot from gone. subst (IsClean slot) (sym k.log) (clean_with_write slot p.log place new word (λ leads. f.registers t k.val slot is (sym leads_there ∙ leads) gone) (λ leads. held_field k.src k.slot k.field slot k.held k.within (ap target_of (sym here) ∙ leads) gone) (f.logs t slot is (omega (arith, from, k.epoch)) gone));
         mailbox = λ slot from gone. subst (IsClean slot) (sym k.mailbox) (f.boxes t slot is (omega (arith, from, k.epoch)) gone);
         words = λ i slot leads gone. elim (set_or v.words place new i 0) [
           | inl other ↦ sym (ap target_of (ap (λ ws. slice_index_or ws i 0) after ∙ other)) ∙ leads
