@@ -1,0 +1,11 @@
+-- The modules of the proofs.
+pub mod Begun
+pub mod Chains
+pub mod Counts
+pub mod Forgets
+pub mod Moves
+pub mod Prompt
+pub mod Sees
+pub mod Stays
+pub mod Steps
+pub mod Turns

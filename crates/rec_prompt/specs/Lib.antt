@@ -1,0 +1,3 @@
+-- The modules of the definitions.
+pub mod Lost
+pub mod Prompt

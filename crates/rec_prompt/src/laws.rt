@@ -1,0 +1,28 @@
+//! What holds of every run, each law as the contract of a function that does nothing.
+
+ghost use Rattle.std.specs.Prelude.{◌≡◌, ℕ, ◌+◌, ◌≤◌, List};
+ghost use Rattle.rec_counts.specs.Counts.{slot_at};
+ghost use Rattle.rec_collector.specs.declared.phase.Phase.TheVariants.{Idle};
+ghost use Rattle.rec_core.specs.Config.{IsConfig};
+ghost use Rattle.rec_core.specs.Core.{Core, sight};
+ghost use Rattle.rec_core.specs.Moves.{Move, AllFit, EndsRun, after_moves};
+ghost use Rattle.rec_prompt.specs.Lost.{fields_to, IsBehindNoCycle, IsLost, Leads};
+ghost use Rattle.rec_prompt.specs.Prompt.{Complete, IsFreed, IsLeft};
+
+/// A lost slot to which no cycle leads is freed by the end of the second collection, whatever it leads to. Take any state of any run in
+/// which no collection is under way, and any moves of mutators and collector from there over which two collections become complete. Then
+/// a turn among these moves frees each slot that held an object in that state, that no register reached there, and to which no cycle
+/// led. What mutators do meanwhile is open. From a state in which a collection is under way, three collections are enough.
+pub fn lost_slots_behind_no_cycle_are_freed()
+    ensures idle { (w : Core) (moves : List Move) (slot : ℕ) → IsConfig w.config → EndsRun w → w.collector.phase ≡ Idle → AllFit w moves → Complete 2 w moves → IsLost (sight w) slot → IsBehindNoCycle (sight w) slot → IsFreed w moves slot }
+    ensures under_way { (w : Core) (moves : List Move) (slot : ℕ) → IsConfig w.config → EndsRun w → AllFit w moves → Complete 3 w moves → IsLost (sight w) slot → IsBehindNoCycle (sight w) slot → IsFreed w moves slot }
+{}
+
+/// A lost slot stays lost until it is freed, over any moves from any state of any run. What leads to it then is lost and not freed either,
+/// and led to it in that state. At the end of a collection by which two epochs more were requested, its count is the number of fields
+/// that lead to it.
+pub fn lost_slots_stay_lost()
+    ensures lost { (w : Core) (moves : List Move) (slot : ℕ) → IsConfig w.config → EndsRun w → AllFit w moves → IsLeft w moves slot → IsLost (sight (after_moves w moves)) slot }
+    ensures led { (w : Core) (moves : List Move) (slot from : ℕ) → IsConfig w.config → EndsRun w → AllFit w moves → IsLeft w moves slot → Leads (sight (after_moves w moves)) from slot → IsLeft w moves from × Leads (sight w) from slot }
+    ensures counted { (w : Core) (moves : List Move) (slot : ℕ) → IsConfig w.config → EndsRun w → AllFit w moves → (after_moves w moves).collector.phase ≡ Idle → w.epoch + 2 ≤ (after_moves w moves).epoch → IsLeft w moves slot → (slot_at (after_moves w moves).collector.counts slot).count ≡ fields_to (sight (after_moves w moves)) slot }
+{}
