@@ -18,11 +18,6 @@ told_apart true (Some x) None other = refl
 told_apart true None b other = refl
 told_apart false a b other = refl
 
--- and two that don't, in a steady heap
-pub told_equal : (a : Option ℕ) → told_of true a a ≡ None
-told_equal (Some x) = ap (λ q. cond q None (Some x)) (eq-eqb x x refl)
-told_equal None = refl
-
 -- the registers of one mutator
 pub told_length : (steady : Bool) (xs ys : List (Option ℕ)) → length (told_registers steady xs ys) ≡ length xs
 told_length false xs ys = refl
@@ -132,11 +127,11 @@ told_even false x newer older a = refl
 told_even true x newer older a = (even_buffers x newer older a.both a.registers).even
 
 -- no more is added nor taken off,
-pub told_fewer : (steady : Bool) (x : ℕ) (newer older : List Contents) → AreAlike newer older → added x (told_buffers steady newer older) ≤ added x newer
+told_fewer : (steady : Bool) (x : ℕ) (newer older : List Contents) → AreAlike newer older → added x (told_buffers steady newer older) ≤ added x newer
 told_fewer false x newer older a = omega arith
 told_fewer true x newer older a = (even_buffers x newer older a.both a.registers).fewer
 
-pub told_less : (steady : Bool) (x : ℕ) (newer older : List Contents) → AreAlike newer older → taken x (told_buffers steady older newer) ≤ taken x older
+told_less : (steady : Bool) (x : ℕ) (newer older : List Contents) → AreAlike newer older → taken x (told_buffers steady older newer) ≤ taken x older
 told_less false x newer older a = omega arith
 told_less true x newer older a = (even_buffers x newer older a.both a.registers).less
 

@@ -62,7 +62,7 @@ batch_touched s newer older x r some =
     ap (λ (v : Slot). is_touched v.colour) (at_below s (λ y. leaves y newer) (λ y. added y newer) (slots_in (flat_map taken_targets older)) x (unreleased_within s x r))
     ∙ slot_touched (leaves x newer) (added x newer) (times x (slots_in (flat_map taken_targets older))) (slot_at s x) r (omega (arith, some, taken_times x older))
 
-pub batch_same : (s : State) (newer older : List Contents) (x : ℕ) → (slot_at s x).released ≡ false → names x newer older ≡ 0 → slot_at (batch s newer older) x ≡ slot_at s x
+batch_same : (s : State) (newer older : List Contents) (x : ℕ) → (slot_at s x).released ≡ false → names x newer older ≡ 0 → slot_at (batch s newer older) x ≡ slot_at s x
 unfolding batch
 batch_same s newer older x r none =
     at_below s (λ y. leaves y newer) (λ y. added y newer) (slots_in (flat_map taken_targets older)) x (unreleased_within s x r)

@@ -18,7 +18,7 @@ use Rattle.rec_apply.proofs.Told.{told_covered, told_even}
 use Rattle.rec_apply.proofs.Touching.{batch_touched, taken_times}
 
 -- nothing is told of the slots past the last one
-pub none_past : (s : State) (newer older : List Contents) → IsCovered s newer older → (x : ℕ) → length s.slots ≤ x → leaves x newer + added x newer + times x (slots_in (flat_map taken_targets older)) ≡ 0
+none_past : (s : State) (newer older : List Contents) → IsCovered s newer older → (x : ℕ) → length s.slots ≤ x → leaves x newer + added x newer + times x (slots_in (flat_map taken_targets older)) ≡ 0
 none_past s newer older c x l = omega (arith, c.in_range x l, c.born x l, taken_times x older)
 
 -- a slot that isn't released nor Green, and has a count, is a candidate root once something was taken off
@@ -29,7 +29,7 @@ rooted false false true v e f h = absurd (false≢true (sym h))
 rooted false false false v e f h = (refl, refl)
 
 -- what is known of the counts after a batch
-pub is_batch : (s : State) (newer older : List Contents) → s.zeros ≡ [] → IsCovered s newer older → IsBatch s newer older (batch s newer older)
+is_batch : (s : State) (newer older : List Contents) → s.zeros ≡ [] → IsCovered s newer older → IsBatch s newer older (batch s newer older)
 unfolding batch
 is_batch s newer older z c = record {
   count = λ x. omega (arith, ap (λ (v : Slot). v.count) (each x), count_at s born more less x, taken_times x older, c.covered x);

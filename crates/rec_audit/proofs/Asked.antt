@@ -14,10 +14,10 @@ use Rattle.rec_audit.proofs.Grown.{member_any}
 
 -- ---- fronts of lists
 
-pub in_front : (n k : ℕ) (xs : List ℕ) → is_in n (take k xs) ≡ true → is_in n xs ≡ true
+in_front : (n k : ℕ) (xs : List ℕ) → is_in n (take k xs) ≡ true → is_in n xs ≡ true
 in_front n k xs there = ap (is_in n) (sym (take-append-drop k xs)) ∙ is_in-left n (take k xs) (drop k xs) there
 
-pub front_or_back : (n k : ℕ) (xs : List ℕ) → is_in n xs ≡ true → (is_in n (take k xs) ≡ true) ⊎ (is_in n (drop k xs) ≡ true)
+front_or_back : (n k : ℕ) (xs : List ℕ) → is_in n xs ≡ true → (is_in n (take k xs) ≡ true) ⊎ (is_in n (drop k xs) ≡ true)
 front_or_back n k xs there = is_in-cases n (take k xs) (drop k xs) (ap (is_in n) (take-append-drop k xs) ∙ there)
 
 pub in_more : (n k : ℕ) (xs ys : List ℕ) → take k ys ≡ xs → is_in n xs ≡ true → is_in n ys ≡ true
@@ -39,23 +39,13 @@ none_member p xs n none there = at (p n) refl
     at true e = absurd (false≢true (sym none ∙ member_any p xs n there e))
     at false e = e
 
-pub either : (a b : Bool) → a ≡ true → (a || b) ≡ true
+either : (a b : Bool) → a ≡ true → (a || b) ≡ true
 either a b is = ap (λ c. c || b) is
 
 pub other : (a b : Bool) → b ≡ true → (a || b) ≡ true
 other a b is = ap (λ c. a || c) is ∙ or-true a
 
 -- ---- it is begun
-
-pub known_begun : (rs : List ℕ) (children : ℕ → List ℕ) (k : Known) → ((n : ℕ) → is_in n k.roots.order.items ≡ is_in n rs) → k.apart.order.items ≡ [] → k.back.order.items ≡ [] → IsKnownOf rs children k
-known_begun rs children k same apart back =
-    record {
-      old = λ n there. sym (same n) ∙ there;
-      each = λ n there. either (is_in n k.roots.order.items) (is_in n k.back.order.items) (same n ∙ there);
-      apart = λ n there. absurd (false≢true (sym (ap (is_in n) apart) ∙ there));
-      sources = λ m n there leads. absurd (false≢true (sym (ap (is_in n) apart) ∙ there));
-      forth = λ m n there leads. absurd (false≢true (sym (ap (is_in m) back) ∙ there));
-    }
 
 -- ---- a slot is swept
 

@@ -57,7 +57,7 @@ each_at test [] l each c = absurd (let below = c.1 in omega arith)
 each_at test (x ∷ xs) l each (zero, below, there) = subst (λ (y : Line). test y.kind ≡ true) there each.0
 each_at test (x ∷ xs) l each (suc k, below, there) = each_at test xs l each.1 (k, omega arith, there)
 
-pub part_plain : (k : Kind) → is_part k ≡ true → (is_epoch k ≡ false) × (is_heap k ≡ false) × (is_out k ≡ false) × (is_sweep k ≡ false)
+part_plain : (k : Kind) → is_part k ≡ true → (is_epoch k ≡ false) × (is_heap k ≡ false) × (is_out k ≡ false) × (is_sweep k ≡ false)
 part_plain kinds.Put is = (refl, refl, refl, refl)
 part_plain kinds.Born is = (refl, refl, refl, refl)
 part_plain kinds.Snap is = (refl, refl, refl, refl)

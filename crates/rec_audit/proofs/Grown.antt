@@ -34,7 +34,7 @@ use Rattle.rec_audit.specs.Graphs.{AreReferences, IsGraphOf, IsPutLine, IsBornLi
 pub last_more : (test : Line → Bool) (lines : List Line) (line : Line) → last_that test (lines ++ line ∷ []) ≡ cond (test line) (Some line) (last_that test lines)
 last_more test lines line = ap (find test) (reverse-append lines (line ∷ []))
 
-pub last_same : (test : Line → Bool) (lines : List Line) (line : Line) → test line ≡ false → last_that test (lines ++ line ∷ []) ≡ last_that test lines
+last_same : (test : Line → Bool) (lines : List Line) (line : Line) → test line ≡ false → last_that test (lines ++ line ∷ []) ≡ last_that test lines
 last_same test lines line other = last_more test lines line ∙ ap (λ b. cond b (Some line) (last_that test lines)) other
 
 pub last_new : (test : Line → Bool) (lines : List Line) (line : Line) → test line ≡ true → last_that test (lines ++ line ∷ []) ≡ Some line
@@ -68,13 +68,13 @@ this_new (x ∷ xs) line is =
     ap (λ b. cond b (this_block (xs ++ line ∷ [])) (x ∷ (xs ++ line ∷ []))) (ap (λ b. is_epoch x.kind || b) (any_more (λ (l : Line). is_epoch l.kind) xs line ∙ ap (λ b. epochs xs || b) is ∙ or-true (epochs xs)) ∙ or-true (is_epoch x.kind))
     ∙ this_new xs line is
 
-pub earlier_more : (lines : List Line) (line : Line) → is_epoch line.kind ≡ false → earlier_blocks (lines ++ line ∷ []) ≡ earlier_blocks lines
+earlier_more : (lines : List Line) (line : Line) → is_epoch line.kind ≡ false → earlier_blocks (lines ++ line ∷ []) ≡ earlier_blocks lines
 earlier_more [] line other = refl
 earlier_more (x ∷ xs) line other =
     ap (λ b. cond b (x ∷ earlier_blocks (xs ++ line ∷ [])) []) (any_more (λ (l : Line). is_epoch l.kind) xs line ∙ ap (λ b. epochs xs || b) other ∙ or-false (epochs xs))
     ∙ ap (λ t. cond (epochs xs) (x ∷ t) []) (earlier_more xs line other)
 
-pub earlier_new : (lines : List Line) (line : Line) → is_epoch line.kind ≡ true → earlier_blocks (lines ++ line ∷ []) ≡ lines
+earlier_new : (lines : List Line) (line : Line) → is_epoch line.kind ≡ true → earlier_blocks (lines ++ line ∷ []) ≡ lines
 earlier_new [] line is = refl
 earlier_new (x ∷ xs) line is =
     ap (λ b. cond b (x ∷ earlier_blocks (xs ++ line ∷ [])) []) (any_more (λ (l : Line). is_epoch l.kind) xs line ∙ ap (λ b. epochs xs || b) is ∙ or-true (epochs xs))
@@ -101,7 +101,7 @@ any_blocks test fails (x ∷ xs) = at (any_blocks test fails xs) (epochs xs) ref
 
 -- ---- references
 
-pub opened_more : (lines : List Line) (line : Line) (word : ℕ) → is_opened (lines ++ line ∷ []) word ≡ (is_opened lines word || (opens line && (number 2 line == word)))
+opened_more : (lines : List Line) (line : Line) (word : ℕ) → is_opened (lines ++ line ∷ []) word ≡ (is_opened lines word || (opens line && (number 2 line == word)))
 opened_more lines line word = any_more (λ (l : Line). opens l && (number 2 l == word)) lines line
 
 opened_same : (lines : List Line) (line : Line) (word : ℕ) → is_put line.kind ≡ false → is_opened (lines ++ line ∷ []) word ≡ is_opened lines word
@@ -218,7 +218,7 @@ to_one lines line slot other is =
 
 -- ---- those that are left by a test
 
-pub without_same : (d e : ℕ → Bool) → ((word : ℕ) → d word ≡ e word) → (es : List Edge) → without d es ≡ without e es
+without_same : (d e : ℕ → Bool) → ((word : ℕ) → d word ≡ e word) → (es : List Edge) → without d es ≡ without e es
 without_same d e same [] = refl
 without_same d e same (x ∷ xs) =
     ap (λ b. cond (not b) (x ∷ without d xs) (without d xs)) (same x.word)
@@ -234,7 +234,7 @@ without_both d e wider (x ∷ xs) = at (without_both d e wider xs) (d x.word) re
     at more false is = ap (λ t. cond (not (e x.word)) (x ∷ t) t) more
 
 -- two lists that are alike but for dead ones stay alike where more are dead
-pub alike_wider : (d e : ℕ → Bool) → ((word : ℕ) → d word ≡ true → e word ≡ true) → (xs ys : List Edge) → without d xs ≡ without d ys → without e xs ≡ without e ys
+alike_wider : (d e : ℕ → Bool) → ((word : ℕ) → d word ≡ true → e word ≡ true) → (xs ys : List Edge) → without d xs ≡ without d ys → without e xs ≡ without e ys
 alike_wider d e wider xs ys alike = sym (without_both d e wider xs) ∙ ap (without e) alike ∙ without_both d e wider ys
 
 alike_same : (d e : ℕ → Bool) → ((word : ℕ) → e word ≡ d word) → (xs ys : List Edge) → without d xs ≡ without d ys → without e xs ≡ without e ys
@@ -259,7 +259,7 @@ pushed d edges at slot e was is within alike here there =
 -- ---- the references behind a line more
 
 -- a line that tells nothing of them
-pub references_same : (lines : List Line) (line : Line) (r : References) → is_put line.kind ≡ false → is_out line.kind ≡ false → is_epoch line.kind ≡ false → is_heap line.kind ≡ false → AreReferences lines r → AreReferences (lines ++ line ∷ []) r
+references_same : (lines : List Line) (line : Line) (r : References) → is_put line.kind ≡ false → is_out line.kind ≡ false → is_epoch line.kind ≡ false → is_heap line.kind ≡ false → AreReferences lines r → AreReferences (lines ++ line ∷ []) r
 references_same lines line r put out epoch heap are =
     record {
       opened = λ w. are.opened w ∙ sym (opened_same lines line w put);
@@ -274,7 +274,7 @@ references_same lines line r put out epoch heap are =
     }
 
 -- a word that is taken out
-pub references_out : (lines : List Line) (line : Line) (r s : References) → is_put line.kind ≡ false → is_out line.kind ≡ true → is_epoch line.kind ≡ false → is_heap line.kind ≡ false → AreReferences lines r → TakesOut r s (number 1 line) → AreReferences (lines ++ line ∷ []) s
+references_out : (lines : List Line) (line : Line) (r s : References) → is_put line.kind ≡ false → is_out line.kind ≡ true → is_epoch line.kind ≡ false → is_heap line.kind ≡ false → AreReferences lines r → TakesOut r s (number 1 line) → AreReferences (lines ++ line ∷ []) s
 references_out lines line r s put out epoch heap are more =
     record {
       opened = λ w. ap (λ o. contains nat_eq o w) more.opened ∙ are.opened w ∙ sym (opened_same lines line w put);
@@ -291,7 +291,7 @@ references_out lines line r s put out epoch heap are more =
     }
 
 -- a block that has ended
-pub references_epoch : (lines : List Line) (line : Line) (r s : References) → is_put line.kind ≡ false → is_out line.kind ≡ false → is_epoch line.kind ≡ true → is_heap line.kind ≡ false → AreReferences lines r → EndsBlock r s → AreReferences (lines ++ line ∷ []) s
+references_epoch : (lines : List Line) (line : Line) (r s : References) → is_put line.kind ≡ false → is_out line.kind ≡ false → is_epoch line.kind ≡ true → is_heap line.kind ≡ false → AreReferences lines r → EndsBlock r s → AreReferences (lines ++ line ∷ []) s
 references_epoch lines line r s put out epoch heap are more =
     record {
       opened = λ w. ap (λ o. contains nat_eq o w) more.opened ∙ are.opened w ∙ sym (opened_same lines line w put);
@@ -308,7 +308,7 @@ references_epoch lines line r s put out epoch heap are more =
     }
 
 -- a word that is put into a field
-pub references_put : (lines : List Line) (line : Line) (r s : References) → is_put line.kind ≡ true → is_out line.kind ≡ false → is_epoch line.kind ≡ false → is_heap line.kind ≡ false → number 1 line / (heap_of lines).fields < length (edges_of r) → (has_target (number 2 line) ≡ true → target_in line < length (into_of r)) → AreReferences lines r → Puts r s (number 1 line / (heap_of lines).fields) (number 2 line) (number 3 line) → AreReferences (lines ++ line ∷ []) s
+references_put : (lines : List Line) (line : Line) (r s : References) → is_put line.kind ≡ true → is_out line.kind ≡ false → is_epoch line.kind ≡ false → is_heap line.kind ≡ false → number 1 line / (heap_of lines).fields < length (edges_of r) → (has_target (number 2 line) ≡ true → target_in line < length (into_of r)) → AreReferences lines r → Puts r s (number 1 line / (heap_of lines).fields) (number 2 line) (number 3 line) → AreReferences (lines ++ line ∷ []) s
 references_put lines line r s put out epoch heap within below are more =
     record {
       opened = λ w.
@@ -382,7 +382,7 @@ taken_sweep lines line slot is = at (number 0 line == slot) refl
     at false e = ap (taken_by slot) (last_same (tells slot) lines line (tell false e))
 
 -- a list of marks for slots, where one slot's mark is written
-pub written_at : (xs : List Bool) (i : ℕ) (b : Bool) (slot : ℕ) → slot < length xs → get_or (set xs i b) slot false ≡ cond (i == slot) b (get_or xs slot false)
+written_at : (xs : List Bool) (i : ℕ) (b : Bool) (slot : ℕ) → slot < length xs → get_or (set xs i b) slot false ≡ cond (i == slot) b (get_or xs slot false)
 written_at xs i b slot within =
     elim (cases_eq i slot) [
       | inl same ↦ ap (λ (k : ℕ). get_or (set xs k b) slot false) same ∙ get_or-set_same xs slot b false within ∙ sym (ap (λ t. cond t b (get_or xs slot false)) (eq-eqb i slot same))
@@ -496,7 +496,7 @@ abbrev to : Edge → ℕ
 to e = e.to
 
 -- where references lead, by the lines that open them and by themselves
-pub targets_are : (lines : List Line) (slot : ℕ) → targets lines slot ≡ map to (without (is_dead lines) (opened_from lines slot))
+targets_are : (lines : List Line) (slot : ℕ) → targets lines slot ≡ map to (without (is_dead lines) (opened_from lines slot))
 targets_are lines slot = on (filter (opens_from (heap_of lines).fields slot) lines)
   where
     on : (xs : List Line) → map target_in (filter (λ line. not (is_dead lines (number 2 line))) xs) ≡ map to (without (is_dead lines) (map (λ line. edge_of (number 2 line)) xs))
@@ -510,10 +510,6 @@ targets_are lines slot = on (filter (opens_from (heap_of lines).fields slot) lin
         beside : (b : Bool) → map to (cond (not b) (edge_of (number 2 x) ∷ without (is_dead lines) (map (λ line. edge_of (number 2 line)) xs)) (without (is_dead lines) (map (λ line. edge_of (number 2 line)) xs))) ≡ cond (not b) (target_in x ∷ map to (without (is_dead lines) (map (λ line. edge_of (number 2 line)) xs))) (map to (without (is_dead lines) (map (λ line. edge_of (number 2 line)) xs)))
         beside true = refl
         beside false = refl
-
-reached_same : (rs ss : List ℕ) (c d : ℕ → List ℕ) → ((n : ℕ) → is_in n rs ≡ is_in n ss) → ((m : ℕ) → c m ≡ d m) → (n : ℕ) → IsReached rs c n → IsReached ss d n
-reached_same rs ss c d roots-are children-are k (root n there) = root n (sym (roots-are n) ∙ there)
-reached_same rs ss c d roots-are children-are k (child m n from there) = child m n (reached_same rs ss c d roots-are children-are m from) (ap (is_in n) (sym (children-are m)) ∙ there)
 
 -- a line that tells nothing of the graph
 pub record IsQuiet (line : Line) : Type 0 where
@@ -565,7 +561,7 @@ known_less rs ss c d k roots-are fewer is =
       forth = λ m n there leads. is.forth m n there (fewer m n leads);
     }
 
-pub graph_known : (b : Bool) (lines more : List Line) (k : Known) → roots lines ≡ roots more → ((m n : ℕ) → is_in n (targets more m) ≡ true → is_in n (targets lines m) ≡ true) → AreKnown b lines k → AreKnown b more k
+graph_known : (b : Bool) (lines more : List Line) (k : Known) → roots lines ≡ roots more → ((m n : ℕ) → is_in n (targets more m) ≡ true → is_in n (targets lines m) ≡ true) → AreKnown b lines k → AreKnown b more k
 graph_known false lines more k roots-are fewer are = tt
 graph_known true lines more k roots-are fewer are = known_less (roots lines) (roots more) (targets lines) (targets more) k roots-are fewer are
 
@@ -692,7 +688,7 @@ roots_are lines g is n =
     swap false false = refl
 
 -- the roots behind a `sweep`: those before, and its slot
-pub filter_wider : (p q : ℕ → Bool) (n : ℕ) (xs : List ℕ) → (p n ≡ true → q n ≡ true) → is_in n (filter p xs) ≡ true → is_in n (filter q xs) ≡ true
+filter_wider : (p q : ℕ → Bool) (n : ℕ) (xs : List ℕ) → (p n ≡ true → q n ≡ true) → is_in n (filter p xs) ≡ true → is_in n (filter q xs) ≡ true
 filter_wider p q n [] wider there = there
 filter_wider p q n (x ∷ xs) wider there = at (filter_wider p q n xs wider) (p x) refl (q x) refl there
   where

@@ -5,7 +5,7 @@ use Rattle.std.proofs.lemmas.List.Elements.{filter-append}
 use Rattle.std.proofs.lemmas.Bool.Decides.{nat_tests}
 use Rattle.rec_audit.specs.Graph.{held}
 
-pub held-append : (xs ys : List ℕ) → held (xs ++ ys) ≡ held xs ++ held ys
+held-append : (xs ys : List ℕ) → held (xs ++ ys) ≡ held xs ++ held ys
 held-append xs ys = ap (map (λ n. n - 1)) (filter-append (λ n. nat_lt 0 n) xs ys) ∙ map-append (λ (n : ℕ). n - 1) (filter (λ n. nat_lt 0 n) xs) (filter (λ n. nat_lt 0 n) ys)
 
 some_test : (n : ℕ) → 0 < n → nat_lt 0 n ≡ true

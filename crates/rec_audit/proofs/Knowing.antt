@@ -80,7 +80,7 @@ form_more lines line =
 
 -- ---- the line of the heap stands behind the title alone
 
-pub last_view : (lines : List Line) → (lines ≡ []) ⊎ ((before : List Line) × (line : Line) × (lines ≡ before ++ line ∷ []))
+last_view : (lines : List Line) → (lines ≡ []) ⊎ ((before : List Line) × (line : Line) × (lines ≡ before ++ line ∷ []))
 last_view [] = inl refl
 last_view (x ∷ xs) =
     elim (last_view xs) [
@@ -121,7 +121,7 @@ leads_to_title m Sweep n e = cc
 leads_to_title m End n e = cc
 
 -- nothing stands before the title
-pub no_line_before : (lines : List Line) → stage_behind lines ≡ stages.Title → lines ≡ []
+no_line_before : (lines : List Line) → stage_behind lines ≡ stages.Title → lines ≡ []
 no_line_before lines e =
     elim (last_view lines) [
       | inl none ↦ none

@@ -36,7 +36,7 @@ ranged : (word : List ℕ) → AreDigits word → AreInRange word
 ranged word digits i lt = digit_range (get_or word i 0) (digits i lt)
 
 -- the bytes of a numeral
-pub digits_of : (n : ℕ) → n < 2 ^ 64 → AreDigits (decimal n)
+digits_of : (n : ℕ) → n < 2 ^ 64 → AreDigits (decimal n)
 digits_of n fits k lt =
     let range : IsInRange 48 57 (get_or (decimal n) k 0) = digits_decimal own n fits k lt in
     digit_test (get_or (decimal n) k 0) range.0 range.1
@@ -92,7 +92,7 @@ same_count m n bytes left right =
     omega arith
 
 -- digits with something else behind them
-pub has_digits : (word rest : List ℕ) → AreDigits word → is_ascii_digit (get_or rest 0 0) ≡ false → HasDigits (length word) (word ++ rest)
+has_digits : (word rest : List ℕ) → AreDigits word → is_ascii_digit (get_or rest 0 0) ≡ false → HasDigits (length word) (word ++ rest)
 has_digits word rest digits apart =
     record {
       before = λ k lt. ap is_ascii_digit (get_or_append_left word rest 0 k lt) ∙ digits k lt;
@@ -103,7 +103,7 @@ has_digits word rest digits apart =
     add_zero n = omega arith
 
 -- one text has one word of digits at its front
-pub same_digits : (xs ys r s : List ℕ) → AreDigits xs → AreDigits ys → is_ascii_digit (get_or r 0 0) ≡ false → is_ascii_digit (get_or s 0 0) ≡ false → xs ++ r ≡ ys ++ s → (xs ≡ ys) × (r ≡ s)
+same_digits : (xs ys r s : List ℕ) → AreDigits xs → AreDigits ys → is_ascii_digit (get_or r 0 0) ≡ false → is_ascii_digit (get_or s 0 0) ≡ false → xs ++ r ≡ ys ++ s → (xs ≡ ys) × (r ≡ s)
 same_digits xs ys r s left right apart other e =
     let count : length xs ≡ length ys = same_count (length xs) (length ys) (xs ++ r) (has_digits xs r left apart) (subst (HasDigits (length ys)) (sym e) (has_digits ys s right other)) in (
       sym (take_at xs r (length xs) refl) ∙ ap (take (length xs)) e ∙ take_at ys s (length xs) (sym count),

@@ -29,7 +29,7 @@ abbrev pub LeavesTexts : List ℕ → List ℕ → Type 0
 LeavesTexts bytes left = (ns rest : List ℕ) → AreNumbers ns → bytes ≡ ended ns rest → HasEnded left rest
 
 -- neither a space nor an end is a digit
-pub ended_apart : (ns rest : List ℕ) → is_ascii_digit (get_or (ended ns rest) 0 0) ≡ false
+ended_apart : (ns rest : List ℕ) → is_ascii_digit (get_or (ended ns rest) 0 0) ≡ false
 ended_apart [] rest = refl
 ended_apart (n ∷ ns) rest = refl
 
@@ -100,7 +100,7 @@ told Title rest = refl
 told _ rest = refl
 
 -- no name begins with another one
-pub same_kind : (k l : Kind) (r s : List ℕ) → name_of k ++ r ≡ name_of l ++ s → k ≡ l
+same_kind : (k l : Kind) (r s : List ℕ) → name_of k ++ r ≡ name_of l ++ s → k ≡ l
 same_kind k l r s e = sym (told k r) ∙ ap (λ (t : List ℕ). kind_by (get_or t 0 0) (get_or t 1 0)) e ∙ told l s
 
 -- one text has one line's numbers at its front

@@ -38,7 +38,7 @@ pub record IsAhead (ls ms : List Line) (r s : List ℕ) : Type 0 where
   pub text : r ≡ text_of_line line ++ (text_of more ++ s)
 
 -- they are the same, or one goes on where the other ends
-pub compared : (ls ms : List Line) (r s : List ℕ) → AreFit ls → AreFit ms → text_of ls ++ r ≡ text_of ms ++ s → ((ls ≡ ms) × (r ≡ s)) ⊎ (IsAhead ls ms r s ⊎ IsAhead ms ls s r)
+compared : (ls ms : List Line) (r s : List ℕ) → AreFit ls → AreFit ms → text_of ls ++ r ≡ text_of ms ++ s → ((ls ≡ ms) × (r ≡ s)) ⊎ (IsAhead ls ms r s ⊎ IsAhead ms ls s r)
 compared [] [] r s left right e = inl (refl, e)
 compared [] (m ∷ ms) r s left right e = inr (inl (record { line = m; more = ms; lines = refl; text = e ∙ append_assoc (text_of_line m) (text_of ms) s }))
 compared (l ∷ ls) [] r s left right e = inr (inr (record { line = l; more = ls; lines = refl; text = sym e ∙ append_assoc (text_of_line l) (text_of ls) r }))

@@ -16,7 +16,7 @@ pub twenty_digits : (n : ℕ) → n < 2 ^ 64 → length (decimal n) ≤ 20
 twenty_digits n small = length-decimal-le 20 n (omega arith) (omega arith) small
 
 -- the text of lines, and of more behind them
-pub text_more : (lines more : List Line) → text_of (lines ++ more) ≡ text_of lines ++ text_of more
+text_more : (lines more : List Line) → text_of (lines ++ more) ≡ text_of lines ++ text_of more
 text_more lines more = flat_map-append text_of_line lines more
 
 enumerate_from-push : {X : Type 0} (n : ℕ) (xs : List X) (x : X) → enumerate_from n (xs ++ x ∷ []) ≡ enumerate_from n xs ++ (n + length xs, x) ∷ []

@@ -79,7 +79,7 @@ taken_bare : (bs : List Contents) → flat_map taken_targets (bare_buffers bs) �
 taken_bare [] = refl
 taken_bare (b ∷ bs) = let at : map old_target (map (entry_by bare) b.entries) ≡ map old_target b.entries = old_bare b.entries in let rest = taken_bare bs in (λ i. (at i ++ b.snapshot) ++ rest i)
 
-pub batch_bare : (s : State) (newer older : List Contents) → batch s (bare_buffers newer) (bare_buffers older) ≡ batch s newer older
+batch_bare : (s : State) (newer older : List Contents) → batch s (bare_buffers newer) (bare_buffers older) ≡ batch s newer older
 unfolding batch
 batch_bare s newer older = λ i. batched s (λ x. leaves_bare x newer i) (λ x. added_bare x newer i) (slots_in (taken_bare older i))
 
@@ -274,7 +274,7 @@ took_at_bare p word op Opening named = refl
 took_at_bare p word op (Sweeping due swept) named = refl
 took_at_bare p word op (Closing swept) named = ended_bare p
 
-pub took_bare : (p : Private) (word : ℕ) (op : Op) → ◌≡◌ {A = Option Op} (next_of p) (Some op) → took_of (bare_private p) (bare_in (cell_of op) word) ≡ bare_private (took_of p word)
+took_bare : (p : Private) (word : ℕ) (op : Op) → ◌≡◌ {A = Option Op} (next_of p) (Some op) → took_of (bare_private p) (bare_in (cell_of op) word) ≡ bare_private (took_of p word)
 unfolding next_of took_of
 took_bare p word op named = took_at_bare p word op p.phase named
 
@@ -293,7 +293,7 @@ swapped_at_bare p b Opening = refl
 swapped_at_bare p b (Sweeping due swept) = refl
 swapped_at_bare p b (Closing swept) = refl
 
-pub swapped_bare : (p : Private) (b : Contents) → swapped_of (bare_private p) (buffer_by bare b) ≡ bare_private (swapped_of p b)
+swapped_bare : (p : Private) (b : Contents) → swapped_of (bare_private p) (buffer_by bare b) ≡ bare_private (swapped_of p b)
 unfolding swapped_of
 swapped_bare p b = swapped_at_bare p b p.phase
 

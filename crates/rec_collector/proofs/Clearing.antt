@@ -73,7 +73,7 @@ released_begun fields lowers w n (Some a) u same wide h r none = record {
 }
 
 -- the next of the zeros is released
-pub next_clears : (fields : ℕ) (lowers : Bool) (w : Parts) (n : ℕ) → fields ≡ w.fields → 0 < w.fields → IsKept w.counts → IsTidy w.fields w.counts None → IsReady w.counts → w.counts.work ≡ [] → HasExchanged w None n → Clears (next_begun fields lowers w) n
+next_clears : (fields : ℕ) (lowers : Bool) (w : Parts) (n : ℕ) → fields ≡ w.fields → 0 < w.fields → IsKept w.counts → IsTidy w.fields w.counts None → IsReady w.counts → w.counts.work ≡ [] → HasExchanged w None n → Clears (next_begun fields lowers w) n
 next_clears fields lowers w n same wide k tidy ready work h =
     let s : State = w.counts in
     released_begun fields lowers w n (next_from s.zeros s).at (next_from s.zeros s).counts same wide

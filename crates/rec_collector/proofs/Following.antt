@@ -94,7 +94,7 @@ pub record HasCleared (p : Private) (b : Begun) : Type 0 where
   pub fits : Fits p b.parts
   pub few_told : told b.parts.sets + length b.parts.counts.sets ≤ 2 ^ 16 * p.collections
 
-pub fits_on : {p : Private} {w v : Parts} → Fits p w → KeepsTold w v → Fits p v
+fits_on : {p : Private} {w v : Parts} → Fits p w → KeepsTold w v → Fits p v
 fits_on f k = record { slots = k.slots ∙ f.slots; fields = k.fields ∙ f.fields }
 
 fits_self : (p : Private) → Fits p (parts_of p)
@@ -152,7 +152,7 @@ followed_lands p b h = go c.phase refl
     go None e = tries_next p c.parts (subst (λ o. HasCleared p (record { parts = c.parts; phase = o })) e t) (ends_after (length b.parts.counts.sets) b refl e)
 
 -- a word came out of a field, of a released slot or of a member of the set that is freed
-pub testing_clears : (p : Private) (phase : Phase) → IsMachine p → p.phase ≡ phase → (t : IsTesting p phase) → Clears (record { parts = parts_of p; phase = Some phase }) t.exchanged
+testing_clears : (p : Private) (phase : Phase) → IsMachine p → p.phase ≡ phase → (t : IsTesting p phase) → Clears (record { parts = parts_of p; phase = Some phase }) t.exchanged
 testing_clears p phase k e t = record { wide = k.some_fields; counts = k.counts; clearing = t.clearing; exchanges = t.exchanges }
 
 pub released_has : (p : Private) (m : releases.Machine) (word : ℕ) → IsMachine p → p.phase ≡ Releasing m → Counted p.counts word → HasCleared p (with_released m (parts_of p) word)

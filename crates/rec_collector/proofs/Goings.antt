@@ -21,7 +21,7 @@ use Rattle.rec_sigma.proofs.Renewals.{dropped}
 use Rattle.rec_collector.specs.declared.verdict.Verdict.{Verdict}
 
 -- nothing is at work, or something is
-pub none_some : {A : Type 0} {P : Type 0} (o : Option A) → o ≡ None → IsSome o → P
+none_some : {A : Type 0} {P : Type 0} (o : Option A) → o ≡ None → IsSome o → P
 none_some o e s = absurd (false≢true (sym (ap is_some e) ∙ s))
 
 -- the counts once the reference that came out is taken off, in a release and in the freeing of a set
@@ -145,7 +145,7 @@ unfolding refurbished_of
 refurbished_many s = (all_same (slice_get (last_set s.sets) 0) (last_set s.sets) (dropped s)).1 ∙ length-map s.slots (out_of_set (length s.sets - 1))
 
 -- the release of the zeros leaves the sets and the number of slots
-pub zeros_sets : (lowers : Bool) (w : Parts) → (zeros_released lowers w).parts.counts.sets ≡ w.counts.sets
+zeros_sets : (lowers : Bool) (w : Parts) → (zeros_released lowers w).parts.counts.sets ≡ w.counts.sets
 unfolding zeros_started
 zeros_sets lowers w = next_sets w.counts
 

@@ -126,7 +126,7 @@ same_roots : (s : State) (x : ℕ) → (slot_at s x).released ≡ true → times
 same_roots s x r = let none : one (is_missing (slot_at s x)) ≡ 0 = ap (λ b. one (is_missing_if b (slot_at s x).buffered)) (released_keeps (slot_at s x) r) in omega (arith, none, offered_roots s x)
 
 -- a trial may begin
-pub offered_ready : (s : State) → IsReady s → IsReady (offered s)
+offered_ready : (s : State) → IsReady s → IsReady (offered s)
 offered_ready s r =
     let keeps : KeepsOffered s (offered s) = offered_keeps s in
     record {

@@ -92,7 +92,7 @@ pub left_let_go : (p : Private) → p.left ≡ true → has_let_go p ≡ true
 left_let_go p left = elim (is_parting p.phase) as (λ (b : Bool). (b || p.left) ≡ true) [ true ↦ refl | false ↦ left ]
 
 -- A handshake stays where the mutator stays in its epoch, and goes on to a phase that is settled wherever its mailbox may be.
-pub handshake_stays : (config : Config) (requested : ℕ) (p q : Private) (crossing : ℕ) (box : Contents) (stand : Handshake)
+handshake_stays : (config : Config) (requested : ℕ) (p q : Private) (crossing : ℕ) (box : Contents) (stand : Handshake)
     → p.left ≡ false → gives_back p.phase ≡ false → gives_back q.phase ≡ false → ((mailbox : Mailbox) → crossing ≡ crossing_word requested mailbox → IsSettledIn mailbox q.phase) → q.epoch ≡ p.epoch → q.left ≡ p.left
     → IsHandshake config requested p crossing box stand → IsHandshake config requested q crossing box stand
 handshake_stays config requested p q crossing box Handshake.Done stays here next settled epoch left (inl (crossed, there, spare)) =

@@ -32,10 +32,10 @@ pub record TestsLess (s t : State) : Type 0 where
 pub member_before : {s t : State} → TestsLess s t → (number x : ℕ) → (slot_at t x).set ≡ Some number → (slot_at s x).set ≡ Some number
 member_before {s} {t} l number x e = in_set number (slot_at s x).set (sym (l.members number x x e) ∙ ap (is_in number) e ∙ own_set number)
 
-pub less_same : (s : State) → TestsLess s s
+less_same : (s : State) → TestsLess s s
 less_same s = record { among = λ x h. h; members = λ number x y e. refl; orange = λ x o. o; exact = λ x o r. (r, λ k e. e) }
 
-pub less_on : {s t u : State} → TestsLess s t → TestsLess t u → TestsLess s u
+less_on : {s t u : State} → TestsLess s t → TestsLess t u → TestsLess s u
 less_on {s} {t} {u} a b = record {
   among = λ x h. a.among x (b.among x h);
   members = λ number x y e. b.members number x y e ∙ a.members number x y (member_before b number x e);
@@ -69,7 +69,7 @@ pub record EasesSlot (u v : Slot) : Type 0 where
   pub orange : v.colour ≡ Orange → u.colour ≡ Orange
   pub exact : v.colour ≡ Orange → v.released ≡ false → StaysExact u v
 
-pub less_slot : (s : State) (x : ℕ) (v : Slot) → EasesSlot (slot_at s x) v → TestsLess s (with_slot s x v)
+less_slot : (s : State) (x : ℕ) (v : Slot) → EasesSlot (slot_at s x) v → TestsLess s (with_slot s x v)
 less_slot s x v e = record {
   among = λ y h. h;
   members = λ number z y _. ap (is_in number) (field_kept (λ (w : Slot). w.set) s.slots x v e.set y);
@@ -100,7 +100,7 @@ less_sent Zero s t x l = record { among = l.among; members = l.members; orange =
 less_sent Root s t x l = record { among = l.among; members = l.members; orange = l.orange; exact = l.exact }
 
 -- a slot is decremented
-pub less_decremented : (s : State) (x : ℕ) → TestsLess s (decremented s x)
+less_decremented : (s : State) (x : ℕ) → TestsLess s (decremented s x)
 less_decremented s x =
     let v : Slot = slot_at s x in
     less_sent (due_of v) s (with_slot s x (lessened v)) x (less_slot s x (lessened v) (lessened_eases (stays v) (eqb v.count 1) v refl))

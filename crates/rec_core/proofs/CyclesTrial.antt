@@ -123,7 +123,7 @@ sees_null s raw x is green =
     null_unnamed : (node : ℕ) → 0 < node → one_if_same node (node_of 0) ≡ 0
     null_unnamed node pos = none_if_differs node (node_of 0) (λ e. omega (arith, pos, e, node_of_null))
 
-pub sees_visible : (s : State) (raw : ℕ) → SeesAs s raw (visible s raw)
+sees_visible : (s : State) (raw : ℕ) → SeesAs s raw (visible s raw)
 sees_visible s raw = by (target_of raw) refl
   where
     seen_by : (x : ℕ) (b : Bool) → is_green (slot_at s x).colour ≡ b → target_of raw ≡ Some x → SeesAs s raw (if b then 0 else raw)

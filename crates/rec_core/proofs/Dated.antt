@@ -56,7 +56,7 @@ moves_explained v w (m ∷ ms) e fit =
     ((first.0, rest.0), rest.1)
 
 -- the dated start
-pub start_explained : (start : Core) → IsConfig start.config → IsStart start → (v : Core) × Explains v start
+start_explained : (start : Core) → IsConfig start.config → IsStart start → (v : Core) × Explains v start
 start_explained start is (IsStart.opens opens) = (heap_by true start.config, record { bare = heap_bare start.config ∙ sym opens; kept = opened_kept start.config is })
 start_explained start is (IsStart.opens_from o are labels opens) = (heap_from_by true start.config o, record { bare = heap_from_bare start.config o is are labels ∙ sym opens; kept = opened_from_kept start.config o is are labels })
 

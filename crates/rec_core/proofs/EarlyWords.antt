@@ -20,7 +20,7 @@ pub early_is : (p : ℕ) → p < 2 ^ 42 → IsStamp (early_stamp p)
 early_is p small = record { writer = lit< tt; epoch = omega (arith, small); index = omega arith }
 
 -- such a word leads where it is to lead,
-pub early_target : (p : ℕ) (x : Option ℕ) → p < 2 ^ 42 → IsTarget x → target_of (early_word p x) ≡ x
+early_target : (p : ℕ) (x : Option ℕ) → p < 2 ^ 42 → IsTarget x → target_of (early_word p x) ≡ x
 early_target p None small is = refl
 early_target p (Some slot) small is = target_of-packed (Some slot) (early_stamp p) is (early_is p small)
 

@@ -213,7 +213,7 @@ landed_alike {w} {crossing} {words} {v} l t same counts =
     }
 
 -- a phase in which nothing is released or freed is one in which nothing of that is begun
-pub landed_in : {w : Core} {crossing words : List ℕ} (v : Parts) (phase : Phase) → release_due phase ≡ None → freeing_due phase ≡ None → HasLanded w crossing words (still v) → HasLanded w crossing words (record { parts = v; phase = Some phase })
+landed_in : {w : Core} {crossing words : List ℕ} (v : Parts) (phase : Phase) → release_due phase ≡ None → freeing_due phase ≡ None → HasLanded w crossing words (still v) → HasLanded w crossing words (record { parts = v; phase = Some phase })
 landed_in {w} {crossing} {words} v phase unreleased unfreed l = record {
   stands = l.stands;
   kept = l.kept;

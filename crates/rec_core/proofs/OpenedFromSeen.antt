@@ -22,7 +22,7 @@ use Rattle.rec_core.specs.OpenedFrom.{opened_from}
 use Rattle.rec_core.specs.Settled.{IsSettled, fields_holding, registers_holding}
 
 -- under no new numbering
-pub rows_same : (rss : List (List (Option ℕ))) → map (map (option_map (λ s. s))) rss ≡ rss
+rows_same : (rss : List (List (Option ℕ))) → map (map (option_map (λ s. s))) rss ≡ rss
 rows_same [] = refl
 rows_same (rs ∷ rss) =
     let first : map (option_map (λ s. s)) rs ≡ rs = row_same rs in

@@ -37,7 +37,7 @@ learnt_change config headers later freed next mutators change unmarked learnt t 
     go from _ s = tt
 
 -- a swept header is that of no leaf
-pub swept_unmarked : (headers : List ℕ) (x : ℕ) → x < length headers → (slot : ℕ) → is_leaf (slice_index_or headers slot 0) ≡ false → is_leaf (slice_index_or (slice_set headers x 0) slot 0) ≡ false
+swept_unmarked : (headers : List ℕ) (x : ℕ) → x < length headers → (slot : ℕ) → is_leaf (slice_index_or headers slot 0) ≡ false → is_leaf (slice_index_or (slice_set headers x 0) slot 0) ≡ false
 swept_unmarked headers x there slot unmarked = elim (cases_eq slot x) [
   | inl same ↦ ap (λ n. is_leaf (slice_index_or (slice_set headers x 0) n 0)) same ∙ ap is_leaf (get_or-set_same headers x 0 0 there)
   | inr other ↦ ap is_leaf (get_or-set_other headers x slot 0 0 other) ∙ unmarked

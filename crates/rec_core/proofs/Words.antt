@@ -82,7 +82,7 @@ crossing_within : {dated : Bool} → (w : Core) (t n : ℕ) → IsKept dated w �
 crossing_within w t n kept is own = let all : length w.crossing ≡ w.config.mutators = kept.mutators.words in (omega (arith, is.0, own), omega (arith, is.1, own))
 
 -- what a mutator names is there
-pub own_within : {dated : Bool} → (w : Core) (t : ℕ) (op : Op) → IsKept dated w → IsMutator w.config t → IsOwnOp (mutator w t) op → NamesWord (mutator w t).slots (mutator w t).fields op → IsWithin (cells_of w) op
+own_within : {dated : Bool} → (w : Core) (t : ℕ) (op : Op) → IsKept dated w → IsMutator w.config t → IsOwnOp (mutator w t) op → NamesWord (mutator w t).slots (mutator w t).fields op → IsWithin (cells_of w) op
 own_within w t (ops.LoadField place) kept is own names = let o = (actor_of w t kept is).own in subst (λ n. place < n) (fields_many w (mutator w t).slots (mutator w t).fields kept o.slots o.fields) names
 own_within w t (ops.SwapField place word) kept is own names = let o = (actor_of w t kept is).own in subst (λ n. place < n) (fields_many w (mutator w t).slots (mutator w t).fields kept o.slots o.fields) names
 own_within w t (ops.LoadHeader slot) kept is own names = subst (λ n. slot < n) ((actor_of w t kept is).own.slots ∙ sym kept.headers) names

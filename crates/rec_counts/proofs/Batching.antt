@@ -40,17 +40,17 @@ settled_same f h k Taken v = go (stays v) (eqb v.count 0)
 pub count_at : (s : State) (born added : ℕ → ℕ) (taken : List ℕ) (x : ℕ) → (batched_at s.slots born added taken x).count ≡ (slot_at s x).count + added x - times x taken
 count_at s born added taken x = settled_same (λ v. v.count) (λ v c. refl) (λ v c. refl) (mark_of (ltb 0 (added x)) (ltb 0 (times x taken))) (counted_at s.slots born added taken x)
 
-pub released_at : (s : State) (born added : ℕ → ℕ) (taken : List ℕ) (x : ℕ) → (batched_at s.slots born added taken x).released ≡ (slot_at s x).released
+released_at : (s : State) (born added : ℕ → ℕ) (taken : List ℕ) (x : ℕ) → (batched_at s.slots born added taken x).released ≡ (slot_at s x).released
 released_at s born added taken x =
     settled_same (λ v. v.released) (λ v c. refl) (λ v c. refl) (mark_of (ltb 0 (added x)) (ltb 0 (times x taken))) (counted_at s.slots born added taken x)
     ∙ greened_same (λ v. v.released) (λ v. refl) (ltb 0 (born x)) (slot_at s x)
 
-pub cyclic_at : (s : State) (born added : ℕ → ℕ) (taken : List ℕ) (x : ℕ) → (batched_at s.slots born added taken x).cyclic ≡ (slot_at s x).cyclic
+cyclic_at : (s : State) (born added : ℕ → ℕ) (taken : List ℕ) (x : ℕ) → (batched_at s.slots born added taken x).cyclic ≡ (slot_at s x).cyclic
 cyclic_at s born added taken x =
     settled_same (λ v. v.cyclic) (λ v c. refl) (λ v c. refl) (mark_of (ltb 0 (added x)) (ltb 0 (times x taken))) (counted_at s.slots born added taken x)
     ∙ greened_same (λ v. v.cyclic) (λ v. refl) (ltb 0 (born x)) (slot_at s x)
 
-pub set_at : (s : State) (born added : ℕ → ℕ) (taken : List ℕ) (x : ℕ) → (batched_at s.slots born added taken x).set ≡ (slot_at s x).set
+set_at : (s : State) (born added : ℕ → ℕ) (taken : List ℕ) (x : ℕ) → (batched_at s.slots born added taken x).set ≡ (slot_at s x).set
 set_at s born added taken x =
     settled_same (λ v. v.set) (λ v c. refl) (λ v c. refl) (mark_of (ltb 0 (added x)) (ltb 0 (times x taken))) (counted_at s.slots born added taken x)
     ∙ greened_same (λ v. v.set) (λ v. refl) (ltb 0 (born x)) (slot_at s x)
@@ -86,12 +86,12 @@ cond_none true = refl
 cond_none false = refl
 
 -- how often a slot stands among the new roots and zeros
-pub times-roots : (s : State) (born added : ℕ → ℕ) (taken : List ℕ) (x : ℕ) → times x (new_roots s.slots born added taken) ≡ cond (is_root (settled_due (counted_at s.slots born added taken x))) (one (ltb 0 (times x taken))) 0
+times-roots : (s : State) (born added : ℕ → ℕ) (taken : List ℕ) (x : ℕ) → times x (new_roots s.slots born added taken) ≡ cond (is_root (settled_due (counted_at s.slots born added taken x))) (one (ltb 0 (times x taken))) 0
 times-roots s born added taken x =
     times-filter x (λ y. is_root (settled_due (counted_at s.slots born added taken y))) (firsts taken)
     ∙ ap (λ n. cond (is_root (settled_due (counted_at s.slots born added taken x))) n 0) (times_firsts x taken)
 
-pub times-zeros : (s : State) (born added : ℕ → ℕ) (taken : List ℕ) (x : ℕ) → times x (new_zeros s.slots born added taken) ≡ cond (is_zero (settled_due (counted_at s.slots born added taken x))) (one (ltb 0 (times x taken))) 0
+times-zeros : (s : State) (born added : ℕ → ℕ) (taken : List ℕ) (x : ℕ) → times x (new_zeros s.slots born added taken) ≡ cond (is_zero (settled_due (counted_at s.slots born added taken x))) (one (ltb 0 (times x taken))) 0
 times-zeros s born added taken x =
     times-filter x (λ y. is_zero (settled_due (counted_at s.slots born added taken y))) (firsts taken)
     ∙ ap (λ n. cond (is_zero (settled_due (counted_at s.slots born added taken x))) n 0) (times_firsts x taken)

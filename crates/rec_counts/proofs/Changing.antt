@@ -36,19 +36,6 @@ pub record Changed (change : Bool → Slot → Slot) (members : List ℕ) (s t :
   pub many : length t.slots ≡ length s.slots
   pub slots : (x : ℕ) → slot_at t x ≡ change (ltb 0 (times x (take i members))) (slot_at s x)
 
-pub changed_none : (change : Bool → Slot → Slot) → ((v : Slot) → change false v ≡ v) → (members : List ℕ) (s t : State) → t ≡ s → Changed change members s t 0
-changed_none change same members s t e = rw e (record { rest = refl; many = refl; slots = λ x. rw (times-nil x) (sym (same (slot_at s x))) })
-
-pub changed_on : (change : Bool → Slot → Slot) → ((b : Bool) (v : Slot) → change true (change b v) ≡ change true v) → (members : List ℕ) (s t : State) (i : ℕ) → i < length members → get_or members i 0 < length s.slots →
-    Changed change members s t i → (u : State) → u ≡ with_slot t (get_or members i 0) (change true (slot_at t (get_or members i 0))) → Changed change members s u (i + 1)
-changed_on change twice members s t i l r d u e =
-    let m : ℕ = get_or members i 0 in
-    rw e (record {
-      rest = ap (λ (w : State). record w { slots = set t.slots m (change true (slot_at t m)) }) d.rest;
-      many = length-set t.slots m (change true (slot_at t m)) ∙ d.many;
-      slots = changed_more change twice t.slots s.slots members i l (omega (arith, r, d.many)) d.slots;
-    })
-
 -- all of them are changed
 pub changed_all : (change : Bool → Slot → Slot) (members : List ℕ) (s t : State) (i : ℕ) (now : List Slot) → length members ≤ i → length now ≡ length s.slots →
     ((x : ℕ) → get_or now x absent ≡ change (ltb 0 (times x members)) (slot_at s x)) → Changed change members s t i → t ≡ record s { slots = now }

@@ -19,7 +19,7 @@ use Rattle.rec_counts.proofs.Times.{times-nil, times-cons, times-append, times_p
 pub rest_same : (s : State) → KeepsRest s s
 rest_same s = record { slots = refl; sets = refl; marked = refl; work = refl; free = refl; released = λ x. refl; cyclic = λ x. refl; set = λ x. refl }
 
-pub rest_on : {s t u : State} → KeepsRest s t → KeepsRest t u → KeepsRest s u
+rest_on : {s t u : State} → KeepsRest s t → KeepsRest t u → KeepsRest s u
 rest_on a b = record {
   slots = b.slots ∙ a.slots;
   sets = b.sets ∙ a.sets;
@@ -32,7 +32,7 @@ rest_on a b = record {
 }
 
 -- a slot is written that keeps these parts
-pub rest_slot : (s : State) (x : ℕ) (v : Slot) → v.released ≡ (slot_at s x).released → v.cyclic ≡ (slot_at s x).cyclic → v.set ≡ (slot_at s x).set → KeepsRest s (with_slot s x v)
+rest_slot : (s : State) (x : ℕ) (v : Slot) → v.released ≡ (slot_at s x).released → v.cyclic ≡ (slot_at s x).cyclic → v.set ≡ (slot_at s x).set → KeepsRest s (with_slot s x v)
 rest_slot s x v r c e = record {
   slots = length-set s.slots x v;
   sets = refl;

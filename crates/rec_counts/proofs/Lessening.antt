@@ -68,10 +68,6 @@ room_kept h e = record { roots_room = rw e h.roots_room; sets_room = rw e h.sets
 pub new_zero : {v w : Slot} (x : ℕ) (zeros : List ℕ) → ToZeros v → v ≡ w → (w.released ≡ false → w.count ≡ 1 → times x zeros ≡ 0) → times x zeros ≡ 0
 new_zero x zeros t e h = h (ap (λ (w : Slot). w.released) (sym e) ∙ t.unreleased) (ap (λ (w : Slot). w.count) (sym e) ∙ t.last)
 
--- the rooms at opening
-pub room_open : (n m : ℕ) → m ≡ n → HasRoom m (n * 2) n n (n * 2) (n * 2) (n * 2) (untouched n)
-room_open n m e = record { roots_room = omega arith; sets_room = sym e; marked_room = sym e; work_room = omega arith; zeros_room = omega arith; free_room = omega arith; none_touched = ap untouched (sym e) }
-
 -- what is known of a slot that is due nowhere
 pub record ToNothing (v : Slot) : Type 0 where
   pub buffered : (lessened v).buffered ≡ v.buffered

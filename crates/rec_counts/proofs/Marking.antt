@@ -111,7 +111,7 @@ listed_taken {marks = marks} {added = added} {taken = taken} k x l u = record {
     there y e = get_or-set_other marks x y Taken Untouched e
 
 -- a list that has each number at most once doesn't have one before its place
-pub times-take-le : (x : ℕ) (xs : List ℕ) (i : ℕ) → times x (take i xs) ≤ times x xs
+times-take-le : (x : ℕ) (xs : List ℕ) (i : ℕ) → times x (take i xs) ≤ times x xs
 unfolding times
 times-take-le x xs i = sum_by-take-le (λ z. cond (eqb x z) 1 0) xs i
 

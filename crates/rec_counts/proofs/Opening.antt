@@ -82,10 +82,3 @@ fresh_behind slots counts x behind = go counts x behind
     ]
     go (n ∷ ns) zero past = absurd (omega arith)
     go (n ∷ ns) (suc y) past = go ns y (omega arith)
-
--- the opening with one count is one of these
-pub opened_is : (slots first : ℕ) → 0 < slots → opened slots first ≡ opened_from slots (first ∷ [])
-opened_is zero first some = absurd (omega arith)
-opened_is (suc n) first some =
-    let rest : n ≡ suc n - 1 = omega arith in
-    ap (λ (m : ℕ). let s : State = record { slots = counted first ∷ replicate m fresh; roots = []; sets = []; marked = []; work = []; zeros = []; free = [] } in s) rest

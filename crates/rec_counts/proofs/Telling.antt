@@ -57,7 +57,7 @@ times_firsts x (y ∷ ys) =
           omega (arith, times-cons x y (filter (λ z. not (eqb y z)) (firsts ys)), kept, ap one q.0, times_firsts x ys, ap (λ n. one (ltb 0 n)) same)
     ]
 
-pub firsts_push : (xs : List ℕ) (y : ℕ) → firsts (xs ++ y ∷ []) ≡ cond (ltb 0 (times y xs)) (firsts xs) (firsts xs ++ y ∷ [])
+firsts_push : (xs : List ℕ) (y : ℕ) → firsts (xs ++ y ∷ []) ≡ cond (ltb 0 (times y xs)) (firsts xs) (firsts xs ++ y ∷ [])
 firsts_push [] y = rw (times-nil y) refl
 firsts_push (x ∷ xs) y = ap (λ ys. x ∷ filter q ys) (firsts_push xs y) ∙ go (ltb 0 (times y xs)) (eqb y x) refl refl
   where
@@ -96,7 +96,7 @@ count_here slots x y n l e = ap (λ z. (get_or (set slots x (record (get_or slot
 count_there : (slots : List Slot) (x y n : ℕ) → y ≢ x → (get_or (set slots x (record (get_or slots x absent) { count = n })) y absent).count ≡ (get_or slots y absent).count
 count_there slots x y n e = ap (λ (w : Slot). w.count) (get_or-set_other slots x y (record (get_or slots x absent) { count = n }) absent e)
 
-pub taken_of : (added taken : Bool) → is_taken (mark_of added taken) ≡ taken
+taken_of : (added taken : Bool) → is_taken (mark_of added taken) ≡ taken
 taken_of true true = refl
 taken_of false true = refl
 taken_of true false = refl
@@ -193,7 +193,7 @@ told_same {before = before} {slots = slots} {born = born} {added = added} {taken
 })
 
 -- All is told: each slot has its count.
-pub told_slot : {before slots : List Slot} {born added : ℕ → ℕ} {taken : List ℕ} {touched : Touching} → Told before born added taken slots touched →
+told_slot : {before slots : List Slot} {born added : ℕ → ℕ} {taken : List ℕ} {touched : Touching} → Told before born added taken slots touched →
     ((x : ℕ) → (get_or before x absent).count + added x < 2 ^ 64) → ((x : ℕ) → times x taken ≤ (get_or before x absent).count + added x) →
     (x : ℕ) → get_or slots x absent ≡ counted_at before born added taken x
 told_slot {before = before} {slots = slots} {born = born} {added = added} {taken = taken} {touched = touched} k fits covered x =

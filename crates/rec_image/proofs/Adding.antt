@@ -21,7 +21,7 @@ pub length-objects : (fields : ℕ) (nodes : List (ℕ × Bool)) (targets : List
 length-objects fields [] targets = refl
 length-objects fields (node ∷ nodes) targets = ap suc (length-objects fields nodes (drop fields targets))
 
-pub objects-push : (fields : ℕ) (nodes : List (ℕ × Bool)) (node : Node) (targets : List (Option ℕ)) → length targets ≡ length nodes * fields → length node.fields ≡ fields → objects_of fields (nodes ++ (node.label, node.leaf) ∷ []) (targets ++ node.fields) ≡ objects_of fields nodes targets ++ node ∷ []
+objects-push : (fields : ℕ) (nodes : List (ℕ × Bool)) (node : Node) (targets : List (Option ℕ)) → length targets ≡ length nodes * fields → length node.fields ≡ fields → objects_of fields (nodes ++ (node.label, node.leaf) ∷ []) (targets ++ node.fields) ≡ objects_of fields nodes targets ++ node ∷ []
 objects-push fields [] node [] size own = ap (λ (fs : List (Option ℕ)). record node { fields = fs } ∷ []) (take_all fields node.fields (omega arith))
 objects-push fields [] node (t ∷ ts) size own = absurd (omega arith)
 objects-push fields (first ∷ nodes) node targets size own =
@@ -77,7 +77,7 @@ node_read slots fields leaf bytes rest later behind label before mid after e fou
 -- ---- an object joins the others
 
 -- what is met with one object more
-pub meeting-push : (objects : List Node) (node : Node) (count : ℕ) → count ≡ length objects → meeting (objects ++ node ∷ []) ≡ meets_all (begins (meeting objects) count) (names node)
+meeting-push : (objects : List Node) (node : Node) (count : ℕ) → count ≡ length objects → meeting (objects ++ node ∷ []) ≡ meets_all (begins (meeting objects) count) (names node)
 meeting-push objects node count e =
     ap (walks unmet 0) (map-append names objects (node ∷ []))
     ∙ walks-append unmet 0 count (map names objects) (names node ∷ []) (omega (arith, length-map objects names))
@@ -87,7 +87,7 @@ next_of : (P : Node → Type 0) (objects more : List Node) (node : Node) → All
 next_of P [] more node all = All-head P node more all
 next_of P (first ∷ objects) more node all = next_of P objects more node (All-tail P first (objects ++ node ∷ more) all)
 
-pub next_is_node : (heap : Heap) (w : ImageContents) (objects more : List Node) (node : Node) → IsImage w → IsOfHeap heap w → w.objects ≡ objects ++ node ∷ more → IsNode heap.slots heap.fields node
+next_is_node : (heap : Heap) (w : ImageContents) (objects more : List Node) (node : Node) → IsImage w → IsOfHeap heap w → w.objects ≡ objects ++ node ∷ more → IsNode heap.slots heap.fields node
 next_is_node heap w objects more node image of e =
     subst (λ (n : ℕ). IsNode n heap.fields node) of.slots (subst (λ (n : ℕ). IsNode w.slots n node) of.fields (next_of (IsNode w.slots w.fields) objects more node (subst (All (IsNode w.slots w.fields)) e image.objects)))
 
@@ -103,7 +103,7 @@ pub no_node : (heap : Heap) (objects : List Node) (bytes : List ℕ) → ((node 
 no_node heap objects bytes none = λ w node more rest image of e is. none node rest (next_is_node heap w objects more node image of e) is
 
 -- the object that was read, with those before it
-pub met_then : (heap : Heap) (before mid after : Objects) (bytes rest : List ℕ) (count : ℕ) → AreObjects heap before → count ≡ length before.nodes.items → mid.meeting ≡ begins before.meeting count → (read : IsNodeRead heap.slots heap.fields bytes rest mid after) → after.meeting ≡ meeting (objects_in heap before ++ read.node ∷ [])
+met_then : (heap : Heap) (before mid after : Objects) (bytes rest : List ℕ) (count : ℕ) → AreObjects heap before → count ≡ length before.nodes.items → mid.meeting ≡ begins before.meeting count → (read : IsNodeRead heap.slots heap.fields bytes rest mid after) → after.meeting ≡ meeting (objects_in heap before ++ read.node ∷ [])
 met_then heap before mid after bytes rest count are is begun read =
     read.meeting
     ∙ ap (λ (m : Meeting). meets_all m (names read.node)) (begun ∙ ap (λ (m : Meeting). begins m count) are.meeting)

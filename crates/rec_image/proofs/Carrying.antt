@@ -52,7 +52,7 @@ at_place (m ∷ ns) n h = elim (cases_eq m n) [
 ]
 
 -- so the places are the numbers from 0 on
-pub places : (ns : List ℕ) → IsDistinct ns → map (place_in ns) ns ≡ range_with_len 0 (length ns)
+places : (ns : List ℕ) → IsDistinct ns → map (place_in ns) ns ≡ range_with_len 0 (length ns)
 places ns d = same (map (place_in ns) ns) (range_with_len 0 (length ns)) (length-map ns (place_in ns) ∙ sym (length-range_with_len 0 (length ns))) (λ k lt.
     let within : k < length ns = omega (arith, length-map ns (place_in ns)) in
     mapped ns k within ∙ place_at ns k d within ∙ (let e : k ≡ 0 + k = omega arith in e) ∙ sym (get_or-range_with_len 0 (length ns) k 0 within))

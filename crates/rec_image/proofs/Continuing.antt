@@ -28,7 +28,7 @@ children_are objects = λ i. ap (children objects) (let e : 0 + i ≡ i = omega 
 
 -- ---- what an image's lines have
 
-pub grown_image : (v : ImageContents) → IsImage v → IsGrown (roots v.held) (map names v.objects)
+grown_image : (v : ImageContents) → IsImage v → IsGrown (roots v.held) (map names v.objects)
 grown_image v image = grown_from (roots v.held) (children v.objects) (map names v.objects) (children_are v.objects)
     (subst (λ (k : ℕ). IsNumbering (roots v.held) (children v.objects) (range_with_len 0 k)) (sym (length-map v.objects names)) image.numbered)
 
@@ -90,7 +90,7 @@ walk_due objects = subst (λ (k : ℕ). (meeting objects).due ≤ max k (meeting
 abbrev pub completing : ImageContents → List (List (Option ℕ))
 completing v = all_registers (v.mutators - length v.held) v.registers (naming v.held).met (max (naming v.held).met (least (meeting v.objects) (length v.objects)) - (naming v.held).met)
 
-pub completed : (v : ImageContents) → CanClose v → IsImage (with_more v [] (completing v))
+completed : (v : ImageContents) → CanClose v → IsImage (with_more v [] (completing v))
 completed v can =
     let few : max (naming v.held).met (least (meeting v.objects) (length v.objects)) ≤ length v.objects = omega (arith, can.named, least-most (meeting v.objects) (length v.objects) can.met (walk_due v.objects)) in
     let grown = all_grow (v.mutators - length v.held) v.registers (naming v.held).met (max (naming v.held).met (least (meeting v.objects) (length v.objects)) - (naming v.held).met) (omega (arith, can.reach)) in
@@ -135,7 +135,7 @@ walks_within slots width m j (node ∷ objects) h are =
 abbrev pub missing : ImageContents → List Node
 missing v = replicate (max (meeting v.objects).met (meeting v.objects).due - length v.objects) (null_node v.fields)
 
-pub can_close : (v : ImageContents) → IsOpen v → CanClose (with_more v (missing v) [])
+can_close : (v : ImageContents) → IsOpen v → CanClose (with_more v (missing v) [])
 can_close v open_ = subst (λ (hs : List (List (Option ℕ))). CanClose (record v { objects = v.objects ++ missing v; held = hs })) (sym (ap (λ (hs : List (List (Option ℕ))). hs ++ []) open_.none)) plain
   where
     cs : List (List ℕ)
@@ -264,14 +264,14 @@ pub regroup : (a b c d e : List ℕ) → a ++ (b ++ (c ++ (d ++ e))) ≡ (a ++ (
 regroup a b c d e = simp append_assoc
 
 -- the lines up to some registers, and what is behind them
-pub text_told : (w : ImageContents) (hs more : List (List (Option ℕ))) → w.held ≡ hs ++ more → text w ≡ so_far (record w { held = hs }) ++ (flat_map registers_line more ++ end_line)
+text_told : (w : ImageContents) (hs more : List (List (Option ℕ))) → w.held ≡ hs ++ more → text w ≡ so_far (record w { held = hs }) ++ (flat_map registers_line more ++ end_line)
 text_told w hs more e =
     ap (λ (rs : List ℕ). header_line ++ (heap_line w.slots w.fields w.registers w.mutators ++ (flat_map object_line w.objects ++ (rs ++ end_line)))) (ap (flat_map registers_line) e ∙ flat_map-append registers_line hs more)
     ∙ ap (λ (rs : List ℕ). header_line ++ (heap_line w.slots w.fields w.registers w.mutators ++ (flat_map object_line w.objects ++ rs))) (append_assoc (flat_map registers_line hs) (flat_map registers_line more) end_line)
     ∙ regroup header_line (heap_line w.slots w.fields w.registers w.mutators) (flat_map object_line w.objects) (flat_map registers_line hs) (flat_map registers_line more ++ end_line)
 
 -- the lines up to some objects, and what is behind them
-pub text_open : (w : ImageContents) (os more : List Node) → w.objects ≡ os ++ more → text w ≡ so_far (record w { objects = os; held = [] }) ++ (flat_map object_line more ++ (flat_map registers_line w.held ++ end_line))
+text_open : (w : ImageContents) (os more : List Node) → w.objects ≡ os ++ more → text w ≡ so_far (record w { objects = os; held = [] }) ++ (flat_map object_line more ++ (flat_map registers_line w.held ++ end_line))
 text_open w os more e =
     ap (λ (ls : List ℕ). header_line ++ (heap_line w.slots w.fields w.registers w.mutators ++ (ls ++ (flat_map registers_line w.held ++ end_line)))) (ap (flat_map object_line) e ∙ flat_map-append object_line os more)
     ∙ ap (λ (ls : List ℕ). header_line ++ (heap_line w.slots w.fields w.registers w.mutators ++ ls)) (append_assoc (flat_map object_line os) (flat_map object_line more) (flat_map registers_line w.held ++ end_line))

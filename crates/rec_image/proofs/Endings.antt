@@ -122,7 +122,7 @@ end_stops heap x held bytes rest line are all e none number =
     (omega (arith, whole.1, length-objects heap.fields x.nodes.items x.targets.items, full heap held all))
     (missed_end heap (objects_in heap x) (held_in heap held) rest are.can (full heap held all) none)
 
-pub whole_text : (heap : Heap) (os : List Node) (hs : List (List (Option ℕ))) → text (draft heap os hs) ≡ so_far (draft heap os hs) ++ end_line
+whole_text : (heap : Heap) (os : List Node) (hs : List (List (Option ℕ))) → text (draft heap os hs) ≡ so_far (draft heap os hs) ++ end_line
 whole_text heap os hs = regroup header_line (heap_line heap.slots heap.fields heap.registers heap.mutators) (flat_map object_line os) (flat_map registers_line hs) end_line
 
 pub read_image : (heap : Heap) (x : Objects) (held : Held) → AreHeld heap (objects_in heap x) held → held.rows ≡ heap.mutators → IsImage (draft heap (objects_in heap x) (held_in heap held))

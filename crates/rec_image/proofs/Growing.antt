@@ -57,15 +57,15 @@ pub highest-most : (m : ℕ) (xs : List ℕ) → Grows m xs → highest m xs ≤
 highest-most m [] g = omega arith
 highest-most m (x ∷ xs) g = let more : highest (max m (x + 1)) xs ≤ max m (x + 1) + length xs = highest-most (max m (x + 1)) xs g.1 in omega (arith, g.0)
 
-pub highest_all-le : (m : ℕ) (cs : List (List ℕ)) → m ≤ highest_all m cs
+highest_all-le : (m : ℕ) (cs : List (List ℕ)) → m ≤ highest_all m cs
 highest_all-le m [] = omega arith
 highest_all-le m (c ∷ cs) = let one : m ≤ highest m c = highest-le m c in let more : highest m c ≤ highest_all (highest m c) cs = highest_all-le (highest m c) cs in omega arith
 
-pub highest-flat : (m : ℕ) (cs : List (List ℕ)) → highest m (flat cs) ≡ highest_all m cs
+highest-flat : (m : ℕ) (cs : List (List ℕ)) → highest m (flat cs) ≡ highest_all m cs
 highest-flat m [] = refl
 highest-flat m (c ∷ cs) = highest-append m c (flat cs) ∙ highest-flat (highest m c) cs
 
-pub grows_flat : (m j : ℕ) (cs : List (List ℕ)) → Follows m j cs → Grows m (flat cs)
+grows_flat : (m j : ℕ) (cs : List (List ℕ)) → Follows m j cs → Grows m (flat cs)
 grows_flat m j [] f = tt
 grows_flat m j (c ∷ cs) f = grows_join m c (flat cs) f.1 (grows_flat (highest m c) (j + 1) cs f.2)
 
@@ -111,7 +111,7 @@ met_cases m k (x ∷ xs) g lt = elim (met_cases (max m (x + 1)) k xs g.1 lt) [
 
 -- ---- the numbers from 0 on
 
-pub range_more : (a n b : ℕ) → a + n ≡ b → range_with_len a (suc n) ≡ range_with_len a n ++ b ∷ []
+range_more : (a n b : ℕ) → a + n ≡ b → range_with_len a (suc n) ≡ range_with_len a n ++ b ∷ []
 range_more a zero b e = ap (λ (k : ℕ). k ∷ []) (let s : a ≡ b = omega arith in s)
 range_more a (suc n) b e = ap (λ (ks : List ℕ). a ∷ ks) (range_more (a + 1) n b (omega arith))
 
@@ -147,7 +147,7 @@ joined-next m k xs e =
     joined-new (range_with_len 0 m) k xs (not_in_range m k (omega arith))
     ∙ ap (λ (ms : List ℕ). joined ms xs) (sym (range_more 0 m k (omega arith)))
 
-pub grows_joined : (m : ℕ) (xs : List ℕ) → Grows m xs → joined (range_with_len 0 m) xs ≡ range_with_len 0 (highest m xs)
+grows_joined : (m : ℕ) (xs : List ℕ) → Grows m xs → joined (range_with_len 0 m) xs ≡ range_with_len 0 (highest m xs)
 grows_joined m [] g = append-nil (range_with_len 0 m)
 grows_joined m (x ∷ xs) g = elim (cases_lt x m) [
   | inl lt ↦ let same : max m (x + 1) ≡ m = omega arith in
@@ -175,7 +175,7 @@ at_next m n k more e =
     behind (x ∷ xs) zero e = absurd (omega arith)
     behind (x ∷ xs) (suc i) e = behind xs i (omega arith)
 
-pub joined_grows : (m n : ℕ) (xs : List ℕ) → joined (range_with_len 0 m) xs ≡ range_with_len 0 n → Grows m xs × (highest m xs ≡ n)
+joined_grows : (m n : ℕ) (xs : List ℕ) → joined (range_with_len 0 m) xs ≡ range_with_len 0 n → Grows m xs × (highest m xs ≡ n)
 joined_grows m n [] e = (tt, sym (length-range_with_len 0 m) ∙ ap (length {A = ℕ}) (sym (append-nil (range_with_len 0 m)) ∙ e) ∙ length-range_with_len 0 n)
 joined_grows m n (x ∷ xs) e = elim (cases_lt x m) [
   | inl lt ↦ let same : max m (x + 1) ≡ m = omega arith in
@@ -194,10 +194,10 @@ joined_grows m n (x ∷ xs) e = elim (cases_lt x m) [
 abbrev pub AreOf : (f : ℕ → List ℕ) (j : ℕ) → List (List ℕ) → Type 0
 AreOf f j cs = (i : ℕ) → f (j + i) ≡ get_or cs i []
 
-pub of_first : (f : ℕ → List ℕ) (j : ℕ) (c : List ℕ) (cs : List (List ℕ)) → AreOf f j (c ∷ cs) → f j ≡ c
+of_first : (f : ℕ → List ℕ) (j : ℕ) (c : List ℕ) (cs : List (List ℕ)) → AreOf f j (c ∷ cs) → f j ≡ c
 of_first f j c cs of = ap f (let e : j ≡ j + 0 = omega arith in e) ∙ of 0
 
-pub of_rest : (f : ℕ → List ℕ) (j : ℕ) (c : List ℕ) (cs : List (List ℕ)) → AreOf f j (c ∷ cs) → AreOf f (j + 1) cs
+of_rest : (f : ℕ → List ℕ) (j : ℕ) (c : List ℕ) (cs : List (List ℕ)) → AreOf f j (c ∷ cs) → AreOf f (j + 1) cs
 of_rest f j c cs of = λ i. ap f (let e : (j + 1) + i ≡ j + suc i = omega arith in e) ∙ of (suc i)
 
 flat_of : (f : ℕ → List ℕ) (j : ℕ) (cs : List (List ℕ)) → AreOf f j cs → flat_map f (range_with_len j (length cs)) ≡ flat cs

@@ -35,7 +35,7 @@ two_maps : (f : ℕ → ℕ) (words : List ℕ) → map (λ w. option_map f (tar
 two_maps f [] = refl
 two_maps f (w ∷ words) = ap (λ (xs : List (Option ℕ)). option_map f (target_of w) ∷ xs) (two_maps f words)
 
-pub maps_one : (f g h : ℕ → ℕ) (xs : List (Option ℕ)) → ((n : ℕ) → is_in n (named xs) ≡ true → f (g n) ≡ h n) → map (option_map f) (map (option_map g) xs) ≡ map (option_map h) xs
+maps_one : (f g h : ℕ → ℕ) (xs : List (Option ℕ)) → ((n : ℕ) → is_in n (named xs) ≡ true → f (g n) ≡ h n) → map (option_map f) (map (option_map g) xs) ≡ map (option_map h) xs
 maps_one f g h [] each = refl
 maps_one f g h (None ∷ xs) each = ap (λ (ys : List (Option ℕ)). None ∷ ys) (maps_one f g h xs each)
 maps_one f g h (Some n ∷ xs) each =

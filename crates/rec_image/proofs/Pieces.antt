@@ -15,7 +15,7 @@ use Rattle.rec_image.specs.Image.{IsPlace, word}
 use Rattle.rec_image.proofs.Prefixes.{numeral_front}
 
 -- what is behind the first k bytes
-pub tail : (bytes : List ℕ) (k : ℕ) → take (length bytes - k) (drop k bytes) ≡ drop k bytes
+tail : (bytes : List ℕ) (k : ℕ) → take (length bytes - k) (drop k bytes) ≡ drop k bytes
 tail bytes k = take_all (length bytes - k) (drop k bytes) (omega (arith, length-drop k bytes))
 
 -- what follows from what a clause says of both variants
@@ -102,7 +102,7 @@ no_nought bytes front long digit n t fits ends e =
 
 -- ---- numbers within limits
 
-pub byte_ends : (b : ℕ) (t : List ℕ) → b < 48 → EndsNumeral (b ∷ t)
+byte_ends : (b : ℕ) (t : List ℕ) → b < 48 → EndsNumeral (b ∷ t)
 byte_ends b t small = (omega arith, λ d. omega (arith, d.0))
 
 -- the number that was found is the only one

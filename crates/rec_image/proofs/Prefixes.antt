@@ -41,7 +41,7 @@ feed_ends bytes = (omega arith, λ d. omega (arith, d.0))
 pub space_ends : (bytes : List ℕ) → EndsNumeral (32 ∷ bytes)
 space_ends bytes = (omega arith, λ d. omega (arith, d.0))
 
-pub word_ends : (x : Option ℕ) (bytes : List ℕ) → EndsNumeral (word x ++ bytes)
+word_ends : (x : Option ℕ) (bytes : List ℕ) → EndsNumeral (word x ++ bytes)
 word_ends None bytes = (omega arith, λ d. omega (arith, d.0))
 word_ends (Some n) bytes = (omega arith, λ d. omega (arith, d.0))
 
@@ -49,7 +49,7 @@ pub words_end : (xs : List (Option ℕ)) (bytes : List ℕ) → EndsNumeral byte
 words_end [] bytes ends = ends
 words_end (x ∷ xs) bytes ends = subst EndsNumeral (sym (append_assoc (word x) (flat_map word xs) bytes)) (word_ends x (flat_map word xs ++ bytes))
 
-pub word_front : (slots : ℕ) (x y : Option ℕ) (s t : List ℕ) → slots ≤ 65535 → IsPlace slots x → IsPlace slots y → EndsNumeral s → EndsNumeral t → word x ++ s ≡ word y ++ t → (x ≡ y) × (s ≡ t)
+word_front : (slots : ℕ) (x y : Option ℕ) (s t : List ℕ) → slots ≤ 65535 → IsPlace slots x → IsPlace slots y → EndsNumeral s → EndsNumeral t → word x ++ s ≡ word y ++ t → (x ≡ y) × (s ≡ t)
 word_front slots None None s t small a b p q e = (refl, let rest : s ≡ t = cc in rest)
 word_front slots None (Some m) s t small a b p q e = absurd (let clash : 45 ≡ 35 = ap (λ (bs : List ℕ). get_or bs 1 0) e in omega arith)
 word_front slots (Some n) None s t small a b p q e = absurd (let clash : 35 ≡ 45 = ap (λ (bs : List ℕ). get_or bs 1 0) e in omega arith)
@@ -59,7 +59,7 @@ word_front slots (Some n) (Some m) s t small a b p q e =
     let same : n ≡ m = omega (arith, found.0) in
     (ap Some same, found.1)
 
-pub words_front : (slots : ℕ) (xs ys : List (Option ℕ)) (s t : List ℕ) → slots ≤ 65535 → length xs ≡ length ys → All (IsPlace slots) xs → All (IsPlace slots) ys → EndsNumeral s → EndsNumeral t → flat_map word xs ++ s ≡ flat_map word ys ++ t → (xs ≡ ys) × (s ≡ t)
+words_front : (slots : ℕ) (xs ys : List (Option ℕ)) (s t : List ℕ) → slots ≤ 65535 → length xs ≡ length ys → All (IsPlace slots) xs → All (IsPlace slots) ys → EndsNumeral s → EndsNumeral t → flat_map word xs ++ s ≡ flat_map word ys ++ t → (xs ≡ ys) × (s ≡ t)
 words_front slots [] [] s t small size a b p q e = (refl, e)
 words_front slots [] (y ∷ ys) s t small size a b p q e = absurd (omega arith)
 words_front slots (x ∷ xs) [] s t small size a b p q e = absurd (omega arith)
@@ -79,7 +79,7 @@ object_parts node rest =
     ∙ ap (λ (bs : List ℕ). node_head node.leaf ++ bs) (append_assoc (decimal node.label) (flat_map word (told_fields node.leaf node.fields) ++ line_feed) rest
     ∙ ap (λ (bs : List ℕ). decimal node.label ++ bs) (append_assoc (flat_map word (told_fields node.leaf node.fields)) line_feed rest))
 
-pub registers_parts : (held : List (Option ℕ)) (rest : List ℕ) → registers_line held ++ rest ≡ codes "registers" ++ (flat_map word held ++ (10 ∷ rest))
+registers_parts : (held : List (Option ℕ)) (rest : List ℕ) → registers_line held ++ rest ≡ codes "registers" ++ (flat_map word held ++ (10 ∷ rest))
 registers_parts held rest = ap (λ (bs : List ℕ). codes "registers" ++ bs) (append_assoc (flat_map word held) line_feed rest)
 
 abbrev node_of : ℕ → Bool → List (Option ℕ) → Node

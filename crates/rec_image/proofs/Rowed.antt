@@ -26,7 +26,7 @@ use Rattle.rec_image.specs.Standing.{held_of, image_of, listed_place, node_of, p
 use Rattle.rec_image.proofs.Restoring.{fields_long, registers_long}
 
 -- ---- what stands one behind the other, cut again
-pub objects_again : (slots fields : ℕ) (objects : List Node) → All (IsNode slots fields) objects → objects_of fields (map mark_of objects) (flat_map fields_in objects) ≡ objects
+objects_again : (slots fields : ℕ) (objects : List Node) → All (IsNode slots fields) objects → objects_of fields (map mark_of objects) (flat_map fields_in objects) ≡ objects
 objects_again slots fields [] all = refl
 objects_again slots fields (node ∷ objects) all =
     let own : length node.fields ≡ fields = (All-head (IsNode slots fields) node objects all).width in
@@ -37,7 +37,7 @@ objects_again slots fields (node ∷ objects) all =
     (λ i. record { label = node.label; leaf = node.leaf; fields = first i } ∷ objects_of fields (map mark_of objects) (behind i))
     ∙ ap (λ (os : List Node). node ∷ os) (objects_again slots fields objects (All-tail (IsNode slots fields) node objects all))
 
-pub held_again : (slots registers mutators : ℕ) (held : List (List (Option ℕ))) → length held ≡ mutators → All (AreRegisters slots registers) held → rows_of registers mutators (flat_map (λ own. own) held) ≡ held
+held_again : (slots registers mutators : ℕ) (held : List (List (Option ℕ))) → length held ≡ mutators → All (AreRegisters slots registers) held → rows_of registers mutators (flat_map (λ own. own) held) ≡ held
 held_again slots registers zero [] many all = refl
 held_again slots registers (suc n) [] many all = absurd (omega (arith, many))
 held_again slots registers zero (own ∷ held) many all = absurd (omega (arith, many))

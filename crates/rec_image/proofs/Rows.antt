@@ -21,7 +21,7 @@ pub length-rows : (registers rows : ℕ) (held : List (Option ℕ)) → length (
 length-rows registers zero held = refl
 length-rows registers (suc rows) held = ap suc (length-rows registers rows (drop registers held))
 
-pub rows-push : (registers rows next : ℕ) (held own : List (Option ℕ)) → next ≡ rows + 1 → length held ≡ rows * registers → length own ≡ registers → rows_of registers next (held ++ own) ≡ rows_of registers rows held ++ own ∷ []
+rows-push : (registers rows next : ℕ) (held own : List (Option ℕ)) → next ≡ rows + 1 → length held ≡ rows * registers → length own ≡ registers → rows_of registers next (held ++ own) ≡ rows_of registers rows held ++ own ∷ []
 rows-push registers rows zero held own n size is = absurd (omega arith)
 rows-push registers zero (suc next) [] own n size is =
     ap (λ (k : ℕ). take registers own ∷ rows_of registers k (drop registers own)) (let e : next ≡ 0 = omega arith in e)
@@ -51,11 +51,11 @@ next_are heap w held more own image of e =
     subst (λ (n : ℕ). AreRegisters n heap.registers own) of.slots (subst (λ (n : ℕ). AreRegisters w.slots n own) of.registers (next_of (AreRegisters w.slots w.registers) held more own (subst (All (AreRegisters w.slots w.registers)) e image.registers)))
 
 -- the registers that were read, with those before them
-pub row_more : (heap : Heap) (before after : Held) (bytes rest : List ℕ) (met now : Meeting) → length before.registers.items ≡ before.rows * heap.registers → after.rows ≡ before.rows + 1 → (read : AreRegistersRead heap.slots heap.registers bytes rest before.registers.items after.registers.items met now) → held_in heap after ≡ held_in heap before ++ read.own ∷ []
+row_more : (heap : Heap) (before after : Held) (bytes rest : List ℕ) (met now : Meeting) → length before.registers.items ≡ before.rows * heap.registers → after.rows ≡ before.rows + 1 → (read : AreRegistersRead heap.slots heap.registers bytes rest before.registers.items after.registers.items met now) → held_in heap after ≡ held_in heap before ++ read.own ∷ []
 row_more heap before after bytes rest met now size next read =
     ap (rows_of heap.registers after.rows) read.more ∙ rows-push heap.registers before.rows after.rows before.registers.items read.own next size read.are.number
 
-pub row_naming : (heap : Heap) (objects : List Node) (before after : Held) (bytes rest : List ℕ) → AreHeld heap objects before → after.rows ≡ before.rows + 1 → AreRegistersRead heap.slots heap.registers bytes rest before.registers.items after.registers.items before.naming after.naming → after.naming ≡ naming (held_in heap after)
+row_naming : (heap : Heap) (objects : List Node) (before after : Held) (bytes rest : List ℕ) → AreHeld heap objects before → after.rows ≡ before.rows + 1 → AreRegistersRead heap.slots heap.registers bytes rest before.registers.items after.registers.items before.naming after.naming → after.naming ≡ naming (held_in heap after)
 row_naming heap objects before after bytes rest are next read =
     read.meeting ∙ ap (λ (m : Meeting). meets_all m (named read.own)) are.naming ∙ sym (naming-push (held_in heap before) read.own)
     ∙ ap naming (sym (row_more heap before after bytes rest before.naming after.naming are.size next read))

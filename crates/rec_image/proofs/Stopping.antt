@@ -77,7 +77,7 @@ heap_front a b c d a2 b2 c2 d2 s t p q e =
 -- ---- what is behind these lines in an image's text
 
 -- the numbers are told, and the objects and registers go on
-pub behind_heap : (w : ImageContents) (heap : Heap) (os : List Node) (hs : List (List (Option ℕ))) (t : List ℕ) → IsImage w → IsSized heap.slots heap.fields heap.registers heap.mutators → text w ≡ so_far (draft heap os hs) ++ t
+behind_heap : (w : ImageContents) (heap : Heap) (os : List Node) (hs : List (List (Option ℕ))) (t : List ℕ) → IsImage w → IsSized heap.slots heap.fields heap.registers heap.mutators → text w ≡ so_far (draft heap os hs) ++ t
     → IsOfHeap heap w × (flat_map object_line os ++ (flat_map registers_line hs ++ t) ≡ flat_map object_line w.objects ++ (flat_map registers_line w.held ++ end_line))
 behind_heap w heap os hs t image sized e =
     let whole : header_line ++ (heap_line w.slots w.fields w.registers w.mutators ++ (flat_map object_line w.objects ++ (flat_map registers_line w.held ++ end_line)))
@@ -101,7 +101,7 @@ object_first node t = subst BeginsObject (sym (object_parts node t)) (at node.le
     at false t = inl refl
 
 -- a mutator's line, or the last one, doesn't begin as an object's
-pub no_object_first : (held : List (List (Option ℕ))) (t : List ℕ) → BeginsObject (flat_map registers_line held ++ (end_line ++ t)) → ⊥
+no_object_first : (held : List (List (Option ℕ))) (t : List ℕ) → BeginsObject (flat_map registers_line held ++ (end_line ++ t)) → ⊥
 no_object_first [] t (inl e) = omega arith
 no_object_first [] t (inr e) = omega arith
 no_object_first (own ∷ held) t (inl e) = omega arith
@@ -116,7 +116,7 @@ nodes_of heap w os of all = subst (λ (n : ℕ). All (IsNode n w.fields) os) (sy
 rows_are : (heap : Heap) (w : ImageContents) (hs : List (List (Option ℕ))) → IsOfHeap heap w → All (AreRegisters heap.slots heap.registers) hs → All (AreRegisters w.slots w.registers) hs
 rows_are heap w hs of all = subst (λ (n : ℕ). All (AreRegisters n w.registers) hs) (sym of.slots) (subst (λ (n : ℕ). All (AreRegisters heap.slots n) hs) (sym of.registers) all)
 
-pub behind_objects : (w : ImageContents) (heap : Heap) (os : List Node) (hs : List (List (Option ℕ))) (t : List ℕ) → IsImage w → IsOfHeap heap w → All (IsNode heap.slots heap.fields) os → flat_map object_line os ++ (flat_map registers_line hs ++ t) ≡ flat_map object_line w.objects ++ (flat_map registers_line w.held ++ end_line)
+behind_objects : (w : ImageContents) (heap : Heap) (os : List Node) (hs : List (List (Option ℕ))) (t : List ℕ) → IsImage w → IsOfHeap heap w → All (IsNode heap.slots heap.fields) os → flat_map object_line os ++ (flat_map registers_line hs ++ t) ≡ flat_map object_line w.objects ++ (flat_map registers_line w.held ++ end_line)
     → (more : List Node) × (w.objects ≡ os ++ more) × (flat_map registers_line hs ++ t ≡ flat_map object_line more ++ (flat_map registers_line w.held ++ end_line))
 behind_objects w heap os hs t image of nodes e =
     lines_front (IsNode w.slots w.fields) object_line (flat_map registers_line w.held ++ end_line)
@@ -127,7 +127,7 @@ behind_objects w heap os hs t image of nodes e =
 no_registers_end : (own : List (Option ℕ)) (s t : List ℕ) → registers_line own ++ s ≡ end_line ++ t → ⊥
 no_registers_end own s t e = let clash : ◌≡◌ {A = ℕ} 114 101 = ap (λ (bs : List ℕ). get_or bs 0 0) e in omega arith
 
-pub behind_rows : (w : ImageContents) (heap : Heap) (hs : List (List (Option ℕ))) (t : List ℕ) → IsImage w → IsOfHeap heap w → All (AreRegisters heap.slots heap.registers) hs → flat_map registers_line hs ++ t ≡ flat_map registers_line w.held ++ end_line
+behind_rows : (w : ImageContents) (heap : Heap) (hs : List (List (Option ℕ))) (t : List ℕ) → IsImage w → IsOfHeap heap w → All (AreRegisters heap.slots heap.registers) hs → flat_map registers_line hs ++ t ≡ flat_map registers_line w.held ++ end_line
     → (more : List (List (Option ℕ))) × (w.held ≡ hs ++ more) × (t ≡ flat_map registers_line more ++ end_line)
 behind_rows w heap hs t image of rows e =
     lines_front (AreRegisters w.slots w.registers) registers_line end_line

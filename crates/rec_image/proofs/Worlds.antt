@@ -125,13 +125,6 @@ few_listed w slots world numbers =
     let below : slot < length w.headers = reached_below (sight w) (length w.headers) (names_sound (sight w) world.shaped.sound) slot reached in
     omega (arith, below, world.shaped.headers))
 
--- the number of an object's fields, reckoned from the number of all words
-pub fields_count : (w : Core) (words : List ℕ) (slots wide : ℕ) → IsWorld w → words ≡ w.words → slots ≡ w.config.slots → wide ≡ slots → length words / wide ≡ w.config.fields
-fields_count w words slots wide world all is same =
-    let size : length words ≡ w.config.slots * w.config.fields = ap (length {A = ℕ}) all ∙ world.shaped.sound.places ∙ ap (λ (k : ℕ). k * w.config.fields) world.shaped.headers in
-    let over : wide ≡ w.config.slots = same ∙ is in
-    ap (λ (k : ℕ). k / wide) size ∙ ap (λ (k : ℕ). (w.config.slots * w.config.fields) / k) over ∙ mul-div_cancel_left w.config.fields world.shaped.config.some_slots
-
 -- the lines are its text
 pub written_text : (w : Core) (slots : List ℕ) (a b c d : ℕ) (none first second third fourth last line : List ℕ)
     → a ≡ w.config.slots → b ≡ w.config.fields → c ≡ w.config.registers → d ≡ w.config.mutators

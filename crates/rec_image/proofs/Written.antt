@@ -100,7 +100,7 @@ next_piece : {A : Type 0} (line : A → List ℕ) (xs : List A) (i : ℕ) (d : A
 next_piece line xs i d within =
     ap (flat_map line) (take_more xs i d within) ∙ flat_map-append line (take i xs) (get_or xs i d ∷ []) ∙ ap (λ (bs : List ℕ). flat_map line (take i xs) ++ bs) (append-nil (line (get_or xs i d)))
 
-pub more_written : {A : Type 0} (line : A → List ℕ) (xs : List A) (i : ℕ) (d : A) (first so_far piece more : List ℕ) → i < length xs → so_far ≡ first ++ flat_map line (take i xs) → piece ≡ line (get_or xs i d) → more ≡ so_far ++ piece → more ≡ first ++ flat_map line (take (i + 1) xs)
+more_written : {A : Type 0} (line : A → List ℕ) (xs : List A) (i : ℕ) (d : A) (first so_far piece more : List ℕ) → i < length xs → so_far ≡ first ++ flat_map line (take i xs) → piece ≡ line (get_or xs i d) → more ≡ so_far ++ piece → more ≡ first ++ flat_map line (take (i + 1) xs)
 more_written line xs i d first so_far piece more within e f g =
     g ∙ ap (λ (bs : List ℕ). bs ++ piece) e ∙ append_assoc first (flat_map line (take i xs)) piece
     ∙ ap (λ (bs : List ℕ). first ++ (flat_map line (take i xs) ++ bs)) f

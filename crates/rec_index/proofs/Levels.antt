@@ -72,7 +72,7 @@ pub empty_holds : (words : List ℕ) (n i : ℕ) → words ≡ replicate n 0 →
 empty_holds words n i is = ap (λ (ws : List ℕ). bit ws i) is ∙ none_in (replicate {A = ℕ} n 0) i (zeros n (i / 64))
 
 -- empty levels
-pub tells_empty : (n m : ℕ) → Tells (replicate {A = ℕ} n 0) (replicate {A = ℕ} m 0)
+tells_empty : (n m : ℕ) → Tells (replicate {A = ℕ} n 0) (replicate {A = ℕ} m 0)
 tells_empty n m k = none_in (replicate {A = ℕ} n 0) k (zeros n (k / 64)) ∙ sym (ap (min 1) (zeros m k))
 
 -- The levels of an index.

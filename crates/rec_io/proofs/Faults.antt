@@ -8,11 +8,6 @@ pub rose_since : (earlier before after : ℕ) → earlier ≤ before → Rose be
 rose_since earlier before after rest rose =
     elim rose [ inl above ↦ inl (omega arith) | inr last ↦ inr last ]
 
--- a count that rose, and never falls, stays risen
-pub rose_until : (before after later : ℕ) → Rose before after → after ≤ later → later ≤ last_count → Rose before later
-rose_until before after later rose stays within =
-    elim rose [ inl above ↦ inl (omega arith) | inr last ↦ inr (omega arith) ]
-
 -- a count after one more has risen
 pub rose_counted : (before after : ℕ) → after ≡ counted_up before → Rose before after
 rose_counted before after is =

@@ -34,15 +34,6 @@ passes_more first then last xs ys one two rest told =
     let b = two a.left a.told in
     record { left = b.left; told = b.told; front = a.front ∙ ap (λ left. xs ++ left) b.front ∙ sym (append_assoc xs ys b.left) }
 
--- what was passed up to the end is all of the rest
-pub passes_all : (first then last : Option (List ℕ)) (xs : List ℕ) → Passes first then xs → IsSpent then last →
-    ForSome first (λ rest. rest ≡ xs)
-passes_all first then last xs passed spent rest told =
-    let a = passed rest told in
-    let e : a.left ≡ [] = spent.empty a.left a.told in
-    let f : rest ≡ xs ++ a.left = a.front in
-    grind (arith, common_steps)
-
 -- memory that ran out is no fault
 pub no_fault : {T : Type 0} (r : Result T ReadStop) → IsErrAnd r (λ e. e ≡ NoMemory) → IsErrOf r Fault → ⊥
 no_fault (Ok x) gives is = absurd gives

@@ -204,7 +204,7 @@ swapped_at_bare p b Retiring = refl
 swapped_at_bare p b Parting = refl
 swapped_at_bare p b (Finished work made) = refl
 
-pub swapped_bare : (p : Private) (b : Contents) → swapped_of (bare_private p) (bare_buffer b) ≡ bare_private (swapped_of p b)
+swapped_bare : (p : Private) (b : Contents) → swapped_of (bare_private p) (bare_buffer b) ≡ bare_private (swapped_of p b)
 unfolding swapped_of
 swapped_bare p b = swapped_at_bare p b p.phase
 

@@ -9,7 +9,7 @@ use Rattle.rec_word.proofs.Bare.{bare_dated, date_of_dated, packed_small, stamp_
 use Rattle.rec_word.proofs.Packing.{stamp_of-packed, target_of-packed}
 
 -- the stamp of the next entry is within its ranges
-pub next_fits : (p : Private) → IsMachine p → HasStamp p → HasRoom p → IsStamp (next_stamp p)
+next_fits : (p : Private) → IsMachine p → HasStamp p → HasRoom p → IsStamp (next_stamp p)
 next_fits p m stamp room =
     let free : length p.log.entries < p.log.capacity = has_room p m room in
     let most : p.log.capacity ≤ 2 ^ 18 = m.capacity in

@@ -46,7 +46,7 @@ begun_machine p work from m valid stays there = record {
 }
 
 -- and so is one that learns of a step that takes no mailbox
-pub plain_machine : (p : Private) (word : ℕ) → IsMachine p → is_busy p ≡ true → TakesNone p.phase → IsFound p (next_of p) word → IsMachine (took_of p word)
+plain_machine : (p : Private) (word : ℕ) → IsMachine p → is_busy p ≡ true → TakesNone p.phase → IsFound p (next_of p) word → IsMachine (took_of p word)
 plain_machine p word m busy none found = step_machine m (record { snapshot = m.snapshot; capacity = refl; entries = m.entries }) found (learnt_made p word p.log busy none)
 
 begun_busy : (p : Private) (work : Work) (from : ℕ) → is_busy (begun_of p work from) ≡ true

@@ -135,7 +135,7 @@ commands_more script events t cmd told next so s = elim (cases_eq t s) [
 ]
 
 -- a mutator of the script is one of the heap
-pub is_mutator : (script : ScriptContents) (world : Core) (t : ℕ) → world.config ≡ config_of script → 0 < t → t ≤ length script.commands → IsMutator world.config t
+is_mutator : (script : ScriptContents) (world : Core) (t : ℕ) → world.config ≡ config_of script → 0 < t → t ≤ length script.commands → IsMutator world.config t
 is_mutator script world t config some most = subst (λ (c : Config). IsMutator c t) (sym config) (some, most)
 
 -- the naming goes on over a command and the poll before it
@@ -167,7 +167,7 @@ filled_at : (w v : Core) (t before : ℕ) (told : Told) (phase : Phase) → Foun
 filled_at w v t before told (phases.Scanned reg label leaf first) same shown full = shown.2.full full
 filled_at w v t before told _ none shown full = absurd none
 
-pub step_refused : (w : Core) (t : ℕ) (cmd : Cmd) (told : Told) → IsKept false w → IsMutator w.config t → is_busy (mutator w t) ≡ true → work_of (mutator w t) ≡ Some (works.Command cmd)
+step_refused : (w : Core) (t : ℕ) (cmd : Cmd) (told : Told) → IsKept false w → IsMutator w.config t → is_busy (mutator w t) ≡ true → work_of (mutator w t) ≡ Some (works.Command cmd)
     → answer_of (mutator (stepped w t) t) ≡ Some (makes.Answered told) → IsRefusedBy w t cmd told
 step_refused w t cmd told kept is busy work answer =
     let cause = step_caused w t cmd told kept is busy work answer in

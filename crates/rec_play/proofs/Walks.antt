@@ -40,7 +40,7 @@ use Rattle.rec_play.proofs.Opened.{opened_begins}
 use Rattle.rec_play.proofs.There.{begun_there, spent_there}
 
 -- while the rule gives turns
-pub playing_of : (w : Watched) → w.stage ≡ Playing → IsWatched w → IsPlaying w
+playing_of : (w : Watched) → w.stage ≡ Playing → IsWatched w → IsPlaying w
 playing_of w playing is = subst (λ s. IsAt s w) playing is.at
 
 -- A turn of the rule was made.

@@ -19,7 +19,7 @@ pub given_slot : (s : State) (x : ℕ) → slot_at (given_up s) x ≡ given_up_s
 given_slot s x = map_at (given_up_slot (length s.sets - 1)) refl s.slots x
 
 -- all members are dead
-pub dead_all : (s t : State) (i : ℕ) → IsKept s → length (last_set s.sets) ≤ i → Changed dead_if (last_set s.sets) (without_last_set s) t i → t ≡ given_up s
+dead_all : (s t : State) (i : ℕ) → IsKept s → length (last_set s.sets) ≤ i → Changed dead_if (last_set s.sets) (without_last_set s) t i → t ≡ given_up s
 dead_all s t i k l d =
     let n : ℕ = length s.sets - 1 in
     changed_all dead_if (last_set s.sets) (without_last_set s) t i (given_up s).slots l (length-map s.slots (given_up_slot n) ∙ sym (length-map s.slots (out_of_set n)))

@@ -384,12 +384,3 @@ bad_same e l m j k e_is is =
     let lines : l ≡ m = (cc) in
     let kinds : j ≡ k = (cc) in
     (cc)
-
--- the one request that threads carry out
-pub for_threads : (request : Request) → on_threads request ≡ true → request ≡ requests.Answer hows.Threads
-for_threads (requests.Answer hows.Threads) is = refl
-for_threads (requests.Answer (hows.Play how)) is = absurd (false≢true is)
-for_threads (requests.Keep asked) is = absurd (false≢true is)
-for_threads (requests.Resume asked) is = absurd (false≢true is)
-for_threads (requests.Make make) is = absurd (false≢true is)
-for_threads requests.Audit is = absurd (false≢true is)

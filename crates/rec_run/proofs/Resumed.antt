@@ -14,7 +14,7 @@ use Rattle.rec_play.specs.Numbers.{config_of, log_room}
 use Rattle.rec_run.specs.Resuming.{CutsAt, IsRefusedAt, IsResumable, IsResumedAs, IsUnresumed, numbers_of}
 
 -- there is one place
-pub cut_once : (bytes : List ℕ) (a b : ℕ) → CutsAt bytes a → CutsAt bytes b → a ≡ b
+cut_once : (bytes : List ℕ) (a b : ℕ) → CutsAt bytes a → CutsAt bytes b → a ≡ b
 cut_once bytes a b (CutsAt.behind l at is first) (CutsAt.behind m place there least) = elim (cases_lt l m) [
   | inl before ↦ absurd (least l before is)
   | inr past ↦ elim (cases_lt m l) [

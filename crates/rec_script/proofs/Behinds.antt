@@ -45,7 +45,7 @@ one_line most mine other line is-mine is-other e few unless =
     ]
 
 -- a draft with a line more has no more mutators than there may be
-pub few_after : (most : ℕ) (d e : Draft) (more : List (List (List ℕ))) → 1 ≤ most → IsDraft d → IsDraft e → length more ≤ 1 → so_far e ≡ so_far d ++ more → mutators_in d ≤ most → (more ≡ mutator_line ∷ [] → mutators_in d < most) → mutators_in e ≤ most
+few_after : (most : ℕ) (d e : Draft) (more : List (List (List ℕ))) → 1 ≤ most → IsDraft d → IsDraft e → length more ≤ 1 → so_far e ≡ so_far d ++ more → mutators_in d ≤ most → (more ≡ mutator_line ∷ [] → mutators_in d < most) → mutators_in e ≤ most
 few_after most d Nothing more some is-d is-e one same few unless = omega (arith, some)
 few_after most d (Header v) more some is-d is-e one same few unless = omega (arith, some)
 few_after most d (Sized v h) more some is-d is-e one same few unless = omega (arith, some)
@@ -59,7 +59,7 @@ few_after most (Whole r) (Whole s) (line ∷ []) some is-d is-e one same few unl
 few_after most (Whole r) (Whole s) (line ∷ other ∷ more) some is-d is-e one same few unless = absurd (omega (arith, one))
 
 -- nor has the script that it is closed to
-pub few_closed : (most : ℕ) (d : Draft) (s : ScriptContents) → IsDraft d → IsScript s → so_far d ≡ spelled s → mutators_in d ≤ most → length s.commands ≤ most
+few_closed : (most : ℕ) (d : Draft) (s : ScriptContents) → IsDraft d → IsScript s → so_far d ≡ spelled s → mutators_in d ≤ most → length s.commands ≤ most
 few_closed most Nothing s is-d is-s same few = omega (arith, ap length same, lines_of s.commands)
 few_closed most (Header v) s is-d is-s same few = omega (arith, ap length same, lines_of s.commands)
 few_closed most (Sized v h) s is-d is-s same few = omega (arith, ap length same, lines_of s.commands)
@@ -135,7 +135,7 @@ two_long h d more e = omega (arith, ap length e, length-append (heading h) more)
 mutator_utf8 : IsUtf8 (codes "mutator")
 mutator_utf8 = ascii (codes "mutator") (omega arith, (omega arith, (omega arith, (omega arith, (omega arith, (omega arith, (omega arith, tt)))))))
 
-pub goes_on : (h : Numbers) (d : Draft) (before : List (List ℕ)) → 1 ≤ h.mutators → IsDraft d → AreUtf8 before → so_far d ≡ heading h ++ counted before → mutators_in d ≤ h.mutators → GoOn h before
+goes_on : (h : Numbers) (d : Draft) (before : List (List ℕ)) → 1 ≤ h.mutators → IsDraft d → AreUtf8 before → so_far d ≡ heading h ++ counted before → mutators_in d ≤ h.mutators → GoOn h before
 goes_on h Nothing before some is utf8 e few = absurd (omega (arith, two_long h Nothing (counted before) e))
 goes_on h (Header v) before some is utf8 e few = absurd (omega (arith, two_long h (Header v) (counted before) e))
 goes_on h (Sized v heap) before some is utf8 e few =
@@ -173,7 +173,7 @@ spelled_at : (h : Numbers) (before : List (List ℕ)) (line : List ℕ) (after :
 spelled_at h before line after contents counts spells =
     append_assoc (heading h) (counted before) (words line ∷ counted after) ∙ ap (λ (t : List (List (List ℕ))). heading h ++ t) (sym (counted_at before line after counts)) ∙ spells.counted_are
 
-pub stops_behind : (h : Numbers) (before : List (List ℕ)) (line : List ℕ) (kind : Kind) → IsWrongLine h (heading h ++ counted before) line kind → GoOn h (before ++ line ∷ []) → ⊥
+stops_behind : (h : Numbers) (before : List (List ℕ)) (line : List ℕ) (kind : Kind) → IsWrongLine h (heading h ++ counted before) line kind → GoOn h (before ++ line ∷ []) → ⊥
 stops_behind h before line kind (IsWrongLine.fault _ (IsFault.not_utf8 none)) on =
     none (all_at IsUtf8 before line on.0 (subst (λ (t : List (List ℕ)). AreUtf8 t) (append_assoc before (line ∷ []) on.0) on.2.utf8))
 stops_behind h before line kind (IsWrongLine.fault _ (IsFault.bad_words _ utf8 counts fits)) on =
@@ -224,7 +224,7 @@ pub record IsAllRead (h : Numbers) (bytes : List ℕ) (d : Draft) (n : ℕ) : Ty
   pub spelt : so_far d ≡ heading h ++ counted (lines bytes)
   pub utf8 : AreUtf8 (lines bytes)
 
-pub all_read : (h : Numbers) (bytes rest : List ℕ) (d : Draft) (n : ℕ) → IsReadBehind h bytes rest d n → length (lines rest) ≡ 0 → IsAllRead h bytes d n
+all_read : (h : Numbers) (bytes rest : List ℕ) (d : Draft) (n : ℕ) → IsReadBehind h bytes rest d n → length (lines rest) ≡ 0 → IsAllRead h bytes d n
 all_read h bytes rest d n so none =
     let all : length (lines bytes) ≤ n = omega (arith, none, ap length so.others, length-drop n (lines bytes)) in
     let whole : take n (lines bytes) ≡ lines bytes = take_all n (lines bytes) all in

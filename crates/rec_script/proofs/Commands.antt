@@ -43,7 +43,7 @@ pub same_allowed : (version : ℕ) (a b : Cmd) → word_of a ≡ word_of b → A
 same_allowed version a b e allowed = subst (λ (n : ℕ). n ≤ version) (sym (since_by_word a) ∙ ap (λ (w : List ℕ). choose w 1 2 1 1 1 1 1 1 3) e ∙ since_by_word b) allowed
 
 -- there is a limit for each operand
-pub limits_length : (registers fields : ℕ) (cmd : Cmd) → length (limits_of registers fields cmd) ≡ length (map decimal (operands_of cmd))
+limits_length : (registers fields : ℕ) (cmd : Cmd) → length (limits_of registers fields cmd) ≡ length (map decimal (operands_of cmd))
 limits_length registers fields (New reg label) = refl
 limits_length registers fields _ = refl
 

@@ -9,7 +9,7 @@ true_not_false : (A : Type 0) → true ≡ false → A
 true_not_false A e = cc
 
 -- what stands before the first cut is the first piece
-pub cut_front : (cuts : ℕ → Bool) (cs : List ℕ) (n : ℕ) → n < length cs → ((k : ℕ) → k < n → cuts (get_or cs k 0) ≡ false) → cuts (get_or cs n 0) ≡ true → cut cuts cs ≡ take n cs ∷ cut cuts (drop (n + 1) cs)
+cut_front : (cuts : ℕ → Bool) (cs : List ℕ) (n : ℕ) → n < length cs → ((k : ℕ) → k < n → cuts (get_or cs k 0) ≡ false) → cuts (get_or cs n 0) ≡ true → cut cuts cs ≡ take n cs ∷ cut cuts (drop (n + 1) cs)
 cut_front cuts [] n within before at = absurd (omega arith)
 cut_front cuts (c ∷ cs) zero within before at = ap (λ (b : Bool). cond b ([] ∷ cut cuts cs) (in_front c (cut cuts cs))) at
 cut_front cuts (c ∷ cs) (suc n) within before at =
@@ -55,7 +55,7 @@ last_line cs n some whole before =
 -- ---- words
 
 -- blanks at the front are no part of a word
-pub after_blanks : (cs : List ℕ) (n : ℕ) → n ≤ length cs → ((k : ℕ) → k < n → is_blank (get_or cs k 0) ≡ true) → words cs ≡ words (drop n cs)
+after_blanks : (cs : List ℕ) (n : ℕ) → n ≤ length cs → ((k : ℕ) → k < n → is_blank (get_or cs k 0) ≡ true) → words cs ≡ words (drop n cs)
 after_blanks cs zero within before = refl
 after_blanks [] (suc n) within before = absurd (omega arith)
 after_blanks (c ∷ cs) (suc n) within before =
@@ -80,7 +80,7 @@ pub all_blank : (cs rest : List ℕ) (n : ℕ) → n ≤ length cs → ((k : ℕ
 all_blank cs rest n within before e none = after_blanks cs n within before ∙ ap words (sym e) ∙ nothing rest none
 
 -- what stands before the first blank is the first word
-pub word_and_more : (cs : List ℕ) (n : ℕ) → 0 < n → n ≤ length cs → ((k : ℕ) → k < n → is_blank (get_or cs k 0) ≡ false) → (n < length cs → is_blank (get_or cs n 0) ≡ true) → words cs ≡ take n cs ∷ words (drop n cs)
+word_and_more : (cs : List ℕ) (n : ℕ) → 0 < n → n ≤ length cs → ((k : ℕ) → k < n → is_blank (get_or cs k 0) ≡ false) → (n < length cs → is_blank (get_or cs n 0) ≡ true) → words cs ≡ take n cs ∷ words (drop n cs)
 word_and_more cs n some within before at = elim (cases_lt n (length cs)) [
   | inl lt ↦
       ap (filter is_some_word) (cut_front is_blank cs n lt before (at lt))

@@ -58,7 +58,7 @@ read_on bytes rest behind before after n so taken is =
     }
 
 -- a fault behind what a draft stands for stops the text
-pub stops_at : (d : Draft) (text : List (List ℕ)) (n : ℕ) (line : List ℕ) (more : List (List ℕ)) (kind : Kind) → IsDraft d → so_far d ≡ counted (take n text) → AreUtf8 (take n text) → Next text n line more → IsFault (so_far d) line kind → StopsAt text n kind
+stops_at : (d : Draft) (text : List (List ℕ)) (n : ℕ) (line : List ℕ) (more : List (List ℕ)) (kind : Kind) → IsDraft d → so_far d ≡ counted (take n text) → AreUtf8 (take n text) → Next text n line more → IsFault (so_far d) line kind → StopsAt text n kind
 stops_at d text n line more kind is spelt utf8 h fault =
     let here : IsFault (counted (take n text)) (get_or text n []) kind =
     subst (λ (l : List ℕ). IsFault (counted (take n text)) l kind) (sym h.is) (subst (λ (b : List (List (List ℕ))). IsFault b line kind) spelt fault) in

@@ -22,11 +22,11 @@ last_of [] last = refl
 last_of (c ∷ []) last = refl
 last_of (c ∷ d ∷ cs) last = last_of (d ∷ cs) last
 
-pub all_last : {X : Type 0} (P : X → Type 0) (xs : List X) (x : X) → All P (xs ++ x ∷ []) → P x
+all_last : {X : Type 0} (P : X → Type 0) (xs : List X) (x : X) → All P (xs ++ x ∷ []) → P x
 all_last P [] x h = All-head P x [] h
 all_last P (y ∷ ys) x h = all_last P ys x (All-tail P y (ys ++ x ∷ []) h)
 
-pub all_earlier : {X : Type 0} (P : X → Type 0) (xs : List X) (x : X) → All P (xs ++ x ∷ []) → All P xs
+all_earlier : {X : Type 0} (P : X → Type 0) (xs : List X) (x : X) → All P (xs ++ x ∷ []) → All P xs
 all_earlier P [] x h = λ k d lt. absurd (omega arith)
 all_earlier P (y ∷ ys) x h = All-cons P y ys (All-head P y (ys ++ x ∷ []) h) (all_earlier P ys x (All-tail P y (ys ++ x ∷ []) h))
 
@@ -79,7 +79,7 @@ last_emptied v s f r earlier last fresh script none =
 
 -- ---- the commands of one mutator
 
-pub at : {X : Type 0} (xs : List X) (i : ℕ) (x : X) → slice_get xs i ≡ Some x → (i < length xs) × ((d : X) → get_or xs i d ≡ x)
+at : {X : Type 0} (xs : List X) (i : ℕ) (x : X) → slice_get xs i ≡ Some x → (i < length xs) × ((d : X) → get_or xs i d ≡ x)
 at [] i x e = absurd (none-some x e)
 at (y ∷ ys) zero x e = (omega arith, λ d. same_Some y x e)
 at (y ∷ ys) (suc i) x e = let on = at ys i x e in (omega (arith, on.0), on.1)

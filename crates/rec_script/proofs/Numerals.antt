@@ -39,7 +39,7 @@ pub no_digit : (c : ℕ) → is_ascii_digit c ≡ false → IsInRange 48 57 c �
 no_digit c other digit = let is : is_ascii_digit c ≡ true = digit_test c digit.0 digit.1 in cc
 
 -- the number that a numeral is of
-pub value_is : (word : List ℕ) (n : ℕ) → IsNumeralOf word n → digits_value 10 word ≡ n
+value_is : (word : List ℕ) (n : ℕ) → IsNumeralOf word n → digits_value 10 word ≡ n
 value_is word n is = ap (digits_value 10) is.1 ∙ digits_value-decimal own n (omega (arith, is.0))
 
 -- a word is a numeral of one number

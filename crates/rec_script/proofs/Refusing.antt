@@ -6,7 +6,7 @@ use Rattle.rec_script.specs.Lines.{lines}
 use Rattle.rec_script.specs.Script.{ScriptContents, IsText, IsRefused, Spells, Continues}
 
 -- the first lines of a script's text are continued by the others
-pub continued_front : (text : List (List ℕ)) (n : ℕ) (contents : ScriptContents) → Spells text contents → Continues (take n text)
+continued_front : (text : List (List ℕ)) (n : ℕ) (contents : ScriptContents) → Spells text contents → Continues (take n text)
 continued_front text n contents h = (drop n text, contents, subst (λ (t : List (List ℕ)). Spells t contents) (sym (take-append-drop n text)) h)
 
 pub refused_no_text : (bytes : List ℕ) (line : ℕ) (kind : Kind) → IsRefused bytes line kind → IsText bytes → ⊥

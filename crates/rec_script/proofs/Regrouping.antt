@@ -26,7 +26,7 @@ small s f r h = record { registers_fit = omega (arith, h.most_registers); fields
 abbrev number_at : List (List ℕ) → ℕ → ℕ
 number_at line i = digits_value 10 (get_or line i [])
 
-pub value : (n : ℕ) → n < 2 ^ 64 → digits_value 10 (decimal n) ≡ n
+value : (n : ℕ) → n < 2 ^ 64 → digits_value 10 (decimal n) ≡ n
 value n fits = (decimal_is_IsNumeral n fits).1
 
 -- the command that a line says, read back
@@ -43,7 +43,7 @@ command_of line =
     (Same (number_at line 1) (number_at line 2))
     Leave
 
-pub command_again : (registers fields : ℕ) (cmd : Cmd) → AreSmall registers fields → IsCommand registers fields cmd → command_of (command_line cmd) ≡ cmd
+command_again : (registers fields : ℕ) (cmd : Cmd) → AreSmall registers fields → IsCommand registers fields cmd → command_of (command_line cmd) ≡ cmd
 command_again r f (New reg label) h is = ap (λ (n : ℕ). New n (digits_value 10 (decimal label))) (value reg (omega (arith, h.registers_fit, is.0))) ∙ ap (λ (n : ℕ). New reg n) (value label (omega (arith, is.1)))
 command_again r f (Leaf reg label) h is = ap (λ (n : ℕ). Leaf n (digits_value 10 (decimal label))) (value reg (omega (arith, h.registers_fit, is.0))) ∙ ap (λ (n : ℕ). Leaf reg n) (value label (omega (arith, is.1)))
 command_again r f (Null reg) h is = ap Null (value reg (omega (arith, h.registers_fit, is.0)))
@@ -64,7 +64,7 @@ command_again r f Leave h is = refl
 abbrev pub is_mutator : List (List ℕ) → Bool
 is_mutator line = letters (get_or line 0 []) == 28021
 
-pub no_mutator_word : (cmd : Cmd) → letters (word_of cmd) == 28021 ≡ false
+no_mutator_word : (cmd : Cmd) → letters (word_of cmd) == 28021 ≡ false
 no_mutator_word (New reg label) = refl
 no_mutator_word _ = refl
 
@@ -110,7 +110,7 @@ regroup_mutators v r f (cmds ∷ css) more h are =
     ∙ ap (λ (g : Groups). grouped [] ((cmds ++ g.front) ∷ g.behind)) (regroup_mutators v r f css more h (All-tail (AreCommands v r f) cmds css are))
 
 -- groups without commands at the front
-pub glue_nothing : (css : List (List Cmd)) → glue css (grouped [] []) ≡ grouped [] css
+glue_nothing : (css : List (List Cmd)) → glue css (grouped [] []) ≡ grouped [] css
 glue_nothing [] = refl
 glue_nothing (cmds ∷ css) =
     ap (λ (g : Groups). grouped [] ((cmds ++ g.front) ∷ g.behind)) (glue_nothing css) ∙ ap (λ (c : List Cmd). grouped [] (c ∷ css)) (append-nil cmds)

@@ -35,7 +35,7 @@ Collects Settled = ⊥
 Collects _ = Unit {0}
 
 -- where settling goes on, one is once every slot is offered that is to be
-pub begun_collects : (s : Settling) → (s ≡ Settled → ⊥) → Collects (begun s)
+begun_collects : (s : Settling) → (s ≡ Settled → ⊥) → Collects (begun s)
 begun_collects Settled on = absurd (on refl)
 begun_collects _ on = tt
 

@@ -67,7 +67,7 @@ others_idle before after t config stay idle all s there =
     ]
 
 -- whoever is waited for is a mutator
-pub awaited : (w v : Core) (t : ℕ) → IsKept false w → TurnHasCause w v (answers.Waiting t) → IsAwaited w t
+awaited : (w v : Core) (t : ℕ) → IsKept false w → TurnHasCause w v (answers.Waiting t) → IsAwaited w t
 awaited w v t kept cause = record { there = looked_is w (Looking t) kept cause.0; waits = record { looks = cause.0; behind = cause.1 } }
 
 -- what a poll leaves

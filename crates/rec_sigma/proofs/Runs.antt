@@ -34,7 +34,7 @@ item_behind xs n d y ys e =
     record { in_range = l; item = cc; rest = cc }
 
 -- what is held depends on the sets alone
-pub held_still : (s t : State) (a : At) → t.sets ≡ s.sets → IsHeld s a → IsHeld t a
+held_still : (s t : State) (a : At) → t.sets ≡ s.sets → IsHeld s a → IsHeld t a
 held_still s t a e h = record { set = subst (λ sets. a.set < length sets) (sym e) h.set; member = subst (λ sets. IsOf (get_or sets a.set []) a.member) (sym e) h.member }
 
 -- the first of these sets that has a member is at work

@@ -107,7 +107,3 @@ tells_more a b c was mid now some one = record {
 -- what was told before all turns is sent, where what was told before the last one is
 pub sent_first : (a b : CollectorView) (was mid sent : List ℕ) → TellsTurns a b was mid → IsPrefix mid sent → IsPrefix was sent
 sent_first a b was mid sent some begins = (some.labels ++ begins.0, sym (append_assoc was some.labels begins.0) ∙ ap (λ l. l ++ begins.0) (sym some.told) ∙ begins.1)
-
--- a label that is held was told before
-pub held_told : {T : Type 0} (sent : T → List ℕ) (old now : Teller T) (label : ℕ) → old.kept ≡ Some label → now.kept ≡ Some label → sent now.tube ≡ sent old.tube → told sent now ≡ told sent old
-held_told sent old now label was is same = ap (λ l. l ++ as_list now.kept) same ∙ ap (λ o. sent old.tube ++ as_list o) (is ∙ sym was)

@@ -91,7 +91,7 @@ move_lines w m x kept fits is = elim (cases_eq (maker m) x) [
     other _ theirs = refl
 
 -- The lines that a run told a mutator are those that its list tells.
-pub run_lines : (w : Core) (ms : List Move) (x : ℕ) → IsKept false w → AllFit w ms → IsMutator w.config x → filter_map (line_by x) (told_in_all w ms) ≡ journal (mutator w x) (beats_of x w ms)
+run_lines : (w : Core) (ms : List Move) (x : ℕ) → IsKept false w → AllFit w ms → IsMutator w.config x → filter_map (line_by x) (told_in_all w ms) ≡ journal (mutator w x) (beats_of x w ms)
 run_lines w [] x kept fit is = refl
 run_lines w (m ∷ ms) x kept fit is =
     filter_map-append (line_by x) (told_in w m) (told_in_all (after_move w m) ms)

@@ -3,7 +3,7 @@ use Rattle.std.proofs.Common.{◌≡◌, ℕ, zero, suc, ◌+◌, ◌<◌, ◌�
 use Rattle.std.specs.List.{remove, sum_by}
 use Rattle.std.proofs.lemmas.List.Sums.{sum_by-append}
 
-pub first_off : {A : Type 0} (l : List A) (x : A) → 0 < length l → x ≡ get_or l 0 x → l ≡ x ∷ remove l 0
+first_off : {A : Type 0} (l : List A) (x : A) → 0 < length l → x ≡ get_or l 0 x → l ≡ x ∷ remove l 0
 first_off [] x lt is = absurd (omega arith)
 first_off (y ∷ l) x lt is = λ k. sym is k ∷ l
 
@@ -14,7 +14,7 @@ pub record Next {A : Type 0} (l : List A) (d : ℕ) (x : A) (xs : List A) : Type
   pub behind : take (suc d) l ≡ take d l ++ x ∷ []
   pub ahead : drop (suc d) l ≡ xs
 
-pub next_at : {A : Type 0} (l : List A) (d : ℕ) (x : A) (xs : List A) → drop d l ≡ x ∷ xs → Next l d x xs
+next_at : {A : Type 0} (l : List A) (d : ℕ) (x : A) (xs : List A) → drop d l ≡ x ∷ xs → Next l d x xs
 next_at [] zero x xs e = let bad : 0 ≡ suc (length xs) = ap length e in absurd (omega (arith, bad))
 next_at [] (suc d) x xs e = let bad : 0 ≡ suc (length xs) = ap length e in absurd (omega (arith, bad))
 next_at (y ∷ l) zero x xs e = record {

@@ -251,7 +251,7 @@ never_gives p word busy none = by p.phase refl none
 learnt_step : (p : Private) (word : ℕ) → is_busy p ≡ true → IsBetween p.phase → MutatorStep p word (spare (took_of p word)) (next_of p) (learnt p (Saw word))
 learnt_step p word busy between = step_made p word (spare (took_of p word)) busy between
 
-pub learnt_counts : (p : Private) (word : ℕ) → is_busy p ≡ true → IsBetween p.phase → (learnt p (Saw word)).steps ≡ p.steps + 1
+learnt_counts : (p : Private) (word : ℕ) → is_busy p ≡ true → IsBetween p.phase → (learnt p (Saw word)).steps ≡ p.steps + 1
 learnt_counts p word busy between = step_counts (learnt_step p word busy between)
 
 same_capacity : (p : Private) (word : ℕ) → is_busy p ≡ true → IsBetween p.phase → (took_of p word).log.capacity ≡ p.log.capacity
@@ -446,7 +446,7 @@ step_told (MutatorStep.poll_crosses other g) = going_told tt g
 step_told (MutatorStep.take_box c) = crossing_told tt c
 step_told (MutatorStep.give_box c) = crossing_told tt c
 
-pub learnt_told : (p : Private) (word : ℕ) → is_busy p ≡ true → IsBetween p.phase → IsTold (learnt p (Saw word)).phase
+learnt_told : (p : Private) (word : ℕ) → is_busy p ≡ true → IsBetween p.phase → IsTold (learnt p (Saw word)).phase
 learnt_told p word busy between = step_told (learnt_step p word busy between)
 
 pub ready_busy : (p : Private) (wk : Option Start) → MayGo p wk → is_busy (ready p wk) ≡ true
@@ -513,15 +513,6 @@ works_first h h' work from word e =
 probed : (work : Work) (log was : List Beat) (words : List ℕ) → Works work log was → Works work log (was ++ saw_all words)
 probed work log was [] grows = subst (Works work log) (sym (append-nil was)) grows
 probed work log was (w ∷ ws) grows = subst (Works work log) (append_assoc was (Saw w ∷ []) (saw_all ws)) (probed work log (was ++ Saw w ∷ []) ws (Works.then was w grows))
-
-pub works_on : (h l m h' : MutatorView) (work : Work) (word : ℕ) → Works work h.log l.log → l ≡ record h { log = l.log } → HasScanned l m → h' ≡ record m { log = m.log ++ beats None word } → Works work h.log h'.log × (h' ≡ record h { log = h'.log })
-works_on h l m h' work word grows is scanned e =
-    let logs : h'.log ≡ m.log ++ beats None word = ap (λ (x : MutatorView). x.log) e in
-    let passed : m.log ≡ l.log ++ saw_all scanned.words = ap (λ (x : MutatorView). x.log) scanned.grows in
-    let same : m ≡ record h { log = m.log } = scanned.grows ∙ (λ k. record (is k) { log = sym passed k }) in (
-      subst (Works work h.log) (sym logs) (Works.then m.log word (subst (Works work h.log) (sym passed) (probed work h.log l.log scanned.words grows))),
-      e ∙ (λ k. record (same k) { log = sym logs k }),
-    )
 
 pub works_after : (work : Work) (log : List Beat) (l m h' : MutatorView) (word : ℕ) → HasScanned l m → h'.log ≡ m.log ++ beats None word → Works work log l.log → Works work log h'.log
 works_after work log l m h' word scanned grows works =

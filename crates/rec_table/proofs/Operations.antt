@@ -17,7 +17,7 @@ pub stays : (key : Core) (s : State (Option Contents) View) (r : Runs key s) (vi
 stays key s r views still = record { holds = still.0; operations = r.operations; ran = subst (Ran key r.operations) (sym still.1) r.ran }
 
 -- Each step of the run was made by one operation.
-pub each_made : (key : Core) (os : List Operation) (run : List Move) → Ran key os run → AreMade key os (steps_in key run)
+each_made : (key : Core) (os : List Operation) (run : List Move) → Ran key os run → AreMade key os (steps_in key run)
 each_made key os run Ran.opens = AreMade.opens
 each_made key os run (Ran.next before o was now ran g) = by (moves_made (after_moves key was) o) g.steps (each_made key before was ran)
   where

@@ -80,7 +80,7 @@ fits_made key run made gone owner x new id j z is ne (Mutates u) f =
 fits_made key run made gone owner x new id j z is ne Spent f = tt
 
 -- the first seat makes the seat of the next mutator, which was idle as the heap was started
-pub splits : (key : Core) (id : ℕ) (c : CollectorSeat) → c.made < key.config.mutators → is_busy (mutator key (c.made + 1)) ≡ false → SplitsIdly key id (Collects c) (without (Collects c)) (newcomer (Collects c))
+splits : (key : Core) (id : ℕ) (c : CollectorSeat) → c.made < key.config.mutators → is_busy (mutator key (c.made + 1)) ≡ false → SplitsIdly key id (Collects c) (without (Collects c)) (newcomer (Collects c))
 splits key id c lt idle s h there =
     let mine = h.each id (Collects c) there in
     let x : ℕ = c.made + 1 in
@@ -145,7 +145,7 @@ known_more key known log run gone x len is below here k lt =
     (λ (n : k ≢ gone). get_or_append_left known (log ∷ []) [] k (omega (arith, len)) ∙ below k (omega arith))
 
 -- the first seat takes in the list of the next mutator
-pub joins : (key : Core) (id : ℕ) (c : CollectorSeat) (other : ℕ) (t : Seated) → t.number ≡ length c.known + 1 → JoinsIdly key id (Collects c) other (Mutates t) (joined (Collects c) (Mutates t)) Spent
+joins : (key : Core) (id : ℕ) (c : CollectorSeat) (other : ℕ) (t : Seated) → t.number ≡ length c.known + 1 → JoinsIdly key id (Collects c) other (Mutates t) (joined (Collects c) (Mutates t)) Spent
 joins key id c other t next s h here apart there =
     let mine = h.each id (Collects c) here in
     let w : View = joined (Collects c) (Mutates t) in

@@ -218,7 +218,7 @@ kept_by key o m me births opened is stands counted = (
 )
 
 -- the seat has its number still
-pub number_on : (me me' : Me (Option Contents) View) (bs : List Beat) → me' ≡ (Mutates (longer (seated_of me.0) bs), []) → (seated_of me.0).number ≡ (seated_of me'.0).number
+number_on : (me me' : Me (Option Contents) View) (bs : List Beat) → me' ≡ (Mutates (longer (seated_of me.0) bs), []) → (seated_of me.0).number ≡ (seated_of me'.0).number
 number_on me me' bs at = λ k. (seated_of (sym at k).0).number
 
 pub opened_on : (key : Core) (o : Private) (me me' : Me (Option Contents) View) (bs : List Beat) → o ≡ mutator key (seated_of me.0).number → me' ≡ (Mutates (longer (seated_of me.0) bs), []) → o ≡ mutator key (seated_of me'.0).number
@@ -319,18 +319,9 @@ path_twice h cmd from first second m may low between machine is machine' busy =
 pub works_twice : (h : MutatorView) (cmd : Cmd) (from first second : ℕ) → Works (works.Command cmd) h.log (list_twice h cmd from first second)
 works_twice h cmd from first second = Works.then _ second (Works.first from first)
 
--- Whoever carried a command out has no unfinished work.
-pub idle_if : (h h' : MutatorView) (cmd : Cmd) (b : Bool) → CarriesIf h h' cmd b → is_busy (mutator_now h) ≡ false → is_busy (mutator_now h') ≡ false
-idle_if h h' cmd true carried idle = carried.1.idle
-idle_if h h' cmd false same idle = ap (λ (m : MutatorView). is_busy (mutator_now m)) same ∙ idle
-
 pub idle_born : (h h' : MutatorView) (cmd : Cmd) (b : Bool) → Bears h h' cmd b → is_busy (mutator_now h') ≡ false
 idle_born h h' cmd true bears = bears.carried.idle
 idle_born h h' cmd false bears = bears.1.idle
-
-pub carries_born : (h h' : MutatorView) (cmd : Cmd) (b : Bool) → Bears h h' cmd b → CarriesIf h h' cmd true
-carries_born h h' cmd true bears = (bears.told, bears.carried)
-carries_born h h' cmd false bears = bears
 
 -- what a command was answered
 abbrev told_in : Told → Option Made → Told

@@ -20,12 +20,12 @@ use Rattle.rec_table.proofs.Gathering.{turn_log, turn_end, lone_out}
 use Rattle.rec_table.proofs.Turn.{makes_one}
 
 -- turns that all moved
-pub made_moves : (first v : CollectorView) (n : ℕ) (turn : Turn) → Made first v n turn → turn ≡ turns.Moved → MovesTo first n v
+made_moves : (first v : CollectorView) (n : ℕ) (turn : Turn) → Made first v n turn → turn ≡ turns.Moved → MovesTo first n v
 made_moves first v n turn Made.none is = MovesTo.none
 made_moves first v n turn (Made.more m u x t moves makes) is = MovesTo.more m u v moves (subst (λ (answer : Turn). MakesTurn u v answer) is makes)
 
 -- so many turns behind others
-pub moves_both : (first u v : CollectorView) (m n : ℕ) → MovesTo first m u → MovesTo u n v → MovesTo first (m + n) v
+moves_both : (first u v : CollectorView) (m n : ℕ) → MovesTo first m u → MovesTo u n v → MovesTo first (m + n) v
 moves_both first u v m n before MovesTo.none = subst (λ k. MovesTo first k u) (omega arith) before
 moves_both first u v m n before (MovesTo.more k a b moves makes) = subst (λ i. MovesTo first i v) (omega arith) (MovesTo.more (m + k) a v (moves_both first u a m k before moves) makes)
 

@@ -100,7 +100,7 @@ pub record Here (key : Core) (s : State (Option Contents) View) (h : Holds key s
   pub beats : (b : Beat) → b ≡ looked (after_moves key h.run) (cell (cells_of (after_moves key h.run)) op) (after_moves key h.run).collector.phase
       → c.log ++ b ∷ [] ≡ beats_of 0 key (h.run ++ Move.Turns ∷ [])
 
-pub here_at : (key : Core) (s : State (Option Contents) View) (h : Holds key s) (id : ℕ) (c : CollectorSeat) (p : Private) (op : Op)
+here_at : (key : Core) (s : State (Option Contents) View) (h : Holds key s) (id : ℕ) (c : CollectorSeat) (p : Private) (op : Op)
     → get_elem? s.views id ≡ some (Collects c) → p ≡ gathered_all key.collector c.log → ◌≡◌ {A = Option Op} (next_of p) (Some op) → Here key s h c p op
 here_at key s h id c p op fit is_p next =
     let now : Core = after_moves key h.run in
@@ -126,7 +126,7 @@ here_at key s h id c p op fit is_p next =
     }
 
 -- that turn alone is made
-pub grows_by : (key : Core) (s : State (Option Contents) View) (h : Holds key s) (c : CollectorSeat) (p : Private) (op : Op) (f : ℕ → ℕ) (run' : List Move)
+grows_by : (key : Core) (s : State (Option Contents) View) (h : Holds key s) (c : CollectorSeat) (p : Private) (op : Op) (f : ℕ → ℕ) (run' : List Move)
     → Here key s h c p op → ((n : ℕ) → f n ≡ written op n) → run' ≡ h.run ++ Move.Turns ∷ []
     → Grows key (operation (Collects c) Kind.Turns (index_of (length key.words) (length key.headers) op) f (get_or s.words (index_of (length key.words) (length key.headers) op) 0)) h.run run'
 grows_by key s h c p op f run' here does more =
@@ -144,7 +144,7 @@ grows_by key s h c p op f run' here does more =
     }
 
 -- the rule after the turn, with these mailboxes at home
-pub turns_on : (key : Core) (s : State (Option Contents) View) (h : Holds key s) (id : ℕ) (c : CollectorSeat) (p : Private) (op : Op) (z : ℕ) (homes' : List (maybe.Option (Option Contents))) (b : Beat)
+turns_on : (key : Core) (s : State (Option Contents) View) (h : Holds key s) (id : ℕ) (c : CollectorSeat) (p : Private) (op : Op) (z : ℕ) (homes' : List (maybe.Option (Option Contents))) (b : Beat)
     → get_elem? s.views id ≡ some (Collects c) → (here : Here key s h c p op)
     → z ≡ written op (get_or s.words (index_of (length key.words) (length key.headers) op) 0)
     → homes' ≡ homes_of (turned_at (after_moves key h.run) (Some op)).crossing (turned_at (after_moves key h.run) (Some op)).boxes

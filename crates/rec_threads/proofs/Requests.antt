@@ -42,7 +42,7 @@ took_epoch : (p : Private) (word : ℕ) → (took_of p word).epoch ≤ p.epoch +
 unfolding took_of
 took_epoch p word = took_rises p word p.phase
 
-pub gathered_epoch : (p : Private) (b : Beat) → (gathered p b).epoch ≤ p.epoch + 1
+gathered_epoch : (p : Private) (b : Beat) → (gathered p b).epoch ≤ p.epoch + 1
 unfolding step_of
 gathered_epoch p (Begins start) = omega arith
 gathered_epoch p (Saw word) = took_epoch p word

@@ -34,7 +34,7 @@ next_stands_if : (b : Bool) (fields : ℕ) (slots : List ℕ) (a : Member) → l
 next_stands_if true fields slots a t f = record { field = f; member = record { index = ltb-true (a.index + 1) (length slots) t; slot = refl } }
 next_stands_if false fields slots a t f = record { field = tt; member = tt }
 
-pub next_stands : (fields : ℕ) (slots : List ℕ) (a : Member) → 0 < fields → Stands fields slots (next_member slots a)
+next_stands : (fields : ℕ) (slots : List ℕ) (a : Member) → 0 < fields → Stands fields slots (next_member slots a)
 next_stands fields slots a f = next_stands_if (ltb (a.index + 1) (length slots)) fields slots a refl f
 
 next_left_if : (b : Bool) (fields : ℕ) (slots : List ℕ) (a : Member) → ltb (a.index + 1) (length slots) ≡ b → places_of fields (drop (a.index + 1) slots) ≡ places_left fields slots (next_member_if b slots a)

@@ -19,10 +19,6 @@ target_of_bare word = ap predecessor (bits_bare word)
 pub bare_small : (word : ℕ) → word < 2 ^ 64 → bare word ≡ word
 bare_small word small = mod-eq_of_lt small
 
--- so is each word once it was made so
-pub bare_bare : (word : ℕ) → bare (bare word) ≡ bare word
-bare_bare word = omega arith
-
 -- a dated word is the word with its date, and leads where the word does
 pub bare_dated : (dates : Bool) (epoch word : ℕ) → word < 2 ^ 64 → bare (dated_word dates epoch word) ≡ word
 bare_dated false epoch word small = mod-eq_of_lt small

@@ -13,11 +13,11 @@ pub all_home : (boxes : List (Option Contents)) → ((j : ℕ) → j < length bo
 all_home [] home = refl
 all_home (x ∷ boxes) home = λ i. held_some x (home 0 (omega arith)) i ∷ all_home boxes (λ j there. home (suc j) (omega (arith, there))) i
 
-pub home_held : (boxes : List Contents) → map held (map (λ (b : Contents). Some b) boxes) ≡ boxes
+home_held : (boxes : List Contents) → map held (map (λ (b : Contents). Some b) boxes) ≡ boxes
 home_held [] = refl
 home_held (b ∷ boxes) = ap (λ (bs : List Contents). b ∷ bs) (home_held boxes)
 
-pub home_some : (boxes : List Contents) (j : ℕ) → j < length (map (λ (b : Contents). Some b) boxes) → IsSome (slice_index_or (map (λ (b : Contents). Some b) boxes) j None)
+home_some : (boxes : List Contents) (j : ℕ) → j < length (map (λ (b : Contents). Some b) boxes) → IsSome (slice_index_or (map (λ (b : Contents). Some b) boxes) j None)
 home_some [] j there = absurd (omega (arith, there))
 home_some (b ∷ boxes) zero there = refl
 home_some (b ∷ boxes) (suc j) there = home_some boxes j (omega (arith, there))

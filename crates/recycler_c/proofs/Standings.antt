@@ -96,10 +96,10 @@ pub above : {A : Type 0} (k n : ℕ) (x y : A) → n ≤ k → (if nat_lt k n th
 above k n x y ge = grind (arith, nat_tests)
 
 -- handles of which one is written
-pub held_other : (hs : List Handle) (i k : ℕ) (h d : Handle) → (k ≡ i → ⊥) → held_at (set hs i h) k d ≡ held_at hs k d
+held_other : (hs : List Handle) (i k : ℕ) (h d : Handle) → (k ≡ i → ⊥) → held_at (set hs i h) k d ≡ held_at hs k d
 held_other hs i k h d ne = ap (λ (x : Handle). x.owned.held) (get_or-set_other hs i k h d ne)
 
-pub held_same : (hs : List Handle) (i : ℕ) (h d : Handle) → i < length hs → held_at (set hs i h) i d ≡ h.owned.held
+held_same : (hs : List Handle) (i : ℕ) (h d : Handle) → i < length hs → held_at (set hs i h) i d ≡ h.owned.held
 held_same hs i h d lt = ap (λ (x : Handle). x.owned.held) (get_or-set_same hs i h d lt)
 
 -- of which one is written twice

@@ -55,14 +55,6 @@ untried h h' h'' w w' asked told told' told'' b code was is done tries asks =
     let stood : ◌≡◌ {A = Option End} (Some w') (Some w) × (told' ≡ told) = subst (λ (x : Bool). Tries (Some w) asked told x (Some w') told') done tries in
     subst (λ (x : Option End × Asked). Asks x.0 asked x.1 code h'' told'') (λ i. ((is ∙ stood.0 ∙ sym was) i, stood.1 i)) asks
 
--- an end that isn't a mutator's
-pub no_mutator : (e : End) → ((m : Mutating) → e ≡ ends.Mutating m → ⊥) → mutates_in (Some e) ≡ None
-no_mutator ends.Vacant none = refl
-no_mutator (ends.Resting world teller) none = refl
-no_mutator (ends.Collecting collecting teller) none = refl
-no_mutator (ends.Mutating m) none = absurd (none m refl)
-no_mutator (ends.Listening listener) none = refl
-
 pub lacks_polls : (h : Option End) (crossed : ℕ) (code : Code) → LacksMutator h code → Polls h crossed code h crossed
 lacks_polls h crossed codes.Ok lacks = absurd lacks
 lacks_polls h crossed codes.Left lacks = absurd lacks

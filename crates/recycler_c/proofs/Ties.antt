@@ -17,7 +17,7 @@ by_test_at : {P : Type 0} (k n : ℕ) (b : Bool) → nat_lt k n ≡ b → (k < n
 by_test_at k n true e f g = f (ltb-true k n e)
 by_test_at k n false e f g = g (ltb-false k n e)
 
-pub by_test : {P : Type 0} (k n : ℕ) → (k < n → P) → (n ≤ k → P) → P
+by_test : {P : Type 0} (k n : ℕ) → (k < n → P) → (n ≤ k → P) → P
 by_test k n f g = by_test_at k n (nat_lt k n) refl f g
 
 -- where no heap is open

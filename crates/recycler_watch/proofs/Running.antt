@@ -49,7 +49,7 @@ pub record Told (before : Watched) (made : ℕ) (after : Watched) (made_after : 
 pub told_none : (w : Watched) (made : ℕ) (contents : Option (List ℕ)) → Told w made w made contents contents
 told_none w made contents = record { moves = []; text = []; run = none made w; counted = sym (add-zero made); written = appends_nothing contents }
 
-pub told_more : (before mid after : Watched) (made made_mid made_after : ℕ) (old new newer : Option (List ℕ)) (move : Move) → Told before made mid made_mid old new → IsMade mid move after → made_after ≡ made_mid + 1 → Appends new newer (move_text made_after move (seen_of mid) (seen_of after)) → Told before made after made_after old newer
+told_more : (before mid after : Watched) (made made_mid made_after : ℕ) (old new newer : Option (List ℕ)) (move : Move) → Told before made mid made_mid old new → IsMade mid move after → made_after ≡ made_mid + 1 → Appends new newer (move_text made_after move (seen_of mid) (seen_of after)) → Told before made after made_after old newer
 told_more before mid after made made_mid made_after old new newer move t is next writes =
     let number : made_after ≡ made + length t.moves + 1 = next ∙ ap (λ n. n + 1) t.counted in
     let text : List ℕ = move_text (made + length t.moves + 1) move (seen_of mid) (seen_of after) in

@@ -80,7 +80,7 @@ quiet_bare first v q t is =
       older = λ from. retired_as registers (sym (buffer_bare v.collector.older (t - 1))) (retired_bare (mutator v t).registers (buffer_at v.collector.older (t - 1)) (k.older from));
     }
 
-pub quiet_there : (first : ℕ) (v : Core) → AreQuiet first (bare_core v) → AreQuiet first v
+quiet_there : (first : ℕ) (v : Core) → AreQuiet first (bare_core v) → AreQuiet first v
 quiet_there first v q t is =
     let k : IsQuietOf first (bare_core v) t = q t is in
     let own = mutator_bare v t in

@@ -86,7 +86,7 @@ rests_seen r w v config same words c phase h =
     subst (λ (x : Core). RestsIn r x words c phase) (sym is) (round_seen w v same words r c phase h)
 
 -- where a turn has come to is said of a heap with the same numbers in which the same is held
-pub comes_seen : (r : Round) (w v : Core) → v.config ≡ w.config → holds (sight v) ≡ holds (sight w) → v.collector.collections ≡ w.collector.collections → (words : List ℕ) (q : Private) → ComesTo r w words q → ComesTo r v words q
+comes_seen : (r : Round) (w v : Core) → v.config ≡ w.config → holds (sight v) ≡ holds (sight w) → v.collector.collections ≡ w.collector.collections → (words : List ℕ) (q : Private) → ComesTo r w words q → ComesTo r v words q
 comes_seen r w v config held collections words q (ComesTo.goes_on same h) = ComesTo.goes_on (same ∙ sym collections) (rests_seen r w v config held words q q.phase h)
 comes_seen r w v config held collections words q (ComesTo.completes more idle h) = ComesTo.completes (more ∙ ap (λ n. n + 1) (sym collections)) idle (rests_seen (next_round r) w v config held words q Idle h)
 

@@ -94,7 +94,7 @@ off_lowered s y o = record {
     ]
 
 -- another slot keeps all
-pub decremented_other : (s : State) (y x : ℕ) → x ≢ y → slot_at (decremented s y) x ≡ slot_at s x
+decremented_other : (s : State) (y x : ℕ) → x ≢ y → slot_at (decremented s y) x ≡ slot_at s x
 decremented_other s y x d = same_slot s y x ∙ get_or-set_other s.slots y x (lessened (slot_at s y)) absent d
 
 -- a target that is not orange is decremented

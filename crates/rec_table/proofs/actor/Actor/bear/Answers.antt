@@ -194,10 +194,6 @@ invariant_of-self-2 c =
     (ap (λ (b : Bool). if b then 1 else 0) (ne_eqb c.perform-found.result 0 c.if-found-eq0.false)) c.perform-found.ensures.me
     (none_born (key a) s.opened.value s.seat.me me (Some start) ops.LoadFreed c.perform-before.result s.births o.opened (first a) refl c.perform-before.ensures.me c.self.invariant.5))
 
--- the record behind the lost claim, and what is counted of it
-lost_is : (a : After-pack-header) (me me' : Me (Option Contents) View) (before found : ℕ) (o m : Private) → m ≡ told o (seated_of me'.0).log → m ≡ record_of (key a) me' → record_of (key a) me' ≡ learnt (record_of (key a) me) (Saw found) → told o (seated_of me'.0).log ≡ learnt (record_of (key a) me) (Saw found)
-lost_is a me me' before found o m is same further = sym is ∙ same ∙ further
-
 pub search-requires-clause-work : goal.search-requires-clause-work
 search-requires-clause-work c =
     let a : After-pack-header = (goal.at.search-requires-clause-work c).After-pack-header in
