@@ -25,14 +25,13 @@ mod part;
 
 pub use config::Config;
 pub use laws::{
-    answers_are_explained, conditions_are_met,
-    dated_heaps_count_late, dated_runs_stand_beside, failed_allocations_probed_every_slot,
-    freed_slots_are_forgotten, loaded_words_stay_references, nothing_leads_to_what_is_given_up,
-    nothing_reached_is_freed, orange_members_stay_untouched, outside_counts_are_of_own_words,
-    outside_counts_are_of_the_run, runs_begin_with_an_opening, runs_go_on, runs_keep,
-    sets_that_pass_are_garbage, shown_sets_are_garbage, stamped_heaps_count_late,
-    stamped_words_stay_references, stamps_are_dates, true_counts_are_the_formula,
-    turns_keep_their_promises, zeros_are_exact,
+    answers_are_explained, conditions_are_met, dated_heaps_count_late, dated_runs_stand_beside,
+    failed_allocations_probed_every_slot, freed_slots_are_forgotten, loaded_words_stay_references,
+    nothing_leads_to_what_is_given_up, nothing_reached_is_freed, orange_members_stay_untouched,
+    outside_counts_are_of_own_words, outside_counts_are_of_the_run, runs_begin_with_an_opening,
+    runs_go_on, runs_keep, sets_that_pass_are_garbage, shown_sets_are_garbage,
+    stamped_heaps_count_late, stamped_words_stay_references, stamps_are_dates,
+    true_counts_are_the_formula, turns_keep_their_promises, zeros_are_exact,
 };
 pub use layout::Layout;
 pub use part::Part;
