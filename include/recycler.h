@@ -62,6 +62,10 @@
  * label, which the caller chooses when allocating it, and fields, numbered from 0. A register
  * or a field is null or leads to one object.
  *
+ * Garbage. An object that no register reaches, and to which no cycle of references leads, is freed
+ * by the end of the second collection that begins later. A collection that frees a garbage cycle
+ * comes later, and no number is promised; settling frees every one.
+ *
  * Notices. After recycler_notices, the collector sends the label of each object that it frees,
  * in the order of freeing, and recycler_hear returns each once. recycler_settle and
  * recycler_renew send none. A finalizer is therefore an entry of a table, indexed by the
