@@ -1,5 +1,5 @@
 -- What a crew has to be for a script, and what is done once its commands are carried out.
-use Rattle.std.specs.Prelude.{◌≡◌, ℕ, ◌⊎◌, ◌+◌, ◌<◌, ◌≤◌, ◌||◌, Bool, true, false, MatchBool, None, List, [], ◌∷◌, ◌++◌, length, map, replicate, slice_index_or}
+use Rattle.std.specs.Prelude.{◌≡◌, ℕ, ◌⊎◌, ◌+◌, ◌-◌, ◌<◌, ◌≤◌, ◌||◌, Bool, true, false, IsSome, MatchBool, None, Option, List, [], ◌∷◌, ◌++◌, length, map, replicate, slice_index_or}
 use Rattle.std.specs.List.{flat_map, list_any}
 use Rattle.rec_model.specs.LegalOrder.{Line}
 use Rattle.rec_model.specs.declared.command.Cmd.{Cmd}
@@ -18,6 +18,7 @@ use Rattle.rec_table.specs.declared.views.Beat.TheVariants as beats
 use Rattle.rec_world.specs.Journal.{Notes, no_notes}
 use Rattle.rec_world.specs.World.{is_leave_done}
 use Rattle.rec_threads.specs.declared.crew.Crew.{Crew}
+use Rattle.rec_threads.specs.declared.signals.Over.{Over}
 use Rattle.rec_threads.specs.declared.worker.Worker.{Worker}
 
 -- the commands of a mutator, by its index
@@ -49,6 +50,15 @@ pub record AreReady (h : Started) (script : ScriptContents) (mutators : List Mut
   pub few : length mutators ≤ length script.commands
   pub one_each : length journals ≡ length mutators
   pub each : (k : ℕ) (d : MutatorView) → k < length mutators → IsReady h script k (worker_at mutators journals k d)
+
+-- a worker's place among them
+abbrev pub index_of : Worker → ℕ
+index_of w = (mutator_now w.mutator).number - 1
+
+-- The worker's mutator is one of the script's, and may carry out its commands.
+pub record IsHired (h : Started) (script : ScriptContents) (w : Worker) : Type 0 where
+  pub among : index_of w < length script.commands
+  pub ready : IsReady h script (index_of w) w
 
 -- The crew is the whole heap's, and the heap has the script's numbers.
 pub record IsCrewFor (h : Started) (script : ScriptContents) (crew : Crew) : Type 0 where
@@ -94,6 +104,14 @@ pub record HasMade (cmds : List Cmd) (done : List Work) (was now : Worker) : Typ
   pub sizes : KeepsSizes (mutator_now was.mutator) (mutator_now now.mutator)
   pub left : (mutator_now now.mutator).left ≡ ((mutator_now was.mutator).left || list_any has_left_by lines)
 
+-- the commands that a script has for a worker's mutator
+abbrev pub own_commands : ScriptContents → Worker → List Cmd
+own_commands script w = commands_at script.commands (index_of w)
+
+-- the worker polled before each command that the script has for its mutator, each is answered, and nothing else was made
+abbrev pub HasMadeAll : ScriptContents → (was now : Worker) → Type 0
+HasMadeAll script was now = HasMade (own_commands script was) (polled_before (own_commands script was)) was now
+
 -- The worker carried out these commands by the rule: it polled once before each, and at most 65,536 times behind the last one, but not
 -- once where its mutator has left.
 pub record HasDone (cmds : List Cmd) (was now : Worker) : Type 0 where
@@ -101,6 +119,12 @@ pub record HasDone (cmds : List Cmd) (was now : Worker) : Type 0 where
   pub few : polls ≤ MOST_POLLS
   pub gone : (mutator_now now.mutator).left ≡ true → polls ≡ 0
   pub made : HasMade cmds (driving_rule cmds polls) was now
+
+-- The worker carried out the commands that the script has for its mutator, and then ended as it may: its mutator has left, or the collector's
+-- worker had ended, or it polled 65,536 times behind the last command.
+pub record HasStayed (script : ScriptContents) (was now : Worker) (over : Option Over) : Type 0 where
+  pub done : HasDone (own_commands script was) was now
+  pub ended : ((mutator_now now.mutator).left ≡ true) ⊎ IsSome over ⊎ (done.polls ≡ MOST_POLLS)
 
 -- each mutator's worker carried out that mutator's commands
 pub record HaveDone (commands : List (List Cmd)) (mutators : List MutatorView) (journals : List Notes) (mutators' : List MutatorView) (journals' : List Notes) : Type 0 where

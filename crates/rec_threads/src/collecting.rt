@@ -1,6 +1,6 @@
 //! The worker of the collector.
 
-ghost use Rattle.std.specs.Prelude.{◌≡◌, ◌⊎◌, IsSome};
+ghost use Rattle.std.specs.Prelude.{◌≡◌, ◌⊎◌, IsSome, length};
 ghost use Rattle.rec_model.specs.declared.limits.TheConstants.{MOST_TURNS};
 ghost use Rattle.rec_table.specs.Views.{IsCollectorOf};
 ghost use Rattle.rec_threads.specs.Done.{HasCollected, HasTurned};
@@ -29,7 +29,8 @@ pub fn collect<G: Gate>(
     signals: &Signals,
     mut collector: Collector,
 ) -> Collected
-    requires { IsCollectorOf heap.now collector }
+    requires own { IsCollectorOf heap.now collector }
+    requires all { mutators ≡ length signals.now.script.value.commands }
     ensures own { IsCollectorOf heap.now result.collector }
     ensures turned { HasTurned result.turns collector result.collector }
     ensures ended { IsSome result.all_done ⊎ (result.turns ≡ MOST_TURNS) }

@@ -1,12 +1,10 @@
 //! The crew at work.
 
-ghost use Rattle.std.specs.Prelude.{◌≡◌, ◌<◌, ◌≤◌, ◌∷◌, ◌++◌, [], All, length, IfErr, IfOk, MatchBool, vec_capacity, vec_len};
+ghost use Rattle.std.specs.Prelude.{◌≡◌, ◌<◌, ◌∷◌, ◌++◌, [], IfErr, IfOk, MatchBool, vec_capacity, vec_len};
 ghost use Rattle.std.specs.Thread.{IsSync};
-ghost use Rattle.rec_model.specs.declared.limits.TheConstants.{MOST_COMMANDS, MOST_TURNS};
-ghost use Rattle.rec_script.specs.Script.{LeavesLast};
-ghost use Rattle.rec_table.specs.Rule.{MayAsk};
-ghost use Rattle.rec_table.specs.Views.{mutator_now, AreMutatorsOf, IsCollectorOf, IsMutatorOf};
-ghost use Rattle.rec_threads.specs.Done.{AreReady, HasCollected, HasDone, HasEnded, HasWorked, HaveDone, IsCrewFor, IsSame};
+ghost use Rattle.rec_model.specs.declared.limits.TheConstants.{MOST_TURNS};
+ghost use Rattle.rec_table.specs.Views.{AreMutatorsOf, IsCollectorOf};
+ghost use Rattle.rec_threads.specs.Done.{AreReady, HasCollected, HasEnded, HasStayed, HasWorked, HaveDone, IsCrewFor, IsHired, IsSame};
 
 use crate::collecting::collect;
 use crate::crew::Crew;
@@ -14,7 +12,6 @@ use crate::duty::{Duty, Report, follow};
 use crate::gate::Gate;
 use crate::signals::Signals;
 use crate::worker::Worker;
-use rec_model::Cmd;
 use rec_script::Script;
 use rec_table::Heap;
 use std::alloc::{AllocError as NoMemory, Global};
@@ -26,9 +23,9 @@ use std::thread::{PromisedHandle, Scope, Threads};
 /// Carries out the commands of a script on a running heap, each mutator's on a thread of its own, with the collector beside them.
 ///
 /// The worker of mutator `t` calls `gate.pass(t, i)`, polls, and makes its command `i`, numbered from 1; the collector's worker calls
-/// `gate.turn(n)` before its turn `n`. A mutator whose commands are done polls on until the collector's worker has ended, at most
-/// 65,536 times; that ends when every mutator's last command is answered, or after 10,000,000 turns. By its last command a mutator may
-/// leave the heap: then it polls no more, and its thread may end before the others. All threads are joined.
+/// `gate.turn(n)` before its turn `n`. A mutator whose commands are done polls where the collector waits for it, until the collector's
+/// worker has ended, at most 65,536 times. That ends when every mutator's last command is answered, or after 10,000,000 turns. By its
+/// last command a mutator may leave the heap: then it polls no more, and its thread may end before the others. All threads are joined.
 pub fn drive<R: Threads + Wait + Sync, G: Gate>(
     rt: &R,
     _alloc: Global,
@@ -52,13 +49,14 @@ pub fn drive<R: Threads + Wait + Sync, G: Gate>(
     // Where a thread can't be had nothing is done, and the crew comes back as it was.
     ensures refused { IfErr result (λ r. IsSame crew r.0) }
 {
-    let signals = Signals::new();
+    let signals = Signals::new(script);
     let shared = &signals;
     thread::scope(
         thread::scope_env(),
         rt,
         |scope| -> Result<Crew, (Crew, NoMemory)>
-            requires { IsCrewFor heap.now script.now crew }
+            requires ready { IsCrewFor heap.now script.now crew }
+            requires script { shared.now.script.value ≡ script.now }
             ensures worked { IfOk result (λ after. HasWorked heap.entry.now script.entry.now.commands crew after) }
             ensures refused { IfErr result (λ r. IsSame crew r.0) }
         { run(rt, scope, heap, script, gate, shared, crew) },
@@ -75,7 +73,8 @@ fn run<'s, 'e, R: Threads + Wait + Sync, G: Gate>(
     signals: &'e Signals,
     crew: Crew,
 ) -> Result<Crew, (Crew, NoMemory)>
-    requires { IsCrewFor heap.now script.now crew }
+    requires ready { IsCrewFor heap.now script.now crew }
+    requires script { signals.now.script.value ≡ script.now }
     ensures worked { IfOk result (λ after. HasWorked heap.now script.now.commands crew after) }
     ensures refused { IfErr result (λ r. IsSame crew r.0) }
 {
@@ -100,6 +99,7 @@ fn hire<'s, 'e, R: Threads + Wait + Sync, G: Gate>(
 ) -> (Crew, OnceToken<'e, bool>)
     requires shared { IsSync R.row × IsSync G.row }
     requires ready { AreReady heap.now script.now crew.mutators.items crew.journals.items }
+    requires script { signals.now.script.value ≡ script.now }
     requires collector { IsCollectorOf heap.now crew.collector }
     ensures orders { result.1.of ≡ signals.now.orders.id }
     ensures ended { HasEnded result.1.value heap.now script.now.commands crew result.0 }
@@ -111,13 +111,13 @@ fn hire<'s, 'e, R: Threads + Wait + Sync, G: Gate>(
     let Some(journal) = crew.journals.pop() else {
         unreachable!()
     };
-    let commands = script.commands(mutator.number());
     let worker = Worker { mutator, journal };
-    let hired = hire_one(rt, scope, heap, gate, signals, worker, commands);
+    let hired = hire_one(rt, scope, heap, script, gate, signals, worker);
     let (crew, orders) = hire(rt, scope, heap, script, gate, signals, crew);
     let Report {
         worker,
         orders: told,
+        over: _,
     } = report_of(rt, hired);
     told.agrees(&orders);
     (taken_back(crew, worker), orders)
@@ -128,40 +128,33 @@ fn hire_one<'s, 'e, R: Threads + Wait + Sync, G: Gate>(
     rt: &'e R,
     scope: &Scope<'s, &'e ()>,
     heap: &'e Heap,
+    script: &'e Script,
     gate: &'e G,
     signals: &'e Signals,
     worker: Worker,
-    commands: &'e [Cmd],
 ) -> Result<PromisedHandle<Report<'e>, Duty<'e>>, Report<'e>>
     requires shared { IsSync R.row × IsSync G.row }
-    requires own { IsMutatorOf heap.now worker.mutator }
-    requires room { length commands.now ≤ worker.journal.room }
-    requires valid { All (MayAsk (mutator_now worker.mutator)) commands.now }
-    requires leaves_last { LeavesLast commands.now }
-    requires few { length commands.now ≤ MOST_COMMANDS }
+    requires ready { IsHired heap.now script.now worker }
+    requires script { signals.now.script.value ≡ script.now }
 
     ensures signals { IfOk result (λ handle. handle.promise.signals.now.orders.id ≡ signals.now.orders.id) }
+    ensures script { IfOk result (λ handle. handle.promise.signals.now.script.value ≡ script.now) }
     ensures was { IfOk result (λ handle. handle.promise.was.value ≡ worker) }
-    ensures commands { IfOk result (λ handle. handle.promise.commands.now ≡ commands.now) }
     ensures orders { IfErr result (λ report. report.orders.of ≡ signals.now.orders.id) }
-    ensures done { IfErr result (λ report. MatchBool report.orders.value (HasDone commands.now worker report.worker) (report.worker ≡ worker)) }
+    ensures done { IfErr result (λ report. MatchBool report.orders.value (HasStayed script.now worker report.worker report.over) (report.worker ≡ worker)) }
 {
     let duty = Duty {
         was: Snapshot::of(&worker),
-        commands,
         signals,
     };
     match scope.spawn_with(
         duty,
         move || -> Report<'_>
-            requires own { IsMutatorOf heap.now worker.mutator }
-            requires room { length commands.now ≤ worker.journal.room }
-            requires valid { All (MayAsk (mutator_now worker.mutator)) commands.now }
-            requires leaves_last { LeavesLast commands.now }
-            requires few { length commands.now ≤ MOST_COMMANDS }
+            requires ready { IsHired heap.now script.now worker }
+            requires script { signals.now.script.value ≡ script.now }
             ensures orders { result.orders.of ≡ signals.entry.now.orders.id }
-            ensures done { MatchBool result.orders.value (HasDone commands.entry.now worker result.worker) (result.worker ≡ worker) }
-        { follow(rt, heap, gate, signals, worker, commands) },
+            ensures done { MatchBool result.orders.value (HasStayed script.entry.now worker result.worker result.over) (result.worker ≡ worker) }
+        { follow(rt, heap, script, gate, signals, worker) },
     ) {
         Ok(handle) => Ok(handle),
         Err(refused) => {
@@ -177,7 +170,7 @@ fn report_of<'e, R: Threads>(
     hired: Result<PromisedHandle<Report<'e>, Duty<'e>>, Report<'e>>,
 ) -> Report<'e>
     ensures orders { IfOk hired.entry (λ handle. result.orders.of ≡ handle.promise.signals.now.orders.id) }
-    ensures done { IfOk hired.entry (λ handle. MatchBool result.orders.value (HasDone handle.promise.commands.now handle.promise.was.value result.worker) (result.worker ≡ handle.promise.was.value)) }
+    ensures done { IfOk hired.entry (λ handle. MatchBool result.orders.value (HasStayed handle.promise.signals.now.script.value handle.promise.was.value result.worker result.over) (result.worker ≡ handle.promise.was.value)) }
     ensures ended { IfErr hired.entry (λ report. result ≡ report) }
 {
     match hired {
@@ -211,6 +204,7 @@ fn begin<'e, R: Wait, G: Gate>(
     mut crew: Crew,
 ) -> (Crew, OnceToken<'e, bool>)
     requires collector { IsCollectorOf heap.now crew.collector }
+    requires script { signals.now.script.value ≡ script.now }
     ensures orders { result.1.of ≡ signals.now.orders.id }
     ensures begun { MatchBool result.1.value (IsCollectorOf heap.now result.0.collector × HasCollected MOST_TURNS crew.collector result.0.collector) (result.0.collector ≡ crew.collector) }
     ensures mutators { result.0.mutators ≡ crew.mutators }
@@ -220,7 +214,9 @@ fn begin<'e, R: Wait, G: Gate>(
     if !signals.begin(&orders) {
         return (crew, orders);
     }
-    crew.collector = collect(heap, script.mutators(), gate, signals, crew.collector).collector;
-    signals.tell_over();
+    let was = Snapshot::of(&crew.collector);
+    let collected = collect(heap, script.mutators(), gate, signals, crew.collector);
+    signals.tell_over(&was, &collected);
+    crew.collector = collected.collector;
     (crew, orders)
 }

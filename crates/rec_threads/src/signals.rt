@@ -1,10 +1,13 @@
 //! What workers tell one another.
 
-ghost use Rattle.std.specs.Prelude.{◌≡◌, ◌↔◌, ◌≤◌, IsTrue};
-ghost use Rattle.rec_threads.specs.Done.{HasMade, polled_before};
+ghost use Rattle.std.specs.Prelude.{◌≡◌, ◌⊎◌, ◌↔◌, ◌≤◌, IsSome, IsTrue, length};
+ghost use Rattle.rec_model.specs.declared.limits.TheConstants.{MOST_TURNS};
+ghost use Rattle.rec_threads.specs.Done.{HasMadeAll, HasTurned};
 
+use crate::collecting::Collected;
 use crate::worker::Worker;
-use rec_model::Cmd;
+use rec_script::Script;
+use rec_table::Collector;
 use std::snapshot::Snapshot;
 use std::sync::atomic::{AtomicBool, AtomicU8, Ordering};
 use std::sync::{OnceLock, OnceToken, Wait};
@@ -13,9 +16,15 @@ use std::sync::{OnceLock, OnceToken, Wait};
 #[derive(Drop)]
 pub struct AllDone(());
 
+/// The collector's worker has ended. `Signals::over` alone makes one.
+#[derive(Drop)]
+pub struct Over(());
+
 /// What the workers of one drive tell one another.
 #[derive(Drop)]
 pub struct Signals {
+    // Whose commands the workers carry out.
+    script: Snapshot<Script>,
     // Whether the workers begin. It is said once: that all of them are there, or that one is missing.
     orders: OnceLock<bool>,
     // How many mutators have had their last command answered.
@@ -28,8 +37,11 @@ pub struct Signals {
 
 impl Signals {
     /// Nothing is told yet.
-    pub fn new() -> Signals {
+    pub fn new(script: &Script) -> Signals
+        ensures { result.script.value ≡ script.now }
+    {
         Signals {
+            script: Snapshot::of(script),
             orders: OnceLock::new(),
             done: AtomicU8::new(0),
             awaited: AtomicU8::new(0),
@@ -60,15 +72,18 @@ impl Signals {
         *self.orders.value(orders)
     }
 
-    /// One mutator more has had its last command answered: since it was so, its worker polled and carried out each of these.
-    pub fn tell_done(&self, _was: &Snapshot<Worker>, _worker: &Worker, _commands: &[Cmd])
-        requires { HasMade _commands.now (polled_before _commands.now) _was.now.value _worker.now }
+    /// One mutator more has had its last command answered: since it was so, its worker polled before each command that the script has
+    /// for it, and carried it out.
+    pub fn tell_done(&self, _was: &Snapshot<Worker>, _worker: &Worker)
+        requires { HasMadeAll self.now.script.value _was.now.value _worker.now }
     {
         self.done.fetch_add(1, Ordering::SeqCst);
     }
 
-    /// Tells whether so many mutators have had their last commands answered.
-    pub fn all_done(&self, mutators: u8) -> Option<AllDone> {
+    /// Tells whether all the script's mutators have had their last commands answered. It has so many.
+    pub fn all_done(&self, mutators: u8) -> Option<AllDone>
+        requires { mutators ≡ length self.now.script.value.commands }
+    {
         if is_all(self.done.load(Ordering::SeqCst), mutators) {
             Some(AllDone(()))
         } else {
@@ -86,14 +101,21 @@ impl Signals {
         self.awaited.load(Ordering::SeqCst) == mutator
     }
 
-    /// The collector's worker has ended.
-    pub fn tell_over(&self) {
+    /// The collector's worker has ended: since it was so, it made turns until all was done, or until they were spent.
+    pub fn tell_over(&self, _was: &Snapshot<Collector>, _collected: &Collected)
+        requires turned { HasTurned _collected.now.turns _was.now.value _collected.now.collector }
+        requires ended { IsSome _collected.now.all_done ⊎ (_collected.now.turns ≡ MOST_TURNS) }
+    {
         self.over.store(true, Ordering::SeqCst);
     }
 
-    /// Whether the collector's worker has ended.
-    pub fn is_over(&self) -> bool {
-        self.over.load(Ordering::SeqCst)
+    /// Tells whether the collector's worker has ended.
+    pub fn over(&self) -> Option<Over> {
+        if self.over.load(Ordering::SeqCst) {
+            Some(Over(()))
+        } else {
+            None
+        }
     }
 }
 

@@ -1,6 +1,6 @@
 //! The worker of a mutator.
 
-ghost use Rattle.std.specs.Prelude.{◌≡◌, ◌<◌, ◌≤◌, ◌∷◌, [], false, true, length, replicate, All};
+ghost use Rattle.std.specs.Prelude.{◌≡◌, ◌⊎◌, ◌<◌, ◌≤◌, ◌∷◌, [], false, true, length, replicate, All, IsSome};
 ghost use Rattle.rec_model.specs.declared.limits.TheConstants.{MOST_COMMANDS, MOST_POLLS};
 ghost use Rattle.rec_mutator.specs.declared.work.Work.TheVariants as works;
 ghost use Rattle.rec_script.specs.Script.{LeavesLast};
@@ -9,7 +9,7 @@ ghost use Rattle.rec_table.specs.Views.{mutator_now, IsMutatorOf};
 ghost use Rattle.rec_threads.specs.Done.{HasMade, polled_before, turn};
 
 use crate::gate::Gate;
-use crate::signals::Signals;
+use crate::signals::{Over, Signals};
 use rec_model::Cmd;
 use rec_model::limits::MOST_POLLS;
 use rec_table::{Heap, Mutator};
@@ -22,6 +22,13 @@ use std::thread::yield_now;
 pub struct Worker {
     pub mutator: Mutator,
     pub journal: Journal,
+}
+
+/// How a mutator that was done ended: how often it polled, and the evidence that the collector's worker had ended, where it had.
+#[derive(Drop)]
+pub struct Attended {
+    pub polls: u32,
+    pub over: Option<Over>,
 }
 
 impl Worker {
@@ -55,27 +62,32 @@ impl Worker {
         self.journal.note(cmd, told);
     }
 
-    /// Polls where the collector waits for it, and lets others run, until the collector's worker has ended. It tells how often it polled.
+    /// Polls where the collector waits for it, and lets others run, until the collector's worker has ended, at most 65,536 times.
     /// One that has left is waited for no more, and ends at once.
-    pub fn attend<R: Wait>(&mut self, rt: &R, heap: &Heap, signals: &Signals) -> u32
+    pub fn attend<R: Wait>(&mut self, rt: &R, heap: &Heap, signals: &Signals) -> Attended
         requires { IsMutatorOf heap.now self.old.mutator }
 
-        ensures few { result ≤ MOST_POLLS }
-        ensures gone { (mutator_now self.new.mutator).left ≡ true → result ≡ 0 }
-        ensures made { HasMade [] (replicate result works.Poll) self.old self.new }
+        ensures few { result.polls ≤ MOST_POLLS }
+        ensures gone { (mutator_now self.new.mutator).left ≡ true → result.polls ≡ 0 }
+        ensures ended { ((mutator_now self.new.mutator).left ≡ true) ⊎ IsSome result.over ⊎ (result.polls ≡ MOST_POLLS) }
+        ensures made { HasMade [] (replicate result.polls works.Poll) self.old self.new }
     {
         if self.mutator.left() {
-            return 0;
+            return Attended {
+                polls: 0,
+                over: None,
+            };
         }
         let mut polls = 0;
         for _ in rt.forever() {
-            if signals.is_over() || polls >= MOST_POLLS {
-                break;
+            let over = signals.over();
+            if over.is_some() || polls >= MOST_POLLS {
+                return Attended { polls, over };
             }
             polls += self.poll_if_awaited(heap, signals);
             yield_now();
         }
-        polls
+        unreachable!()
     }
 
     // Polls if the collector waits for it, and tells how often it did: once, or not at all.

@@ -6,7 +6,7 @@ use Rattle.rec_threads.specs.Done.{HasTurned}
 use Rattle.rec_threads.proofs.collecting.collect.Goals as goal
 
 pub loop-turns-init : goal.loop-turns-init
-loop-turns-init g c = record { own = c.requires; turned = no_turn c.args.collector }
+loop-turns-init g c = record { own = c.requires.own; turned = no_turn c.args.collector }
 
 pub turn-turn-requires : goal.turn-turn-requires
 turn-turn-requires g c = record { own = c.loop-turns.invariant.own }

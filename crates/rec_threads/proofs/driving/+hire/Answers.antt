@@ -1,12 +1,11 @@
 -- The contract of `+hire`: starts a worker for each mutator.
-use Rattle.std.proofs.Common.{◌≡◌, ◌≤◌, ℕ, Bool, MatchBool, List, length, refl, sym, subst, ap, ◌∙◌, arith, append-nil, vec_capacity, ◌+◌}
-use Rattle.rec_model.specs.declared.command.Cmd.{Cmd}
-use Rattle.rec_threads.specs.Done.{HasDone, IsReady, commands_at}
+use Rattle.std.proofs.Common.{◌≡◌, ℕ, Bool, MatchBool, length, refl, sym, subst, ap, ◌∙◌, arith, append-nil, vec_capacity}
+use Rattle.rec_script.specs.Script.{ScriptContents}
+use Rattle.rec_threads.specs.Done.{HasDone, HasStayed, commands_at}
 use Rattle.rec_threads.specs.declared.crew.Crew.{Crew}
 use Rattle.rec_threads.specs.declared.worker.Worker.{Worker}
-use Rattle.rec_threads.proofs.Crews.{all_back, none_more, one_more, ordered, own_commands, reports, rest_ready}
+use Rattle.rec_threads.proofs.Crews.{all_back, hired_at, none_more, one_more, ordered, reports, rest_ready, stayed_done}
 use Rattle.rec_threads.proofs.Lists.{together}
-use Rattle.rec_threads.proofs.Works.{all_operands}
 use Rattle.rec_threads.proofs.driving.+hire.Goals as goal
 
 pub hire_one-hired-requires-clause-shared : goal.hire_one-hired-requires-clause-shared
@@ -23,35 +22,22 @@ hire-crew-requires-clause-collector g t c κs within = c.requires.collector
 pub hire-crew-requires-clause-shared : goal.hire-crew-requires-clause-shared
 hire-crew-requires-clause-shared g t c κs within = c.requires.shared
 
-pub hire_one-hired-requires-clause-own : goal.hire_one-hired-requires-clause-own
-hire_one-hired-requires-clause-own g t c κs within =
+pub hire_one-hired-requires-clause-ready : goal.hire_one-hired-requires-clause-ready
+hire_one-hired-requires-clause-ready g t c κs within =
     let rest : Crew = record c.args.crew { mutators = c.pop.new.self; journals = c.pop-2.new.self } in
-    let w : Worker = together c.in-Some.mutator c.in-Some-pop.journal in
-    (rest_ready c.args.heap.now c.args.script.now c.args.crew rest w c.in-Some.ensures.items c.in-Some-pop.ensures.items c.requires.ready).1.own
+    let popped = c.in-Some.ensures.len in
+    let few = c.requires.ready.few in
+    (hired_at c.args.heap.now c.args.script.now (length c.pop.new.self.items) (together c.in-Some.mutator c.in-Some-pop.journal) (omega (arith, popped, few, c.args.crew.mutators.ok.0, c.pop.new.self.ok.0))
+    (rest_ready c.args.heap.now c.args.script.now c.args.crew rest (together c.in-Some.mutator c.in-Some-pop.journal) c.in-Some.ensures.items c.in-Some-pop.ensures.items c.requires.ready).1).1
 
-pub hire_one-hired-requires-clause-room : goal.hire_one-hired-requires-clause-room
-hire_one-hired-requires-clause-room g t c κs within =
-    let rest : Crew = record c.args.crew { mutators = c.pop.new.self; journals = c.pop-2.new.self } in
-    let w : Worker = together c.in-Some.mutator c.in-Some-pop.journal in
-    let k : ℕ = length c.pop.new.self.items in
-    let ready : IsReady c.args.heap.now c.args.script.now k w = (rest_ready c.args.heap.now c.args.script.now c.args.crew rest w c.in-Some.ensures.items c.in-Some-pop.ensures.items c.requires.ready).1 in
-    let cmds : commands_at c.args.script.now.commands k ≡ c.commands-commands.result.now = own_commands c.args.script.now.commands k c.number.result c.commands-commands.result.now (c.number.ensures.number ∙ ready.named) c.commands-commands.ensures.value in
-    subst (λ (done : List Cmd). length done ≤ w.journal.room) cmds ready.room
+pub hire_one-hired-requires-clause-script : goal.hire_one-hired-requires-clause-script
+hire_one-hired-requires-clause-script g t c κs within = c.requires.script
 
-pub hire_one-hired-requires-clause-valid : goal.hire_one-hired-requires-clause-valid
-hire_one-hired-requires-clause-valid g t c κs within =
-    let rest : Crew = record c.args.crew { mutators = c.pop.new.self; journals = c.pop-2.new.self } in
-    let w : Worker = together c.in-Some.mutator c.in-Some-pop.journal in
-    let k : ℕ = length c.pop.new.self.items in
-    let ready : IsReady c.args.heap.now c.args.script.now k w = (rest_ready c.args.heap.now c.args.script.now c.args.crew rest w c.in-Some.ensures.items c.in-Some-pop.ensures.items c.requires.ready).1 in
-    let cmds : commands_at c.args.script.now.commands k ≡ c.commands-commands.result.now = own_commands c.args.script.now.commands k c.number.result c.commands-commands.result.now (c.number.ensures.number ∙ ready.named) c.commands-commands.ensures.value in
-    all_operands c.args.heap.now c.args.script.now k w c.commands-commands.result.now ready cmds c.commands-commands.ensures.valid.in_range
+pub hire-crew-requires-clause-script : goal.hire-crew-requires-clause-script
+hire-crew-requires-clause-script g t c κs within = c.requires.script
 
-pub hire_one-hired-requires-clause-leaves_last : goal.hire_one-hired-requires-clause-leaves_last
-hire_one-hired-requires-clause-leaves_last g t c κs within = c.commands-commands.ensures.valid.leaves_last
-
-pub hire_one-hired-requires-clause-few : goal.hire_one-hired-requires-clause-few
-hire_one-hired-requires-clause-few g t c κs within = c.commands-commands.ensures.valid.few
+pub begin-requires-clause-script : goal.begin-requires-clause-script
+begin-requires-clause-script g t c κs within = c.requires.script
 
 pub returns-clause-ended : goal.returns-clause-ended
 returns-clause-ended g t c =
@@ -60,11 +46,13 @@ returns-clause-ended g t c =
     let v : Worker = c.report_of-worker.result.worker in
     let k : ℕ = length c.pop.new.self.items in
     let both = rest_ready c.args.heap.now c.args.script.now c.args.crew rest w c.in-Some.ensures.items c.in-Some-pop.ensures.items c.requires.ready in
-    let cmds : commands_at c.args.script.now.commands k ≡ c.commands-commands.result.now = own_commands c.args.script.now.commands k c.number.result c.commands-commands.result.now (c.number.ensures.number ∙ both.1.named) c.commands-commands.ensures.value in
     let hired = c.hire_one-hired.ensures in
     let report = c.report_of-worker.ensures in
-    let last : MatchBool c.report_of-worker.result.orders.value (HasDone c.commands-commands.result.now w v) (v ≡ w) = reports c.hire_one-hired.result c.report_of-worker.result c.commands-commands.result.now w hired.was hired.commands report.done hired.done report.ended in
-    let agreed : MatchBool c.hire-crew.result.1.value (HasDone (commands_at c.args.script.now.commands k) w v) (v ≡ w) = subst (λ (x : Bool × List Cmd). MatchBool x.0 (HasDone x.1 w v) (v ≡ w)) (λ i. (c.agrees.ensures i, sym cmds i)) last in
+    let script : ScriptContents = c.args.script.now in
+    let named = both.1.named in
+    let last : MatchBool c.report_of-worker.result.orders.value (HasStayed script w v c.report_of-worker.result.over) (v ≡ w) = reports c.hire_one-hired.result c.report_of-worker.result script w hired.was hired.script report.done hired.done report.ended in
+    let done : MatchBool c.report_of-worker.result.orders.value (HasDone (commands_at script.commands k) w v) (v ≡ w) = stayed_done c.report_of-worker.result.orders.value script k w v c.report_of-worker.result.over (omega (arith, named)) last in
+    let agreed : MatchBool c.hire-crew.result.1.value (HasDone (commands_at script.commands k) w v) (v ≡ w) = subst (λ (b : Bool). MatchBool b (HasDone (commands_at script.commands k) w v) (v ≡ w)) c.agrees.ensures done in
     one_more c.hire-crew.result.1.value c.args.heap.now c.args.script.now.commands c.args.crew rest c.hire-crew.result.0 c.taken_back.result w v c.in-Some.ensures.items c.in-Some-pop.ensures.items refl both.0.one_each c.hire-crew.ensures.ended agreed
     c.taken_back.ensures.mutators c.taken_back.ensures.journals c.taken_back.ensures.collector
 
@@ -107,22 +95,6 @@ unreachable-requires g t c =
     let popped = c.in-Some.ensures.len in
     let each = c.requires.ready.one_each in
     omega (arith, popped, each, c.in_default-pop.ensures.cases.0, c.args.crew.mutators.ok.0, c.args.crew.journals.ok.0)
-
-pub commands-commands-requires-clause-some : goal.commands-commands-requires-clause-some
-commands-commands-requires-clause-some g t c =
-    let rest : Crew = record c.args.crew { mutators = c.pop.new.self; journals = c.pop-2.new.self } in
-    let ready = (rest_ready c.args.heap.now c.args.script.now c.args.crew rest (together c.in-Some.mutator c.in-Some-pop.journal) c.in-Some.ensures.items c.in-Some-pop.ensures.items c.requires.ready).1 in
-    let named : c.number.result ≡ length c.pop.new.self.items + 1 = c.number.ensures.number ∙ ready.named in
-    omega (arith, named)
-
-pub commands-commands-requires-clause-most : goal.commands-commands-requires-clause-most
-commands-commands-requires-clause-most g t c =
-    let rest : Crew = record c.args.crew { mutators = c.pop.new.self; journals = c.pop-2.new.self } in
-    let ready = (rest_ready c.args.heap.now c.args.script.now c.args.crew rest (together c.in-Some.mutator c.in-Some-pop.journal) c.in-Some.ensures.items c.in-Some-pop.ensures.items c.requires.ready).1 in
-    let named : c.number.result ≡ length c.pop.new.self.items + 1 = c.number.ensures.number ∙ ready.named in
-    let popped = c.in-Some.ensures.len in
-    let few = c.requires.ready.few in
-    omega (arith, named, popped, few, c.args.crew.mutators.ok.0, c.pop.new.self.ok.0)
 
 pub returns-clause-orders : goal.returns-clause-orders
 returns-clause-orders g t c = c.hire-crew.ensures.orders

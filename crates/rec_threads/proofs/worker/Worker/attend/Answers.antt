@@ -30,8 +30,8 @@ loop-preserved g c = record {
       (made_on [] [] (replicate c.loop.polls works.Poll) (replicate c.poll_if_awaited-polls.result works.Poll) c.args.self.now c.loop.self c.poll_if_awaited-polls.new.self c.loop.invariant.made c.poll_if_awaited-polls.ensures.made);
 }
 
-pub returns-clause-gone : goal.returns-clause-gone
-returns-clause-gone g c = λ gone.
+pub returns-then-is_some-clause-gone : goal.returns-then-is_some-clause-gone
+returns-then-is_some-clause-gone g c = λ gone.
     let here : (mutator_now c.args.self.now.mutator).left ≡ false = search rules in
     let both : ◌≡◌ {A = Bool} true false = sym gone ∙ stays [] (replicate c.loop.polls works.Poll) c.args.self.now c.loop.self c.loop.invariant.made (All-nil _) ∙ here in
     cc
