@@ -23,12 +23,13 @@ use Rattle.rec_threads.specs.Done.{HasDone, HaveDone, begun, commands_at, worker
 use Rattle.rec_script.specs.Script.{ScriptContents}
 use Rattle.rec_play.specs.Played.{config_of, last_moment, lines_of}
 use Rattle.rec_play.proofs.NotYet.{step_told}
-use Rattle.rec_play.specs.Start.{IsStartOf, Start, names_at, opening_of}
+use Rattle.rec_play.specs.Start.{IsStartOf, Start, moment_at, names_at, opening_of}
 use Rattle.rec_play.proofs.Opened.{IsPlayedLegally, opened_starts, ordered_legally}
 use Rattle.rec_play.proofs.Room.{no_log_full}
-use Rattle.rec_run.specs.Headline.{HasRun, KeepsRule}
+use Rattle.rec_run.specs.Headline.{AreExplained}
+use Rattle.rec_run.specs.Making.{HasRun, KeepsRule}
 use Rattle.rec_request.specs.declared.request.How.TheVariants as hows
-use Rattle.rec_run.proofs.Outcomes.{full_only}
+use Rattle.rec_run.proofs.Outcomes.{explained}
 
 -- where each mutator's list tells its journal's lines, the lists tell the journals
 journals_are : (w : Core) (k : ℕ) (ms : List MutatorView) (js : List Notes) → length js ≡ length ms
@@ -157,14 +158,12 @@ module _ (script : ScriptContents) (s : Started) (ms ms' : List MutatorView) (js
   abbrev names : Naming
   names = named_after_all (names_at (opening_of script)) (opened (config_of script)) moves
 
-  pub was_driven : (events : List Event) × HasRun script (opening_of script) hows.Threads (lines_of js') events world × (world.made ≡ length (last_moment script (opening_of script) events).heap.objects)
+  pub was_driven : (events : List Event) × AreExplained script (moment_at script (opening_of script)) (lines_of js') events
+      × HasRun script (opening_of script) hows.Threads (lines_of js') events world × (world.made ≡ length (last_moment script (opening_of script) events).heap.objects)
   was_driven = (
     events,
+    explained script (moment_at script (opening_of script)) (lines_of js') events commands_kept legally.legal (no_log_full script (opening_of script) (lines_of js') events commands_kept legally.legal),
     record {
-      commands = commands_kept;
-      legal = legally.legal;
-      given = λ i t cmd told is. (legally.legal.fits i (Event.Answers t (cmd, told)) is).told.answer;
-      full = full_only script (opening_of script) (lines_of js') events legally.legal;
       names = names;
       stands = legally.stands;
       steps = record {
@@ -178,7 +177,6 @@ module _ (script : ScriptContents) (s : Started) (ms ms' : List MutatorView) (js
         named = refl;
         not_yet = step_told (names_at (opening_of script)) (opened (config_of script)) moves (world_kept (opened (config_of script)) (opened_world (config_of script) was.config)) interleaved.fit;
       };
-      no_log_full = no_log_full script (opening_of script) (lines_of js') events commands_kept legally.legal;
     },
     legally.made,
   )

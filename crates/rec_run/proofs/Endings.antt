@@ -16,7 +16,6 @@ use Rattle.rec_model.specs.Sight.{Represents}
 use Rattle.rec_model.proofs.Listed.{listing_carried}
 use Rattle.rec_core.specs.Settled.{IsSettled}
 use Rattle.rec_world.specs.World.{Core, sight}
-use Rattle.rec_settle.specs.Collecting.{IsSettling}
 use Rattle.rec_run.specs.declared.status.Status.{Status}
 use Rattle.rec_run.specs.declared.status.Status.TheVariants as statuses
 use Rattle.rec_script.specs.declared.error.Kind.{Kind}
@@ -24,9 +23,9 @@ use Rattle.rec_script.specs.declared.error.ScriptError.{ScriptError}
 use Rattle.rec_script.specs.declared.error.ScriptError.TheVariants.{Bad}
 use Rattle.rec_request.specs.CommandLine.{Asks, ReadsScript}
 use Rattle.rec_run.specs.Ends.{Passage, Failed, Ends, HasCause, passage}
-use Rattle.rec_run.specs.Headline.{Are, HasRead, IsReadOut, IsAnswer, Answers, AnswersTo, TellsOf, HasRun, WroteAnswer, WroteFront, IsReadPast, IsRefusedFor, ReadRefused, ResumesTo, IsTail, is_summary, is_traced, printed, printed_order}
-use Rattle.rec_play.specs.Played.{last_moment}
-use Rattle.rec_play.specs.Start.{Start}
+use Rattle.rec_run.specs.Headline.{Are, HasRead, IsReadOut, IsAnswer, Answers, AnswersTo, AreExplained, TellsOf, WroteAnswer, WroteFront, IsReadPast, IsRefusedFor, ReadRefused, ResumesTo, IsTail, behind, is_summary, is_traced, printed, printed_order}
+use Rattle.rec_run.specs.Making.{IsMade}
+use Rattle.rec_play.specs.Start.{Start, moment_at}
 use Rattle.rec_script.proofs.Refusing.{refused_no_text}
 use Rattle.rec_script.proofs.Uniqueness.{refused_once}
 use Rattle.rec_request.specs.declared.request.How.{How}
@@ -353,29 +352,35 @@ counted heap rows (ns, listed, are) = ap (map (λ (r : Row). r.count)) are ∙ r
 
 -- what was run, settled and listed is the answer
 pub answers_script : (script : ScriptContents) (start : Start) (how : How) (journals : List (List Line)) (events : List Event) (end world : Core) (rows : List Row) (text tail : List ℕ)
-    → HasRun script start how journals events end → IsSettling end world → IsSettled world → Represents (last_moment script start events).heap (sight world)
+    → AreExplained script (moment_at script start) journals events → IsMade script start how journals events end world → IsSettled world
+    → Represents (behind script (moment_at script start) events).heap (sight world)
     → length world.headers ≡ script.slots → ListsSlots (sight world) rows → IsTail (is_traced how) end world tail
-    → text ≡ printed script.version (is_summary how) journals (printed_order how (actors events)) rows (length (last_moment script start events).heap.objects) world ++ tail → Answers script start how text
-answers_script script start how journals events end world rows text tail has_run settles settled stands room listed ends written =
+    → text ≡ printed script.version (is_summary how) journals (printed_order how (actors events)) rows (length (behind script (moment_at script start) events).heap.objects) world ++ tail
+    → Answers script start how text
+answers_script script start how journals events end world rows text tail explained made settled stands room listed ends written =
+    let heap : Heap = (behind script (moment_at script start) events).heap in
+    let listing : IsListing heap rows = listing_carried heap (sight world) rows stands settled.collected listed in
     record {
       journals = journals;
       events = events;
       end = end;
-      has_run = has_run;
-      rows = rows;
-      settled = let listing : IsListing (last_moment script start events).heap rows = listing_carried (last_moment script start events).heap (sight world) rows stands settled.collected listed in record {
-        world = world;
-        settles = settles;
-        settled = settled;
-        reached = settled.collected;
-        room = room;
-        stands = stands;
-        listing = listing;
-        counts = counted (last_moment script start events).heap rows listing;
+      world = world;
+      meaning = record {
+        explained = explained;
+        rows = rows;
+        settled = record {
+          settled = settled;
+          reached = settled.collected;
+          room = room;
+          stands = stands;
+          listing = listing;
+          counts = counted heap rows listing;
+        };
+        tail = tail;
+        ends = ends;
+        written = written;
       };
-      tail = tail;
-      ends = ends;
-      written = written;
+      made = made;
     }
 
 -- the line and the kind that are passed on

@@ -1,7 +1,8 @@
--- What the program's answer to a request is. Each word of the headline has its meaning here, or in a definition that is cited here.
--- Some fields say in the headline's words what others imply: `reached` and `counts` what `settled` and `listing` do, `given` and `full`
--- what `legal` does, `not_yet` what the run does. So the headline is read here, and each of them is proved.
-use Rattle.std.specs.Prelude.{◌≡◌, ◌⊎◌, ℕ, ◌+◌, ◌<◌, ◌≤◌, ◌↔◌, Bool, true, false, Option, None, Some, List, [], ◌++◌, length, map, slice_index_or}
+-- What the program's answer to a request is. Each word of the headline has its meaning here, or in a definition that is cited here. Which
+-- run it was stands apart, in the fields `made`: `Making` has their definitions, and nothing else here cites these. Some fields say in the
+-- headline's words what others imply: `reached` and `counts` what `settled` and `listing` do, `given` and `full` what `legal` does. So the
+-- headline is read here, and each of them is proved.
+use Rattle.std.specs.Prelude.{◌≡◌, ◌⊎◌, ℕ, ◌+◌, ◌<◌, ◌≤◌, ◌↔◌, Bool, true, false, Option, None, Some, List, [], ◌++◌, length, map}
 use Rattle.std.specs.List.{slice_get}
 use Rattle.std.specs.Option.{ForSome}
 use Rattle.rec_model.specs.Heap.{Heap, children, roots}
@@ -9,26 +10,17 @@ use Rattle.rec_model.specs.Asking.{allocation, asks, is_done, AnswersAs}
 use Rattle.rec_model.specs.Numbering.{holders}
 use Rattle.rec_model.specs.Reach.{is_in, IsReached}
 use Rattle.rec_model.specs.declared.answer.Answer.TheVariants as answers
-use Rattle.rec_model.specs.declared.limits.TheConstants.{MOST_BYTES, MOST_POLLS, MOST_TURNS}
+use Rattle.rec_model.specs.declared.limits.TheConstants.{MOST_BYTES}
 use Rattle.rec_model.specs.declared.command.Cmd.{Cmd}
 use Rattle.rec_model.specs.declared.told.Told.{Told}
-use Rattle.rec_model.specs.LegalOrder.{Line, Event, Moment, actors, moment, IsLegalOrder, NoLogFull}
+use Rattle.rec_model.specs.LegalOrder.{Line, Event, Moment, actors, after_all, moment, IsLegalOrder, NoLogFull}
 use Rattle.rec_model.specs.Listing.{Row, IsListing}
-use Rattle.rec_model.specs.Sight.{IsTaken, NumbersSlots, StandsBy, Represents, targets_of}
-use Rattle.rec_core.specs.Core.{Core, opened, sight}
+use Rattle.rec_model.specs.Sight.{IsTaken, NumbersSlots, Represents, targets_of}
+use Rattle.rec_core.specs.Core.{Core, sight}
 use Rattle.rec_core.specs.Settled.{IsSettled}
-use Rattle.rec_settle.specs.Collecting.{IsSettling, taken_slots}
-use Rattle.rec_order.specs.Events.{events_of}
-use Rattle.rec_order.specs.Naming.{Naming, named_after_all}
-use Rattle.rec_table.specs.Ends.{Interleaves}
-use Rattle.rec_table.specs.Journals.{journals_from}
-use Rattle.rec_table.specs.declared.views.Beat.{Beat}
-use Rattle.rec_threads.specs.Done.{begun, commands_at, driving_rule}
-use Rattle.rec_play.specs.Awaited.{IsAwaitedStep, IsAwaitedTurn}
-use Rattle.rec_play.specs.Played.{config_of, last_moment, lengths_of, limits_of}
-use Rattle.rec_play.specs.Playing.{all_turns, order}
-use Rattle.rec_play.specs.Run.{IsPlayedRun}
-use Rattle.rec_play.specs.Start.{Start, moment_at, names_at, opening_of}
+use Rattle.rec_settle.specs.Collecting.{taken_slots}
+use Rattle.rec_play.specs.Played.{limits_of}
+use Rattle.rec_play.specs.Start.{Start, moment_at, opening_of}
 use Rattle.rec_io.specs.Sink.{Appends}
 use Rattle.rec_io.specs.Source.{BeginsWith}
 use Rattle.rec_script.specs.Behind.{with_all}
@@ -48,9 +40,6 @@ use Rattle.rec_script.specs.Made.{made_text}
 use Rattle.rec_report.specs.Summary.{summary_text}
 use Rattle.rec_report.specs.Text.{play_text, trace_line}
 use Rattle.rec_collector.specs.Shown.{Shown}
-use Rattle.rec_settle.specs.Shown.{IsShownTo}
-use Rattle.rec_settle.specs.declared.turns.Settling.TheVariants.{Settled}
-use Rattle.rec_play.specs.Shown.{IsShownWhole}
 use Rattle.rec_image.specs.Image.{ImageContents, IsImage, text as image_text}
 use Rattle.rec_image.specs.Standing.{IsOfWorld, StandsFor}
 use Rattle.rec_audit.specs.Journal.{journal, sets_passed}
@@ -60,13 +49,12 @@ use Rattle.rec_audit.specs.declared.verdict.Verdict.{Verdict}
 use Rattle.rec_audit.specs.declared.verdict.Verdict.TheVariants.{Yes}
 use Rattle.rec_audit.specs.Said.{verdict_text}
 use Rattle.rec_audit.specs.Verdicts.{IsVerdict}
+use Rattle.rec_run.specs.Making.{AreShown, IsMade}
 use Rattle.rec_run.specs.Resuming.{IsRestoredFor, IsUnresumed, Tells, numbers_of}
 use Rattle.rec_io.specs.Whole.{IsAtEnd}
 
 -- The world is settled and these are its rows: just the slots that registers reach hold objects, a row for each, with its true count.
-pub record IsSettledAs (end : Core) (heap : Heap) (slots : ℕ) (rows : List Row) : Type 0 where
-  pub world : Core
-  pub settles : IsSettling end world
+pub record IsSettledAs (world : Core) (heap : Heap) (slots : ℕ) (rows : List Row) : Type 0 where
   pub settled : IsSettled world
   -- just the slots that the registers reach, by fields from slot to slot, hold objects
   pub reached : (slot : ℕ) → IsTaken (sight world) slot ↔ IsReached (roots (sight world).registers) (targets_of (sight world)) slot
@@ -77,61 +65,25 @@ pub record IsSettledAs (end : Core) (heap : Heap) (slots : ℕ) (rows : List Row
   -- the count in each row is how many registers, and fields of listed objects, hold the object
   pub counts : map (λ row. row.count) rows ≡ map (holders (roots heap.registers) (children heap) listing.0) listing.0
 
--- A mutator's list has the works of the driving rule: it polled once before each of its commands, and at most 65,536 times behind the
--- last one.
-pub record KeepsRule (cmds : List Cmd) (list : List Beat) : Type 0 where
-  pub polls : ℕ
-  pub few : polls ≤ MOST_POLLS
-  pub begins : begun list ≡ driving_rule cmds polls
+-- what stands before the event with this number, in an order from this moment on
+abbrev pub before : ScriptContents → (first : Moment) → List Event → ℕ → Moment
+before script first events i = moment (limits_of script) first events i
 
--- The run on threads. The collector and each mutator have a list of their own steps, and one run from the script's start
--- to this world has these lists, each step once and in order, and no other step. Each mutator kept the driving rule, and the collector
--- made at most 10,000,000 turns, and one that gives a mailbox back. The journals are what the mutators' lists tell. The events are those
--- of that run: an answer stands among them where the step was made that decided it.
-pub record IsDriven (script : ScriptContents) (start : Start) (journals : List (List Line)) (events : List Event) (names : Naming) (world : Core) : Type 0 where
-  pub collected : List Beat
-  pub lists : List (List Beat)
-  pub interleaved : Interleaves start.world collected lists world
-  pub turns : length collected ≤ MOST_TURNS + 1
-  pub ruled : (k : ℕ) → k < length script.commands → KeepsRule (commands_at script.commands k) (slice_index_or lists k [])
-  pub told : journals_from start.world 0 lists ≡ journals
-  pub tells : events ≡ events_of (names_at start) start.world interleaved.run
-  pub named : names ≡ named_after_all (names_at start) start.world interleaved.run
-  -- each NotYet was decided by a step of this run that found a log which was still to be collected
-  pub not_yet : (i t : ℕ) (line : Line) → slice_get events i ≡ Some (Event.Answers t line) → line.1.answer ≡ answers.NotYet → IsAwaitedStep (names_at start) start.world interleaved.run i t line
+-- and what stands behind all of them
+abbrev pub behind : ScriptContents → (first : Moment) → List Event → Moment
+behind script first events = after_all (limits_of script) first events
 
--- The run that is played: its turns are those that the playing rule draws, and its answers stand in their order. The events are what
--- these turns tell, with the frees and the sweeps of the collector's.
-pub record IsDrawn (script : ScriptContents) (start : Start) (play : Play) (events : List Event) (names : Naming) (world : Core) : Type 0 where
-  pub in_order : actors events ≡ order (lengths_of script) play.seed play.turns
-  pub run : IsPlayedRun script start.world (names_at start) (all_turns (lengths_of script) play.seed play.turns) events names world
-  -- each NotYet was decided by a step of this run that found a log which was still to be collected
-  pub not_yet : (i t : ℕ) (line : Line) → slice_get events i ≡ Some (Event.Answers t line) → line.1.answer ≡ answers.NotYet → IsAwaitedTurn script start.world (names_at start) (all_turns (lengths_of script) play.seed play.turns) events i t line
-
--- the steps of the run, by the way it was made
-abbrev pub MakesSteps : ScriptContents → Start → How → List (List Line) → List Event → Naming → Core → Type 0
-MakesSteps script start (hows.Play play) journals events names world = IsDrawn script start play events names world
-MakesSteps script start hows.Threads journals events names world = IsDriven script start journals events names world
-
--- what stands before the event with this number, in an order from this start
-abbrev pub before : ScriptContents → Start → List Event → ℕ → Moment
-before script start events i = moment (limits_of script) (moment_at script start) events i
-
--- A script was run from this start. The journals have its commands, each with what was told, and no log was full. One legal order from
--- the start's heap has their lines: it keeps each mutator's own, and the heap that never frees explains it.
-pub record HasRun (script : ScriptContents) (start : Start) (how : How) (journals : List (List Line)) (events : List Event) (world : Core) : Type 0 where
+-- The journals have the script's commands, each with what was told, and no log was full. One legal order from this moment on has their
+-- lines: it keeps each mutator's own, and the heap that never frees explains it.
+pub record AreExplained (script : ScriptContents) (first : Moment) (journals : List (List Line)) (events : List Event) : Type 0 where
   pub commands : map (map (λ line. line.0)) journals ≡ script.commands
-  pub legal : IsLegalOrder (limits_of script) (moment_at script start) journals events
+  pub legal : IsLegalOrder (limits_of script) first journals events
   -- each answer is the one that the heap that never frees gives there; where it gives none, the command is refused, and changes nothing
   pub given : (i t : ℕ) (cmd : Cmd) (told : Told) → slice_get events i ≡ Some (Event.Answers t (cmd, told))
-      → AnswersAs cmd (asks script.fields (before script start events i).heap t cmd (is_done told.answer) told.left).answer told.answer
+      → AnswersAs cmd (asks script.fields (before script first events i).heap t cmd (is_done told.answer) told.left).answer told.answer
   -- an allocation is answered full only where as many objects as there are slots are not freed
   pub full : (i t reg label : ℕ) (leaf : Bool) (told : Told) → slice_get events i ≡ Some (Event.Answers t (allocation leaf reg label, told))
-      → told.answer ≡ answers.Full → length (before script start events i).unfreed ≡ script.slots
-  -- which object each slot holds at the end: by this the heap of the order stands for the world
-  pub names : Naming
-  pub stands : StandsBy (last_moment script start events).heap (sight world) names.number
-  pub steps : MakesSteps script start how journals events names world
+      → told.answer ≡ answers.Full → length (before script first events i).unfreed ≡ script.slots
   pub no_log_full : NoLogFull journals
 
 -- whether a summary is printed in place of the whole text
@@ -170,21 +122,29 @@ abbrev pub IsTail : (traced : Bool) → (end world : Core) → List ℕ → Type
 IsTail false end world tail = tail ≡ []
 IsTail true end world tail = IsTraceLine end world tail
 
--- The text answers the script, run from this start: each printed answer is the one that the heap that never frees gives to the
--- script's commands in one order that keeps each mutator's own; an allocation is answered full only where no slot was free; and after
--- settling just the objects that registers reach hold slots, listed with true counts. The order of a played run is the one that the
--- playing rule draws. A summary counts the same answers and objects. Where a trace is asked for, its line stands behind.
+-- What the text says of a run that begins at this moment, whichever run it was: each printed answer is the one that the heap that never
+-- frees gives to the script's commands in one order that keeps each mutator's own; an allocation is answered full only where no slot was
+-- free; and in the settled world just the objects that registers reach hold slots, listed with true counts. A summary counts the same
+-- answers and objects. Where a trace is asked for, its line stands behind.
+pub record Meaning (script : ScriptContents) (first : Moment) (how : How) (journals : List (List Line)) (events : List Event) (end world : Core) (text : List ℕ) : Type 0 where
+  pub explained : AreExplained script first journals events
+  pub rows : List Row
+  pub settled : IsSettledAs world (behind script first events).heap script.slots rows
+  pub tail : List ℕ
+  pub ends : IsTail (is_traced how) end world tail
+  pub written : text ≡ printed script.version (is_summary how) journals (printed_order how (actors events)) rows (length (behind script first events).heap.objects) world ++ tail
+
+-- The text answers the script, run from this start. The journals, the order and the worlds that give the text its meaning are those of
+-- the run that was made: of a played one the order is the one that the playing rule draws.
 pub record Answers (script : ScriptContents) (start : Start) (how : How) (text : List ℕ) : Type 0 where
   pub journals : List (List Line)
   pub events : List Event
   -- the world after the last turn
   pub end : Core
-  pub has_run : HasRun script start how journals events end
-  pub rows : List Row
-  pub settled : IsSettledAs end (last_moment script start events).heap script.slots rows
-  pub tail : List ℕ
-  pub ends : IsTail (is_traced how) end settled.world tail
-  pub written : text ≡ printed script.version (is_summary how) journals (printed_order how (actors events)) rows (length (last_moment script start events).heap.objects) settled.world ++ tail
+  -- and the one that settling it left
+  pub world : Core
+  pub meaning : Meaning script (moment_at script start) how journals events end world text
+  pub made : IsMade script start how journals events end world
 
 -- The bytes are the text of a script within the limits, and the answer is the script's, run so.
 pub record AnswersTo (bytes : List ℕ) (how : How) (text : List ℕ) : Type 0 where
@@ -208,13 +168,12 @@ heap_told script = record { slots = script.slots; fields = script.fields; regist
 pub record IsJournal (script : ScriptContents) (asked : Keeping) (end world : Core) (text : List ℕ) : Type 0 where
   -- the steps that were made while it was played
   pub played : List Shown
-  pub shown_played : IsShownWhole script asked.seed asked.turns (opened (config_of script)) played end
   -- and while it was settled
   pub settling : List Shown
-  pub shown_settling : IsShownTo end settling Settled world
   pub written : text ≡ text_of (journal (heap_told script) (played ++ settling))
   -- it is answered yes, unless it is too long, with as many sets as passed both tests
   pub answered : length text ≤ MOST_BYTES → IsVerdict text (Yes (sets_passed (played ++ settling)))
+  pub made : AreShown script asked end world played settling
 
 -- The text is the image of the settled heap: it is of the heap's numbers, and stands for it in all but the field words.
 pub record IsImageText (world : Core) (text : List ℕ) : Type 0 where
@@ -243,11 +202,14 @@ pub record TellsRun (script : ScriptContents) (asked : Keeping) (text : List ℕ
   pub events : List Event
   -- the world after the last turn
   pub end : Core
-  pub has_run : HasRun script (opening_of script) (hows.Play (played asked)) journals events end
+  -- and the one that settling it left
   pub world : Core
-  pub settles : IsSettling end world
+  pub explained : AreExplained script (moment_at script (opening_of script)) journals events
+  -- just what the registers reach is left, and the heap of the order stands for it
   pub settled : IsSettled world
+  pub stands : Represents (behind script (moment_at script (opening_of script)) events).heap (sight world)
   pub kept : IsKept asked.kept script asked end world text
+  pub made : IsMade script (opening_of script) (hows.Play (played asked)) journals events end world
 
 -- The bytes are the text of a script within the limits, and the text tells of its run.
 pub record TellsOf (bytes : List ℕ) (asked : Keeping) (text : List ℕ) : Type 0 where

@@ -2,6 +2,7 @@
 pub mod Audited
 pub mod Ends
 pub mod Headline
+pub mod Making
 pub mod Outcome
 pub mod Resuming
 pub mod Running

@@ -5,6 +5,7 @@ use Rattle.rec_model.specs.LegalOrder.{Line, actors}
 use Rattle.rec_core.specs.Core.{Core}
 use Rattle.rec_core.specs.declared.config.Config.{Config}
 use Rattle.rec_play.specs.Played.{last_moment, lines_of}
+use Rattle.rec_play.specs.Start.{moment_at}
 use Rattle.rec_script.specs.Script.{ScriptContents}
 use Rattle.rec_world.specs.Order.{Turns}
 use Rattle.rec_run.specs.Headline.{Answers, is_summary, is_traced, printed, printed_order}
@@ -20,16 +21,16 @@ pub write_text-requires-clause-journals : goal.write_text-requires-clause-journa
 write_text-requires-clause-journals g c =
     let o = c.args.outcome.now in
     let (start, is) = c.requires.outcome in
-    many c.args.script.now start (lines_of o.journals.items) is.events o.world o.journals.items refl is.has_run.commands ∙ sym (ap (λ (k : Config). k.mutators) (c.settle.ensures.config ∙ is.config))
+    many c.args.script.now (moment_at c.args.script.now start) (lines_of o.journals.items) is.events o.journals.items refl is.explained.commands ∙ sym (ap (λ (k : Config). k.mutators) (c.settle.ensures.config ∙ is.config))
 
 pub write_text-requires-clause-order : goal.write_text-requires-clause-order
 write_text-requires-clause-order g c =
     let o = c.args.outcome.now in
     let (start, is) = c.requires.outcome in
-    in_order c.args.script.now start (lines_of o.journals.items) is.events o.world c.args.how is.has_run o.order is.order
+    in_order c.args.script.now (moment_at c.args.script.now start) (lines_of o.journals.items) is.events c.args.how is.explained o.order is.order
 
 pub write_text-requires-clause-room : goal.write_text-requires-clause-room
-write_text-requires-clause-room g c = c.requires.outcome.1.has_run.no_log_full
+write_text-requires-clause-room g c = c.requires.outcome.1.explained.no_log_full
 
 pub returns : goal.returns
 returns g c = λ start is.
@@ -42,8 +43,8 @@ returns g c = λ start is.
     let (rows, listed, told) = c.in_ok-text.ensures in
     let tail : List ℕ = tail_of c.in_ok-traced.traced c.in-Ok.settled.live in
     IfOk-weaker c.end_text.result _ (λ text. Answers script start how (flat_map (λ line. line) text))
-    (λ text whole. answers_script script start how journals is.events o.world world rows (flat_map (λ line. line) text) tail is.has_run
-    c.in-Ok.ensures.done.settles c.in-Ok.ensures.done.settled (number, c.settle.ensures.stands (last_moment script start is.events).heap number is.has_run.stands)
+    (λ text whole. answers_script script start how journals is.events o.world world rows (flat_map (λ line. line) text) tail is.explained
+    (record { run = is.has_run; settles = c.in-Ok.ensures.done.settles }) c.in-Ok.ensures.done.settled (number, c.settle.ensures.stands (last_moment script start is.events).heap number is.has_run.stands)
     (c.settle.ensures.kept.shaped.headers ∙ ap (λ (k : Config). k.slots) (c.settle.ensures.config ∙ is.config))
     listed
     (tail_is (is_traced how) o.world world c.in-Ok.settled c.in_ok-traced.traced is.idle c.in_ok-traced.ensures c.in-Ok.ensures.done)

@@ -29,7 +29,7 @@ returns-clause-outcome g c =
     let ms : List MutatorView = c.in_ok-heap.crew.mutators.items in
     let js : List Notes = c.in_ok-heap.crew.journals.items in
     let one_each = so.whole.ready.one_each in
-    let (events, has_run, made) = was_driven script c.in_ok-heap.heap ms c.in_ok-crew.crew.mutators.items js c.stop.result.journals.items c.in_ok-crew.crew.collector.collecting.log c.stop.result.world
+    let (events, explained, has_run, made) = was_driven script c.in_ok-heap.heap ms c.in_ok-crew.crew.mutators.items js c.stop.result.journals.items c.in_ok-crew.crew.collector.collecting.log c.stop.result.world
     (record {
       opens = so.started.opens;
       config = so.started.config;
@@ -44,6 +44,7 @@ returns-clause-outcome g c =
     let run = c.stop.ensures.stopped.run in
     record {
       events = events;
+      explained = explained;
       has_run = has_run;
       made = made;
       order = ap (option_map (λ (turns : Turns). turns.list)) c.stop.ensures.order;
