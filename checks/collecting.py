@@ -30,10 +30,10 @@ class Log:
 
 
 class Heap:
-    """A heap with so many slots, fields, registers and mutators, steady or not."""
+    """A heap with so many slots, fields, registers and mutators, steady or not, whose trials wait for so many roots."""
 
-    def __init__(self, slots, fields, registers, mutators, steady):
-        self.steady = steady
+    def __init__(self, slots, fields, registers, mutators, steady, least):
+        self.steady, self.least = steady, least
         self.slots = [Slot([None] * fields) for _ in range(slots)]
         self.registers = [[0] + [None] * (registers - 1) for _ in range(mutators)]
         self.slots[0].taken, self.slots[0].count = True, mutators
@@ -95,7 +95,10 @@ class Heap:
         self.older = newer
         self.release(False)
         self.test()
-        self.trial()
+        if len(self.roots) < self.least:
+            self.postpone()
+        else:
+            self.trial()
         self.prepare()
         self.epoch += 1
         return self.sweep(), self.turns
@@ -196,6 +199,15 @@ class Heap:
         """The slots that the fields lead to. Null and leaves count for nothing."""
         self.turns += len(self.slots[at].fields)
         return [it for it in self.slots[at].fields if it is not None and self.slots[it].colour != GREEN]
+
+    def postpone(self):
+        roots, self.roots = self.roots, []
+        for root in roots:
+            if self.slots[root].released:
+                self.slots[root].buffered = False
+                self.free.append(root)
+            else:
+                self.roots.append(root)
 
     def trial(self):
         roots, self.roots, marked = self.roots, [], []

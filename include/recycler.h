@@ -82,9 +82,9 @@
  *             finalizers[heard.label](heard.label);           gone: its label is free for another
  *
  * Versions. The numbers below are this header's, and recycler_version returns the library's.
- * The first is raised if a program built before may no longer be linked. Before 1.0 codes,
- * answers and outcomes of turns had no E_, A_ and W_ in their names, and recycler_open took
- * six numbers.
+ * The first is raised if a program built before may no longer be linked. Before 2.0
+ * recycler_config had no least_roots. Before 1.0 codes, answers and outcomes of turns had no
+ * E_, A_ and W_ in their names, and recycler_open took six numbers.
  */
 #ifndef RECYCLER_H
 #define RECYCLER_H
@@ -93,7 +93,7 @@
 #include <stddef.h>
 #include <stdint.h>
 
-#define RECYCLER_VERSION_MAJOR 1
+#define RECYCLER_VERSION_MAJOR 2
 #define RECYCLER_VERSION_MINOR 0
 #define RECYCLER_VERSION_PATCH 0
 #define RECYCLER_VERSION \
@@ -169,7 +169,19 @@ typedef struct recycler_config {
     uint32_t mutators;    /* 1 to 63 */
     uint32_t log_entries; /* that the log of each mutator holds: 1 to 262,143 */
     uint32_t first_epoch; /* 1 to 16,777,215; 1 except to test what happens after the last one */
+    uint32_t least_roots; /* candidate roots that a trial waits for; 0 for a trial in each
+                             collection */
 } recycler_config;
+
+/* Candidate roots. Garbage cycles are found by trials, which trace from candidate roots: objects
+ * that lost a reference, and not their last one. With least_roots 0 each collection makes a
+ * trial. With another number a collection makes one only once so many candidate roots wait. This
+ * pays where registers walk over large live structures, since each trial traces them again
+ * (bench/README.md, "When to try"). An object costs a candidate root soon after its allocation,
+ * leaves excepted, so at most half of the slots that live objects leave free is a good number.
+ * Until then garbage cycles keep their slots: with fewer candidate roots they are kept forever,
+ * and with a number above that of the free slots a heap may fill up with them. recycler_settle
+ * frees all. */
 
 /* A good number of log entries for this many slots that live objects leave free. Each
  * allocation and each field write, null included, uses one entry; a refused command uses none.
@@ -185,7 +197,7 @@ typedef struct recycler_config {
 /* A heap of all slots for one mutator, whose objects have two fields. Change what you like:
  *     recycler_config config = RECYCLER_DEFAULTS;
  *     config.mutators = 4; */
-#define RECYCLER_DEFAULTS { 65535, 2, 16, 1, RECYCLER_LOG_ENTRIES(65535, 1), 1 }
+#define RECYCLER_DEFAULTS { 65535, 2, 16, 1, RECYCLER_LOG_ENTRIES(65535, 1), 1, 0 }
 
 /* The answer of a command. */
 typedef enum recycler_answer {
@@ -458,7 +470,7 @@ RECYCLER_HAS(sizeof(recycler_handle) == 64);
 RECYCLER_HAS(offsetof(recycler_handle, owned) == 8);
 RECYCLER_HAS(sizeof(recycler) == 65 * 64);
 RECYCLER_HAS(offsetof(recycler, listener) == 64 * 64);
-RECYCLER_HAS(sizeof(recycler_config) == 24);
+RECYCLER_HAS(sizeof(recycler_config) == 28);
 RECYCLER_HAS(sizeof(recycler_asked) == 24);
 RECYCLER_HAS(offsetof(recycler_asked, before) == 8);
 RECYCLER_HAS(sizeof(recycler_turned) == 16);

@@ -367,7 +367,7 @@ int main(int argc, char **argv) {
     }
     if (getdelim(&program, &room, '\0', file) < 0)
         program = ""; /* an empty file */
-    const recycler_config config = { slots, FIELDS, REGISTERS, thread_count, 1024, 1 };
+    const recycler_config config = { slots, FIELDS, REGISTERS, thread_count, 1024, 1, 0 };
     must(recycler_open(&heap, &config));
     must(recycler_notices(&heap, 256));
     must(recycler_start(&heap));

@@ -111,7 +111,7 @@ rows_beside n (b ∷ row) ls bs a =
     beside_both ls (part_lines n b) _ bs (part_lines n (buffer_by bare b)) _ first (rows_beside (n + 1) row (ls ++ part_lines n b) (bs ++ part_lines n (buffer_by bare b)) first.alike)
 
 -- the batch with bare words
-abbrev bare_batch : Batch → Batch
+abbrev pub bare_batch : Batch → Batch
 bare_batch b = record b { newer = bare_buffers b.newer }
 
 batch_beside : (x : Option Batch) (ls bs : List Line) → Alike ls bs → Beside ls (batch_lines x) bs (batch_lines (option_map bare_batch x))
@@ -180,7 +180,7 @@ with_bare : (row : List Buffer) (epoch : Option ℕ) → batch_with (bare_buffer
 with_bare row None = refl
 with_bare row (Some epoch) = refl
 
-batch_is : (op : Op) (q : Private) → batch_of op (bare_private q) ≡ option_map bare_batch (batch_of op q)
+pub batch_is : (op : Op) (q : Private) → batch_of op (bare_private q) ≡ option_map bare_batch (batch_of op q)
 batch_is op q =
     ap (λ row. batch_with row (applied_of op (bare_private q))) (newer_bare q q.phase)
     ∙ (ap (batch_with (bare_buffers (applied_newer q))) (epoch_bare op q) ∙ with_bare (applied_newer q) (applied_of op q))

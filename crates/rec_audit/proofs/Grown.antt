@@ -10,8 +10,7 @@ use Rattle.std.proofs.lemmas.List.FromFn.{get_or-range_with_len, length-range_wi
 use Rattle.std.proofs.lemmas.List.Elements.{filter-append, All-head, All-tail}
 use Rattle.std.proofs.lemmas.List.Folds.{list_any-append}
 use Rattle.std.proofs.Math.Bool.{or_assoc, or-false, or-true}
-use Rattle.rec_model.specs.Reach.{is_in, IsReached}
-use Rattle.rec_model.specs.Reach.IsReached.{root, child}
+use Rattle.rec_model.specs.Reach.{is_in}
 use Rattle.rec_model.proofs.Members.{is_in-cons}
 use Rattle.rec_word.specs.Word.{target_bits}
 use Rattle.rec_audit.specs.declared.kind.Kind.{Kind}

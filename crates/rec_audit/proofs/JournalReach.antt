@@ -87,10 +87,10 @@ worked_epoch epoch (Returning t) works = absurd (false≢true works)
 worked_epoch epoch phase works = refl
 
 -- the births that buffers tell
-abbrev tells_births : Filed → List Dated
+abbrev pub tells_births : Filed → List Dated
 tells_births b = births_in b.epoch b.buffer.entries
 
-abbrev tells_names : Filed → List Dated
+abbrev pub tells_names : Filed → List Dated
 tells_names b = dated_names b.epoch b.buffer.snapshot
 
 module _ (w : Core) (kept : IsKept true w) (slot : ℕ) where

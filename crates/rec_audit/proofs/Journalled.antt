@@ -24,11 +24,11 @@ use Rattle.rec_core.proofs.Turns.{now_at}
 abbrev pub applied_in : Core → ℕ
 applied_in w = applied_at w.epoch w.collector.phase
 
--- ---- logs and mailboxes have entries of later epochs alone
+-- ---- logs and mailboxes are of later epochs, or spares
 
-pub log_later : (w : Core) (t : ℕ) → IsKept true w → IsMutator w.config t → (applied_in w < epoch_at (mutator w t)) ⊎ ((mutator w t).log.entries ≡ [])
-log_later w t kept is = elim (cases_Bool (has_let_go (mutator w t))) [
-  | inl gone ↦ inr (ap (λ (b : Contents). b.entries) ((actor_of w t kept is).let_go gone).log)
+pub log_spare : (w : Core) (t : ℕ) → IsKept true w → IsMutator w.config t → (applied_in w < epoch_at (mutator w t)) ⊎ ((mutator w t).log ≡ spare_of w.config)
+log_spare w t kept is = elim (cases_Bool (has_let_go (mutator w t))) [
+  | inl gone ↦ inr ((actor_of w t kept is).let_go gone).log
   | inr held ↦ inl (later (has_register w t 0 (in_list w t kept is) held first))
 ]
   where
@@ -44,14 +44,14 @@ log_later w t kept is = elim (cases_Bool (has_let_go (mutator w t))) [
         wrong : (e n a r : ℕ) → e ≤ a → (d : Dated) → is_at e n d ≤ is_wrong_register a r d
         wrong e n a r early d = grind (arith, nat_tests)
 
-pub box_later : (w : Core) (t : ℕ) → IsKept true w → IsMutator w.config t → (applied_in w < epoch_at (mutator w t) - 1) ⊎ ((box w t).entries ≡ [])
-box_later w t kept is = go (stand_of w t) refl (actor_of w t kept is).handshake
+pub log_later : (w : Core) (t : ℕ) → IsKept true w → IsMutator w.config t → (applied_in w < epoch_at (mutator w t)) ⊎ ((mutator w t).log.entries ≡ [])
+log_later w t kept is = elim (log_spare w t kept is) [ inl later ↦ inl later | inr spare ↦ inr (ap (λ (b : Contents). b.entries) spare) ]
+
+pub box_spare : (w : Core) (t : ℕ) → IsKept true w → IsMutator w.config t → (applied_in w < epoch_at (mutator w t) - 1) ⊎ (box w t ≡ spare_of w.config)
+box_spare w t kept is = go (stand_of w t) refl (actor_of w t kept is).handshake
   where
     behind : applied_in w < w.epoch
     behind = kept.accounted.epochs.behind
-
-    none : box w t ≡ spare_of w.config → (box w t).entries ≡ []
-    none same = ap (λ (b : Contents). b.entries) same
 
     due : stand_of w t ≡ Handshake.Due → epoch_at (mutator w t) ≡ w.epoch → applied_in w < epoch_at (mutator w t) - 1
     due stands at =
@@ -61,20 +61,23 @@ box_later w t kept is = go (stand_of w t) refl (actor_of w t kept is).handshake
         let some : 1 ≤ w.config.first_epoch = kept.config.some_epoch in
         omega (arith, gathers.0, at, way, all, some)
 
-    go : (stand : Handshake) → stand_of w t ≡ stand → IsHandshake w.config w.epoch (mutator w t) (crossing_of w t) (box w t) stand → (applied_in w < epoch_at (mutator w t) - 1) ⊎ ((box w t).entries ≡ [])
-    go Handshake.Done so (inl (crossed, there, spare)) = inr (none spare)
+    go : (stand : Handshake) → stand_of w t ≡ stand → IsHandshake w.config w.epoch (mutator w t) (crossing_of w t) (box w t) stand → (applied_in w < epoch_at (mutator w t) - 1) ⊎ (box w t ≡ spare_of w.config)
+    go Handshake.Done so (inl (crossed, there, spare)) = inr spare
     go Handshake.Done so (inr (inl (crosses, parting))) = inl (omega (arith, behind, crosses.epoch, epoch_next (mutator w t) crosses.phase))
     go Handshake.Done so (inr (inr retired)) = inl (omega (arith, behind, retired.epoch, epoch_here (mutator w t) (idle_here (mutator w t).phase ((actor_of w t kept is).own.idle retired.left))))
-    go Handshake.Held so h = inr (none h.1)
-    go Handshake.Due so (inl back) = inr (none back.spare)
+    go Handshake.Held so h = inr h.1
+    go Handshake.Due so (inl back) = inr back.spare
     go Handshake.Due so (inr (inl crosses)) = inl (due so (epoch_next (mutator w t) crosses.phase ∙ crosses.epoch))
     go Handshake.Due so (inr (inr (crossed, last))) = inl (due so (crossed_here crossed))
-    go Handshake.Gone so gone = inr (none gone.spare)
+    go Handshake.Gone so gone = inr gone.spare
+
+pub box_later : (w : Core) (t : ℕ) → IsKept true w → IsMutator w.config t → (applied_in w < epoch_at (mutator w t) - 1) ⊎ ((box w t).entries ≡ [])
+box_later w t kept is = elim (box_spare w t kept is) [ inl later ↦ inl later | inr spare ↦ inr (ap (λ (b : Contents). b.entries) spare) ]
 
 -- ---- weights of the writes of one epoch
 
 -- a weight of writes of this epoch alone
-abbrev IsOfEpoch : (epoch : ℕ) → (Write → ℕ) → Type 0
+abbrev pub IsOfEpoch : (epoch : ℕ) → (Write → ℕ) → Type 0
 IsOfEpoch epoch g = (x : Write) → epoch_of x.new ≢ epoch → g x ≡ 0
 
 other_writes : (g : Write → ℕ) (e epoch : ℕ) (es : List Entry) → e ≢ epoch → IsOfEpoch epoch g → All (IsMadeIn e) es → sum_by g (writes_in es) ≡ 0
@@ -93,7 +96,7 @@ row_none w g e epoch row many other of all = none_of (wrote g) row (blank 0 0) (
     let one : IsBufferOf true w.config e (slice_index_or row i (blank 0 0)) = subst (λ n. IsBufferOf true w.config e (slice_index_or row n (blank 0 0))) at (all (i + 1) (omega arith, omega (arith, below, many))) in
     other_writes g e epoch (slice_index_or row i (blank 0 0)).entries other of one.made)
 
-last_sum : (w : Core) (g : Write → ℕ) → IsKept true w → IsOfEpoch (applied_in w) g → sum_by g (writes_of w) ≡ sum_by (wrote g) (last_batch w.collector)
+pub last_sum : (w : Core) (g : Write → ℕ) → IsKept true w → IsOfEpoch (applied_in w) g → sum_by g (writes_of w) ≡ sum_by (wrote g) (last_batch w.collector)
 last_sum w g kept of = omega (arith, writes_sum g w, logs, boxes, rows w.collector.phase refl)
   where
     number : (i : ℕ) → i < length w.mutators → IsMutator w.config (i + 1)
@@ -172,7 +175,7 @@ write_entry (entries.Put place new old ∷ es) x (zero, below, there) = (0, omeg
 write_entry (entries.Put place new old ∷ es) x (suc k, below, there) = Contains-append_right (entries.Put place new old ∷ []) es (entries.Put x.place x.new x.old) (write_entry es x (k, omega arith, there))
 write_entry (entries.Born slot leaf ∷ es) x c = Contains-append_right (entries.Born slot leaf ∷ []) es (entries.Put x.place x.new x.old) (write_entry es x c)
 
-stands_in : (g : Write → ℕ) (row : List Contents) → 0 < sum_by (wrote g) row → (x : Write) × StandsIn row (entries.Put x.place x.new x.old) × (0 < g x)
+pub stands_in : (g : Write → ℕ) (row : List Contents) → 0 < sum_by (wrote g) row → (x : Write) × StandsIn row (entries.Put x.place x.new x.old) × (0 < g x)
 stands_in g [] some = absurd (omega arith)
 stands_in g (b ∷ row) some = elim (cases_lt 0 (wrote g b)) [
   | inl here ↦ (let (x, c, weighs) = some_weighs g (writes_in b.entries) here in (x, (0, omega arith, write_entry b.entries x c), weighs))

@@ -1,9 +1,8 @@
 -- The modules of the proofs.
 pub mod Written
-pub mod Numerals
 pub mod Texts
-pub mod Options
 pub mod Edits
+mod EpochTold
 pub mod Held
 pub mod Grown
 pub mod Pruning

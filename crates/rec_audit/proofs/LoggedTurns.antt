@@ -18,7 +18,7 @@ use Rattle.rec_collector.proofs.Always as collector_words
 use Rattle.rec_core.specs.Cells.{cell}
 use Rattle.rec_audit.specs.Logged.{HasOwnBuffers, IsFieldWord, IsOwnBuffer}
 use Rattle.rec_audit.proofs.Logged.{WritesWord, blank_own, each_set, null_word, stepped_own, written_words}
-use Rattle.rec_core.proofs.OpenedMutators.{mutator_opened}
+use Rattle.rec_core.proofs.Opened.{mutator_opened, words_opened}
 use Rattle.rec_core.proofs.BareRuns.{move_kept, rule_of}
 use Rattle.rec_core.proofs.Runs.{looked_is}
 use Rattle.rec_core.proofs.Turning.{turn_case}
@@ -47,7 +47,8 @@ tries_newer p q turn w v (TriesOn.prepares none on) = prepares_newer p q turn _ 
 clears_newer : (p q : collectors.Private) (turn : Turn) (b : Begun) → ClearsOn p q turn b → KeepsNewer p q
 clears_newer p q turn b (ClearsOn.works phase is on) = going_newer p refl on
 clears_newer p q turn b (ClearsOn.tests c none some test on) = clears_newer p q turn c on
-clears_newer p q turn b (ClearsOn.tries none sets on) = tries_newer p q turn _ _ on
+clears_newer p q turn b (ClearsOn.tries none sets due on) = tries_newer p q turn _ _ on
+clears_newer p q turn b (ClearsOn.waits none sets off on) = prepares_newer p q turn _ _ on
 
 -- they stay, one is gathered, or the collection is complete
 data HasNewer (p q : collectors.Private) (b : Contents) : Type 0 where
@@ -163,8 +164,8 @@ opened_words config n place = elim (cases_lt place n) [
 
 pub opened_own : (config : Config) → IsConfig config → HasOwnBuffers (opened config)
 opened_own config is = record {
-  words = opened_words config (config.slots * config.fields);
-  logs = λ t there. subst (λ (p : mutators.Private). IsOwnBuffer config t p.log) (sym (mutator_opened config t there)) (blank_own config t config.registers config.log_entries);
+  words = λ place. subst (λ ws. IsFieldWord config (slice_index_or ws place 0)) (sym (words_opened config is)) (opened_words config (config.slots * config.fields) place);
+  logs = λ t there. subst (λ (p : mutators.Private). IsOwnBuffer config t p.log) (sym (mutator_opened config is t there)) (blank_own config t config.registers config.log_entries);
   boxes = λ t there. opened_buffers config t config.mutators (spare_of config) (blank_own config t config.registers config.log_entries);
   newer = λ t there. opened_buffers config t config.mutators (blank config.registers config.log_entries) (blank_own config t config.registers config.log_entries);
 }

@@ -4,7 +4,7 @@ use Rattle.std.proofs.lemmas.Bool.{false≢true}
 use Rattle.rec_word.specs.declared.op.Op.{Op}
 use Rattle.rec_log.specs.declared.contents.Contents.{Contents}
 use Rattle.rec_counts.specs.Counts.{State}
-use Rattle.rec_walk.specs.declared.member.Member.{Member}
+use Rattle.rec_word.specs.declared.member.Member.{Member}
 use Rattle.rec_release.specs.CycleFree as frees
 use Rattle.rec_release.specs.Release as releases
 use Rattle.rec_release.specs.declared.at.At.{At}
@@ -88,7 +88,8 @@ tested_begun w c (IsTested.fails_sigma s orange more r is) = subst (λ (b : Begu
 clears : (p q : Private) (turn : Turn) (b : Begun) → IsBegun b.phase → ClearsOn p q turn b → Worked p q
 clears p q turn b begun (ClearsOn.works phase is on) = going p refl refl (subst IsBegun is begun) on
 clears p q turn b begun (ClearsOn.tests c none some test on) = clears p q turn c (tested_begun b.parts c test) on
-clears p q turn b begun (ClearsOn.tries none sets on) = tries p q turn _ _ on
+clears p q turn b begun (ClearsOn.tries none sets due on) = tries p q turn _ _ on
+clears p q turn b begun (ClearsOn.waits none sets off on) = prepares p q turn _ _ on
 
 freed_begun : (m : frees.Machine) (w : Parts) (word : ℕ) → IsBegun (with_freed m w word).phase
 unfolding frees.took_of

@@ -22,10 +22,9 @@ use Rattle.rec_collector.specs.Bare as collectors_bare
 use Rattle.rec_collector.proofs.Bare as collecting
 use Rattle.rec_core.specs.Bare.{Behind, bare_core}
 use Rattle.rec_core.specs.Moves.{turned_at}
-use Rattle.rec_core.proofs.BareOpened.{heap_bare}
 use Rattle.rec_core.proofs.BareSeen.{turned_behind}
 use Rattle.rec_core.proofs.Dated.{Explains, moves_explained}
-use Rattle.rec_core.proofs.Opening.{opened_kept}
+use Rattle.rec_core.proofs.Opened.{heap_bare, opened_kept}
 use Rattle.rec_audit.proofs.BareJournal.{Beside, moves_beside, opening_alike, passed_is, shown_bare, work_beside}
 use Rattle.rec_audit.proofs.Bared.{Alike, reached_less}
 use Rattle.rec_audit.proofs.RunClean.{Clear, Goes, behind_is, clear_both, clear_plain, clear_split, is_kept, moves_go, opening_tells}
@@ -45,8 +44,8 @@ use Rattle.rec_audit.proofs.Sets.{answered}
 
 -- ---- the run of dated words behind a run
 
-first_explained : (config : Config) → IsConfig config → Explains (heap_by true config) (opened config)
-first_explained config is = record { bare = heap_bare config; kept = opened_kept config is }
+pub first_explained : (config : Config) → IsConfig config → Explains (heap_by true config) (opened config)
+first_explained config is = record { bare = heap_bare config is; kept = opened_kept config is }
 
 whole_run : (config : Config) (moves : List Move) → IsConfig config → AllFit (opened config) moves → Goes (opening_lines (heap_for config)) (flat_map lines_of (shown_over (heap_by true config) moves)) (after_moves (heap_by true config) moves)
 whole_run config moves is fit = moves_go (opening_lines (heap_for config)) (heap_by true config) moves (opened_kept config is) (moves_explained (heap_by true config) (opened config) moves (first_explained config is) fit).0 (opening_tells config is)

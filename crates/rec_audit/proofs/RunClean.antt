@@ -2,7 +2,7 @@
 use Rattle.std.proofs.Common.{◌≡◌, ◌⊎◌, inl, inr, ℕ, zero, suc, ◌-◌, ◌<◌, ◌≤◌, ◌==◌, Bool, true, false, cond, Option, None, Some, IfSome, List, [], ◌∷◌, ◌++◌, length, replicate, slice_index_or, refl, sym, ap, subst, ◌∙◌, arith, append-nil, append_assoc}
 use Rattle.std.specs.List.{Contains, flat_map}
 use Rattle.std.proofs.lemmas.Bool.{cases_lt, false≢true}
-use Rattle.std.proofs.lemmas.List.{get_or-replicate, get_or_past, length-replicate}
+use Rattle.std.proofs.lemmas.List.{get_or-map, get_or-replicate, get_or_past, length-map, length-replicate}
 use Rattle.std.proofs.lemmas.List.Concat.{flat_map-append}
 use Rattle.std.proofs.lemmas.List.Elements.{Contains-append_cases, Contains-append_left}
 use Rattle.rec_word.specs.declared.op.Op.{Op}
@@ -10,7 +10,7 @@ use Rattle.rec_word.specs.declared.op.Op.TheVariants as ops
 use Rattle.rec_log.specs.declared.contents.Contents.{Contents as Buffer}
 use Rattle.rec_log.specs.declared.entry.Entry.{Entry}
 use Rattle.rec_collector.specs.Next.{next_of}
-use Rattle.rec_collector.specs.Private.{blank, buffer_at, first_registers, retired}
+use Rattle.rec_collector.specs.Private.{blank, buffer_at, retired}
 use Rattle.rec_collector.specs.Shown.{Batch, batch_of, completed_of, passed_of, shown_of}
 use Rattle.rec_collector.specs.Step.{NamesWord}
 use Rattle.rec_collector.proofs.Always.{names_word}
@@ -18,6 +18,7 @@ use Rattle.rec_core.specs.Cells.{cell}
 use Rattle.rec_core.specs.Config.{IsConfig}
 use Rattle.rec_core.specs.Core.{Core, cells_of, heap_by}
 use Rattle.rec_core.specs.Kept.{IsKept}
+use Rattle.rec_core.specs.Objects.{first_object, rows_of}
 use Rattle.rec_audit.specs.Logged.{last_batch}
 use Rattle.rec_core.specs.Moves.{AllFit, Fits, Move, after_move, after_moves, turned, turned_by}
 use Rattle.rec_core.specs.Shown.{shown_behind, shown_in, shown_over, turn_shown}
@@ -250,10 +251,13 @@ opening_tells config is = record {
     shut l (suc zero, below, there) = sym (ap opens there)
     shut l (suc (suc k), below, there) = absurd (omega arith)
 
-    none : (e : Entry) (i : ℕ) → Contains (buffer_at (replicate config.mutators (retired (first_registers config.registers) config.log_entries)) i).entries e → ⊥
-    none e i c = elim (cases_lt i config.mutators) [
-      | inl there ↦ none_in e (buffer_at (replicate config.mutators (retired (first_registers config.registers) config.log_entries)) i).entries (ap (λ (b : Buffer). b.entries) (get_or-replicate config.mutators i (retired (first_registers config.registers) config.log_entries) (blank 0 0) there)) c
-      | inr past ↦ none_in e (buffer_at (replicate config.mutators (retired (first_registers config.registers) config.log_entries)) i).entries (ap (λ (b : Buffer). b.entries) (get_or_past (replicate config.mutators (retired (first_registers config.registers) config.log_entries)) i (blank 0 0) (omega (arith, past, length-replicate config.mutators (retired (first_registers config.registers) config.log_entries))))) c
+    rows : List (List (Option ℕ))
+    rows = rows_of config.registers config.mutators (first_object config).registers
+
+    none : (e : Entry) (i : ℕ) → Contains (buffer_at (heap_by true config).collector.older i).entries e → ⊥
+    none e i c = elim (cases_lt i (length rows)) [
+      | inl there ↦ none_in e (buffer_at (heap_by true config).collector.older i).entries (ap (λ (b : Buffer). b.entries) (get_or-map (λ own. retired own config.log_entries) rows i [] (blank 0 0) there)) c
+      | inr past ↦ none_in e (buffer_at (heap_by true config).collector.older i).entries (ap (λ (b : Buffer). b.entries) (get_or_past (heap_by true config).collector.older i (blank 0 0) (omega (arith, past, length-map rows (λ own. retired own config.log_entries))))) c
     ]
 
     told : (slot : ℕ) → 0 < slice_index_or {A = ℕ} (1 ∷ replicate (config.slots - 1) 0) slot 0 → is_taken (opening_lines (heap_for config)) slot ≡ true

@@ -81,12 +81,12 @@ tried_waits epoch phase some waits = absurd (false≢true (sym waits))
 
 -- ---- the batch of a step
 
-record IsBatchOf (p : Private) (x : Batch) : Type 0 where
-  waits : works_in p.phase ≡ false
-  next : x.epoch ≡ (place_of p).next
-  newer : x.newer ≡ p.newer
+pub record IsBatchOf (p : Private) (x : Batch) : Type 0 where
+  pub waits : works_in p.phase ≡ false
+  pub next : x.epoch ≡ (place_of p).next
+  pub newer : x.newer ≡ p.newer
 
-step_batch : {p q : Private} {word : ℕ} {b : Buffer} {op : Op} {turn : Turn} → HasBegun p → (s : Step p word b (Some op) q turn) → (x : Batch) → batch_made s ≡ Some x → IsBatchOf p x
+pub step_batch : {p q : Private} {word : ℕ} {b : Buffer} {op : Op} {turn : Turn} → HasBegun p → (s : Step p word b (Some op) q turn) → (x : Batch) → batch_made s ≡ Some x → IsBatchOf p x
 step_batch begun (Step.spent idle last is same answer) x made = absurd (cc)
 step_batch begun (Step.request next idle more is present g) x made = absurd (cc)
 step_batch {p} begun (Step.request_alone idle more is alone on) x made =

@@ -43,9 +43,8 @@ use Rattle.rec_core.specs.declared.config.Config.{Config}
 use Rattle.rec_core.proofs.Freed.{shown_is_within}
 use Rattle.rec_audit.proofs.LoggedTurns.{move_own, opened_own}
 use Rattle.rec_core.proofs.BareRuns.{explained, given_is, move_kept, opened_kept, rule_of}
-use Rattle.rec_core.proofs.BareOpened.{heap_bare}
 use Rattle.rec_core.proofs.Dated.{Explains, move_explained}
-use Rattle.rec_core.proofs.Opening as dated_opened
+use Rattle.rec_core.proofs.Opened as dated_opened
 use Rattle.rec_audit.proofs.Stamped.{IsStamped, move_stamped, opened_stamped, stamp_is}
 use Rattle.rec_core.proofs.Runs.{move_stays}
 use Rattle.rec_core.proofs.Turning.{turn_case}
@@ -366,7 +365,7 @@ moves_keep w behind (m ∷ ms) kept own e stamped fit =
 
 pub run_keeps : (config : Config) (shown : List Shown) (end : Core) → IsConfig config → Shows (opened config) shown end → KeepTo (heap_for config) (first_place (heap_for config)) shown (place_of end.collector)
 run_keeps config shown end is s =
-    let all : KeepTo (heap_for config) (place_of (opened config).collector) (shown_over (opened config) s.moves) (place_of (after_moves (opened config) s.moves).collector) = moves_keep (opened config) (heap_by true config) s.moves (opened_kept config is) (opened_own config is) (record { bare = heap_bare config; kept = dated_opened.opened_kept config is }) (opened_stamped config is) s.fit in
+    let all : KeepTo (heap_for config) (place_of (opened config).collector) (shown_over (opened config) s.moves) (place_of (after_moves (opened config) s.moves).collector) = moves_keep (opened config) (heap_by true config) s.moves (opened_kept config is) (opened_own config is) (record { bare = dated_opened.heap_bare config is; kept = dated_opened.opened_kept config is }) (opened_stamped config is) s.fit in
     let some : 1 ≤ config.first_epoch = is.some_epoch in
     let next : config.first_epoch - 1 + 1 ≡ config.first_epoch = omega arith in
     let first : place_of (opened config).collector ≡ first_place (heap_for config) = (let make : ℕ → Place = λ n. record { next = n; working = false } in ap make next) in

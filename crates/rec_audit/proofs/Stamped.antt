@@ -10,7 +10,9 @@ use Rattle.rec_core.specs.Pending.{writes_of}
 use Rattle.rec_audit.proofs.Journalled.{StandsIn}
 use Rattle.rec_core.proofs.Lasting.{begun_less, op_less, step_less}
 use Rattle.rec_audit.proofs.Newly.{newer_weighs}
-use Rattle.rec_core.proofs.Opening.{pending_opens}
+use Rattle.rec_core.specs.Objects.{first_object}
+use Rattle.rec_core.proofs.Opened.{first_labels, first_objects}
+use Rattle.rec_core.proofs.OpenedFrom.{pending_begins}
 use Rattle.rec_core.proofs.Turning.{turn_case}
 
 -- a write whose word has another epoch in its stamp than its date
@@ -34,7 +36,7 @@ pub move_stamped : (v : Core) (m : Move) → IsKept true v → Fits v m → IsSt
 move_stamped v m kept fits none = omega (arith, move_less v m kept fits, none)
 
 pub opened_stamped : (config : Config) → IsConfig config → IsStamped (heap_by true config)
-opened_stamped config is = (pending_opens config is).writes misdated
+opened_stamped config is = (pending_begins config (first_object config) is (first_objects config is) (first_labels config)).writes misdated
 
 -- so it is in the buffers that the collector gathered last
 pub stamp_is : (v : Core) (place new old : ℕ) → IsStamped v → StandsIn v.collector.newer (entries.Put place new old) → epoch_of new ≡ (stamp_of new).epoch

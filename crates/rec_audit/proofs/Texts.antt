@@ -9,7 +9,7 @@ use Rattle.std.proofs.lemmas.List.Elements.{All-head, All-tail}
 use Rattle.rec_audit.specs.declared.kind.Kind.{Kind}
 use Rattle.rec_audit.specs.declared.kind.Kind.TheVariants.{Title, Heap, Epoch, Put, Born, Snap, Out, Free, Sweep, End}
 use Rattle.rec_audit.specs.Lines.{Line, AreNumbers, name_of, numerals, text_of_line}
-use Rattle.rec_audit.proofs.Numerals.{same_numeral}
+use Rattle.rec_io.proofs.Numerals.{same_numeral}
 
 -- the numbers of a line from one of its places on, and its end
 abbrev pub ended : List ℕ → List ℕ → List ℕ

@@ -1,6 +1,5 @@
 -- The lines of a journal, and the text that they have.
-use Rattle.std.specs.Prelude.{◌≡◌, ℕ, ◌<◌, ◌^◌, true, List, [], ◌∷◌, ◌++◌, length, slice_index, All, codes}
-use Rattle.std.specs.Char.{is_ascii_digit}
+use Rattle.std.specs.Prelude.{ℕ, ◌<◌, ◌^◌, List, [], ◌∷◌, ◌++◌, All, codes}
 use Rattle.std.specs.Fmt.{decimal}
 use Rattle.std.specs.List.{flat_map}
 use Rattle.rec_audit.specs.declared.kind.Kind.{Kind}
@@ -39,7 +38,3 @@ text_of_line line = name_of line.kind ++ (numerals line.numbers ++ 10 ∷ [])
 -- the text of lines is that of one after the other
 abbrev pub text_of : List Line → List ℕ
 text_of lines = flat_map text_of_line lines
-
--- each byte is a digit
-abbrev pub AreDigits : List ℕ → Type 0
-AreDigits word = (k : ℕ) → k < length word → is_ascii_digit (slice_index word k) ≡ true

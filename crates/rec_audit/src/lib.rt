@@ -35,8 +35,8 @@ pub use laws::{
     no_journal_goes_on, verdicts_are_unique,
 };
 pub use run_laws::{
-    buffers_are_their_mutators_own, journals_of_runs_are_answered_yes,
-    journals_of_runs_are_in_form, reach_of_journals_is_of_runs, sets_of_runs_are_unreached,
-    steps_of_runs_keep_order, words_of_runs_differ,
+    blocks_of_runs_tell_their_epoch, buffers_are_their_mutators_own,
+    journals_of_runs_are_answered_yes, journals_of_runs_are_in_form, reach_of_journals_is_of_runs,
+    sets_of_runs_are_unreached, steps_of_runs_keep_order, words_of_runs_differ,
 };
 pub use verdict::{Rule, Verdict};

@@ -1,12 +1,11 @@
 //! A line of a journal, read from the front of a text.
 
-ghost use Rattle.std.specs.Prelude.{◌≡◌, ◌≢◌, ◌↔◌, ℕ, ◌<◌, ◌≤◌, ◌^◌, List, ◌∷◌, ◌++◌, true, false, length, slice_index, IfOk, IfSome, IfNone};
-ghost use Rattle.std.specs.Char.{is_ascii_digit};
-ghost use Rattle.std.specs.Fmt.{decimal};
-ghost use Rattle.rec_audit.specs.Lines.{AreNumbers, AreDigits, Line, name_of, numerals, text_of_line};
+ghost use Rattle.std.specs.Prelude.{◌≡◌, ◌≢◌, ℕ, List, ◌∷◌, ◌++◌, IfOk, IfSome, IfNone};
+ghost use Rattle.rec_audit.specs.Lines.{AreNumbers, Line, name_of, numerals, text_of_line};
 ghost use Rattle.rec_audit.specs.declared.kind.Kind.{Kind as KindOfLine};
 
 use crate::kind::Kind;
+use rec_io::{behind_byte, numeral};
 use std::alloc::AllocError;
 
 /// Each kind once, the frequent ones first.
@@ -23,72 +22,6 @@ const KINDS: [Kind; 10] = [
     Kind::Title,
 ];
 
-/// How many digits stand at the front.
-fn digits(bytes: &[u8]) -> usize
-    ensures within { result ≤ length bytes.now }
-    ensures before { (k : ℕ) → k < result → is_ascii_digit (slice_index bytes.now k) ≡ true }
-    ensures behind { result < length bytes.now → is_ascii_digit (slice_index bytes.now result) ≡ false }
-{
-    bytes
-        .iter()
-        .position(|byte| !byte.is_ascii_digit())
-        .unwrap_or(bytes.len())
-}
-
-/// The number of 64 bits that some digits are the numeral of.
-fn number(word: &[u8]) -> Option<u64>
-    requires { AreDigits word.now }
-    ensures found { IfSome result (λ n. word.now ≡ decimal n) }
-    ensures none { IfNone result ((n : ℕ) → n < 2 ^ 64 → word.now ≢ decimal n) }
-{
-    if word.is_empty() {
-        return None;
-    }
-    if word[0] == b'0' {
-        return if word.len() == 1 { Some(0) } else { None };
-    }
-    let mut value: u64 = 0;
-    for (i, byte) in word.iter().enumerate() {
-        let digit = u64::from(*byte - b'0');
-        if value > u64::MAX / 10 {
-            return None;
-        }
-        if 10 * value > u64::MAX - digit {
-            return None;
-        }
-        value = 10 * value + digit;
-    }
-    Some(value)
-}
-
-/// The numeral at the front, and what is behind it.
-fn numeral(bytes: &[u8]) -> Option<(u64, &[u8])>
-    ensures found { IfSome result (λ x. bytes.now ≡ decimal x.0 ++ x.1.now) }
-    ensures less { IfSome result (λ x. length x.1.now ≤ length bytes.now) }
-    ensures fits { IfSome result (λ x. x.0 < 2 ^ 64) }
-    ensures apart { IfSome result (λ x. is_ascii_digit (slice_index x.1.now 0) ≡ false) }
-    ensures none { IfNone result ((n : ℕ) (rest : List ℕ) → n < 2 ^ 64
-        → is_ascii_digit (slice_index rest 0) ≡ false → bytes.now ≢ decimal n ++ rest) }
-{
-    let (word, rest) = bytes.split_at(digits(bytes));
-    match number(word) {
-        Some(number) => Some((number, rest)),
-        None => None,
-    }
-}
-
-/// What is behind this byte at the front.
-#[inline(always)]
-fn behind(first: u8, bytes: &[u8]) -> Option<&[u8]>
-    ensures some { IfSome result (λ rest. bytes.now ≡ first ∷ rest.now) }
-    ensures none { IfNone result ((rest : List ℕ) → bytes.now ≢ first ∷ rest) }
-{
-    match bytes {
-        [byte, rest @ ..] if *byte == first => Some(rest),
-        _ => None,
-    }
-}
-
 /// Reads numerals at the front, each with one space before it, up to an LF, and gives what is behind that. They take the place
 /// of the numbers.
 fn read_numbers<'b>(numbers: &mut Vec<u64>, bytes: &'b [u8]) -> Result<Option<&'b [u8]>, AllocError>
@@ -100,14 +33,14 @@ fn read_numbers<'b>(numbers: &mut Vec<u64>, bytes: &'b [u8]) -> Result<Option<&'
 {
     numbers.clear();
     let mut rest = bytes;
-    while let Some(word) = behind(b' ', rest) {
-        let Some((number, next)) = numeral(word) else {
+    while let Some(word) = behind_byte(b' ', rest) {
+        let Some((number, next)) = numeral(u64::MAX, word) else {
             return Ok(None);
         };
         numbers.push(number)?;
         rest = next;
     }
-    Ok(behind(b'\n', rest))
+    Ok(behind_byte(b'\n', rest))
 }
 
 /// The kind of the line at the front, by the word that it begins with, and what is behind that.

@@ -1,7 +1,7 @@
 //! What holds of the journal of every run from an opening, each law as the contract of a function that does nothing.
 
 ghost use Rattle.std.specs.Prelude.{◌≡◌, ◌≤◌, ◌++◌, ◌∷◌, ℕ, [], false, List, Some, length};
-ghost use Rattle.rec_collector.specs.Shown.{Shown};
+ghost use Rattle.rec_collector.specs.Shown.{Batch, Shown};
 ghost use Rattle.rec_core.specs.Bare.{Behind};
 ghost use Rattle.rec_core.specs.Config.{IsConfig};
 ghost use Rattle.rec_core.specs.Core.{Core, opened};
@@ -14,7 +14,7 @@ ghost use Rattle.rec_audit.specs.Graph.{IsReachedAt};
 ghost use Rattle.rec_audit.specs.Journal.{batch_lines, journal, op_lines, sets_passed};
 ghost use Rattle.rec_audit.specs.Lines.{Line, text_of};
 ghost use Rattle.rec_audit.specs.Keeping.{Keep, behind_steps, first_place};
-ghost use Rattle.rec_audit.specs.Runs.{IsReachedIn, heap_for, place_of};
+ghost use Rattle.rec_audit.specs.Runs.{IsReachedIn, TellEpoch, heap_for, place_of};
 ghost use Rattle.rec_audit.specs.Verdicts.{HasReachFault, HasStampFault, IsVerdict};
 ghost use Rattle.rec_audit.specs.declared.verdict.Verdict.TheVariants.{Yes};
 ghost use Rattle.rec_model.specs.declared.limits.TheConstants.{MOST_BYTES};
@@ -55,6 +55,14 @@ pub fn reach_of_journals_is_of_runs()
         → turn_shown (after_moves (opened config) moves) ≡ step ∷ [] → step.passed ≡ Some members
         → IsReachedAt (journal (heap_for config) (shown_over (opened config) moves) ++ (batch_lines step.batch ++ op_lines step.op step.word)) slot
         → Behind (turned (after_moves (opened config) moves)) (λ v. IsReachedIn v slot) }
+{}
+
+/// The block that a step begins tells all of its epoch that the heap's buffers have right behind that step: every write, every birth, and
+/// what registers held as their mutators left the epoch.
+pub fn blocks_of_runs_tell_their_epoch()
+    ensures { (config : Config) (moves : List Move) (step : Shown) (batch : Batch) → IsConfig config → AllFit (opened config) moves
+        → turn_shown (after_moves (opened config) moves) ≡ step ∷ [] → step.batch ≡ Some batch
+        → Behind (turned (after_moves (opened config) moves)) (λ v. TellEpoch v batch.epoch (batch_lines (Some batch))) }
 {}
 
 /// So the journal of every run from an opening in which no collection is left open is answered yes, with as many sets as passed both

@@ -7,9 +7,9 @@ use Rattle.rec_collector.proofs.Common.{Op, State, IsKept, times, times-nil, in_
 use Rattle.rec_word.specs.declared.op.Op.TheVariants.{StoreEpoch, LoadChild}
 use Rattle.rec_word.proofs.FieldPlaces.{place_within}
 use Rattle.rec_counts.specs.Counts.{IsKept as IsKeptCounts}
-use Rattle.rec_walk.specs.Load.{Load}
-use Rattle.rec_walk.specs.declared.member.Member.{Member}
-use Rattle.rec_walk.specs.Walk.{IsOf}
+use Rattle.rec_word.specs.Load.{Load}
+use Rattle.rec_word.specs.declared.member.Member.{Member}
+use Rattle.rec_word.specs.Walk.{IsOf}
 use Rattle.rec_release.specs.declared.at.At.{At}
 use Rattle.rec_release.specs.Release.{next_of as release_next}
 use Rattle.rec_release.specs.Sweep.{next_of as sweep_next}

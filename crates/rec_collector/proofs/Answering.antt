@@ -1,8 +1,9 @@
 -- What follows a word, as the calls that make it tell.
-use Rattle.std.proofs.Common.{Bool, ◌≡◌, ◌≢◌, ℕ, zero, suc, ◌-◌, ◌<◌, true, false, cond, is_some, Option, None, Some, length, refl, arith, sym, ◌∙◌, ap, subst, List, ◌+◌}
+use Rattle.std.proofs.Common.{Bool, ◌≡◌, ◌≢◌, ℕ, zero, suc, ◌-◌, ◌<◌, true, false, cond, is_some, not, Option, None, Some, length, refl, arith, sym, ◌∙◌, ap, subst, List, ◌+◌}
 use Rattle.std.proofs.lemmas.Bool.{false≢true}
 use Rattle.rec_collector.proofs.Common.{Op, IsKept, State, IsClear, IsFewTold, IsCleared, followed, going_on, gone_on, next_in, prep_started, prepared, prepared_at, sweep_phase, tried, tried_at, trial_started, relieved, relieved_at, with_freed, with_released, Parts, new_freeing, Begun, last_tested, releasing_at, tested, with_release, counted_by, tested_as, verdict_of, with_freeing, zeros_released, Held, Passed, Touched, Phase, Preparing, Releasing, Trying, Freeing, Contents, NoneReleased}
 use Rattle.rec_release.specs.declared.at.At.{At}
+use Rattle.rec_collector.specs.declared.parts.Parts.TheInside.{Inside}
 use Rattle.rec_collector.specs.declared.sets.Sets.{Sets}
 use Rattle.rec_collector.specs.declared.verdict.Verdict.{Verdict}
 use Rattle.rec_sigma.specs.Settling.{refurbished_of}
@@ -12,10 +13,10 @@ use Rattle.rec_collector.proofs.Goings.{last_sets, still, with_counts}
 use Rattle.rec_collector.proofs.Steps.{prep_next, release_next, freeing_next}
 use Rattle.rec_collector.proofs.Testing.{last_clear}
 use Rattle.rec_counts.specs.Rest.{KeepsRest}
-use Rattle.rec_walk.specs.declared.member.Member.{Member}
-use Rattle.rec_apply.specs.Batch.{applied, AreAlike, IsCovered}
+use Rattle.rec_word.specs.declared.member.Member.{Member}
+use Rattle.rec_counts.specs.Batch.{applied, AreAlike, IsCovered}
 use Rattle.rec_collector.proofs.Following.{batch_clears}
-use Rattle.rec_apply.proofs.Whole.{is_applied}
+use Rattle.rec_counts.proofs.Whole.{is_applied}
 use Rattle.rec_collector.proofs.Freeing.{freed_clears}
 use Rattle.rec_release.specs.CycleFree as frees
 use Rattle.rec_release.specs.Release as releases
@@ -23,6 +24,14 @@ use Rattle.rec_sigma.specs.Prepare as preps
 use Rattle.rec_sigma.specs.declared.at.At as loads
 use Rattle.rec_trial.specs.Trial as trials
 use Rattle.rec_collector.specs.Zeros.{AreCounted}
+
+-- the parts that their fields make up
+abbrev pub whole : Inside → Parts
+whole inside = record { counts = inside.counts; fields = inside.fields; sets = inside.sets; offers = inside.offers; policy = inside.policy }
+
+-- whether a machine names an operation, as its answer is looked at
+pub due : {none is : Bool} {next op : Option Op} → next ≡ op → is_some next ≡ not none → none ≡ is → is_some op ≡ not is
+due names looked told = sym (ap (λ (o : Option Op). is_some o) names) ∙ looked ∙ ap not told
 
 -- a preparation goes on while a field is due; then what is free is swept
 pub more_prepared : (w : Parts) (v : preps.Work) → is_some (preps.next_of v.machine) ≡ true → next_in (Preparing v.machine) (with_counts w v.counts) ≡ prepared w v

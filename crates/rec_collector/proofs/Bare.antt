@@ -18,8 +18,8 @@ use Rattle.rec_log.specs.Words.{buffer_by, entry_by}
 use Rattle.rec_log.specs.declared.contents.Contents.{Contents}
 use Rattle.rec_log.specs.declared.entry.Entry.{Entry}
 use Rattle.rec_log.specs.declared.entry.Entry.TheVariants as entries
-use Rattle.rec_apply.specs.Batch.{applied, batch, IsCovered}
-use Rattle.rec_apply.specs.Targets.{added, leaf_born, leaves, named, new_target, old_target, slots_in, taken, taken_targets, told_buffer, told_buffers, told_each}
+use Rattle.rec_counts.specs.Batch.{applied, batch, IsCovered}
+use Rattle.rec_counts.specs.Targets.{added, leaf_born, leaves, named, new_target, old_target, slots_in, taken, taken_targets, told_buffer, told_buffers, told_each}
 use Rattle.rec_counts.specs.Batched.{batched}
 use Rattle.rec_counts.specs.Colour.{is_green}
 use Rattle.rec_counts.specs.Counts.{State, slot_at}
@@ -34,7 +34,7 @@ use Rattle.rec_trial.specs.Rules.{visible, visible_if}
 use Rattle.rec_trial.specs.Trial as trials
 use Rattle.rec_trial.specs.declared.phase.Phase as trying
 use Rattle.rec_trial.specs.declared.phase.Phase.TheVariants as trying_at
-use Rattle.rec_walk.specs.declared.member.Member.{Member}
+use Rattle.rec_word.specs.declared.member.Member.{Member}
 use Rattle.rec_collector.specs.Bare.{bare_buffers, bare_private}
 use Rattle.rec_collector.specs.Followed.{Next, followed, prepared, tried, relieved, worked}
 use Rattle.rec_collector.specs.Next.{is_spent, next_at, next_of}
@@ -223,7 +223,7 @@ came_bare p n = ended_if_bare n.phase (moved (with_parts p n.parts) n.phase)
 
 -- the batch
 gathering_bare : (p : Private) (x : Option ℕ) → gathering_on (bare_private p) x ≡ bare_private (gathering_on p x)
-gathering_bare p None = ap (λ s. came (bare_private p) (followed (zeros_released false (record (parts_of p) { counts = s })))) (applied_bare p.steady p.counts p.newer p.older) ∙ came_bare p (batch_next p)
+gathering_bare p None = ap (λ s. came (bare_private p) (followed (zeros_released false (record (parts_of p) { counts = s })))) (applied_bare p.policy.steady p.counts p.newer p.older) ∙ came_bare p (batch_next p)
 gathering_bare p (Some t) = refl
 
 behind_bare : (p : Private) (t : ℕ) → behind (bare_private p) t ≡ bare_private (behind p t)
@@ -305,7 +305,7 @@ step_bare p word b op named = ap (λ (q : Private). swapped_of q (buffer_by bare
 -- ---- what a turn answers
 
 gathering_told : (p : Private) (x : Option ℕ) → gathering_turn (bare_private p) x ≡ gathering_turn p x
-gathering_told p None = ap (λ s. came_turn p.epoch (followed (zeros_released false (record (parts_of p) { counts = s }))).phase) (applied_bare p.steady p.counts p.newer p.older)
+gathering_told p None = ap (λ s. came_turn p.epoch (followed (zeros_released false (record (parts_of p) { counts = s }))).phase) (applied_bare p.policy.steady p.counts p.newer p.older)
 gathering_told p (Some t) = refl
 
 requested_told : (p : Private) (spent : Bool) → (if spent then EpochsSpent else behind_turn (bare_private (requested p)) 0) ≡ (if spent then EpochsSpent else behind_turn (requested p) 0)

@@ -151,14 +151,14 @@ module _ (stands after : ℕ → Private → Turn → Type 0) (p : Private) (n :
         is = sweep_took;
         turned = subst (λ (t : Turn). Turned p (n + 1) (took_of r.now word) t) sweep_turn (Turned.more n r.now word r.turned g);
         machine = sweep_machine;
-        sizes = subst (KeepsSizes p) (sym sweep_took) (sizes_on p (swept_on p r.swept n w) (swept_on p r.swept (n + 1) behind) (subst (KeepsSizes p) r.is r.sizes) (record { slots = sweep_many; fields = refl; registers = refl; capacity = refl; steady = refl; mutators = refl }));
+        sizes = subst (KeepsSizes p) (sym sweep_took) (sizes_on p (swept_on p r.swept n w) (swept_on p r.swept (n + 1) behind) (subst (KeepsSizes p) r.is r.sizes) (record { slots = sweep_many; fields = refl; registers = refl; capacity = refl; policy = refl; mutators = refl }));
         stood = subst (λ (t : Turn). after (n + 1) (took_of r.now word) t) sweep_turn s;
       }
 
 swept_sizes : (p : Private) (due : Option ℕ) (n word : ℕ) → KeepsSizes p (took_at p word (Sweeping due n))
 unfolding took_at sweeps.took_of
-swept_sizes p None n word = record { slots = refl; fields = refl; registers = refl; capacity = refl; steady = refl; mutators = refl }
-swept_sizes p (Some x) n word = record { slots = length-set p.counts.slots x (swept_clean (slot_at p.counts x)); fields = refl; registers = refl; capacity = refl; steady = refl; mutators = refl }
+swept_sizes p None n word = record { slots = refl; fields = refl; registers = refl; capacity = refl; policy = refl; mutators = refl }
+swept_sizes p (Some x) n word = record { slots = length-set p.counts.slots x (swept_clean (slot_at p.counts x)); fields = refl; registers = refl; capacity = refl; policy = refl; mutators = refl }
 
 -- what a turn keeps that works on the parts, and one of a sweep
 keeps_work : (p : Private) (word : ℕ) (phase : Phase) → IsWork phase → p.phase ≡ phase → IsMachine p → IsGivenAt p word phase → IsMachine (took_at p word phase) × KeepsSizes p (took_at p word phase)

@@ -6,7 +6,7 @@ use Rattle.std.proofs.lemmas.Bool.{cases_lt, le-leb, lt-leb, lt-ltb}
 use Rattle.std.proofs.lemmas.Bool.Decides.{eqb_tells}
 use Rattle.rec_collector.proofs.Common.{Slot, State, IsKept, slot_at, with_slot, one, times, EachOnce, absent, length-once, one-le, times-cons, times-nil, without_first, IsReady, fields_left, freeing_left, HasExchanged, Parts, Phase}
 use Rattle.rec_counts.proofs.Front.{first_and_rest}
-use Rattle.rec_walk.specs.Walk.{first_member}
+use Rattle.rec_word.specs.Walk.{first_member}
 use Rattle.rec_release.proofs.Keeping.{first_zero, first_length, released_first, released_same, FirstZero}
 use Rattle.rec_collector.proofs.Goings.{with_counts}
 

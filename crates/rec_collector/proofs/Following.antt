@@ -1,13 +1,14 @@
 -- Slots are released and sets tested, from a batch, which leaves the counts tidy, to the next trial: what holds after each word, and what
 -- follows it.
-use Rattle.std.proofs.Common.{◌≡◌, ℕ, ◌<◌, Bool, true, false, Option, None, Some, List, [], refl, arith, sym, ◌∙◌, ap, subst, inl, inr, ◌+◌, ◌*◌, ◌^◌, ◌≤◌, length}
+use Rattle.std.proofs.Common.{◌≡◌, ℕ, ◌<◌, nat_le, if◌then◌else◌, Bool, true, false, Option, None, Some, List, [], refl, arith, sym, ◌∙◌, ap, subst, inl, inr, ◌+◌, ◌*◌, ◌^◌, ◌≤◌, length}
 use Rattle.std.specs.List.{concat}
 use Rattle.std.proofs.lemmas.List.{get_or_past}
-use Rattle.std.proofs.lemmas.Bool.{cases_Bool, cases_lt, false≢true}
-use Rattle.rec_collector.proofs.Common.{Contents, Slot, IsKept, State, slot_at, times, absent, times-nil, IsReady, IsTidy, HasExchanged, IsCleared, IsClearingIn, AreResting, IsAtRest, NoneReleased, IsMachine, IsTesting, MayGatherBehind, Parts, followed, next_in, trial_started, with_freed, with_offers, with_released, going_on, Private, parts_of, tested, told, zeros_released, Begun, batched, Phase, Releasing, Freeing}
+use Rattle.std.proofs.lemmas.Bool.{cases_Bool, cases_lt, false≢true, leb-false}
+use Rattle.rec_collector.proofs.Common.{Contents, Slot, IsKept, State, slot_at, times, absent, times-nil, IsReady, IsTidy, HasExchanged, IsCleared, IsClearingIn, AreResting, IsAtRest, NoneReleased, IsMachine, IsTesting, MayGatherBehind, Parts, followed, makes_trial, next_in, prep_started, put_off, trial_if, AreFew, AreTried, IsListed, with_freed, with_offers, with_released, going_on, Private, parts_of, tested, told, zeros_released, Begun, batched, Phase, Releasing, Freeing}
+use Rattle.rec_counts.specs.Colour.{is_gray, is_white}
 use Rattle.rec_counts.specs.Rest.{KeepsRest}
-use Rattle.rec_apply.specs.Batch.{applied, AreAlike, IsApplied, IsBatch, IsCovered}
-use Rattle.rec_apply.proofs.Whole.{is_applied}
+use Rattle.rec_counts.specs.Batch.{applied, AreAlike, IsApplied, IsBatch, IsCovered}
+use Rattle.rec_counts.proofs.Whole.{is_applied}
 use Rattle.rec_release.specs.TakenOff.{IsMember}
 use Rattle.rec_collector.specs.Offered.{KeepsOffered}
 use Rattle.rec_collector.proofs.Clearing.{Clears, released_clears, zeros_clear}
@@ -16,7 +17,7 @@ use Rattle.rec_collector.proofs.Counting.{Counted, KeepsTold, released_told, sam
 use Rattle.rec_collector.proofs.Exchanging.{exchanged_few, none_exchanged}
 use Rattle.rec_collector.proofs.Landing.{Fits, Lands, fits_all, now_at, told_at}
 use Rattle.rec_collector.proofs.Offering.{where_keeps, where_kept, where_listed, where_ready, where_uncoloured}
-use Rattle.rec_collector.proofs.Trying.{started_tried, tried_lands}
+use Rattle.rec_collector.proofs.Trying.{counted_on, prepared_lands, started_prepared, started_tried, still_listed, tried_lands}
 use Rattle.rec_collector.proofs.Freeing.{freed_clears}
 use Rattle.rec_collector.proofs.Goings.{still}
 use Rattle.rec_collector.proofs.Testing.{tested_clear, clear_counted, clear_listed, clear_ready, clear_uncoloured, ends_after}
@@ -24,6 +25,9 @@ use Rattle.rec_release.specs.CycleFree as frees
 use Rattle.rec_release.specs.Release as releases
 use Rattle.rec_trial.specs.Trial as trials
 use Rattle.rec_collector.specs.Zeros.{AreCounted}
+use Rattle.rec_trial.specs.Postponed.{postponed}
+use Rattle.rec_trial.proofs.Keeps.{KeepsCounts}
+use Rattle.rec_trial.proofs.Postponed.{IsPostponed, none_left, postponed_is, postponed_keeps, waits_field}
 
 -- nothing stands in an empty list
 nowhere : {P : Type 0} (xs : List ℕ) (x : ℕ) → xs ≡ [] → 0 < times x xs → P
@@ -58,15 +62,15 @@ batched_clear {fields} {s} {t} b unreleased tidy counted r none =
     )
 
 -- at rest no slot is released
-pub none_released : {fields : ℕ} {s : State} → AreResting fields s → NoneReleased s
-none_released {fields} {s} a x l = elim (cases_Bool (slot_at s x).released) [
+pub none_released : {least fields : ℕ} {s : State} → AreResting least fields s → NoneReleased s
+none_released {least} {fields} {s} a x l = elim (cases_Bool (slot_at s x).released) [
   | inl t ↦ nowhere s.free x a.free (a.listed x l t)
   | inr t ↦ t
 ]
 
 -- and the counts are tidy
-resting_tidy : {fields : ℕ} {s : State} → AreResting fields s → IsTidy fields s None
-resting_tidy {fields} {s} a = record {
+resting_tidy : {least fields : ℕ} {s : State} → AreResting least fields s → IsTidy fields s None
+resting_tidy {least} {fields} {s} a = record {
   untried = a.untried;
   apart = a.apart;
   outside = a.outside;
@@ -76,8 +80,8 @@ resting_tidy {fields} {s} a = record {
   held = λ x h. nowhere s.work x a.work h;
 }
 
-resting_ready : {fields : ℕ} {s : State} → AreResting fields s → IsReady s
-resting_ready {fields} {s} a = record {
+resting_ready : {least fields : ℕ} {s : State} → AreResting least fields s → IsReady s
+resting_ready {least} {fields} {s} a = record {
   zeros = record { once = λ x. omega (arith, ap (times x) a.zeros, times-nil x); none = λ x h. nowhere s.zeros x a.zeros h; unreleased = λ x h. nowhere s.zeros x a.zeros h };
   free = λ x h. nowhere s.free x a.free h;
 }
@@ -95,10 +99,10 @@ pub record HasCleared (p : Private) (b : Begun) : Type 0 where
   pub few_told : told b.parts.sets + length b.parts.counts.sets ≤ 2 ^ 16 * p.collections
 
 fits_on : {p : Private} {w v : Parts} → Fits p w → KeepsTold w v → Fits p v
-fits_on f k = record { slots = k.slots ∙ f.slots; fields = k.fields ∙ f.fields }
+fits_on f k = record { slots = k.slots ∙ f.slots; fields = k.fields ∙ f.fields; policy = k.policy ∙ f.policy }
 
 fits_self : (p : Private) → Fits p (parts_of p)
-fits_self p = record { slots = refl; fields = refl }
+fits_self p = record { slots = refl; fields = refl; policy = refl }
 
 -- the sets are tested
 tested_clears : (p : Private) (b : Begun) → HasCleared p b → HasCleared p (tested (length b.parts.counts.sets) b)
@@ -114,7 +118,7 @@ tested_clears p b h =
     }
 
 -- no set is left, and a trial begins
-tries_next : (p : Private) (v : Parts) → HasCleared p (still v) → v.counts.sets ≡ [] → Lands p (trial_started v)
+tries_next : (p : Private) (v : Parts) → HasCleared p (still v) → v.counts.sets ≡ [] → Lands p (trial_if true v)
 tries_next p v h none =
     let few : h.exchanged ≤ length v.counts.slots * v.fields = exchanged_few v h.exchanged h.counts h.exchanges in
     let w : Parts = with_offers v in
@@ -123,9 +127,52 @@ tries_next p v h none =
     started_tried p w h.wide (where_ready v.offers v.counts (clear_ready v h.counts h.clearing none)) (where_kept v.offers v.counts h.counts)
     (where_listed v.offers v.counts (clear_listed v h.counts h.clearing none)) (where_uncoloured v.offers v.counts (clear_uncoloured v h.counts h.clearing none))
     (λ x r. omega (arith, keeps.counts x, clear_counted v h.counts h.clearing none x (sym (keeps.rest.released x) ∙ r)))
-    (keeps.zeros ∙ h.clearing.zeros) (record { slots = keeps.rest.slots ∙ h.fits.slots; fields = h.fits.fields })
+    (keeps.zeros ∙ h.clearing.zeros) (record { slots = keeps.rest.slots ∙ h.fits.slots; fields = h.fits.fields; policy = h.fits.policy })
     (omega (arith, h.turns, few, fits_all p v h.fits)) (omega (arith, h.few_told, ap length none))
     )
+
+-- a trial that is postponed leaves too few candidate roots for one
+few_left : (v : Parts) (roots : List ℕ) → length roots ≤ length v.counts.roots → makes_trial v ≡ false → AreFew v.policy.least_roots roots
+few_left v roots fewer off = by v.offers (nat_le v.policy.least_roots (length v.counts.roots)) refl off
+  where
+    by : (offers enough : Bool) → nat_le v.policy.least_roots (length v.counts.roots) ≡ enough → (if offers then true else enough) ≡ false → AreFew v.policy.least_roots roots
+    by true enough e off = absurd (false≢true (sym off))
+    by false true e off = absurd (false≢true (sym off))
+    by false false e off = inl (omega (arith, fewer, leb-false v.policy.least_roots (length v.counts.roots) e))
+
+-- no set is left, and it is
+waits_next : (p : Private) (v : Parts) → HasCleared p (still v) → v.counts.sets ≡ [] → makes_trial v ≡ false → Lands p (trial_if false v)
+waits_next p v h none off =
+    let few : h.exchanged ≤ length v.counts.slots * v.fields = exchanged_few v h.exchanged h.counts h.exchanges in
+    let s : State = v.counts in
+    let t : State = postponed v.counts in
+    let ready = clear_ready v h.counts h.clearing none in
+    let is : IsPostponed s t = postponed_is s h.counts ready in
+    let keeps : KeepsCounts s t = postponed_keeps s h.counts ready in
+    let places : IsListed t = still_listed s t keeps h.counts is.kept (clear_listed v h.counts h.clearing none) in
+    let over : AreTried v.policy.least_roots t = record {
+      untried = record {
+        marked = is.waits.marked ∙ h.clearing.untried.marked;
+        no_gray = λ x. waits_field is.waits (λ (u : Slot). is_gray u.colour) (λ u. refl) x ∙ h.clearing.untried.no_gray x;
+        no_white = λ x. waits_field is.waits (λ (u : Slot). is_white u.colour) (λ u. refl) x ∙ h.clearing.untried.no_white x;
+      };
+      apart = λ x e. absurd (clear_uncoloured v h.counts h.clearing none x (sym (waits_field is.waits (λ (u : Slot). u.colour) (λ u. refl) x) ∙ e));
+      counted = counted_on s t keeps (clear_counted v h.counts h.clearing none);
+      zeros = is.waits.zeros ∙ h.clearing.zeros;
+      roots = few_left v t.roots is.waits.fewer off;
+      work = is.waits.work ∙ h.clearing.work;
+      listed = λ x i r. omega (arith, places.listed x i r, none_left s h.counts ready x r);
+      unbuffered = places.unbuffered;
+    } in
+    prepared_lands p (put_off v) (prep_started (put_off v)) (
+    started_prepared p (put_off v) h.wide over is.kept (record { slots = is.waits.slots ∙ h.fits.slots; fields = h.fits.fields; policy = h.fits.policy })
+    (omega (arith, h.turns, few, fits_all p v h.fits)) (omega (arith, h.few_told, ap length (is.waits.sets ∙ none)))
+    )
+
+-- a trial begins, or is postponed
+trial_next : (p : Private) (v : Parts) (made : Bool) → makes_trial v ≡ made → HasCleared p (still v) → v.counts.sets ≡ [] → Lands p (trial_if made v)
+trial_next p v true e h none = tries_next p v h none
+trial_next p v false e h none = waits_next p v h none e
 
 -- what was begun goes on
 goes_on : (p : Private) (b : Begun) (phase : Phase) → b.phase ≡ Some phase → HasCleared p b → Lands p (next_in phase b.parts)
@@ -149,7 +196,7 @@ followed_lands p b h = go c.phase refl
 
     go : (o : Option Phase) → c.phase ≡ o → Lands p (going_on c.parts o)
     go (Some phase) e = goes_on p c phase e t
-    go None e = tries_next p c.parts (subst (λ o. HasCleared p (record { parts = c.parts; phase = o })) e t) (ends_after (length b.parts.counts.sets) b refl e)
+    go None e = trial_next p c.parts (makes_trial c.parts) refl (subst (λ o. HasCleared p (record { parts = c.parts; phase = o })) e t) (ends_after (length b.parts.counts.sets) b refl e)
 
 -- a word came out of a field, of a released slot or of a member of the set that is freed
 testing_clears : (p : Private) (phase : Phase) → IsMachine p → p.phase ≡ phase → (t : IsTesting p phase) → Clears (record { parts = parts_of p; phase = Some phase }) t.exchanged
@@ -197,11 +244,11 @@ batch_clears steady w newer older wide k alike covered c none counted =
 pub begun_has : (p : Private) (t : ℕ) → IsMachine p → MayGatherBehind p t → IsCovered p.counts p.newer p.older → HasCleared p (zeros_released false (batched p))
 begun_has p t k a c =
     let w : Parts = batched p in
-    let rests : KeepsRest p.counts w.counts = (is_applied p.steady p.counts p.newer p.older a.rest.zeros (rows_alike p k) c).rest in
+    let rests : KeepsRest p.counts w.counts = (is_applied p.policy.steady p.counts p.newer p.older a.rest.zeros (rows_alike p k) c).rest in
     let keeps : KeepsTold (parts_of p) (zeros_released false w).parts = told_on (same_told (parts_of p) w.counts rests.slots rests.sets) (zeros_told false w) in
     record {
       exchanged = 0;
-      clears = batch_clears p.steady (parts_of p) p.newer p.older k.some_fields k.counts (rows_alike p k) c (resting_cleared (parts_of p) a.rest) (none_released a.rest) a.rest.counted;
+      clears = batch_clears p.policy.steady (parts_of p) p.newer p.older k.some_fields k.counts (rows_alike p k) c (resting_cleared (parts_of p) a.rest) (none_released a.rest) a.rest.counted;
       turns = omega (arith, a.turns, a.there);
       fits = fits_on (fits_self p) keeps;
       few_told = omega (arith, a.told, keeps.told);

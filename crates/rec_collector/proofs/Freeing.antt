@@ -5,8 +5,8 @@ use Rattle.rec_collector.proofs.Common.{State, IsKept, times, times-append, IsRe
 use Rattle.rec_word.specs.Word.{target_of}
 use Rattle.rec_release.proofs.Freeing.{off_work}
 use Rattle.rec_release.proofs.Kept.{off_kept, members_listed}
-use Rattle.rec_walk.specs.declared.member.Member.{Member}
-use Rattle.rec_walk.specs.Walk.{IsOf}
+use Rattle.rec_word.specs.declared.member.Member.{Member}
+use Rattle.rec_word.specs.Walk.{IsOf}
 use Rattle.rec_collector.proofs.Counting.{Counted}
 use Rattle.rec_collector.proofs.Exchanging.{exchanged_as}
 use Rattle.rec_collector.proofs.Goings.{field_behind, freed_by, freed_last, freed_listed, freed_most, freed_off, freed_on, member_behind}

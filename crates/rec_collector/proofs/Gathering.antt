@@ -2,7 +2,7 @@
 use Rattle.std.proofs.Common.{◌≡◌, ◌≢◌, ℕ, ◌+◌, ◌-◌, ◌^◌, Bool, false, None, Some, set, arith, ap, subst, sym, ◌∙◌}
 use Rattle.std.proofs.lemmas.List.{length-set}
 use Rattle.rec_collector.proofs.Common.{HaveLeft, batch_next, batched, buffer_at, Idle, IsAt, IsMachine, IsNextPresent, IsTold, Looking, MayGatherBehind, moved, next_present, noted, Private, requested, Returning, zeros_released}
-use Rattle.rec_apply.specs.Batch.{IsCovered}
+use Rattle.rec_counts.specs.Batch.{IsCovered}
 use Rattle.rec_collector.proofs.Following.{begun_has, followed_lands}
 use Rattle.rec_collector.proofs.Landing.{batch_none, batch_on, freed_at, landed, landed_keeps, Lands, machine_on, now_at, told_at, under_way_at}
 use Rattle.rec_collector.proofs.Presence.{gone_behind, next_none, next_some}

@@ -6,7 +6,7 @@ use Rattle.std.proofs.lemmas.Bool.{eqb-false, cases_eq}
 use Rattle.rec_collector.proofs.Common.{HaveLeft, batch_next, behind, gathering_on, MayGatherBehind, next_present, noted, requested, Contents, IsWork, IsSized, IsGiven, IsGivenAt, AreSized, IsAt, IsMachine, IsTold, swept_at, under_way, KeepsSizes, IsGathering, IsSweeping, Private, blank, buffer_at, parts_of, moved, swapped_at, took_at, came, came_turn, ended_if, took_of, turn_at, turn_of, step_of, swapped_of, Phase, Idle, Looking, Swapping, Returning, Releasing, Freeing, Trying, Preparing, Sweeping, Closing, Opening, worked, Next, followed, with_freed, with_released, zeros_released, told}
 use Rattle.rec_word.specs.Mailbox.{crossing_word}
 use Rattle.rec_word.specs.declared.mailbox.Mailbox.TheVariants.{Retired}
-use Rattle.rec_apply.specs.Batch.{applied, IsCovered}
+use Rattle.rec_counts.specs.Batch.{applied, IsCovered}
 use Rattle.rec_release.proofs.Kept.{sweep_kept}
 use Rattle.rec_collector.specs.Given.{IsFreeingIn}
 use Rattle.rec_collector.specs.Works.{MayFree, MayWork}
@@ -115,10 +115,10 @@ work_took p word (Preparing m) w = (refl, refl)
 work_took p word _ w = absurd w
 
 -- the batch as its call tells it
-pub batch_follows : (p : Private) (n : Next) (newer older : List Contents) → n ≡ followed (zeros_released false (record (parts_of p) { counts = applied p.steady p.counts newer older })) → newer ≡ p.newer → older ≡ p.older → n ≡ batch_next p
+pub batch_follows : (p : Private) (n : Next) (newer older : List Contents) → n ≡ followed (zeros_released false (record (parts_of p) { counts = applied p.policy.steady p.counts newer older })) → newer ≡ p.newer → older ≡ p.older → n ≡ batch_next p
 batch_follows p n newer older e f g =
-    e ∙ ap (λ (b : List Contents). followed (zeros_released false (record (parts_of p) { counts = applied p.steady p.counts b older }))) f
-    ∙ ap (λ (b : List Contents). followed (zeros_released false (record (parts_of p) { counts = applied p.steady p.counts p.newer b }))) g
+    e ∙ ap (λ (b : List Contents). followed (zeros_released false (record (parts_of p) { counts = applied p.policy.steady p.counts b older }))) f
+    ∙ ap (λ (b : List Contents). followed (zeros_released false (record (parts_of p) { counts = applied p.policy.steady p.counts p.newer b }))) g
 
 -- what a word may be, by the phase
 pub asked : (p now : Private) (word : ℕ) (phase : Phase) → p ≡ now → p.phase ≡ phase → IsGiven now word → IsGivenAt now word phase
@@ -149,6 +149,26 @@ module _ (p now : Private) (word : ℕ) (phase : Phase) (n : Next) (k : IsMachin
     answers ∙ ap (λ (m : Next). came_turn p.epoch m.phase) is ∙ (work_took p word phase at_work).1 ∙ ap (λ (r : Private). turn_at r word phase) v,
     subst (λ (r : Private). KeepsSizes r q) v (landed_sizes p q n (subst (Lands p) (sym is) (work_lands p word phase k at given at_work)) sizes),
   )
+
+-- of a machine that its fields make up, and of the machine at work in it
+module _ (p now : Private) (word : ℕ) (k : IsMachine p) (v : p ≡ now) (works : IsWork now.phase) (gives : IsGivenAt now word now.phase) where
+  seen_works : IsWork p.phase
+  seen_works = subst (λ (q : Private). IsWork q.phase) (sym v) works
+
+  seen_given : IsGivenAt p word p.phase
+  seen_given = subst (λ (q : Private). IsGivenAt q word q.phase) (sym v) gives
+
+  pub may_seen : MayWork (parts_of p) word p.phase
+  may_seen = may_work p word p.phase k refl seen_works seen_given
+
+  -- what it comes to next
+  pub seen_keeps : (n : Next) → n ≡ worked (parts_of p) word p.phase → IsMachine (landed p n)
+  seen_keeps n is = turned_keeps p p word p.phase n k refl refl seen_given seen_works is
+
+  pub seen_turned : (n : Next) → n ≡ worked (parts_of p) word p.phase → (q : Private) (turn : Turn) → q ≡ ended_if n.phase (landed p n) → turn ≡ came_turn p.epoch n.phase → KeepsSizes (landed p n) q
+      → (q ≡ took_at now word now.phase) × (turn ≡ turn_at now word now.phase) × KeepsSizes now q
+  seen_turned n is q turn ends answers sizes =
+      subst (λ (x : Private). (q ≡ took_at x word x.phase) × (turn ≡ turn_at x word x.phase) × KeepsSizes x q) v (turned p p word p.phase n k refl refl seen_given seen_works is q turn ends answers sizes)
 
 -- where nothing is to be swept, the collection is complete
 ended_if_keeps : (p : Private) (phase : Phase) → IsMachine p → p.phase ≡ phase → IsMachine (ended_if phase p)

@@ -1,13 +1,13 @@
 -- Where a turn lands that works on the parts of the machine: the phase that it came to, and what holds there.
 use Rattle.std.proofs.Common.{◌≡◌, ℕ, ◌+◌, ◌*◌, ◌^◌, ◌<◌, ◌≤◌, false, Option, None, Some, List, [], ◌∷◌, length, refl, arith, ap, subst, ◌∙◌, IfSome, Bool, slice_get, true}
-use Rattle.rec_collector.proofs.Common.{State, Next, followed, prepared, prepared_at, tried, tried_at, with_freed, with_released, going_on, gone_on, relieved_at, with_offers, worked, prep_started, all_fields, IsAt, IsMachine, IsTold, KeepsSizes, swept_at, under_way, Parts, new_release, Private, with_parts, tested, zeros_released, Begun, freeing_at, last_tested, releasing_at, batch_next, batched, moved, Phase, Idle, Releasing, Freeing, Trying, Preparing, Opening, Closing, IsWork}
+use Rattle.rec_collector.proofs.Common.{State, Next, followed, prepared, prepared_at, tried, tried_at, with_freed, with_released, going_on, gone_on, relieved_at, with_offers, makes_trial, put_off, trial_if, worked, prep_started, all_fields, IsAt, IsMachine, IsTold, KeepsSizes, swept_at, under_way, Parts, new_release, Private, with_parts, tested, zeros_released, Begun, freeing_at, last_tested, releasing_at, batch_next, batched, moved, Phase, Idle, Releasing, Freeing, Trying, Preparing, Opening, Closing, IsWork}
 use Rattle.rec_counts.specs.Counts.{IsKept as IsKeptCounts}
 use Rattle.rec_release.specs.declared.at.At.{At}
 use Rattle.rec_trial.specs.Trial.{Machine as Trial}
 use Rattle.rec_collector.proofs.Goings.{last_by, tested_all, still, last_refused}
 use Rattle.rec_release.specs.Sweep.{swept}
-use Rattle.rec_walk.specs.declared.member.Member.{Member}
-use Rattle.rec_walk.specs.Walk.{first_member}
+use Rattle.rec_word.specs.declared.member.Member.{Member}
+use Rattle.rec_word.specs.Walk.{first_member}
 use Rattle.rec_counts.specs.Groups.{last_set}
 use Rattle.rec_sigma.specs.declared.at.At as loads
 use Rattle.rec_release.specs.CycleFree as frees
@@ -46,6 +46,10 @@ module _ (P : Phase → Type 0) (preparing : (m : preps.Machine) → P (Preparin
     unfolding tried
     tried_phase w v = elim (trials.next_of v.machine) as (λ op. P (tried_at (record w { counts = v.counts }) v.machine op).phase) [ None ↦ prepared_phase (record w { counts = v.counts }) (prep_started (record w { counts = v.counts })) | Some o ↦ trying v.machine ]
 
+    trial_phase : (w : Parts) (made : Bool) → P (trial_if made w).phase
+    trial_phase w true = tried_phase (with_offers w) (trials.started_of w.fields (with_offers w).counts)
+    trial_phase w false = prepared_phase (put_off w) (prep_started (put_off w))
+
     module _ (freeing : (m : frees.Machine) → P (Freeing m)) (releasing : (m : releases.Machine) → P (Releasing m)) where
       releasing_phase : (m : releases.Machine) (at : Option At) → IfSome (releasing_at m at) P
       releasing_phase m None = tt
@@ -79,7 +83,7 @@ module _ (P : Phase → Type 0) (preparing : (m : preps.Machine) → P (Preparin
           go c i = by c.phase i
             where
               by : (o : Option Phase) → IfSome o P → P (going_on c.parts o).phase
-              by None i = tried_phase (with_offers c.parts) (trials.started_of c.parts.fields (with_offers c.parts).counts)
+              by None i = trial_phase c.parts (makes_trial c.parts)
               by (Some phase) i = i
 
       -- what a word makes of the parts, by phase
@@ -107,10 +111,11 @@ batch_on p = batch_phase (λ f. under_way f ≡ 1) (λ m. refl) refl refl (λ m.
 pub batch_none : (p : Private) → swept_at (batch_next p).phase ≡ 0
 batch_none p = batch_phase (λ f. swept_at f ≡ 0) (λ m. refl) refl refl (λ m. refl) (λ m. refl) (λ m. refl) p
 
--- these parts have as many slots, and as many fields a slot, as the machine
+-- these parts have as many slots, as many fields a slot, and the policy of the machine
 pub record Fits (p : Private) (w : Parts) : Type 0 where
   pub slots : length w.counts.slots ≡ length p.counts.slots
   pub fields : w.fields ≡ p.fields
+  pub policy : w.policy ≡ p.policy
 
 -- so as many fields in all
 pub fits_all : (p : Private) (w : Parts) → Fits p w → length w.counts.slots * w.fields ≡ all_fields p
@@ -143,7 +148,7 @@ landed_keeps p n k requested freed on still l = record {
 
 -- the numbers stay
 pub landed_sizes : (p q : Private) (n : Next) → Lands p n → KeepsSizes (landed p n) q → KeepsSizes p q
-landed_sizes p q n l s = record { slots = s.slots ∙ l.fits.slots; fields = s.fields ∙ l.fits.fields; registers = s.registers; capacity = s.capacity; steady = s.steady; mutators = s.mutators }
+landed_sizes p q n l s = record { slots = s.slots ∙ l.fits.slots; fields = s.fields ∙ l.fits.fields; registers = s.registers; capacity = s.capacity; policy = s.policy ∙ l.fits.policy; mutators = s.mutators }
 
 -- a turn that leaves the buffers and the sets that were tested
 pub machine_on : (p : Private) (epoch : ℕ) (s : State) (freed : ℕ) (next : Phase) → IsMachine p → epoch < 2 ^ 24 → p.collections + under_way next ≤ epoch → freed ≤ 2 ^ 16 * p.collections + swept_at next → IsKeptCounts s →

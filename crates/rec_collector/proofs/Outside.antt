@@ -14,9 +14,9 @@ use Rattle.rec_counts.specs.declared.slot.Due.TheVariants.{Nothing, Zero, Root}
 use Rattle.rec_counts.specs.Groups.{last_set}
 use Rattle.rec_counts.proofs.Keeping.{set_there}
 use Rattle.rec_counts.proofs.Decrementing.{stays_released}
-use Rattle.rec_walk.specs.Load.{Load}
-use Rattle.rec_apply.specs.Batch.{is_touched, names, IsBatch}
-use Rattle.rec_apply.proofs.Touching.{touched_orange}
+use Rattle.rec_word.specs.Load.{Load}
+use Rattle.rec_counts.specs.Batch.{is_touched, names, IsBatch}
+use Rattle.rec_counts.proofs.Touching.{touched_orange}
 use Rattle.rec_release.specs.Sweep.{swept}
 use Rattle.rec_release.specs.TakenOff.{down_if, is_lowered, taken_off, IsApart, IsMember}
 use Rattle.rec_release.proofs.Giving.{given_slot}

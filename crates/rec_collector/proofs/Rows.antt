@@ -1,8 +1,8 @@
 -- Rows of buffers.
-use Rattle.std.proofs.Common.{◌≡◌, ℕ, suc, zero, ◌+◌, ◌-◌, ◌*◌, ◌<◌, Option, None, Some, List, [], ◌∷◌, ◌++◌, length, map, take, drop, get_or, set, replicate, refl, arith, sym, ◌∙◌, ap, append_assoc, length-drop}
+use Rattle.std.proofs.Common.{◌≡◌, ℕ, suc, zero, ◌+◌, ◌-◌, ◌*◌, ◌<◌, Option, List, [], ◌∷◌, ◌++◌, length, map, take, drop, get_or, set, replicate, refl, arith, sym, ◌∙◌, ap, append_assoc, length-drop}
 use Rattle.std.proofs.Math.Nat.{suc-mul}
 use Rattle.std.proofs.lemmas.List.{get_or-map, get_or-replicate, length-map, length-replicate, length-take}
-use Rattle.rec_collector.proofs.Common.{Contents, IsSized, AreSized, AreSpare, Private, blank, first_registers, retired, spare, buffer_at, cleared, ended}
+use Rattle.rec_collector.proofs.Common.{Contents, IsSized, AreSized, AreSpare, Private, blank, retired, spare, buffer_at, cleared, ended}
 use Rattle.rec_collector.specs.Private.{retired_rows}
 use Rattle.rec_collector.specs.Rows.{rows_of}
 
@@ -38,11 +38,6 @@ pub row_sized : (registers capacity n : ℕ) (b : Contents) → IsSized register
 row_sized registers capacity n b k = λ i l.
     let e : buffer_at (replicate n b) i ≡ b = get_or-replicate n i b (blank 0 0) (omega (arith, l, length-replicate n b)) in
     (ap (λ (c : Contents). length c.snapshot) e ∙ k.0, ap (λ (c : Contents). c.capacity) e ∙ k.1)
-
--- register 0 is set in a row of null registers
-pub first_row : (n : ℕ) → 0 < n → set (replicate n None) 0 (Some 0) ≡ first_registers n
-first_row zero l = absurd (omega (arith, l))
-first_row (suc n) l = let e : n ≡ suc n - 1 = omega arith in ap (λ m. Some 0 ∷ replicate m None) e
 
 -- so many rows
 pub length-rows : {X : Type 0} (width many : ℕ) (xs : List X) → length (rows_of width many xs) ≡ many

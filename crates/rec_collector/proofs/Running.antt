@@ -12,13 +12,13 @@ use Rattle.rec_collector.proofs.Landing.{Lands, landed, landed_sizes}
 
 -- the number of slots and of what there is besides stays
 pub same_sizes : (p : Private) → KeepsSizes p p
-same_sizes p = record { slots = refl; fields = refl; registers = refl; capacity = refl; steady = refl; mutators = refl }
+same_sizes p = record { slots = refl; fields = refl; registers = refl; capacity = refl; policy = refl; mutators = refl }
 
 pub sizes_on : (a b d : Private) → KeepsSizes a b → KeepsSizes b d → KeepsSizes a d
-sizes_on a b d x y = record { slots = y.slots ∙ x.slots; fields = y.fields ∙ x.fields; registers = y.registers ∙ x.registers; capacity = y.capacity ∙ x.capacity; steady = y.steady ∙ x.steady; mutators = y.mutators ∙ x.mutators }
+sizes_on a b d x y = record { slots = y.slots ∙ x.slots; fields = y.fields ∙ x.fields; registers = y.registers ∙ x.registers; capacity = y.capacity ∙ x.capacity; policy = y.policy ∙ x.policy; mutators = y.mutators ∙ x.mutators }
 
 pub ended_sizes : (p : Private) (phase : Phase) → IsMachine p → KeepsSizes p (ended_if phase p)
-ended_sizes p (Closing n) k = record { slots = refl; fields = refl; registers = refl; capacity = refl; steady = refl; mutators = length-map p.older cleared ∙ k.both }
+ended_sizes p (Closing n) k = record { slots = refl; fields = refl; registers = refl; capacity = refl; policy = refl; mutators = length-map p.older cleared ∙ k.both }
 ended_sizes p _ k = same_sizes p
 
 -- where a machine is at work, no collection ends

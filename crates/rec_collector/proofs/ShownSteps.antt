@@ -3,8 +3,8 @@ use Rattle.std.proofs.Common.{◌≡◌, IsSome, map, ℕ, ◌+◌, ◌-◌, ◌
 use Rattle.std.proofs.lemmas.Bool.{ne_eqb}
 use Rattle.rec_word.specs.declared.op.Op.TheVariants.{StoreEpoch, ReturnBox}
 use Rattle.rec_counts.specs.Groups.{last_set}
-use Rattle.rec_walk.specs.declared.member.Member.{Member}
-use Rattle.rec_walk.specs.Walk.{first_in}
+use Rattle.rec_word.specs.declared.member.Member.{Member}
+use Rattle.rec_word.specs.Walk.{first_in}
 use Rattle.rec_release.specs.CycleFree as frees
 use Rattle.rec_release.specs.Release as releases
 use Rattle.rec_release.specs.Sweep as sweeps
@@ -167,7 +167,8 @@ clears_shown p q turn b fit (ClearsOn.works phase is on) = goes_shown p _ q turn
     begun (Releasing m) i = refl
     begun (Freeing m) i = refl
     begun _ i = absurd i
-clears_shown p q turn b fit (ClearsOn.tries none sets on) = subst (λ o. IsShownOf p q turn (or_else (begun_in b.parts o) None)) (sym none) (tries_shown p q turn _ _ on)
+clears_shown p q turn b fit (ClearsOn.tries none sets due on) = subst (λ o. IsShownOf p q turn (or_else (begun_in b.parts o) None)) (sym none) (tries_shown p q turn _ _ on)
+clears_shown p q turn b fit (ClearsOn.waits none sets off on) = subst (λ o. IsShownOf p q turn (or_else (begun_in b.parts o) None)) (sym none) (prepares_shown p q turn _ _ on)
 clears_shown p q turn b fit (ClearsOn.tests c none some test on) =
     subst (λ o. IsShownOf p q turn (or_else (begun_in b.parts o) (if_passes test (passed_among on)))) (sym none)
     (tests_shown p q turn b.parts c (passed_among on) (fit.work none) (λ next. clears_shown p q turn c next on) test)

@@ -3,7 +3,7 @@
 use Rattle.std.proofs.Common.{◌≡◌, ◌≢◌, ℕ, zero, suc, ◌+◌, ◌-◌, ◌^◌, ◌<◌, ◌==◌, true, false, Bool, cond, Option, None, Some, List, [], ◌∷◌, length, refl, arith, sym, ap, subst, ◌∙◌, inl, inr, ◌≤◌, IsSome, IsNone, is_some}
 use Rattle.std.proofs.lemmas.Bool.{eqb-false, eq-eqb, eqb-true, false≢true, cases_eq, ne_eqb, cond-false}
 use Rattle.std.proofs.lemmas.List.{nil_from_length}
-use Rattle.rec_collector.proofs.Common.{HaveLeft, batch_next, behind, behind_turn, gathering_on, gathering_turn, IsNextPresent, IsWork, MayGatherBehind, next_present, noted, requested, worked, Op, Contents, LastRefurbished, Next, followed, next_in, prep_started, prepared, prepared_at, sweep_phase, tried, tried_at, with_freed, with_released, going_on, gone_on, with_offers, IsGiven, IsGivenAt, IsMachine, swept_at, IsAt, Parts, Private, parts_of, with_parts, last_tested, tested, tested_as, verdict_of, zeros_released, Begun, batched, came, came_turn, moved, step_of, swapped_of, swapped_at, swept_phase, took_at, took_of, turn_at, turn_of, ended_if, left_at, left_of, Phase, Idle, Looking, Swapping, Returning, Releasing, Freeing, Trying, Preparing, Opening, Sweeping, Closing, Passed, Touched, Held, IsClearingIn}
+use Rattle.rec_collector.proofs.Common.{HaveLeft, batch_next, behind, behind_turn, gathering_on, gathering_turn, IsNextPresent, IsWork, MayGatherBehind, next_present, noted, requested, worked, Op, Contents, LastRefurbished, Next, followed, next_in, prep_started, prepared, prepared_at, sweep_phase, tried, tried_at, with_freed, with_released, going_on, gone_on, makes_trial, put_off, trial_if, with_offers, IsGiven, IsGivenAt, IsMachine, swept_at, IsAt, Parts, Private, parts_of, with_parts, last_tested, tested, tested_as, verdict_of, zeros_released, Begun, batched, came, came_turn, moved, step_of, swapped_of, swapped_at, swept_phase, took_at, took_of, turn_at, turn_of, ended_if, left_at, left_of, Phase, Idle, Looking, Swapping, Returning, Releasing, Freeing, Trying, Preparing, Opening, Sweeping, Closing, Passed, Touched, Held, IsClearingIn}
 use Rattle.rec_word.specs.Mailbox.{crossing_word}
 use Rattle.rec_word.specs.declared.mailbox.Mailbox.TheVariants.{Retired}
 use Rattle.rec_word.specs.declared.op.Op.TheVariants.{StoreEpoch, LookBox}
@@ -11,7 +11,7 @@ use Rattle.rec_release.specs.Sweep.{next_of as sweep_next}
 use Rattle.rec_sigma.specs.Settling.{refurbished_of}
 use Rattle.rec_sigma.proofs.Renewals.{refurbished_last}
 use Rattle.rec_trial.specs.Trial.{next_of as trial_next}
-use Rattle.rec_apply.specs.Batch.{IsCovered}
+use Rattle.rec_counts.specs.Batch.{IsCovered}
 use Rattle.rec_collector.specs.Next.{is_spent, next_at, next_of}
 use Rattle.rec_collector.specs.Step.{Step, Applies, ClearsOn, GoesOn, IsTested, PreparesOn, TriesOn, IsNext, IsBetween, LeavesBox, WholeStep}
 use Rattle.rec_collector.specs.declared.turn.Turn.{Turn}
@@ -102,7 +102,11 @@ unfolding swapped_of swapped_at
 goes_on p b box none begun = go b.phase refl begun
   where
     go : (o : Option Phase) → b.phase ≡ o → IsBegun o → ClearsOn p (went p (going_on b.parts o) box) (came_turn p.epoch (going_on b.parts o).phase) b
-    go None e i = ClearsOn.tries e (none e) (tried_on p (with_offers b.parts) (trials.started_of b.parts.fields (with_offers b.parts).counts) box)
+    go None e i = by (makes_trial b.parts) refl
+      where
+        by : (made : Bool) → makes_trial b.parts ≡ made → ClearsOn p (went p (trial_if made b.parts) box) (came_turn p.epoch (trial_if made b.parts).phase) b
+        by true d = ClearsOn.tries e (none e) d (tried_on p (with_offers b.parts) (trials.started_of b.parts.fields (with_offers b.parts).counts) box)
+        by false d = ClearsOn.waits e (none e) d (prepared_on p (put_off b.parts) (prep_started (put_off b.parts)) box)
     go (Some (Releasing m)) e i = ClearsOn.works (Releasing m) e (record { after = refl; answer = refl })
     go (Some (Freeing m)) e i = ClearsOn.works (Freeing m) e (record { after = refl; answer = refl })
     go (Some _) e i = absurd i

@@ -54,7 +54,7 @@ swept_counted s x c = λ y r. elim (written s x (swept_clean (slot_at s x)) y) [
   | inr q ↦ omega (arith, ap (λ (v : Slot). v.count) q, c y (ap (λ (v : Slot). v.released) (sym q) ∙ r))
 ]
 
-swept_tried : (s : State) (x : ℕ) → slice_get s.free 0 ≡ Some x → AreTried s → AreTried (swept s x)
+swept_tried : {least : ℕ} (s : State) (x : ℕ) → slice_get s.free 0 ≡ Some x → AreTried least s → AreTried least (swept s x)
 swept_tried s x first t = record {
   untried = untried_moved s (swept s x) refl (swept_lowers s x) t.untried;
   apart = apart_on s (swept s x) refl refl (unlike_was s x (swept_clean (slot_at s x)) (λ o. cc)) t.apart;
@@ -66,7 +66,7 @@ swept_tried s x first t = record {
   unbuffered = unbuffered_swept s x t.unbuffered;
 }
 
-swept_prepared : (fields : ℕ) (s : State) (x : ℕ) → slice_get s.free 0 ≡ Some x → ArePrepared fields s → ArePrepared fields (swept s x)
+swept_prepared : {least : ℕ} (fields : ℕ) (s : State) (x : ℕ) → slice_get s.free 0 ≡ Some x → ArePrepared least fields s → ArePrepared least fields (swept s x)
 swept_prepared fields s x first k = record { tried = swept_tried s x first k.tried; outside = outside_on s (swept s x) (swept_lowers s x) k.outside }
 
 -- a slot more is swept

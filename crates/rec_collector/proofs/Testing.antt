@@ -8,9 +8,9 @@ use Rattle.rec_counts.specs.Groups.{last_set}
 use Rattle.rec_counts.proofs.Front.{nothing_first}
 use Rattle.rec_release.proofs.Giving.{given_is_work, given_many, given_released}
 use Rattle.rec_release.proofs.Kept.{given_kept}
-use Rattle.rec_walk.specs.declared.member.Member.{Member}
-use Rattle.rec_walk.specs.Walk.{first_member}
-use Rattle.rec_walk.proofs.Walks.{first_none}
+use Rattle.rec_word.specs.declared.member.Member.{Member}
+use Rattle.rec_word.specs.Walk.{first_member}
+use Rattle.rec_word.proofs.Walks.{first_none}
 use Rattle.rec_sigma.specs.Settling.{refurbished_of}
 use Rattle.rec_sigma.proofs.Kept.{refurbished_kept}
 use Rattle.rec_sigma.proofs.Renewals.{refurbished_last, released_after, same_released, zeros_after}

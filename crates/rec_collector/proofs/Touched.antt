@@ -4,11 +4,11 @@ use Rattle.std.proofs.lemmas.Bool.{cond-false, cond-true, eq-eqb, ne_eqb}
 use Rattle.std.proofs.lemmas.Bool.Decides.{eqb_tells}
 use Rattle.rec_collector.proofs.Common.{Op, Contents, Orange, Slot, State, slot_at, one, emptied, next_from, prep_started, with_freed, with_released, relieved_at, IsGiven, IsGivenAt, Idle, IsAt, IsAtRest, IsMachine, buffer_at, next_present, noted, under_way, Parts, new_freeing, new_release, Private, parts_of, zeros_released, Begun, counted_by, freeing_at, releasing_at, tested, step_of, swapped_of, took_at, took_of, turn_of, Phase, Returning, Releasing, Freeing, Trying, Preparing, Held, Touched}
 use Rattle.rec_word.specs.Word.{target_of}
-use Rattle.rec_apply.specs.Batch.{applied, AreAlike, IsApplied, IsCovered, touches}
-use Rattle.rec_apply.proofs.Touching.{decremented_touched, touched_orange}
-use Rattle.rec_apply.proofs.Whole.{is_applied}
+use Rattle.rec_counts.specs.Batch.{applied, AreAlike, IsApplied, IsCovered, touches}
+use Rattle.rec_counts.proofs.Touching.{decremented_touched, touched_orange}
+use Rattle.rec_counts.proofs.Whole.{is_applied}
 use Rattle.rec_release.specs.TakenOff.{down_if, IsApart, is_lowered, taken_off}
-use Rattle.rec_walk.specs.Load.{Load}
+use Rattle.rec_word.specs.Load.{Load}
 use Rattle.rec_collector.specs.Outside.{HasSets, IsOutside}
 use Rattle.rec_collector.specs.Step.{Step, GoesOn, PreparesOn, TriesOn, ClearsOn, IsNext, IsTested, IsBetween}
 use Rattle.rec_collector.specs.Touched.{decrements, IsOrangeIn, named_at, named_behind, named_by, tried_at, WasUntouched}
@@ -21,7 +21,7 @@ use Rattle.rec_collector.proofs.Landing.{now_at}
 use Rattle.rec_collector.proofs.Presence.{gone_behind, next_is, none_is}
 use Rattle.rec_collector.specs.Next.{is_spent}
 use Rattle.rec_release.specs.declared.at.At.{At}
-use Rattle.rec_walk.specs.declared.member.Member.{Member}
+use Rattle.rec_word.specs.declared.member.Member.{Member}
 use Rattle.rec_release.specs.CycleFree as frees
 use Rattle.rec_release.specs.Release as releases
 use Rattle.rec_trial.specs.Trial as trials
@@ -152,11 +152,12 @@ relieved_setting w m (Some a) = tt
 clears_leave : (p q : Private) (turn : Turn) (x : ℕ) {b : Begun} → IsSetting b.phase → ClearsOn p q turn b → (tried_at q.epoch q.phase ≡ p.epoch → ⊥) → Leaves b.parts.counts q x 0
 clears_leave p q turn x {b} has (ClearsOn.works phase at g) early = (same_spares b.parts.counts q.counts x (ap (λ (r : Private). r.counts) g.after), subst HasSets (sym (ap (λ (r : Private). r.phase) g.after)) (subst IsSetting at has))
 clears_leave p q turn x {b} has (ClearsOn.tests v none some tested on) early = let more = clears_leave p q turn x (tested_setting b.parts v tested) on early in (spares_then (tested_spares b.parts v x tested) more.0, more.1)
-clears_leave p q turn x has (ClearsOn.tries none empty on) early = absurd (early (tries_late p q _ _ turn on))
+clears_leave p q turn x has (ClearsOn.tries none empty due on) early = absurd (early (tries_late p q _ _ turn on))
+clears_leave p q turn x has (ClearsOn.waits none empty off on) early = absurd (early (prepares_late p q _ _ turn on))
 
-batched_spares : (p : Private) (x : ℕ) → IsAtRest (parts_of p) → AreAlike p.newer p.older → IsCovered p.counts p.newer p.older → Spares p.counts (applied p.steady p.counts p.newer p.older) x (touches p.steady x p.newer p.older)
+batched_spares : (p : Private) (x : ℕ) → IsAtRest (parts_of p) → AreAlike p.newer p.older → IsCovered p.counts p.newer p.older → Spares p.counts (applied p.policy.steady p.counts p.newer p.older) x (touches p.policy.steady x p.newer p.older)
 batched_spares p x r alike c =
-    let is : IsApplied p.steady p.counts p.newer p.older (applied p.steady p.counts p.newer p.older) = is_applied p.steady p.counts p.newer p.older r.zeros alike c in
+    let is : IsApplied p.policy.steady p.counts p.newer p.older (applied p.policy.steady p.counts p.newer p.older) = is_applied p.policy.steady p.counts p.newer p.older r.zeros alike c in
     record {
       each = λ number o.
           let b = batch_same is (none_released r) x o.1 in
@@ -202,14 +203,14 @@ module _ (p q : Private) (word x : ℕ) (turn : Turn) (k : IsMachine p) (same : 
   step_leaves given has (Step.spent at last none is t) = leaves (ap (λ (r : Private). r.counts) is) refl (ap (λ (r : Private). r.phase) is) has (named_as at ∙ cond-true (is_spent p) 0 (named_behind p x (next_present p.left 0)) (eq-eqb (p.epoch + 1) (2 ^ 24) last))
   step_leaves given has (Step.request next at more is n g) = goes g refl tt (named_as at ∙ cond-false (is_spent p) 0 (named_behind p x (next_present p.left 0)) (ne_eqb (p.epoch + 1) (2 ^ 24) more) ∙ ap (named_behind p x) (next_is p.left 0 next n))
   step_leaves given has (Step.request_alone at more is gone on) =
-      let w : Parts = record (parts_of p) { counts = applied p.steady p.counts p.newer p.older } in
+      let w : Parts = record (parts_of p) { counts = applied p.policy.steady p.counts p.newer p.older } in
       clears (zeros_setting false w) on (ap (λ f. tried_at p.epoch f + 1) at) (spares_then (batched_spares p x (now_at p Idle k at).0 (rows_alike p k) (subst (IsGivenAt p word) at given gone)) (zeros_spares false w x))
       (named_as at ∙ cond-false (is_spent p) 0 (named_behind p x (next_present p.left 0)) (ne_eqb (p.epoch + 1) (2 ^ 24) more) ∙ ap (named_behind p x) (none_is p.left 0 gone))
   step_leaves given has (Step.wait t at other is kept answers) = leaves (ap (λ (r : Private). r.counts) kept) refl (ap (λ (r : Private). r.phase) kept) has (named_as at)
   step_leaves given has (Step.gather t at crossed is g) = goes g refl tt (named_as at)
   step_leaves given has (Step.give_back t next at is n g) = goes g refl tt (named_as at ∙ ap (named_behind p x) (next_is (noted p t).left t next n))
   step_leaves given has (Step.apply t at is gone on) =
-      let w : Parts = record (parts_of p) { counts = applied p.steady p.counts p.newer p.older } in
+      let w : Parts = record (parts_of p) { counts = applied p.policy.steady p.counts p.newer p.older } in
       let a : IsAt p (Returning t) = now_at p (Returning t) k at in
       clears (zeros_setting false w) on (trying_before (ap under_way at) (ap (tried_at p.epoch) at))
       (spares_then (batched_spares p x a.rest (rows_alike p k) (subst (IsGivenAt p word) at given (gone_behind p.left t (buffer_at p.newer (t - 1)).last a.first gone))) (zeros_spares false w x))

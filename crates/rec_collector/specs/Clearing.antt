@@ -10,7 +10,7 @@ use Rattle.rec_release.specs.Released.{is_at}
 use Rattle.rec_release.specs.Sweep.{AreUnbuffered}
 use Rattle.rec_release.specs.TakenOff.{AllZerosButOrange, IsApart}
 use Rattle.rec_release.specs.declared.at.At.{At}
-use Rattle.rec_walk.specs.declared.member.Member.{Member}
+use Rattle.rec_word.specs.declared.member.Member.{Member}
 use Rattle.rec_collector.specs.Outside.{AreOutside}
 use Rattle.rec_collector.specs.Parts.{Parts}
 use Rattle.rec_collector.specs.Testing.{Begun, told}

@@ -1,11 +1,12 @@
 -- What follows a word that came out of a field or was loaded from one: up to the next operation, and the phase that it is in.
-use Rattle.std.specs.Prelude.{ℕ, true, false, Option, None, Some, List, [], ◌∷◌, length}
+use Rattle.std.specs.Prelude.{ℕ, nat_le, if◌then◌else◌, Bool, true, false, Option, None, Some, List, [], ◌∷◌, length}
 use Rattle.rec_word.specs.declared.op.Op.{Op}
 use Rattle.rec_release.specs.CycleFree as frees
 use Rattle.rec_release.specs.Release as releases
-use Rattle.rec_walk.specs.declared.member.Member.{Member}
+use Rattle.rec_word.specs.declared.member.Member.{Member}
 use Rattle.rec_sigma.specs.Prepare as preps
 use Rattle.rec_sigma.specs.declared.at.At as loads
+use Rattle.rec_trial.specs.Postponed.{postponed}
 use Rattle.rec_trial.specs.Rules.{visible}
 use Rattle.rec_trial.specs.Trial as trials
 use Rattle.rec_collector.specs.Offered.{offered_where}
@@ -53,11 +54,23 @@ tried w v = tried_at (record w { counts = v.counts }) v.machine (trials.next_of 
 abbrev pub with_offers : Parts → Parts
 with_offers w = record w { counts = offered_where w.offers w.counts; offers = false }
 
--- a trial begins, once every slot was offered where that was asked for
-abbrev pub trial_started : Parts → Next
-trial_started w = tried (with_offers w) (trials.started_of w.fields (with_offers w).counts)
+-- a trial is made where slots are offered, or where as many candidate roots wait as the policy asks for
+abbrev pub makes_trial : Parts → Bool
+makes_trial w = if w.offers then true else nat_le w.policy.least_roots (length w.counts.roots)
 
--- what was begun goes on; where nothing was, a trial begins
+-- it is postponed
+abbrev pub put_off : Parts → Parts
+put_off w = record w { counts = postponed w.counts }
+
+-- A trial begins, once every slot was offered where that was asked for. Or it is postponed, and there are no sets to prepare.
+abbrev pub trial_if : (made : Bool) → Parts → Next
+trial_if true w = tried (with_offers w) (trials.started_of w.fields (with_offers w).counts)
+trial_if false w = prepared (put_off w) (prep_started (put_off w))
+
+abbrev pub trial_started : Parts → Next
+trial_started w = trial_if (makes_trial w) w
+
+-- what was begun goes on; where nothing was, a trial begins or is postponed
 abbrev pub going_on : Parts → Option Phase → Next
 going_on w (Some phase) = next_in phase w
 going_on w None = trial_started w

@@ -1,6 +1,6 @@
 -- What holds where a collection goes on to the next mutator that it gathers from.
 use Rattle.std.specs.Prelude.{ℕ, ◌+◌, ◌*◌, ◌^◌, ◌≤◌, length}
-use Rattle.rec_apply.specs.Batch.{IsCovered}
+use Rattle.rec_counts.specs.Batch.{IsCovered}
 use Rattle.rec_collector.specs.Kept.{AreSpare, IsAtRest}
 use Rattle.rec_collector.specs.Present.{HaveLeft}
 use Rattle.rec_collector.specs.Private.{Private, parts_of}

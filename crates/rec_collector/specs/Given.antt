@@ -3,7 +3,7 @@ use Rattle.std.specs.Prelude.{◌≡◌, ℕ, ◌<◌, Option, None, Some, IfSom
 use Rattle.rec_word.specs.Word.{target_of}
 use Rattle.rec_log.specs.declared.contents.Contents.{Contents}
 use Rattle.rec_counts.specs.Counts.{slot_at}
-use Rattle.rec_apply.specs.Batch.{IsCovered}
+use Rattle.rec_counts.specs.Batch.{IsCovered}
 use Rattle.rec_trial.specs.Rules.{LeadsToUnreleased}
 use Rattle.rec_collector.specs.Present.{HaveLeft}
 use Rattle.rec_collector.specs.Private.{Private}

@@ -21,7 +21,7 @@ private inside =
       left = inside.left.items;
       sets = inside.parts.sets;
       offers = inside.parts.offers;
-      steady = inside.steady;
+      policy = inside.parts.policy;
     }
 
 -- what the fields of every machine keep

@@ -1,5 +1,5 @@
 -- What every machine keeps, by phase.
-use Rattle.std.specs.Prelude.{◌≡◌, ◌≢◌, ℕ, ◌+◌, ◌-◌, ◌*◌, ◌^◌, ◌<◌, ◌≤◌, true, false, Some, IsSome, List, [], length, slice_get}
+use Rattle.std.specs.Prelude.{◌≡◌, ◌≢◌, ℕ, ◌+◌, ◌-◌, ◌*◌, ◌^◌, ◌<◌, ◌≤◌, true, false, Some, IsSome, ◌⊎◌, List, [], length, slice_get}
 use Rattle.rec_log.specs.declared.contents.Contents.{Contents}
 use Rattle.rec_counts.specs.declared.colour.Colour.TheVariants.{Orange}
 use Rattle.rec_counts.specs.Counts.{State, slot_at, IsKept as IsKeptCounts}
@@ -7,7 +7,7 @@ use Rattle.rec_counts.specs.Lists.{times}
 use Rattle.rec_release.specs.Sweep.{AreUnbuffered}
 use Rattle.rec_release.specs.TakenOff.{IsApart}
 use Rattle.rec_sigma.specs.Prepare as preps
-use Rattle.rec_walk.specs.Load.{Load}
+use Rattle.rec_word.specs.Load.{Load}
 use Rattle.rec_sigma.specs.Prepared as prepared
 use Rattle.rec_trial.specs.Loaded as trials
 use Rattle.rec_trial.specs.Trial.{Machine as Trial, next_of as trial_next}
@@ -49,32 +49,36 @@ pub record IsListed (s : State) : Type 0 where
   pub only : (x : ℕ) → 0 < times x s.free → (slot_at s x).released ≡ true
   pub unbuffered : AreUnbuffered s
 
--- Nothing is left to release or to try, and each slot has a count. Every released slot is in the free list, and no slot of it is
--- buffered.
-pub record AreTried (s : State) : Type 0 where
+-- Fewer candidate roots wait than these, or none.
+abbrev pub AreFew : (least : ℕ) → (roots : List ℕ) → Type 0
+AreFew least roots = (length roots < least) ⊎ (roots ≡ [])
+
+-- Nothing is left to release, nor to try but for fewer candidate roots than these, and each slot has a count. Every released slot is in
+-- the free list, and no slot of it is buffered.
+pub record AreTried (least : ℕ) (s : State) : Type 0 where
   pub untried : IsUntried s
   pub apart : IsApart s
   pub counted : AreCounted s
   pub zeros : s.zeros ≡ []
-  pub roots : s.roots ≡ []
+  pub roots : AreFew least s.roots
   pub work : s.work ≡ []
   pub listed : (x : ℕ) → x < length s.slots → (slot_at s x).released ≡ true → 0 < times x s.free
   pub unbuffered : AreUnbuffered s
 
 -- nor is anything left to prepare, of slots with so many fields
-pub record ArePrepared (fields : ℕ) (s : State) : Type 0 where
-  pub tried : AreTried s
+pub record ArePrepared (least fields : ℕ) (s : State) : Type 0 where
+  pub tried : AreTried least s
   pub open tried use *
   pub outside : AreOutside fields s
 
 -- nor to sweep
-pub record AreResting (fields : ℕ) (s : State) : Type 0 where
-  pub prepared : ArePrepared fields s
+pub record AreResting (least fields : ℕ) (s : State) : Type 0 where
+  pub prepared : ArePrepared least fields s
   pub open prepared use *
   pub free : s.free ≡ []
 
 abbrev pub IsAtRest : Parts → Type 0
-IsAtRest w = AreResting w.fields w.counts
+IsAtRest w = AreResting w.policy.least_roots w.fields w.counts
 
 -- the mutators up to this number were looked at or have left; the mutator at work is there, and so many turns were made at most
 pub record IsGathering (p : Private) (t given_back made : ℕ) : Type 0 where
@@ -115,8 +119,8 @@ pub record IsTrying (p : Private) (trial : Trial) : Type 0 where
   pub turns : p.turns ≤ 1 + 2 * length p.newer + all_fields p + length kept.words
 
 -- the sets that a trial found are prepared, or were
-pub record AreInPreparation (s : State) (prep : preps.Machine) : Type 0 where
-  pub tried : AreTried s
+pub record AreInPreparation (least : ℕ) (s : State) (prep : preps.Machine) : Type 0 where
+  pub tried : AreTried least s
   pub kept : preps.IsAtWork prep s
   pub before : State
   pub before_kept : IsKeptCounts before
@@ -126,14 +130,14 @@ pub record AreInPreparation (s : State) (prep : preps.Machine) : Type 0 where
 -- they are: each turn since this began took in a word
 pub record IsPreparing (p : Private) (prep : preps.Machine) : Type 0 where
   pub fields : prep.fields ≡ p.fields
-  pub preparation : AreInPreparation p.counts prep
+  pub preparation : AreInPreparation p.policy.least_roots p.counts prep
   pub open preparation use *
   pub busy : IsSome prep.at
   pub turns : p.turns ≤ 2 + 2 * length p.newer + 4 * all_fields p + length loads
 
 -- A sweep is at work, or about to begin or to end: so many were swept, and the others are left.
 pub record IsSweeping (p : Private) (swept made : ℕ) : Type 0 where
-  pub before : ArePrepared p.fields p.counts
+  pub before : ArePrepared p.policy.least_roots p.fields p.counts
   pub open before use *
   pub left : swept + length p.counts.free ≤ length p.counts.slots
   pub turns : p.turns ≤ 2 + 2 * length p.newer + 5 * all_fields p + made
@@ -199,11 +203,11 @@ pub record IsMachine (p : Private) : Type 0 where
   pub told : IsTold p p.phase
   pub now : IsAt p p.phase
 
--- what no step changes: the numbers of slots, fields, registers and mutators, and what a buffer can hold
+-- what no step changes: the numbers of slots, fields, registers and mutators, what a buffer can hold, and how the heap is collected
 pub record KeepsSizes (p q : Private) : Type 0 where
   pub slots : length q.counts.slots ≡ length p.counts.slots
   pub fields : q.fields ≡ p.fields
   pub registers : q.registers ≡ p.registers
   pub capacity : q.capacity ≡ p.capacity
-  pub steady : q.steady ≡ p.steady
+  pub policy : q.policy ≡ p.policy
   pub mutators : length q.newer ≡ length p.newer

@@ -4,7 +4,7 @@ use Rattle.std.specs.List.{concat}
 use Rattle.rec_word.specs.Place.{places_of}
 use Rattle.rec_counts.specs.declared.colour.Colour.TheVariants.{Orange}
 use Rattle.rec_counts.specs.Counts.{State, slot_at}
-use Rattle.rec_walk.specs.Load.{Load, place_loaded}
+use Rattle.rec_word.specs.Load.{Load, place_loaded}
 use Rattle.rec_sigma.specs.Prepared.{outside}
 use Rattle.rec_collector.specs.declared.phase.Phase.{Phase}
 use Rattle.rec_collector.specs.declared.phase.Phase.TheVariants.{Trying, Preparing}

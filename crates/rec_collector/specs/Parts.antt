@@ -4,23 +4,25 @@ use Rattle.rec_counts.specs.Counts.{State}
 use Rattle.rec_release.specs.CycleFree as frees
 use Rattle.rec_release.specs.Release as releases
 use Rattle.rec_sigma.specs.Prepare as preps
+use Rattle.rec_collector.specs.declared.policy.Policy.{Policy}
 use Rattle.rec_collector.specs.declared.sets.Sets.{Sets}
 
--- the counts; how many fields a slot has; what became of the sets that were tested; and whether every slot is to be offered to the
--- next trial
+-- the counts; how many fields a slot has; what became of the sets that were tested; whether every slot is to be offered to the next
+-- trial; and how the heap is collected
 pub record Parts : Type 0 where
   pub counts : State
   pub fields : ℕ
   pub sets : Sets
   pub offers : Bool
+  pub policy : Policy
 
 -- no set was tested
 abbrev pub no_sets : Sets
 no_sets = record { freed = 0; delta = 0; sigma = 0 }
 
 -- nothing was tested, and no slot is to be offered
-abbrev pub new_parts : State → (fields : ℕ) → Parts
-new_parts counts fields = record { counts = counts; fields = fields; sets = no_sets; offers = false }
+abbrev pub new_parts : State → (fields : ℕ) → Policy → Parts
+new_parts counts fields policy = record { counts = counts; fields = fields; sets = no_sets; offers = false; policy = policy }
 
 -- machines that begin their work
 abbrev pub new_release : (fields : ℕ) → releases.Machine

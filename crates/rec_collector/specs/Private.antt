@@ -1,9 +1,10 @@
 -- The collector's machine as a whole: plain data.
 use Rattle.std.specs.Prelude.{ℕ, ◌-◌, Bool, false, Option, None, Some, List, [], ◌∷◌, map, replicate, slice_index_or as item_at}
 use Rattle.rec_log.specs.declared.contents.Contents.{Contents}
-use Rattle.rec_counts.specs.Counts.{State, opened as opened_counts, opened_from as counted_from}
+use Rattle.rec_counts.specs.Counts.{State, opened as opened_counts}
 use Rattle.rec_collector.specs.Parts.{Parts, no_sets}
 use Rattle.rec_collector.specs.Rows.{rows_of}
+use Rattle.rec_collector.specs.declared.policy.Policy.{Policy}
 use Rattle.rec_collector.specs.declared.sets.Sets.{Sets}
 use Rattle.rec_collector.specs.declared.phase.Phase.{Phase}
 use Rattle.rec_collector.specs.declared.phase.Phase.TheVariants.{Idle}
@@ -12,7 +13,7 @@ use Rattle.rec_collector.specs.declared.phase.Phase.TheVariants.{Idle}
 -- how far the collection has come, with the machine that is at work; the registers and the room of each buffer; how many fields a slot
 -- has; the counts; for each mutator the newer buffer, which is a spare until its mailbox was gathered, the older one, and whether it has
 -- left: its last buffer was gathered; what became of the sets that were tested; whether every slot is to be offered to the next trial; and
--- whether the heap is steady, so that a batch leaves out registers that didn't change
+-- how the heap is collected
 pub record Private : Type 0 where
   pub epoch : ℕ
   pub collections : ℕ
@@ -28,7 +29,11 @@ pub record Private : Type 0 where
   pub left : List Bool
   pub sets : Sets
   pub offers : Bool
-  pub steady : Bool
+  pub policy : Policy
+
+-- a script's heap isn't steady, and makes a trial in each collection
+abbrev pub plain : Policy
+plain = record { steady = false; least_roots = 0 }
 
 -- a buffer without entries that has these registers as its snapshot
 abbrev pub retired : (registers : List (Option ℕ)) (capacity : ℕ) → Contents
@@ -42,13 +47,13 @@ blank registers capacity = retired (replicate registers None) capacity
 abbrev pub spare : Private → Contents
 spare p = blank p.registers p.capacity
 
--- the registers of each mutator as a heap is opened: register 0 names slot 0, the others are null
-abbrev pub first_registers : (registers : ℕ) → List (Option ℕ)
-first_registers registers = Some 0 ∷ replicate (registers - 1) None
+-- the older buffers where registers named these slots, mutator after mutator
+abbrev pub retired_rows : (registers mutators capacity : ℕ) → List (Option ℕ) → List Contents
+retired_rows registers mutators capacity held = map (λ own. retired own capacity) (rows_of registers mutators held)
 
--- a machine as it is opened, with these counts and older buffers: the collection of the epoch before counts as done
-abbrev pub opened_with : (fields registers mutators capacity first_epoch : ℕ) → (steady : Bool) → State → (older : List Contents) → Private
-opened_with fields registers mutators capacity first_epoch steady counts older =
+-- a machine as it is opened where the first slots have these counts, and registers named these slots
+abbrev pub opened : (slots fields registers mutators capacity first_epoch : ℕ) → (policy : Policy) → (counts : List ℕ) → (held : List (Option ℕ)) → Private
+opened slots fields registers mutators capacity first_epoch policy counts held =
     record {
       epoch = first_epoch;
       collections = 0;
@@ -58,28 +63,14 @@ opened_with fields registers mutators capacity first_epoch steady counts older =
       registers = registers;
       capacity = capacity;
       fields = fields;
-      counts = counts;
+      counts = opened_counts slots counts;
       newer = replicate mutators (blank registers capacity);
-      older = older;
+      older = retired_rows registers mutators capacity held;
       left = replicate mutators false;
       sets = no_sets;
       offers = false;
-      steady = steady;
+      policy = policy;
     }
-
--- a machine as it is opened with one object, which every mutator names
-abbrev pub opened : (slots fields registers mutators capacity first_epoch : ℕ) → (steady : Bool) → Private
-opened slots fields registers mutators capacity first_epoch steady =
-    opened_with fields registers mutators capacity first_epoch steady (opened_counts slots mutators) (replicate mutators (retired (first_registers registers) capacity))
-
--- the older buffers where registers named these slots, mutator after mutator
-abbrev pub retired_rows : (registers mutators capacity : ℕ) → List (Option ℕ) → List Contents
-retired_rows registers mutators capacity held = map (λ own. retired own capacity) (rows_of registers mutators held)
-
--- a machine as it is opened where the first slots have these counts, and registers named these slots
-abbrev pub opened_from : (slots fields registers mutators capacity first_epoch : ℕ) → (steady : Bool) → (counts : List ℕ) → (held : List (Option ℕ)) → Private
-opened_from slots fields registers mutators capacity first_epoch steady counts held =
-    opened_with fields registers mutators capacity first_epoch steady (counted_from slots counts) (retired_rows registers mutators capacity held)
 
 -- the buffer of the mutator of this number, which is one more than its place
 abbrev pub buffer_at : List Contents → (place : ℕ) → Contents
@@ -87,7 +78,7 @@ buffer_at buffers place = item_at buffers place (blank 0 0)
 
 -- what the collection works on between a batch and a sweep
 abbrev pub parts_of : Private → Parts
-parts_of p = record { counts = p.counts; fields = p.fields; sets = p.sets; offers = p.offers }
+parts_of p = record { counts = p.counts; fields = p.fields; sets = p.sets; offers = p.offers; policy = p.policy }
 
 abbrev pub with_parts : Private → Parts → Private
-with_parts p w = record p { counts = w.counts; fields = w.fields; sets = w.sets; offers = w.offers }
+with_parts p w = record p { counts = w.counts; fields = w.fields; sets = w.sets; offers = w.offers; policy = w.policy }

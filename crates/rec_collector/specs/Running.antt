@@ -1,5 +1,5 @@
 -- Runs of turns for the machine that is at work: words that it learns one after another, each by a turn.
-use Rattle.std.specs.Prelude.{◌≡◌, ℕ, ◌+◌, ◌-◌, ◌^◌, ◌<◌, false, Option, IsSome}
+use Rattle.std.specs.Prelude.{◌≡◌, ℕ, ◌+◌, ◌-◌, ◌^◌, ◌<◌, false, Option, IsSome, []}
 use Rattle.rec_word.specs.declared.op.Op.{Op}
 use Rattle.rec_counts.specs.Counts.{State}
 use Rattle.rec_release.specs.CycleFree as frees
@@ -9,7 +9,7 @@ use Rattle.rec_trial.specs.Trial as trials
 use Rattle.rec_collector.specs.Followed.{Next, followed, prepared, relieved, tried}
 use Rattle.rec_collector.specs.Given.{IsGiven}
 use Rattle.rec_collector.specs.Kept.{IsMachine, KeepsSizes}
-use Rattle.rec_collector.specs.Private.{Private, opened, parts_of, with_parts}
+use Rattle.rec_collector.specs.Private.{Private, opened, parts_of, plain, with_parts}
 use Rattle.rec_collector.specs.Took.{came, came_turn, moved, swept_phase, took_of, turn_of}
 use Rattle.rec_collector.specs.declared.phase.Phase.{Phase}
 use Rattle.rec_collector.specs.declared.phase.Phase.TheVariants.{Freeing, Trying, Preparing, Sweeping}
@@ -18,7 +18,7 @@ use Rattle.rec_collector.specs.declared.turn.Turn.TheVariants.{Moved}
 
 -- a machine to name where none is at hand
 abbrev pub some_machine : Private
-some_machine = opened 1 1 1 1 0 0 false
+some_machine = opened 0 0 0 0 0 0 plain [] []
 
 -- So many turns were made, and all but the last one moved. The machine has come to this record, and the last turn answered this.
 pub data Turned (p : Private) : ℕ → Private → Turn → Type 0 where

@@ -5,7 +5,7 @@ use Rattle.rec_word.specs.declared.op.Op.{Op}
 use Rattle.rec_word.specs.declared.op.Op.TheVariants.{StoreEpoch, ReturnBox}
 use Rattle.rec_log.specs.declared.contents.Contents.{Contents}
 use Rattle.rec_counts.specs.Groups.{last_set}
-use Rattle.rec_walk.specs.declared.member.Member.{Member}
+use Rattle.rec_word.specs.declared.member.Member.{Member}
 use Rattle.rec_collector.specs.Parts.{Parts}
 use Rattle.rec_collector.specs.Private.{Private}
 use Rattle.rec_collector.specs.Step.{ClearsOn, IsTested, Step}

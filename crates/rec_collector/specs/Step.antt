@@ -5,7 +5,7 @@ use Rattle.rec_word.specs.declared.mailbox.Mailbox.TheVariants.{Retired}
 use Rattle.rec_word.specs.declared.op.Op.{Op}
 use Rattle.rec_word.specs.declared.op.Op.TheVariants.{StoreEpoch, LookBox, ReturnBox, LoadChild, ClearField, FreeHeader, AddFreed}
 use Rattle.rec_log.specs.declared.contents.Contents.{Contents}
-use Rattle.rec_apply.specs.Batch.{applied}
+use Rattle.rec_counts.specs.Batch.{applied}
 use Rattle.rec_counts.specs.Counts.{State}
 use Rattle.rec_release.specs.CycleFree as frees
 use Rattle.rec_release.specs.CycleFree.{next_of as freeing_next}
@@ -18,7 +18,7 @@ use Rattle.rec_sigma.specs.Prepare as preps
 use Rattle.rec_release.specs.Release as releases
 use Rattle.rec_trial.specs.Trial as trials
 use Rattle.rec_trial.specs.Trial.{next_of as trial_next}
-use Rattle.rec_collector.specs.Followed.{prep_started, with_freed, with_offers, with_released}
+use Rattle.rec_collector.specs.Followed.{makes_trial, prep_started, put_off, with_freed, with_offers, with_released}
 use Rattle.rec_collector.specs.Parts.{Parts, new_freeing}
 use Rattle.rec_collector.specs.Present.{HaveLeft, IsNextPresent}
 use Rattle.rec_collector.specs.Private.{Private, parts_of, with_parts}
@@ -65,15 +65,17 @@ pub data IsTested (w : Parts) (v : Begun) : Type 0 where
       → v ≡ zeros_released true (record w { counts = s; sets = counted_by Held w.sets }) → IsTested w v
 
 -- A release, or the freeing of a set, came so far. While a field is due it goes on. Then the last set is tested, and once no set is
--- left a trial begins.
+-- left a trial
+-- begins, or is postponed. It begins where slots are offered, or where as many candidate roots wait as the policy asks for.
 pub data ClearsOn (p q : Private) (turn : Turn) : Begun → Type 0 where
   works : {b : Begun} (phase : Phase) → b.phase ≡ Some phase → GoesOn (with_parts p b.parts) q turn phase → ClearsOn p q turn b
   tests : {b : Begun} (c : Begun) → b.phase ≡ None → 0 < length b.parts.counts.sets → IsTested b.parts c → ClearsOn p q turn c → ClearsOn p q turn b
-  tries : {b : Begun} → b.phase ≡ None → b.parts.counts.sets ≡ [] → TriesOn p (with_offers b.parts) (trials.started_of b.parts.fields (with_offers b.parts).counts) q turn → ClearsOn p q turn b
+  tries : {b : Begun} → b.phase ≡ None → b.parts.counts.sets ≡ [] → makes_trial b.parts ≡ true → TriesOn p (with_offers b.parts) (trials.started_of b.parts.fields (with_offers b.parts).counts) q turn → ClearsOn p q turn b
+  waits : {b : Begun} → b.phase ≡ None → b.parts.counts.sets ≡ [] → makes_trial b.parts ≡ false → PreparesOn p (put_off b.parts) (prep_started (put_off b.parts)) q turn → ClearsOn p q turn b
 
 -- The batch is applied, and its zeros are released.
 abbrev pub Applies : (p q : Private) → Turn → Type 0
-Applies p q turn = ClearsOn p q turn (zeros_released false (record (parts_of p) { counts = applied p.steady p.counts p.newer p.older }))
+Applies p q turn = ClearsOn p q turn (zeros_released false (record (parts_of p) { counts = applied p.policy.steady p.counts p.newer p.older }))
 
 -- after one slot more was swept, the next one follows, or the end of the sweep
 pub data IsNext (swept : ℕ) (w : sweeps.Work) (next_phase : Phase) : Type 0 where

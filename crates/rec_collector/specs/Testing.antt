@@ -5,7 +5,7 @@ use Rattle.rec_counts.specs.Colour.{is_orange}
 use Rattle.rec_release.specs.CycleFree as frees
 use Rattle.rec_release.specs.Release as releases
 use Rattle.rec_release.specs.declared.at.At.{At}
-use Rattle.rec_walk.specs.declared.member.Member.{Member}
+use Rattle.rec_word.specs.declared.member.Member.{Member}
 use Rattle.rec_sigma.specs.Judged.{cyclic_sum}
 use Rattle.rec_sigma.specs.Prepare.{members_of}
 use Rattle.rec_sigma.specs.Settling.{refurbished_of}

@@ -3,7 +3,7 @@ use Rattle.std.specs.Prelude.{ℕ, ◌+◌, ◌-◌, ◌==◌, false, Option, No
 use Rattle.rec_word.specs.Mailbox.{crossing_word}
 use Rattle.rec_word.specs.declared.mailbox.Mailbox.TheVariants.{Retired}
 use Rattle.rec_log.specs.declared.contents.Contents.{Contents}
-use Rattle.rec_apply.specs.Batch.{applied}
+use Rattle.rec_counts.specs.Batch.{applied}
 use Rattle.rec_release.specs.Sweep as sweeps
 use Rattle.rec_collector.specs.Followed.{Next, followed, worked}
 use Rattle.rec_collector.specs.Next.{is_spent}
@@ -39,7 +39,7 @@ came p n = ended_if n.phase (moved (with_parts p n.parts) n.phase)
 
 -- the batch is applied
 abbrev pub batched : Private → Parts
-batched p = record (parts_of p) { counts = applied p.steady p.counts p.newer p.older }
+batched p = record (parts_of p) { counts = applied p.policy.steady p.counts p.newer p.older }
 
 -- what follows the batch: its zeros are released
 abbrev pub batch_next : Private → Next

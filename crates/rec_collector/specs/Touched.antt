@@ -1,7 +1,7 @@
 -- What names a slot from one step to the next: a batch, and what is taken off afterwards.
 use Rattle.std.specs.Prelude.{◌≡◌, ℕ, ◌+◌, ◌-◌, ◌&&◌, not, if◌then◌else◌, Bool, true, Option, None, Some}
 use Rattle.rec_word.specs.Word.{target_of, is_slot}
-use Rattle.rec_apply.specs.Batch.{touches}
+use Rattle.rec_counts.specs.Batch.{touches}
 use Rattle.rec_counts.specs.declared.colour.Colour.TheVariants.{Orange}
 use Rattle.rec_counts.specs.Counts.{State, slot_at}
 use Rattle.rec_counts.specs.Lists.{one}
@@ -31,7 +31,7 @@ decrements lowers s target x = one (is_slot x target && not (is_lowered lowers (
 -- how often a turn names the slot that goes on with this mutator's mailbox, or applies the batch: the increments, the decrements, the
 -- snapshots and the births of leaves of the batch, but in a steady heap without the registers that didn't change
 abbrev pub named_behind : Private → (x : ℕ) → Option ℕ → ℕ
-named_behind p x None = touches p.steady x p.newer p.older
+named_behind p x None = touches p.policy.steady x p.newer p.older
 named_behind p x (Some t) = 0
 
 -- how often a step names the slot, by phase: what a batch names, or one decrement

@@ -6,8 +6,8 @@ ghost use Rattle.rec_collector.specs.Took.{cleared};
 use rec_log::{Buffer, Frame};
 use std::alloc::{AllocError as NoMemory, Global};
 
-/// A buffer for each mutator, with room for so many entries, and this frame as its snapshot.
-pub(crate) fn open_row(
+// A buffer for each mutator, with room for so many entries, and this frame as its snapshot.
+fn open_row(
     alloc: Global,
     mutators: u8,
     capacity: u32,

@@ -2,12 +2,12 @@
 
 ghost use Rattle.std.specs.Prelude.{◌≡◌, ◌↔◌, ◌+◌, ◌-◌, ℕ, false, true, List, [], IfSome, Some, length};
 ghost use Rattle.rec_log.specs.declared.contents.Contents.{Contents};
-ghost use Rattle.rec_apply.specs.Batch.{batch};
-ghost use Rattle.rec_apply.specs.Targets.{added, leaves, taken};
+ghost use Rattle.rec_counts.specs.Batch.{batch};
+ghost use Rattle.rec_counts.specs.Targets.{added, leaves, taken};
 ghost use Rattle.rec_counts.specs.declared.colour.Colour.TheVariants.{Orange};
 ghost use Rattle.rec_counts.specs.Counts.{slot_at, IsKept as IsKeptCounts, State};
 ghost use Rattle.rec_sigma.specs.Prepared.{seen};
-ghost use Rattle.rec_collector.specs.Followed.{with_offers};
+ghost use Rattle.rec_collector.specs.Followed.{makes_trial, with_offers};
 ghost use Rattle.rec_collector.specs.Given.{IsGiven, IsSized};
 ghost use Rattle.rec_collector.specs.Kept.{IsMachine};
 ghost use Rattle.rec_collector.specs.Next.{next_of};
@@ -15,6 +15,7 @@ ghost use Rattle.rec_collector.specs.Offered.{AreOffered};
 ghost use Rattle.rec_collector.specs.Outside.{AreOutside, HasSets};
 ghost use Rattle.rec_collector.specs.Parts.{Parts};
 ghost use Rattle.rec_collector.specs.Private.{Private};
+ghost use Rattle.rec_collector.specs.declared.phase.Phase.TheVariants.{Idle};
 ghost use Rattle.rec_collector.specs.Shown.{IsShownAsMade};
 ghost use Rattle.rec_collector.specs.Step.{IsBetween, NamesWord, Step, WholeStep};
 ghost use Rattle.rec_collector.specs.Took.{left_of, step_of, took_of, turn_of};
@@ -70,6 +71,14 @@ pub fn batches_colour_what_they_name()
 /// while no true count and no other list changes. It is offered once: the next trial begins as ever, unless that is asked for again.
 pub fn offers_are_whole()
     ensures { (w : Parts) → w.offers ≡ true → IsKeptCounts w.counts → w.counts.sets ≡ [] → AreOffered w.counts (with_offers w).counts × ((with_offers w).offers ≡ false) }
+{}
+
+/// A trial is made wherever slots are offered, and wherever the policy asks for no candidate roots. In the second case no root waits
+/// between two collections.
+pub fn trials_are_made_where_asked()
+    ensures offered { (w : Parts) → w.offers ≡ true → makes_trial w ≡ true }
+    ensures always { (w : Parts) → w.policy.least_roots ≡ 0 → makes_trial w ≡ true }
+    ensures none { (p : Private) → IsMachine p → p.policy.least_roots ≡ 0 → p.phase ≡ Idle → p.counts.roots ≡ [] }
 {}
 
 /// What a watch is shown of a step is what the step did, by whichever of the rules it was made. It was shown a batch exactly where the

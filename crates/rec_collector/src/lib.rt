@@ -4,7 +4,8 @@
 //! A collection requests the next epoch, and gathers from each mutator that hasn't left the buffer that it retired on crossing. One
 //! whose buffer was its last is passed over from then on. With the last buffer the batch is applied, and its zeros are released. Then
 //! the sets that the last collection found are tested, the last one first, and freed or refurbished; a trial is made from the roots,
-//! the sets that it finds are prepared for their tests, and what is free is swept. Where `offer_all` has asked for that, the next trial
+//! the sets that it finds are prepared for their tests, and what is free is swept. The trial is postponed while fewer roots wait than the
+//! policy asks for. Where `offer_all` has asked for that, the next trial
 //! begins by offering every slot: each that isn't released is then one of its roots. The machine never sees the words: `next` names one
 //! operation, whoever has the words carries it out, and `took` learns what was found.
 //! The rule that this crate keeps: what comes next and what is learnt are functions of the machine's private record and of
@@ -26,6 +27,7 @@ mod machine;
 mod offer;
 mod parts;
 mod phase;
+mod policy;
 mod present;
 mod sets;
 mod shown;
@@ -38,10 +40,12 @@ pub use kind::Kind;
 pub use laws::{
     batches_colour_what_they_name, machine_makes_steps, machine_names_words,
     machines_stay_machines, offers_are_whole, orange_members_are_untouched,
-    orange_members_have_outside_counts, what_is_shown_was_done, zeros_are_exact,
+    orange_members_have_outside_counts, trials_are_made_where_asked, what_is_shown_was_done,
+    zeros_are_exact,
 };
 pub use machine::Machine;
 pub use phase::Phase;
+pub use policy::Policy;
 pub use sets::Sets;
 pub use turn::Turn;
 pub use turns::Turns;

@@ -3,23 +3,24 @@ ghost use Rattle.rec_word.specs.Mailbox.{crossing_word};
 ghost use Rattle.rec_word.specs.declared.mailbox.Mailbox.TheVariants.{Retired};
 ghost use Rattle.rec_counts.specs.Counts.{slot_at};
 ghost use Rattle.rec_collector.specs.Causes.{HasCause};
-ghost use Rattle.rec_apply.specs.Batch.{IsCovered};
+ghost use Rattle.rec_counts.specs.Batch.{IsCovered};
 ghost use Rattle.rec_collector.specs.Given.{IsFreeingIn, IsGiven, IsGivenAt, IsPreparingIn, IsReleasingIn, IsSized, IsSwapping, IsSweepingIn, IsTryingIn, IsWork, swapping_for};
 ghost use Rattle.rec_collector.specs.Gathering.{MayGatherBehind};
 ghost use Rattle.rec_collector.specs.Kind.{kind_of};
 ghost use Rattle.rec_collector.specs.Kept.{IsMachine, KeepsSizes, limit_of};
 ghost use Rattle.rec_collector.specs.Next.{next_of};
 ghost use Rattle.rec_collector.specs.Present.{HaveLeft};
-ghost use Rattle.rec_collector.specs.Private.{Private, opened, opened_from};
+ghost use Rattle.rec_collector.specs.Private.{Private, opened};
 ghost use Rattle.rec_collector.specs.declared.turn.Turn.{Turn};
 ghost use Rattle.rec_collector.specs.Took.{behind, behind_turn, came_turn, ended_if, left_of, swapped_of, took_at, took_of, turn_at, turn_of};
 
 mod runs;
 
-use crate::buffers::{clear_all, open_row, open_rows, open_spares};
+use crate::buffers::{clear_all, open_rows, open_spares};
 use crate::kind::Kind;
 use crate::parts::Parts;
 use crate::phase::Phase;
+use crate::policy::Policy;
 use crate::present::next_present;
 use crate::sets::Sets;
 use crate::turn::Turn;
@@ -49,8 +50,6 @@ pub struct Machine {
     newer: Vec<Buffer>,
     older: Vec<Buffer>,
     left: Vec<bool>,
-    // Whether a batch leaves out registers that didn't change.
-    steady: bool,
 }
 
 impl Model for Machine {
@@ -67,9 +66,9 @@ impl Model for Machine {
 
 impl Machine {
     /// The collector of a heap with so many slots, and fields per object, and so many mutators, each with `regs` registers and
-    /// buffers for `cap` entries. The requested epoch is `first_epoch`, and the collection of the epoch before counts as
-    /// done: register 0 of each mutator named slot 0 then, and no other did. Where the heap is `steady`, a batch leaves out registers
-    /// that didn't change: they touch nothing.
+    /// buffers for `cap` entries. The first slots have these true counts. The requested epoch is `first_epoch`, and the
+    /// collection of the epoch before counts as done: the registers named these slots then, mutator after mutator. The heap is
+    /// collected by `policy`.
     pub fn open(
         alloc: Global,
         slots: u16,
@@ -78,54 +77,7 @@ impl Machine {
         mutators: u8,
         cap: u32,
         first_epoch: u32,
-        steady: bool,
-    ) -> Result<Machine, NoMemory>
-        requires slots { 0 < slots }
-        requires fields { 0 < fields }
-        requires registers { 0 < regs }
-        requires mutators { 0 < mutators }
-        requires epoch { first_epoch < 2 ^ 24 }
-
-        ensures opened { IfOk result (λ machine. machine ≡ opened slots fields regs mutators cap first_epoch steady) }
-        ensures kept { IfOk result IsMachine }
-    {
-        let mut frame = Frame::open(alloc, regs)?;
-        frame.set(0, 0);
-        let older = open_row(alloc, mutators, cap, regs, &frame);
-        drop(frame);
-        let older = older?;
-        let spares = open_spares(alloc, mutators, cap, regs)?;
-        let counts = Counts::open(alloc, slots, u64::from(mutators))?;
-        counts.rules();
-        Ok(Machine {
-            epoch: first_epoch,
-            collections: 0,
-            freed: 0,
-            turns: 0,
-            phase: Phase::Idle,
-            registers: regs,
-            capacity: cap,
-            parts: Parts::of(counts, fields),
-            newer: spares.0,
-            older,
-            left: spares.1,
-            steady,
-        })
-    }
-
-    /// The collector of a heap with so many slots, and fields per object, and so many mutators, each with `regs` registers and
-    /// buffers for `cap` entries. The first slots have these true counts. The requested epoch is `first_epoch`, and the
-    /// collection of the epoch before counts as done: the registers named these slots then, mutator after mutator. Where the heap is
-    /// `steady`, a batch leaves out registers that didn't change.
-    pub fn open_from(
-        alloc: Global,
-        slots: u16,
-        fields: u8,
-        regs: u8,
-        mutators: u8,
-        cap: u32,
-        first_epoch: u32,
-        steady: bool,
+        policy: Policy,
         counts: &[u64],
         registers: &[Option<u16>],
     ) -> Result<Machine, NoMemory>
@@ -136,12 +88,12 @@ impl Machine {
         requires some { All (λ count. 0 < count) counts.now }
         requires registers { length registers.now ≡ mutators * regs }
 
-        ensures opened { IfOk result (λ machine. machine ≡ opened_from slots fields regs mutators cap first_epoch steady counts.now registers.now) }
+        ensures opened { IfOk result (λ machine. machine ≡ opened slots fields regs mutators cap first_epoch policy counts.now registers.now) }
         ensures kept { IfOk result IsMachine }
     {
         let older = open_rows(alloc, mutators, cap, regs, registers)?;
         let spares = open_spares(alloc, mutators, cap, regs)?;
-        let counts = Counts::open_from(alloc, slots, counts)?;
+        let counts = Counts::open(alloc, slots, counts)?;
         counts.rules();
         Ok(Machine {
             epoch: first_epoch,
@@ -151,11 +103,10 @@ impl Machine {
             phase: Phase::Idle,
             registers: regs,
             capacity: cap,
-            parts: Parts::of(counts, fields),
+            parts: Parts::of(counts, fields, policy),
             newer: spares.0,
             older,
             left: spares.1,
-            steady,
         })
     }
 
@@ -482,9 +433,7 @@ impl Machine {
             self.turns += 1;
             return Turn::Moved;
         }
-        self.phase = self
-            .parts
-            .apply_batch(&self.newer, &self.older, self.steady);
+        self.phase = self.parts.apply_batch(&self.newer, &self.older);
         self.turns += 1;
         self.end_if_nothing_is_free()
     }

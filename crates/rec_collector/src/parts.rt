@@ -1,5 +1,5 @@
 ghost use Rattle.std.specs.Prelude.{◌≡◌, ◌+◌, ◌<◌, ◌≤◌, None, Some, length, false, true};
-ghost use Rattle.rec_apply.specs.Batch.{applied, AreAlike, IsCovered};
+ghost use Rattle.rec_counts.specs.Batch.{applied, AreAlike, IsCovered};
 ghost use Rattle.rec_release.specs.CycleFree.{IsFreeable, started_of};
 ghost use Rattle.rec_release.specs.CycleFree as frees;
 ghost use Rattle.rec_release.specs.CycleFree.{Machine as Freeing};
@@ -10,7 +10,7 @@ ghost use Rattle.rec_sigma.specs.Ran.{Ran as RanPrep};
 ghost use Rattle.rec_release.specs.Release.{IsReady};
 ghost use Rattle.rec_trial.specs.Rules.{IsReady as IsReadyForTrial};
 ghost use Rattle.rec_collector.specs.Clearing.{IsClear, IsCleared, IsFewTold};
-ghost use Rattle.rec_collector.specs.Followed.{followed, prep_started, prepared, relieved, sweep_phase, trial_started, tried, with_offers, worked};
+ghost use Rattle.rec_collector.specs.Followed.{followed, prep_started, prepared, relieved, makes_trial, sweep_phase, trial_if, trial_started, tried, with_offers, worked};
 ghost use Rattle.rec_collector.specs.Given.{IsFreeingIn, IsPreparingIn, IsReleasingIn, IsTryingIn};
 ghost use Rattle.rec_collector.specs.Kept.{NoneReleased};
 ghost use Rattle.rec_collector.specs.Zeros.{AreCounted};
@@ -22,18 +22,18 @@ ghost use Rattle.rec_collector.specs.Testing.{last_tested, with_freeing, zeros_r
 
 use crate::offer::offer_slots;
 use crate::phase::Phase;
+use crate::policy::Policy;
 use crate::sets::Sets;
 use crate::verdict::{Verdict, judge};
-use rec_apply::apply;
-use rec_counts::Counts;
+use rec_counts::{Counts, apply};
 use rec_log::Buffer;
 use rec_release::{Clears, CycleFree, Release};
 use rec_sigma::{Loads as Prepares, Prep, refurbish};
-use rec_trial::{Loads, Trial};
+use rec_trial::{Loads, Trial, postpone};
 use std::marker::Model;
 
-/// What a collection works on between a batch and a sweep: the counts, how many fields a slot has, what became of the sets, and
-/// whether the next trial is offered every slot.
+/// What a collection works on between a batch and a sweep: the counts, how many fields a slot has, what became of the sets,
+/// whether the next trial is offered every slot, and how the heap is collected.
 #[derive(Drop)]
 pub(crate) struct Parts {
     pub(crate) counts: Counts,
@@ -41,6 +41,7 @@ pub(crate) struct Parts {
     pub(crate) sets: Sets,
     // Whether every slot is to be offered to the next trial.
     offers: bool,
+    pub(crate) policy: Policy,
 }
 
 impl Model for Parts {
@@ -49,16 +50,16 @@ impl Model for Parts {
 
     ghost Value = { Whole };
 
-    ghost view = { λ parts. record { counts = parts.counts; fields = parts.fields; sets = parts.sets; offers = parts.offers } };
+    ghost view = { λ parts. record { counts = parts.counts; fields = parts.fields; sets = parts.sets; offers = parts.offers; policy = parts.policy } };
 
     ghost invariant = { λ parts. 0 < parts.fields };
 }
 
 impl Parts {
     /// The parts of a new machine, over slots with so many fields, at least one. No set was tested yet.
-    pub(crate) fn of(counts: Counts, fields: u8) -> Parts
+    pub(crate) fn of(counts: Counts, fields: u8, policy: Policy) -> Parts
         requires { 0 < fields }
-        ensures { result ≡ new_parts counts fields }
+        ensures { result ≡ new_parts counts fields policy }
     {
         Parts {
             counts,
@@ -69,21 +70,22 @@ impl Parts {
                 sigma: 0,
             },
             offers: false,
+            policy,
         }
     }
 
     /// The batch of these buffers is applied, and its zeros are to be released. The answer is the phase that follows.
-    pub(crate) fn apply_batch(&mut self, newer: &[Buffer], older: &[Buffer], steady: bool) -> Phase
+    pub(crate) fn apply_batch(&mut self, newer: &[Buffer], older: &[Buffer]) -> Phase
         requires covered { IsCovered self.old.counts newer.now older.now }
         requires alike { AreAlike newer.now older.now }
         requires cleared { IsCleared self.old }
         requires unreleased { NoneReleased self.old.counts }
         requires counted { AreCounted self.old.counts }
         requires told { IsFewTold self.old }
-        ensures { record { parts = self.new; phase = result } ≡ followed (zeros_released false (record self.old { counts = applied steady self.old.counts newer.now older.now })) }
+        ensures { record { parts = self.new; phase = result } ≡ followed (zeros_released false (record self.old { counts = applied self.old.policy.steady self.old.counts newer.now older.now })) }
     {
         self.counts.rules();
-        apply(&mut self.counts, newer, older, steady);
+        apply(&mut self.counts, newer, older, self.policy.steady);
         let begun = self.release_zeros(false);
         self.follow(begun)
     }
@@ -304,7 +306,7 @@ impl Parts {
         Some(Phase::Releasing(release))
     }
 
-    // What follows where this was begun: while nothing was, the next set is tested, and after the last one a trial begins.
+    // What follows where this was begun: while nothing was, the next set is tested, and after the last one a trial begins or is postponed.
     fn follow(&mut self, begun: Option<Phase>) -> Phase
         requires { IsClear (record { parts = self.old; phase = begun }) }
         ensures { record { parts = self.new; phase = result } ≡ followed (record { parts = self.old; phase = begun }) }
@@ -353,10 +355,38 @@ impl Parts {
         Some(Phase::Freeing(freeing))
     }
 
-    // A trial begins. Where that was asked for, every slot is offered to it.
+    // A trial begins, or is postponed.
     fn start_trial(&mut self) -> Phase
         requires ready { IsReadyForTrial self.old.counts }
         ensures { record { parts = self.new; phase = result } ≡ trial_started self.old }
+    {
+        if self.makes_trial() {
+            self.begin_trial()
+        } else {
+            self.put_off_trial()
+        }
+    }
+
+    // Whether a trial is made: slots are to be offered, or as many roots wait as the policy asks for.
+    fn makes_trial(&self) -> bool
+        ensures { result ≡ makes_trial self.now }
+    {
+        self.offers || self.policy.least_roots as usize <= self.counts.roots().len()
+    }
+
+    // The trial is postponed, and there are no sets to prepare.
+    fn put_off_trial(&mut self) -> Phase
+        requires ready { IsReadyForTrial self.old.counts }
+        ensures { record { parts = self.new; phase = result } ≡ trial_if false self.old }
+    {
+        postpone(&mut self.counts);
+        self.prepare()
+    }
+
+    // A trial begins. Where that was asked for, every slot is offered to it.
+    fn begin_trial(&mut self) -> Phase
+        requires ready { IsReadyForTrial self.old.counts }
+        ensures { record { parts = self.new; phase = result } ≡ trial_if true self.old }
     {
         self.make_offers();
         let mut trial = Trial::idle(self.fields);

@@ -11,9 +11,9 @@ use Rattle.rec_model.specs.Moves.{added, taken}
 use Rattle.rec_model.proofs.CollectorMoves.{unnamed_uncounted}
 use Rattle.rec_model.proofs.Ledgers.{batch_covered}
 use Rattle.rec_log.specs.declared.entry.Entry.TheVariants as entries
-use Rattle.rec_apply.specs.Batch.{applied, AreAlike, IsApplied, IsCovered}
-use Rattle.rec_apply.specs.Targets as targets
-use Rattle.rec_apply.proofs.Whole.{applied_count, is_applied}
+use Rattle.rec_counts.specs.Batch.{applied, AreAlike, IsApplied, IsCovered}
+use Rattle.rec_counts.specs.Targets as targets
+use Rattle.rec_counts.proofs.Whole.{applied_count, is_applied}
 use Rattle.rec_collector.proofs.Following.{rows_alike}
 use Rattle.rec_collector.specs.Private as collectors
 use Rattle.rec_collector.specs.Kept as collector_kept
@@ -384,7 +384,7 @@ module _ (w : Core) (t : ℕ) (kept : IsKeptBy true (stand_at w.collector.left O
 
   -- what the batch makes of the counts
   abbrev pub counted : State
-  counted = applied c.steady c.counts c.newer c.older
+  counted = applied c.policy.steady c.counts c.newer c.older
 
   zeros_before : c.counts.zeros ≡ []
   zeros_before = (now_in w (Returning t) kept phase).rest.zeros
@@ -392,8 +392,8 @@ module _ (w : Core) (t : ℕ) (kept : IsKeptBy true (stand_at w.collector.left O
   alike : AreAlike c.newer c.older
   alike = rows_alike c kept.collector.machine
 
-  pub is_counted : IsApplied c.steady c.counts c.newer c.older counted
-  is_counted = is_applied c.steady c.counts c.newer c.older zeros_before alike covered
+  pub is_counted : IsApplied c.policy.steady c.counts c.newer c.older counted
+  is_counted = is_applied c.policy.steady c.counts c.newer c.older zeros_before alike covered
 
   -- no register is of an epoch that is applied
   all_crossed : sum_by (is_up_to (applied_at w.epoch c.phase + 1)) (registers_of w) ≡ 0
@@ -442,7 +442,7 @@ module _ (w : Core) (t : ℕ) (kept : IsKeptBy true (stand_at w.collector.left O
           elim (cases_lt x w.config.slots) [
             | inl below ↦ omega (
               arith,
-              applied_count c.steady c.counts c.newer c.older alike is_counted x,
+              applied_count c.policy.steady c.counts c.newer c.older alike is_counted x,
               ap (taken (pending w)) is,
               ap (added (pending w)) is,
               taken_is x,

@@ -12,9 +12,8 @@ use Rattle.rec_mutator.specs.Private.{Private}
 use Rattle.rec_collector.specs.Private as collectors
 use Rattle.rec_core.specs.Bare.{bare_core}
 use Rattle.rec_core.specs.Config.{IsConfig}
-use Rattle.rec_core.specs.Core.{heap_by, mutator_by, mutators_by, spare_of}
+use Rattle.rec_core.specs.Core.{spare_of, all_holding_by, heap_from_by, holding_by}
 use Rattle.rec_core.specs.Objects.{AreObjects, HaveLabels, Objects, early_stamp, early_word, early_words, rows_of}
-use Rattle.rec_core.specs.OpenedFrom.{all_holding_by, heap_from_by, holding_by}
 use Rattle.rec_core.specs.declared.config.Config.{Config}
 use Rattle.rec_core.proofs.EarlyWords.{early_is}
 use Rattle.rec_core.proofs.OpenedFromSeen.{all_targets, few_fields}
@@ -23,30 +22,6 @@ use Rattle.rec_core.proofs.OpenedFromSeen.{all_targets, few_fields}
 replicate_same : {X : Type 0} (f : X → X) (x : X) → f x ≡ x → (n : ℕ) → map f (replicate n x) ≡ replicate n x
 replicate_same f x same zero = refl
 replicate_same f x same (suc n) = let rest = replicate_same f x same n in (λ i. same i ∷ rest i)
-
--- ---- with one object
-
-mutators_same : (config : Config) (n : ℕ) → map mutators.bare_private (mutators_by true config n) ≡ mutators_by false config n
-mutators_same config zero = refl
-mutators_same config (suc n) =
-    map-append mutators.bare_private (mutators_by true config n) (mutator_by true config (suc n) ∷ [])
-    ∙ ap (λ (ms : List Private). ms ++ mutator_by false config (suc n) ∷ []) (mutators_same config n)
-
-pub heap_bare : (config : Config) → bare_core (heap_by true config) ≡ heap_by false config
-heap_bare config =
-    let words : map bare (heap_by true config).words ≡ (heap_by false config).words = replicate_same bare 0 refl (config.slots * config.fields) in
-    let boxes : map (buffer_by bare) (replicate config.mutators (spare_of config)) ≡ replicate config.mutators (spare_of config) = replicate_same (buffer_by bare) (spare_of config) refl config.mutators in
-    let each : map mutators.bare_private (mutators_by true config config.mutators) ≡ mutators_by false config config.mutators = mutators_same config config.mutators in
-    let newer : map (buffer_by bare) (heap_by true config).collector.newer ≡ (heap_by true config).collector.newer = replicate_same (buffer_by bare) (spare_of config) refl config.mutators in
-    let older : map (buffer_by bare) (heap_by true config).collector.older ≡ (heap_by true config).collector.older = replicate_same (buffer_by bare) (collectors.retired (collectors.first_registers config.registers) config.log_entries) refl config.mutators in
-    (λ i. record (heap_by false config) {
-      words = words i;
-      boxes = boxes i;
-      mutators = each i;
-      collector = record (heap_by false config).collector { newer = newer i; older = older i };
-    })
-
--- ---- from objects
 
 word_same : (p : ℕ) (x : Option ℕ) → p < 2 ^ 42 → IsTarget x → bare (early_word p x) ≡ early_word p x
 word_same p None small is = refl

@@ -61,7 +61,7 @@ end_kept w is run = let (v, e) = end_explained w is run in bared v w e
 
 -- as it is opened
 pub opened_kept : (config : Config) → IsConfig config → IsKept false (opened config)
-opened_kept config is = end_kept (opened config) is (dated_runs.run_opened config)
+opened_kept config is = end_kept (opened config) is (dated_runs.run_opened config is)
 
 -- ---- moves
 

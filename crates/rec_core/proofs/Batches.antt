@@ -6,7 +6,7 @@ use Rattle.std.proofs.lemmas.List.Elements.{All-head, All-tail}
 use Rattle.std.proofs.lemmas.List.Sums.{sum_by-cons}
 use Rattle.rec_core.proofs.Common.{target_of, is_slot, puts_in, replaces_in, node_of, epoch_of, dated, is_at, dated_birth, only_if, one_if_same, one_if_self, none_if_differs, only_if_self, none_if_other, only_if_le, Contents, Entry, one, new_target, old_target, named, leaf_born, IsMutator, IsMadeIn, IsBufferOf, code, writes_in, births_in, dated_names, Config, is_leaf_from}
 use Rattle.rec_log.specs.declared.entry.Entry.TheVariants as entries
-use Rattle.rec_apply.proofs.Naming.{named-nil, named-cons}
+use Rattle.rec_counts.proofs.Naming.{named-nil, named-cons}
 use Rattle.rec_collector.specs.Private as collectors
 use Rattle.rec_core.proofs.Moves.{code_target}
 

@@ -5,13 +5,13 @@ use Rattle.std.proofs.lemmas.Bool.{cases_lt, false≢true}
 use Rattle.std.proofs.lemmas.List.{get_or_past}
 use Rattle.rec_core.proofs.Common.{AccountMove, move_uncounted, move_accounted, State, slot_at, one, times, absent, Slot, times-nil, leaves, IsReady, IsCleared, Parts, parts_of, zeros_released, Opening, Returning, still, Core, HasCyclesAt, freeing_due, stand_at, one_if_sweeping, IsKeptBy, older_at, pending}
 use Rattle.rec_counts.specs.Counts.{IsKept as IsKeptCounts}
-use Rattle.rec_apply.specs.Batch.{IsApplied}
+use Rattle.rec_counts.specs.Batch.{IsApplied}
 use Rattle.rec_collector.specs.Kept as collector_kept
 use Rattle.rec_collector.proofs.Clearing.{zeros_clear, Clears}
 use Rattle.rec_collector.proofs.Exchanging.{none_exchanged}
 use Rattle.rec_collector.proofs.Following.{batched_clear, none_released, resting_cleared}
 use Rattle.rec_core.proofs.Applying.{counted, is_counted, puts_is, applies, leaves_are}
-use Rattle.rec_apply.proofs.Told.{leaves_told}
+use Rattle.rec_counts.proofs.Told.{leaves_told}
 use Rattle.rec_core.proofs.Counts.{counted_slot}
 use Rattle.rec_core.proofs.CyclesBatch.{is_batch_of, sets_test_begun}
 use Rattle.rec_core.proofs.Landed.{landed_pending, HasCleared}
@@ -39,7 +39,7 @@ module _ (w : Core) (t : ℕ) (kept : IsKeptBy true (stand_at w.collector.left O
   -- nothing was at work before
   open (now_in w (Returning t) kept phase) use {rest}
 
-  is : IsApplied c.steady c.counts c.newer c.older s
+  is : IsApplied c.policy.steady c.counts c.newer c.older s
   is = is_counted w t kept phase
 
   ready : IsReady s
@@ -68,15 +68,16 @@ module _ (w : Core) (t : ℕ) (kept : IsKeptBy true (stand_at w.collector.left O
           accounted = move_accounted move kept.accounted;
           uncounted = λ _. move_uncounted move kept.accounted (kept.uncounted (ap freeing_due phase));
           sound = kept.sound;
-          greens = λ x green. elim (cases_lt 0 (leaves x c.newer)) [ inl born ↦ leaves_are w t kept phase x born | inr none ↦ kept.greens x (sym (is.greens x (omega (arith, none, leaves_told c.steady x c.newer c.older))) ∙ green) ];
+          greens = λ x green. elim (cases_lt 0 (leaves x c.newer)) [ inl born ↦ leaves_are w t kept phase x born | inr none ↦ kept.greens x (sym (is.greens x (omega (arith, none, leaves_told c.policy.steady x c.newer c.older))) ∙ green) ];
           many_words = refl;
           slots = is.rest.slots ∙ slots;
           fields = kept.collector.fields;
+          policy = kept.collector.policy;
           counts = is.lists kept.collector.machine.counts;
           listed = ready.free;
           emptied = λ x f below within released. absurd (unreleased x below released);
         };
-        tests = sets_test_begun (pending w) (landed_pending w w.words s) c.counts s kept.accounted (applies w t kept phase) alive (is_batch_of (pending w) c.steady c.newer c.older is (none_released rest) (puts_is w t kept phase))
+        tests = sets_test_begun (pending w) (landed_pending w w.words s) c.counts s kept.accounted (applies w t kept phase) alive (is_batch_of (pending w) c.policy.steady c.newer c.older is (none_released rest) (puts_is w t kept phase))
             (subst (HasCyclesAt (pending w) c) phase kept.cycles);
       }
 

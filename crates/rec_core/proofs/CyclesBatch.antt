@@ -6,9 +6,9 @@ use Rattle.rec_core.proofs.Common.{sum_at, Pending, IsAccounted, HasLoaded, seen
 use Rattle.rec_model.specs.Moves as moves
 use Rattle.rec_model.proofs.Testing.{batch_testing}
 use Rattle.rec_counts.specs.declared.colour.Colour.TheVariants.{Orange}
-use Rattle.rec_apply.specs.Batch.{IsApplied}
-use Rattle.rec_apply.specs.Targets.{written}
-use Rattle.rec_apply.proofs.Told.{written_touches}
+use Rattle.rec_counts.specs.Batch.{IsApplied}
+use Rattle.rec_counts.specs.Targets.{written}
+use Rattle.rec_counts.proofs.Told.{written_touches}
 use Rattle.rec_collector.specs.Kept.{NoneReleased}
 use Rattle.rec_collector.proofs.Outside.{batch_same}
 use Rattle.rec_core.proofs.CyclesLess.{TestsLess, member_before}

@@ -7,14 +7,12 @@ use Rattle.rec_mutator.specs.declared.work.Work.TheVariants as works
 use Rattle.rec_mutator.proofs.Bare.{busy_bare}
 use Rattle.rec_core.specs.Bare.{bare_core}
 use Rattle.rec_core.specs.Config.{IsConfig}
-use Rattle.rec_core.specs.Core.{Core, heap_by, mutator}
+use Rattle.rec_core.specs.Core.{Core, mutator, heap_from_by}
 use Rattle.rec_core.specs.Kept.{IsKept}
 use Rattle.rec_core.specs.Moves.{Move, AllFit, EndsRun, Fits, IsRun, IsStart, after_move, after_moves}
-use Rattle.rec_core.specs.OpenedFrom.{heap_from_by}
 use Rattle.rec_core.proofs.Bare.{move_bare, mutator_bare}
-use Rattle.rec_core.proofs.BareOpened.{heap_bare, heap_from_bare}
+use Rattle.rec_core.proofs.BareOpened.{heap_from_bare}
 use Rattle.rec_core.proofs.OpenedFrom.{opened_from_kept}
-use Rattle.rec_core.proofs.Opening.{opened_kept}
 use Rattle.rec_core.proofs.Runs.{config_after, move_kept}
 
 -- ---- a move that fits the one heap fits the other
@@ -57,8 +55,7 @@ moves_explained v w (m ∷ ms) e fit =
 
 -- the dated start
 start_explained : (start : Core) → IsConfig start.config → IsStart start → (v : Core) × Explains v start
-start_explained start is (IsStart.opens opens) = (heap_by true start.config, record { bare = heap_bare start.config ∙ sym opens; kept = opened_kept start.config is })
-start_explained start is (IsStart.opens_from o are labels opens) = (heap_from_by true start.config o, record { bare = heap_from_bare start.config o is are labels ∙ sym opens; kept = opened_from_kept start.config o is are labels })
+start_explained start is (o, are, labels, opens) = (heap_from_by true start.config o, record { bare = heap_from_bare start.config o is are labels ∙ sym opens; kept = opened_from_kept start.config o is are labels })
 
 -- and the dated end, to which the same moves lead
 pub run_explained : (start : Core) (moves : List Move) (end : Core) → IsConfig start.config → IsRun start moves end → (v : Core) × Explains v end

@@ -7,7 +7,7 @@ use Rattle.rec_core.proofs.Common.{Op, is_dead, HasUncountedReleased, uncounted_
 use Rattle.rec_word.specs.declared.op.Op.TheVariants as ops
 use Rattle.rec_model.proofs.Naming.{dead_out_of_reach}
 use Rattle.rec_model.proofs.Sets.{passed_out_of_reach}
-use Rattle.rec_walk.specs.Walk.{IsOf}
+use Rattle.rec_word.specs.Walk.{IsOf}
 use Rattle.rec_release.specs.CycleFree as frees
 use Rattle.rec_release.specs.CycleFree.{next_of as freeing_next, op_at as freeing_op_at}
 use Rattle.rec_release.specs.Release.{next_of as release_next, op_at as release_op_at}

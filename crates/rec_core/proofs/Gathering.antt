@@ -166,7 +166,7 @@ module _ (w : Core) (kept : IsKept true w) (idle : w.collector.phase ≡ Idle) (
           fields = k.fields;
           registers = k.registers;
           capacity = k.capacity;
-          steady = k.steady;
+          policy = k.policy;
           mutators = k.mutators;
           epoch = ap (λ n. n + 1) k.epoch;
           begun = omega (arith, begun, way);
@@ -292,7 +292,7 @@ module _ (w : Core) (t : ℕ) (kept : IsKept true w) (phase : w.collector.phase 
             fields = k.fields;
             registers = k.registers;
             capacity = k.capacity;
-            steady = k.steady;
+            policy = k.policy;
             mutators = length-set w.collector.newer (t - 1) (box w t) ∙ many;
             epoch = k.epoch;
             begun = omega (arith, k.begun, way);
@@ -387,7 +387,7 @@ module _ (w : Core) (t : ℕ) (kept : IsKept true w) (phase : w.collector.phase 
           fields = k.fields;
           registers = k.registers;
           capacity = k.capacity;
-          steady = k.steady;
+          policy = k.policy;
           mutators = k.mutators;
           epoch = k.epoch;
           begun = omega (arith, k.begun, way);
@@ -445,7 +445,7 @@ module _ (u : Core) (t : ℕ) (kept : IsKeptBy true (stand_at u.collector.left (
             fields = k.fields;
             registers = k.registers;
             capacity = k.capacity;
-            steady = k.steady;
+            policy = k.policy;
             mutators = k.mutators;
             epoch = k.epoch;
             begun = omega (arith, k.begun, way);

@@ -42,6 +42,7 @@ pub record HasLanded (w : Core) (crossing words : List ℕ) (b : Begun) : Type 0
   pub many_words : length words ≡ length w.words
   pub slots : length b.parts.counts.slots ≡ w.config.slots
   pub fields : b.parts.fields ≡ w.config.fields
+  pub policy : b.parts.policy ≡ w.config.policy
   pub counts : IsKeptCounts b.parts.counts
   -- what the free list has is released
   pub listed : (x : ℕ) → 0 < times x b.parts.counts.free → (slot_at b.parts.counts x).released ≡ true

@@ -1,13 +1,13 @@
 -- Where a trial or a preparation has come to, the collection goes on: to the next field, to a preparation, to a sweep, or to its end.
 -- Each keeps what every heap keeps.
 use Rattle.std.proofs.Common.{◌≡◌, ◌⊎◌, inl, inr, ℕ, ◌+◌, ◌-◌, ◌*◌, ◌<◌, ◌≤◌, if◌then◌else◌, Bool, true, false, List, [], ◌∷◌, Option, None, Some, IsNone, length, map, slice_index_or, refl, sym, ap, subst, ◌∙◌, arith}
-use Rattle.std.specs.List.{All, sum_by, flat_map}
+use Rattle.std.specs.List.{All, concat, sum_by, flat_map}
 use Rattle.std.proofs.Math.ListN.{get_or-map}
-use Rattle.std.proofs.lemmas.Bool.{cases_Bool}
+use Rattle.std.proofs.lemmas.Bool.{cases_Bool, ltb-true}
 use Rattle.std.proofs.lemmas.List.{get_or_default, length-map, length-replicate}
 use Rattle.std.proofs.lemmas.List.Elements.{All-head, All-tail, All-nil}
 use Rattle.std.proofs.lemmas.List.Sums.{sum_by-cons}
-use Rattle.rec_core.proofs.Common.{IsAccounted, HasUncountedReleased, AccountMove, Drops, epoch_of, Write, Dated, dated, Pending, dated_birth, IsMarked, move_uncounted, move_accounted, Contents, Entry, State, slot_at, times, absent, fresh, Slot, times-append, released_among, KeepsOthers, prep_started, with_offers, Parts, new_prep, Begun, parts_of, with_parts, PreparesOn, TriesOn, IsBetween, cleared, ended, moved, Phase, Idle, Trying, Preparing, Opening, Turn, still, IsMutator, Core, is_member, word_loaded, SetsWait, IsLoading, AreSeen, HasCyclesAt, IsMadeIn, IsBufferOf, Handshake, IsHeldAt, stand_at, stand_in, freeing_due, one_if_sweeping, release_due, IsLeft, IsLeftOf, IsSomeSwept, IsKept, Filed, writes_in, births_in, dated_names, applied_at, older_at, buffers, pending, Config}
+use Rattle.rec_core.proofs.Common.{IsAccounted, HasUncountedReleased, AccountMove, Drops, epoch_of, Write, Dated, dated, Pending, dated_birth, IsMarked, move_uncounted, move_accounted, Contents, Entry, State, slot_at, times, absent, fresh, Slot, times-append, times-nil, released_among, KeepsOthers, prep_started, put_off, with_offers, Parts, new_prep, Begun, parts_of, with_parts, PreparesOn, TriesOn, IsBetween, cleared, ended, moved, Phase, Idle, Trying, Preparing, Opening, Turn, still, IsMutator, Core, is_member, word_loaded, SetsWait, IsLoading, AreSeen, HasCyclesAt, IsMadeIn, IsBufferOf, Handshake, IsHeldAt, stand_at, stand_in, freeing_due, one_if_sweeping, release_due, IsLeft, IsLeftOf, IsSomeSwept, IsKept, Filed, writes_in, births_in, dated_names, applied_at, older_at, buffers, pending, Config}
 use Rattle.rec_log.specs.declared.entry.Entry.TheVariants as entries
 use Rattle.rec_counts.specs.Counts.{IsKept as IsKeptCounts}
 use Rattle.rec_model.proofs.Opened.{named-nones}
@@ -17,6 +17,8 @@ use Rattle.rec_trial.specs.Trial as trials
 use Rattle.rec_trial.proofs.Counted.{started_counted}
 use Rattle.rec_trial.proofs.Keeps.{KeepsCounts, started_keeps}
 use Rattle.rec_trial.proofs.Midway.{times_released}
+use Rattle.rec_trial.specs.Postponed.{postponed}
+use Rattle.rec_trial.proofs.Postponed.{IsPostponed, postponed_is, postponed_keeps}
 use Rattle.rec_trial.proofs.Promised.{begun_promised}
 use Rattle.rec_sigma.specs.Prepare as preps
 use Rattle.rec_sigma.specs.Prepared as prepared
@@ -207,6 +209,7 @@ landed_alike {w} {crossing} {words} {v} l t same counts =
       many_words = l.many_words;
       slots = same.slots ∙ l.slots;
       fields = l.fields;
+      policy = l.policy;
       counts = counts;
       listed = λ x some. same.released x ∙ elim (same.free x some) [ inl there ↦ l.listed x there | inr is ↦ is ];
       emptied = λ x f below within released. inr (inr (landed_empty l x f below within (sym (same.released x) ∙ released)));
@@ -228,6 +231,7 @@ landed_in {w} {crossing} {words} v phase unreleased unfreed l = record {
   many_words = l.many_words;
   slots = l.slots;
   fields = l.fields;
+  policy = l.policy;
   counts = l.counts;
   listed = l.listed;
   emptied = λ x f below within released. inr (inr (landed_empty l x f below within released));
@@ -248,6 +252,7 @@ landed_still {w} {crossing} {words} v phase unreleased unfreed l = record {
   many_words = l.many_words;
   slots = l.slots;
   fields = l.fields;
+  policy = l.policy;
   counts = l.counts;
   listed = l.listed;
   emptied = λ x f below within released. elim (l.emptied x f below within released) [
@@ -272,6 +277,7 @@ landed_asked l offers = record {
   many_words = l.many_words;
   slots = l.slots;
   fields = l.fields;
+  policy = l.policy;
   counts = l.counts;
   listed = l.listed;
   emptied = l.emptied;
@@ -282,6 +288,17 @@ pub landed_offered : {w : Core} {crossing words : List ℕ} {v : Parts} → HasL
 landed_offered {w} {crossing} {words} {v} l =
     let s : State = (with_offers v).counts in
     landed_asked (landed_alike l s (offered_alike v.counts s (where_keeps v.offers v.counts) (λ x green. sym (where_green v.offers v.counts x) ∙ green)) (where_kept v.offers v.counts l.counts)) false
+
+-- where there is no set, nothing is asked of its members
+no_member : (s : State) → s.sets ≡ [] → (node : ℕ) → is_member s node ≡ true → ⊥
+no_member s none node is = omega (arith, ltb-true 0 (times (node - 1) (concat s.sets)) is, ap (λ xss. times (node - 1) (concat xss)) none, times-nil (node - 1))
+
+none_marked : (p : Pending) (s : State) → s.sets ≡ [] → (mark : ℕ → ℕ) → IsMarked p (is_member s) mark
+none_marked p s none mark = record {
+  stands = λ place node inside some is. absurd (no_member s none node is);
+  counted = λ node some is. absurd (no_member s none node is);
+  blackened = λ place node inside some is out. absurd (no_member s none node is);
+}
 
 -- one turn more, and another phase, change nothing of what is known of the sets in that phase
 came_cycles : (p : Pending) (c : collectors.Private) (phase : Phase) → HasCyclesAt p c phase → HasCyclesAt p (moved c phase) phase
@@ -328,6 +345,7 @@ lands_here w phase kept is on =
       many_words = refl;
       slots = k.slots;
       fields = k.fields;
+      policy = k.policy;
       counts = k.machine.counts;
       listed = k.listed;
       emptied = k.emptied;
@@ -356,7 +374,7 @@ module _ (w : Core) (crossing words : List ℕ) (q : collectors.Private) (machin
             fields = l.fields;
             registers = k.registers;
             capacity = k.capacity;
-            steady = k.steady;
+            policy = l.policy;
             mutators = k.mutators;
             epoch = k.epoch;
             begun = omega (arith, k.begun, l.way, on.way);
@@ -404,7 +422,7 @@ module _ (w : Core) (crossing words : List ℕ) (q : collectors.Private) (machin
             fields = l.fields;
             registers = k.registers;
             capacity = k.capacity;
-            steady = k.steady;
+            policy = l.policy;
             mutators = length-map w.collector.older cleared ∙ both;
             epoch = k.epoch;
             begun = omega (arith, k.begun, l.way);
@@ -489,6 +507,21 @@ module _ (w : Core) (crossing words : List ℕ) (q : collectors.Private) (machin
           let at : x + 1 - 1 ≡ x = omega arith in
           ap (λ n. (slice_index_or s.slots n fresh).count) at ∙ ap (λ (y : Slot). y.count) (get_or_default s.slots x fresh absent below)
 
+  -- the same where no set was found
+  none_seen : (v : Parts) → HasLanded w crossing words (still v) → v.counts.sets ≡ [] → AreSeen (landed_pending w words (prep_started v).counts) (prep_started v).counts (prep_started v).machine
+  none_seen v l none =
+      let u : preps.Work = prep_started v in
+      let some : 1 ≤ w.config.fields = l.kept.config.some_fields in
+      let came : Came w.config.fields v.counts (preps.work_of w.config.fields (preps.next_set v.counts 0)) [] = came_first w.config.fields v.counts some l.counts.numbers in
+      record {
+        before = v.counts;
+        before_kept = l.counts;
+        loads = [];
+        prepares = subst (λ (x : preps.Work). prepared.PreparedTo w.config.fields v.counts x.machine.at x.counts []) (sym (started_is (new_prep v.fields) v.counts)) came.law;
+        fields = fields_begun w.config.fields;
+        stands = sets_stand_begun (landed_pending w words u.counts) v.counts u.counts [] (prep_others v) (none_marked (landed_pending w words u.counts) v.counts none (word_loaded w.config.fields []));
+      }
+
   -- whatever follows a trial
   pub tries_kept : (v : Parts) (u : trials.Work) (turn : Turn) → HasLanded w crossing words (still (record v { counts = u.counts })) → IsLoading (landed_pending w words u.counts) u.counts u.machine → TriesOn w.collector v u q turn → IsKept true landed
   tries_kept v u turn l loading (TriesOn.more some g) = goes_on (record v { counts = u.counts }) (Trying u.machine) (landed_in (record v { counts = u.counts }) (Trying u.machine) refl refl l) (record { way = refl; still = refl; applied = refl; older = refl; stands = λ s. refl; held = λ v. tt; between = tt; some = tt }) loading g.after
@@ -514,6 +547,14 @@ module _ (w : Core) (crossing words : List ℕ) (q : collectors.Private) (machin
         stands = trial_stands_begun (landed_pending w words u.counts) u;
       })
       on
+
+  -- or it is postponed
+  pub trial_waits : (v : Parts) (turn : Turn) → HasLanded w crossing words (still v) → IsReady v.counts → PreparesOn w.collector (put_off v) (prep_started (put_off v)) q turn → IsKept true landed
+  trial_waits v turn l ready on =
+      let s : State = postponed v.counts in
+      let is : IsPostponed v.counts s = postponed_is v.counts l.counts ready in
+      let there : HasLanded w crossing words (still (put_off v)) = landed_alike l s (tried_alike v.counts s (postponed_keeps v.counts l.counts ready)) is.kept in
+      prepares_kept (put_off v) (prep_started (put_off v)) turn (prep_lands (put_off v) there) (none_seen (put_off v) there (is.waits.sets ∙ ready.sets)) on
 
   -- once every slot was offered to it, where that was asked for
   pub trial_begins : (v : Parts) (turn : Turn) → HasLanded w crossing words (still v) → IsReady v.counts → TriesOn w.collector (with_offers v) (trials.started_of v.fields (with_offers v).counts) q turn → IsKept true landed

@@ -333,7 +333,8 @@ tries_rows p q w v turn (collectors_step.TriesOn.prepares done on) = prepares_ro
 clears_rows : (p q : collectors.Private) (turn : Turn) {b : Begun} → collectors_step.ClearsOn p q turn b → Rows p q
 clears_rows p q turn {b} (collectors_step.ClearsOn.works phase at g) = goes_rows p q b.parts turn _ g
 clears_rows p q turn (collectors_step.ClearsOn.tests c none some tested on) = clears_rows p q turn on
-clears_rows p q turn (collectors_step.ClearsOn.tries none empty on) = tries_rows p q _ _ turn on
+clears_rows p q turn (collectors_step.ClearsOn.tries none empty due on) = tries_rows p q _ _ turn on
+clears_rows p q turn (collectors_step.ClearsOn.waits none empty off on) = prepares_rows p q _ _ turn on
 
 -- cleared buffers have no writes
 cleared_none : (g : Write → ℕ) (row : List Contents) → sum_by (wrote g) (map cleared row) ≡ 0

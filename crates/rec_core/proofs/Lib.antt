@@ -35,10 +35,9 @@ pub mod Leaving
 pub mod Loads
 pub mod Moves
 pub mod Offering
+pub mod Opened
 pub mod OpenedFrom
 pub mod OpenedFromSeen
-pub mod OpenedMutators
-pub mod Opening
 pub mod Outside
 pub mod Phases
 pub mod Places

@@ -1,7 +1,7 @@
 -- What every heap with its collector keeps holds as it is opened from objects.
-use Rattle.std.proofs.Common.{◌≡◌, inl, inr, ℕ, ◌+◌, ◌-◌, ◌*◌, ◌<◌, ◌≤◌, ◌==◌, Bool, true, false, if◌then◌else◌, Option, None, Some, List, [], ◌∷◌, All, count_by, length, take, drop, replicate, slice_index_or, refl, sym, ap, subst, ◌∙◌, arith}
+use Rattle.std.proofs.Common.{◌≡◌, inl, inr, ℕ, zero, suc, ◌+◌, ◌-◌, ◌*◌, ◌<◌, ◌≤◌, ◌==◌, Bool, true, false, if◌then◌else◌, Option, None, Some, List, [], ◌∷◌, All, count_by, length, take, drop, replicate, slice_index_or, refl, sym, ap, subst, ◌∙◌, arith}
 use Rattle.std.specs.List.{flat_map, sum_by}
-use Rattle.std.proofs.lemmas.Bool.{cases_lt, eq-eqb, false≢true, ne_eqb}
+use Rattle.std.proofs.lemmas.Bool.{cases_lt, cond-false, eq-eqb, false≢true, ne_eqb}
 use Rattle.std.proofs.lemmas.Bool.Decides.{nat_tests}
 use Rattle.std.proofs.lemmas.List.{get_or-map, get_or-replicate, length-replicate}
 use Rattle.std.proofs.lemmas.List.Elements.{All-from_get_or, All-head, All-nil, All-tail}
@@ -20,20 +20,19 @@ use Rattle.rec_counts.proofs.Opening.{counted_at, each_opened, fresh_behind, kee
 use Rattle.rec_collector.specs.Kept as collector_kept
 use Rattle.rec_collector.specs.Private as collectors
 use Rattle.rec_collector.proofs.Following.{none_released}
-use Rattle.rec_collector.proofs.Opening.{opened_from_keeps}
+use Rattle.rec_collector.proofs.Opening.{opened_keeps}
 use Rattle.rec_collector.proofs.Rows.{length-rows, row_width}
-use Rattle.rec_core.proofs.Common.{Config, Contents, Core, Dated, Filed, Handshake, HasCollector, HasLearnt, IsActor, IsBufferOf, IsConfig, IsHeader, IsKept, IsMachine, IsMadeIn, IsMutator, IsOwn, IsReached, IsTarget, Private, Slot, Spare, births_in, buffers, code, crossing_word, dated, dated_all, dated_names, dated_registers, fresh, is_green, is_late_snapshot, is_node, is_slot, is_wrong_register, names, nobody, one, one_if_same, only_if, pending, spare_of, sum_at, sum_by-flat_map, sum_by-map, sum_by_same, times-nil, writes_in, sight, Sight, IsSound}
+use Rattle.rec_core.proofs.Common.{Config, Contents, Core, Dated, Filed, Handshake, HasCollector, HasLearnt, IsActor, IsBufferOf, IsConfig, IsHeader, IsKept, IsMachine, IsMadeIn, IsMutator, IsOwn, IsReached, IsTarget, Private, Slot, Spare, beginning_uncounted, births_in, buffers, code, crossing_word, dated, dated_all, dated_names, dated_registers, fresh, has_left, is_green, is_late_snapshot, is_node, is_slot, is_wrong_register, names, nobody, one, one_if_same, only_if, pending, spare_of, stand_at, sum_at, sum_by-flat_map, sum_by-map, sum_by_same, times-nil, writes_in, sight, Sight, IsSound}
 use Rattle.rec_core.proofs.Actors.{spare_buffer}
 use Rattle.rec_core.proofs.Batches.{same_name}
 use Rattle.rec_core.proofs.CyclesWait.{sets_wait_none}
 use Rattle.rec_core.proofs.EarlyWords.{early_names, early_none_late, one_if_slot}
-use Rattle.rec_core.proofs.Opening.{all_done}
 use Rattle.rec_core.proofs.OpenedFromSeen.{all_targets, below_targets, below_taken, few_fields, free_past, header_at, headers_many, label_fits, seen_sound, taken_below}
 use Rattle.rec_core.proofs.Seated.{All-rows, holding_at, holding_sum, length-holding, registers_held, rows_sum}
 use Rattle.rec_core.proofs.Sums.{buffers_sum, log_share, names_all, share}
 use Rattle.rec_core.proofs.Turns.{AddsNothing, births_nothing, snapshots_nothing, spare_boxes, spare_row, writes_nothing}
 use Rattle.rec_core.specs.Objects.{AreObjects, HaveLabels, IsOneOf, Objects, counts_of, fields_at, holders, node_at, rows_of}
-use Rattle.rec_core.specs.OpenedFrom.{heap_from_by, holding_by}
+use Rattle.rec_core.specs.Core.{heap_from_by, holding_by}
 
 -- what is named is held,
 named_held : (n : ℕ) (xs : List (Option ℕ)) → is_in n (named_of xs) ≡ true → 0 < count_by (is_slot n) xs
@@ -171,7 +170,7 @@ module _ (config : Config) (o : Objects) (is : IsConfig config) (are : AreObject
 
   -- the collector
   machine_from : collector_kept.IsMachine w.collector
-  machine_from = opened_from_keeps config.slots config.fields config.registers config.mutators config.log_entries config.first_epoch config.steady (counts_of o) o.registers
+  machine_from = opened_keeps config.slots config.fields config.registers config.mutators config.log_entries config.first_epoch config.policy (counts_of o) o.registers
       (omega (arith, is.some_fields)) (omega (arith, is.few_fields)) (omega (arith, is.some_mutators)) (omega (arith, is.few_mutators)) (omega (arith, is.few_epochs))
       counts_some are.registers (keep_from config.slots (counts_of o) (omega (arith, counts_many, are.few)) (omega (arith, is.few_slots)))
 
@@ -189,7 +188,7 @@ module _ (config : Config) (o : Objects) (is : IsConfig config) (are : AreObject
     fields = refl;
     registers = refl;
     capacity = refl;
-    steady = refl;
+    policy = refl;
     mutators = length-replicate config.mutators (spare_of config);
     epoch = refl;
     begun = omega arith;
@@ -316,6 +315,15 @@ module _ (config : Config) (o : Objects) (is : IsConfig config) (are : AreObject
       let below : i < many = taken_below config o is are labels i some in
       subst IsTakenHeader (sym (header_at o.nodes (replicate (config.slots - many) 0) i below)) (header_taken (node_at o i).1 (node_at o i).0 (label_fits config o is are labels i below)))
 
+  -- none has left, and no gathering is under way
+  all_done : (t : ℕ) → stand_at w.collector.left w.collector.phase t ≡ Handshake.Done
+  all_done t = cond-false (has_left w.collector.left t) Handshake.Gone Handshake.Done (none_left config.mutators (t - 1))
+    where
+      none_left : (n i : ℕ) → slice_index_or (replicate n false) i false ≡ false
+      none_left zero i = refl
+      none_left (suc n) zero = refl
+      none_left (suc n) (suc i) = none_left n i
+
   -- The heap that is opened from objects keeps it all.
   -- the same is seen of dated words as of bare ones
   same_seen : sight (heap_from_by false config o) ≡ sight w
@@ -331,7 +339,7 @@ module _ (config : Config) (o : Objects) (is : IsConfig config) (are : AreObject
         many = length-holding true config 1 rows ∙ rows_many;
         words = length-replicate config.mutators (crossing_word config.first_epoch Spare);
         mailboxes = length-replicate config.mutators (spare_of config);
-        each = λ t there. subst (λ (stand : Handshake). IsActor true config config.first_epoch stand t (slice_index_or w.mutators (t - 1) nobody) (slice_index_or w.crossing (t - 1) 0) (slice_index_or w.boxes (t - 1) (collectors.blank 0 0))) (sym (all_done config t)) (each_held t there);
+        each = λ t there. subst (λ (stand : Handshake). IsActor true config config.first_epoch stand t (slice_index_or w.mutators (t - 1) nobody) (slice_index_or w.crossing (t - 1) 0) (slice_index_or w.boxes (t - 1) (collectors.blank 0 0))) (sym (all_done t)) (each_held t there);
       };
       collector = collector_from;
       sweeps = record { odd = refl; few = omega arith; some = tt };
@@ -340,7 +348,7 @@ module _ (config : Config) (o : Objects) (is : IsConfig config) (are : AreObject
       greens = λ x green. absurd (false≢true (sym (each_opened (λ (v : Slot). is_green v.colour ≡ false) (λ count. 0 < count) config.slots (counts_of o) (λ count _. refl) refl refl counts_some x) ∙ green));
       sound = subst IsSound same_seen (seen_sound config o is are labels);
       accounted = beginning_accounted (pending w) pending_begins;
-      uncounted = λ unfreed node pos gone. absurd (false≢true (sym (slot_unreleased (node - 1)) ∙ gone));
+      uncounted = λ unfreed. beginning_uncounted (pending w) pending_begins;
       cycles = sets_wait_none (pending w) w.collector.counts refl (each_opened (λ (v : Slot). v.set ≡ None) (λ count. 0 < count) config.slots (counts_of o) (λ count _. refl) refl refl counts_some);
     };
     held = tt;

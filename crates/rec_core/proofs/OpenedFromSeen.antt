@@ -18,7 +18,7 @@ use Rattle.rec_core.proofs.Common.{Config, Core, IsConfig, IsReached, IsSound, I
 use Rattle.rec_core.proofs.EarlyWords.{drop-early, early-nulls, early_are, early_holding, early_targets, length-early, take-early}
 use Rattle.rec_core.proofs.Seated.{named_has, registers_held, roots-rows, rows_sum}
 use Rattle.rec_core.specs.Objects.{AreObjects, HaveLabels, IsOneOf, Objects, counts_of, described, early_words, fields_at, holders, node_at, object_at, rows_of}
-use Rattle.rec_core.specs.OpenedFrom.{opened_from}
+use Rattle.rec_core.specs.Core.{opened_from}
 use Rattle.rec_core.specs.Settled.{IsSettled, fields_holding, registers_holding}
 
 -- under no new numbering

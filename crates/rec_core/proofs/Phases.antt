@@ -17,4 +17,5 @@ module _ {p q : Private} {turn : Turn} (phase : Phase) where
   pub clears_in : {b : Begun} → ClearsOn p q turn b → ClearsOn (record p { phase = phase }) q turn b
   clears_in (ClearsOn.works next is g) = ClearsOn.works next is (record { after = g.after; answer = g.answer })
   clears_in (ClearsOn.tests c none some tested on) = ClearsOn.tests c none some tested (clears_in on)
-  clears_in (ClearsOn.tries none empty on) = ClearsOn.tries none empty (tries_in on)
+  clears_in (ClearsOn.tries none empty due on) = ClearsOn.tries none empty due (tries_in on)
+  clears_in (ClearsOn.waits none empty off on) = ClearsOn.waits none empty off (prepares_in on)

@@ -3,7 +3,7 @@ use Rattle.std.proofs.Common.{◌≡◌, ◌≢◌, ◌⊎◌, inl, inr, ℕ, �
 use Rattle.std.proofs.lemmas.Bool.{cond-true, cond-false, eq-eqb, eqb-false, ne_eqb}
 use Rattle.std.proofs.lemmas.Grind.{flat_map-append}
 use Rattle.std.proofs.lemmas.List.{get_or-set_other, length-set}
-use Rattle.rec_core.proofs.Common.{place_of, target_of, Op, Contents, slot_at, At, Member, LeadsToUnreleased, begun_of, IsBetween, step_of, turn_of, buffer_at, noted, HaveLeft, Phase, Idle, Looking, Swapping, Returning, Releasing, Freeing, Trying, Preparing, cell, IsMutator, Core, cells_of, box, mutator, nobody, opened, IsKept, looked_at, found_by, turned, Move, after_move, after_moves, Fits, AllFit, IsStart, EndsRun, RunsFrom, Config}
+use Rattle.rec_core.proofs.Common.{IsConfig, place_of, target_of, Op, Contents, slot_at, At, Member, LeadsToUnreleased, begun_of, IsBetween, step_of, turn_of, buffer_at, noted, HaveLeft, Phase, Idle, Looking, Swapping, Returning, Releasing, Freeing, Trying, Preparing, cell, IsMutator, Core, cells_of, box, mutator, nobody, opened, IsKept, looked_at, found_by, turned, Move, after_move, after_moves, Fits, AllFit, IsStart, EndsRun, RunsFrom, Config}
 use Rattle.rec_word.specs.declared.op.Op.TheVariants as ops
 use Rattle.rec_release.specs.CycleFree.{op_at as freeing_op_at, next_of as freeing_next}
 use Rattle.rec_release.specs.Release.{op_at as release_op_at, next_of as release_next}
@@ -21,8 +21,9 @@ use Rattle.rec_core.proofs.Crossings.{step_kept, begun_kept}
 use Rattle.rec_core.proofs.Freeing as freeing
 use Rattle.rec_core.proofs.Gathering.{awaits_kept}
 use Rattle.rec_core.proofs.Offering.{offering_kept}
-use Rattle.rec_core.specs.Objects.{Objects, AreObjects, HaveLabels}
-use Rattle.rec_core.specs.OpenedFrom.{opened_from}
+use Rattle.rec_core.proofs.Opened.{first_labels, first_objects}
+use Rattle.rec_core.specs.Objects.{Objects, AreObjects, HaveLabels, first_object}
+use Rattle.rec_core.specs.Core.{opened_from}
 use Rattle.rec_core.proofs.Preparing.{loads_due, seen_there}
 use Rattle.rec_core.proofs.Releasing as releasing
 use Rattle.rec_core.proofs.Trying.{loads_child, loaded_leads}
@@ -194,24 +195,18 @@ run_more w m (start, moves, run) fits = (
   },
 )
 
--- the opening is the end of the run without moves
-pub run_opened : (config : Config) → EndsRun (opened config)
-run_opened config = (opened config, [], record { starts = IsStart.opens refl; fit = tt; ends = refl })
-
--- so is such an opening from objects
+-- an opening from objects is the end of the run without moves
 pub run_opened_from : (config : Config) (o : Objects) → AreObjects config o → HaveLabels o.nodes → EndsRun (opened_from config o)
-run_opened_from config o are labels = (opened_from config o, [], record { starts = IsStart.opens_from o are labels refl; fit = tt; ends = refl })
+run_opened_from config o are labels = (opened_from config o, [], record { starts = (o, are, labels, refl); fit = tt; ends = refl })
 
--- a run began as a heap is opened with the numbers of its end, with one object or from objects
-pub run_opens : (w : Core) → EndsRun w → RunsFrom (opened w.config) w ⊎ ((o : Objects) × AreObjects w.config o × HaveLabels o.nodes × RunsFrom (opened_from w.config o) w)
-run_opens w (start, moves, run) = by run.starts
-  where
-    numbers : start.config ≡ w.config
-    numbers = sym (config_after start moves) ∙ ap (λ (v : Core). v.config) run.ends
+-- so is that with one object
+pub run_opened : (config : Config) → IsConfig config → EndsRun (opened config)
+run_opened config is = run_opened_from config (first_object config) (first_objects config is) (first_labels config)
 
-    from : (first : Core) → start ≡ first → RunsFrom first w
-    from first same = (moves, subst (λ v. AllFit v moves) same run.fit, ap (λ v. after_moves v moves) (sym same) ∙ run.ends)
-
-    by : IsStart start → RunsFrom (opened w.config) w ⊎ ((o : Objects) × AreObjects w.config o × HaveLabels o.nodes × RunsFrom (opened_from w.config o) w)
-    by (IsStart.opens opens) = inl (from (opened w.config) (opens ∙ ap (λ c. opened c) numbers))
-    by (IsStart.opens_from o are labels opens) = inr (o, subst (λ (config : Config). AreObjects config o) numbers are, labels, from (opened_from w.config o) (opens ∙ ap (λ config. opened_from config o) numbers))
+-- a run began as a heap is opened with the numbers of its end, from objects
+pub run_opens : (w : Core) → EndsRun w → (o : Objects) × AreObjects w.config o × HaveLabels o.nodes × RunsFrom (opened_from w.config o) w
+run_opens w (start, moves, run) =
+    let (o, are, labels, opens) = run.starts in
+    let numbers : start.config ≡ w.config = sym (config_after start moves) ∙ ap (λ (v : Core). v.config) run.ends in
+    let same : start ≡ opened_from w.config o = opens ∙ ap (λ config. opened_from config o) numbers in
+    (o, subst (λ (config : Config). AreObjects config o) numbers are, labels, (moves, subst (λ v. AllFit v moves) same run.fit, ap (λ v. after_moves v moves) (sym same) ∙ run.ends))

@@ -11,7 +11,7 @@ use Rattle.rec_model.specs.Reach.{is_in, named}
 use Rattle.rec_model.proofs.Members.{is_in-cons}
 use Rattle.rec_core.proofs.Common.{Config, Private, nobody}
 use Rattle.rec_core.specs.Objects.{rows_of}
-use Rattle.rec_core.specs.OpenedFrom.{all_holding_by, holding_by}
+use Rattle.rec_core.specs.Core.{all_holding_by, holding_by}
 
 -- what two lists name, one behind the other
 named-append : (xs ys : List (Option ℕ)) → named (xs ++ ys) ≡ named xs ++ named ys

@@ -6,8 +6,8 @@ use Rattle.std.proofs.lemmas.Bool.Decides.{eqb_tells}
 use Rattle.rec_core.proofs.Common.{State, slot_at, one, times, Slot, times-nil, times-cons, Member, Pending, IsFreeable, given_up, IsReady, Parts, with_parts, ClearsOn, IsTested, IsCleared, IsClearing, Begun, counted_by, freeing_at, last_tested, Phase, Releasing, Freeing, Turn, last_by, last_given, still, Core, SetsTest, HasCyclesAt, IsLeftOf, IsKept}
 use Rattle.rec_counts.specs.Groups.{last_set}
 use Rattle.rec_counts.proofs.Front.{nothing_first}
-use Rattle.rec_walk.specs.Walk.{first_member}
-use Rattle.rec_walk.proofs.Walks.{first_none}
+use Rattle.rec_word.specs.Walk.{first_member}
+use Rattle.rec_word.proofs.Walks.{first_none}
 use Rattle.rec_release.proofs.Giving.{given_many, given_released, given_work}
 use Rattle.rec_release.proofs.Kept.{given_kept}
 use Rattle.rec_sigma.specs.Refurbish.{IsRefusable, LastRefurbished}
@@ -23,7 +23,7 @@ use Rattle.rec_collector.proofs.Testing.{clear_ready, last_clear, refurbished_re
 use Rattle.rec_core.proofs.Counts.{alike_slots, counted_slot, none_release, set_release}
 use Rattle.rec_core.proofs.CyclesTest.{IsJudged, set_given_up, sets_test_alike, sets_test_refurbished}
 use Rattle.rec_core.proofs.Landed.{landed_pending, HasLanded, HasCleared, applied_pending, begun_freeing}
-use Rattle.rec_core.proofs.Landings.{IsUnswept, goes_on, trial_begins}
+use Rattle.rec_core.proofs.Landings.{IsUnswept, goes_on, trial_begins, trial_waits}
 use Rattle.rec_core.proofs.Zeros.{HasCome, AreEmpty, cleared, empty_uncounted, landed_empty, some_fields, zeros_come}
 use Rattle.rec_collector.proofs.Greens.{given_greens, refurbished_greens}
 
@@ -115,6 +115,7 @@ module _ (w : Core) (crossing words : List ℕ) (v : Parts) (h : HasCleared w cr
           many_words = l.many_words;
           slots = many;
           fields = l.fields;
+          policy = l.policy;
           counts = given_kept s some f.work l.counts;
           listed = λ x there. elim (cases_Bool (slot_at (given_up s) x).released) [ inl is ↦ is | inr not ↦ absurd (omega (arith, released x, ap one not, ap one (l.listed x there))) ];
           emptied = λ x f_ below within is. elim (before x is) [
@@ -152,6 +153,7 @@ module _ (w : Core) (crossing words : List ℕ) (v : Parts) (h : HasCleared w cr
           many_words = l.many_words;
           slots = r.many ∙ l.slots;
           fields = l.fields;
+          policy = l.policy;
           counts = refurbished_kept s refusable l.counts;
           listed = ready.free;
           emptied = λ x f below within is. inr (inr (empty x f below within (sym (same_released r x) ∙ is)));
@@ -188,6 +190,9 @@ clears_kept w crossing words q machine turn {b} h (ClearsOn.works phase is g) =
     goes_on w crossing words q machine b.parts phase there.landed (begun_unswept w.epoch b.parts phase there.clears.clearing) (begun_tests (landed_pending w words b.parts.counts) w.collector b.parts phase there.clears.clearing there.tests) g.after
 clears_kept w crossing words q machine turn {b} h (ClearsOn.tests c is some tested on) =
     clears_kept w crossing words q machine turn (tested_lands w crossing words b.parts (subst (λ o. HasCleared w crossing words (record { parts = b.parts; phase = o })) is h) some c tested) on
-clears_kept w crossing words q machine turn {b} h (ClearsOn.tries is none on) =
+clears_kept w crossing words q machine turn {b} h (ClearsOn.tries is none due on) =
     let there : HasCleared w crossing words (still b.parts) = subst (λ o. HasCleared w crossing words (record { parts = b.parts; phase = o })) is h in
     trial_begins w crossing words q machine b.parts turn there.landed (clear_ready b.parts there.landed.counts there.clears.clearing none) on
+clears_kept w crossing words q machine turn {b} h (ClearsOn.waits is none off on) =
+    let there : HasCleared w crossing words (still b.parts) = subst (λ o. HasCleared w crossing words (record { parts = b.parts; phase = o })) is h in
+    trial_waits w crossing words q machine b.parts turn there.landed (clear_ready b.parts there.landed.counts there.clears.clearing none) on

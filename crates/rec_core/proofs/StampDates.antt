@@ -12,17 +12,15 @@ use Rattle.rec_word.proofs.Packing.{stamp_of-packed}
 use Rattle.rec_collector.specs.Step as collectors_step
 use Rattle.rec_collector.proofs.Always.{names_word}
 use Rattle.rec_core.specs.ByStamps.{stamp_epoch}
-use Rattle.rec_core.specs.Core.{box, heap_by}
+use Rattle.rec_core.specs.Core.{box, heap_from_by}
 use Rattle.rec_core.specs.Moves.{EndsRun, found_by}
 use Rattle.rec_core.specs.Objects.{AreObjects, HaveLabels, Objects, early_stamp, early_word, early_words}
-use Rattle.rec_core.specs.OpenedFrom.{heap_from_by}
-use Rattle.rec_core.proofs.BareOpened.{heap_bare, heap_from_bare}
+use Rattle.rec_core.proofs.BareOpened.{heap_from_bare}
 use Rattle.rec_core.proofs.Dated.{Explains, moves_explained}
 use Rattle.rec_core.proofs.EarlyWords.{early_epoch, early_is}
 use Rattle.rec_core.proofs.Lasting.{begun_less, op_less, step_logs, step_sums}
 use Rattle.rec_core.proofs.OpenedFrom.{opened_from_kept, pending_begins}
 use Rattle.rec_core.proofs.OpenedFromSeen.{all_targets, few_fields}
-use Rattle.rec_core.proofs.Opening.{opened_kept, pending_opens}
 use Rattle.rec_core.proofs.Runs.{config_after, move_kept}
 use Rattle.rec_core.proofs.Steps.{actor_of}
 use Rattle.rec_core.proofs.Turning.{turn_case}
@@ -141,9 +139,6 @@ nulls_dated zero place = null_dated
 nulls_dated (suc n) zero = null_dated
 nulls_dated (suc n) (suc place) = nulls_dated n place
 
-pub opened_dated : (config : Config) → IsConfig config → AreDatedSo (heap_by true config)
-opened_dated config is = record { words = nulls_dated (config.slots * config.fields); writes = (pending_opens config is).writes misdates }
-
 early_dated : (p : ℕ) (x : Option ℕ) → p < 2 ^ 42 → IsTarget x → IsDatedSo (early_word p x)
 early_dated p None small is = null_dated
 early_dated p (Some slot) small is =
@@ -164,8 +159,7 @@ opened_from_dated config o is are labels = record {
 
 -- the dated start behind a start
 start_dated : (start : Core) → IsConfig start.config → IsStart start → (v : Core) × Explains v start × AreDatedSo v
-start_dated start is (IsStart.opens opens) = (heap_by true start.config, record { bare = heap_bare start.config ∙ sym opens; kept = opened_kept start.config is }, opened_dated start.config is)
-start_dated start is (IsStart.opens_from o are labels opens) =
+start_dated start is (o, are, labels, opens) =
     (heap_from_by true start.config o, record { bare = heap_from_bare start.config o is are labels ∙ sym opens; kept = opened_from_kept start.config o is are labels }, opened_from_dated start.config o is are labels)
 
 -- and the dated end behind an end

@@ -71,7 +71,7 @@ module _ (w : Core) (due : Option ℕ) (kept : IsKept true w) (phase : w.collect
             fields = k.fields;
             registers = k.registers;
             capacity = k.capacity;
-            steady = k.steady;
+            policy = k.policy;
             mutators = k.mutators;
             epoch = k.epoch;
             begun = omega (arith, k.begun, way);
@@ -128,7 +128,7 @@ module _ (w : Core) (swept_ : ℕ) (kept : IsKept true w) (phase : w.collector.p
             fields = k.fields;
             registers = k.registers;
             capacity = k.capacity;
-            steady = k.steady;
+            policy = k.policy;
             mutators = length-map w.collector.older cleared ∙ both;
             epoch = k.epoch;
             begun = omega (arith, k.begun, way);
@@ -430,7 +430,7 @@ module _ (w : Core) (done : ℕ) (x : ℕ) (kept : IsKept true w) (phase : w.col
             fields = k.fields;
             registers = k.registers;
             capacity = k.capacity;
-            steady = k.steady;
+            policy = k.policy;
             mutators = k.mutators;
             epoch = k.epoch;
             begun = omega (arith, k.begun, way, on.way);

@@ -90,7 +90,8 @@ tested_tells w v (IsTested.fails_sigma s orange some last is) = subst (λ (c : B
 test_told : (p q : Private) (turn : Turn) (b : Begun) → TellsNone b.phase → ClearsOn p q turn b → swept_at q.phase ≡ 0
 test_told p q turn b tells (ClearsOn.works phase at g) = ap (λ c. swept_at c.phase) g.after ∙ subst TellsNone at tells
 test_told p q turn b tells (ClearsOn.tests c none some tested on) = test_told p q turn c (tested_tells b.parts c tested) on
-test_told p q turn b tells (ClearsOn.tries none empty on) = trial_told p _ _ q turn on
+test_told p q turn b tells (ClearsOn.tries none empty due on) = trial_told p _ _ q turn on
+test_told p q turn b tells (ClearsOn.waits none empty off on) = preparation_told p _ _ q turn on
 
 -- and none of them sweeps a slot
 pub preparation_sweeps : {p : Private} {w : Parts} {v : preps.Work} {q : Private} {turn : Turn} → PreparesOn p w v q turn → q.freed ≡ p.freed
@@ -105,7 +106,8 @@ trial_sweeps (TriesOn.prepares none on) = preparation_sweeps on
 pub test_sweeps : {p q : Private} {turn : Turn} {b : Begun} → ClearsOn p q turn b → q.freed ≡ p.freed
 test_sweeps (ClearsOn.works phase begun g) = ap (λ (c : Private). c.freed) g.after
 test_sweeps (ClearsOn.tests c none some tested on) = test_sweeps on
-test_sweeps (ClearsOn.tries none empty on) = trial_sweeps on
+test_sweeps (ClearsOn.tries none empty due on) = trial_sweeps on
+test_sweeps (ClearsOn.waits none empty off on) = preparation_sweeps on
 
 -- the freed word goes up by one
 freed_by : (w : Core) (op : Op) (word : ℕ) → IsKept true w → word ≡ cell (cells_of w) op → op ≡ ops.AddFreed → (with_cell (cells_of w) op (written op word)).freed ≡ w.freed + 1

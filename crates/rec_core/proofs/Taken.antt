@@ -152,6 +152,7 @@ module _ (w : Core) (slot field : ℕ) (may : MayEmpty w slot field) where
           many_words = length-set w.words place 0;
           slots = (most lowers).slots ∙ slots;
           fields = kept.collector.fields;
+          policy = kept.collector.policy;
           counts = off_kept lowers c.counts (target_of word) counted_word zeros kept.collector.machine.counts;
           listed = λ x there. (most lowers).released x ∙ kept.collector.listed x (subst (λ xs. 0 < times x xs) (most lowers).free there);
           emptied = left;

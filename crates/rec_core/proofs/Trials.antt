@@ -38,7 +38,8 @@ tried_least requested _ = omega arith
 clears_tried : (p q : collectors.Private) (turn : Turn) {b : Begun} → collectors_step.ClearsOn p q turn b → p.epoch - 1 ≤ tried_at q.epoch q.phase
 clears_tried p q turn (collectors_step.ClearsOn.works phase at g) = omega (arith, goes_tried g, tried_least p.epoch phase)
 clears_tried p q turn (collectors_step.ClearsOn.tests c none some tested on) = clears_tried p q turn on
-clears_tried p q turn (collectors_step.ClearsOn.tries none empty on) = omega (arith, tries_late p q _ _ turn on)
+clears_tried p q turn (collectors_step.ClearsOn.tries none empty due on) = omega (arith, tries_late p q _ _ turn on)
+clears_tried p q turn (collectors_step.ClearsOn.waits none empty off on) = omega (arith, prepares_late p q _ _ turn on)
 
 swept_tried : {swept requested : ℕ} {w : sweeps.Work} {next : Phase} → collectors_step.IsNext swept w next → tried_at requested next ≡ requested
 swept_tried {requested = requested} (collectors_step.IsNext.more busy is) = ap (tried_at requested) is

@@ -1,13 +1,15 @@
 -- The core of a heap with its collector: the shared words, the mailboxes, and the private record of each actor.
-use Rattle.std.specs.Prelude.{ℕ, false, ◌-◌, zero, suc, List, [], ◌∷◌, ◌++◌, length, map, replicate, slice_index_or, slice_set, Bool, Some, None}
+use Rattle.std.specs.Prelude.{ℕ, ◌+◌, ◌-◌, ◌*◌, Bool, false, Option, List, [], ◌∷◌, ◌++◌, length, map, replicate, slice_index_or, slice_set}
+use Rattle.rec_word.specs.Header.{header_word}
 use Rattle.rec_word.specs.Mailbox.{crossing_word}
 use Rattle.rec_word.specs.declared.mailbox.Mailbox.TheVariants.{Spare}
-use Rattle.rec_model.specs.Sight.{Sight, opening_sight}
+use Rattle.rec_model.specs.Sight.{Sight}
 use Rattle.rec_log.specs.declared.contents.Contents.{Contents}
 use Rattle.rec_mutator.specs.Private.{Private, opened_by}
 use Rattle.rec_mutator.specs.declared.phase.Phase.TheVariants.{Idle}
 use Rattle.rec_collector.specs.Private as collectors
 use Rattle.rec_core.specs.Cells.{Cells}
+use Rattle.rec_core.specs.Objects.{Objects, counts_of, early_words, first_object, first_registers, rows_of}
 use Rattle.rec_core.specs.declared.config.Config.{Config}
 
 -- the numbers; headers, field words by place, the epoch word, the freed word and the crossing words; what each mutator's mailbox
@@ -64,39 +66,52 @@ crossing_of w t = slice_index_or w.crossing (t - 1) 0
 abbrev pub spare_of : Config → Contents
 spare_of config = collectors.blank config.registers config.log_entries
 
--- a mutator as it is opened, whose words are dated or not
-abbrev pub mutator_by : (dates : Bool) → Config → ℕ → Private
-mutator_by dates config t = opened_by dates t config.first_epoch config.slots config.fields (Some 0 ∷ replicate (config.registers - 1) None) config.registers config.log_entries
+-- a mutator as it is opened with these registers, whose words are dated or not
+abbrev pub holding_by : (dates : Bool) → Config → (t : ℕ) → List (Option ℕ) → Private
+holding_by dates config t held = opened_by dates t config.first_epoch config.slots config.fields held config.registers config.log_entries
 
--- the first so many mutators as they are opened, numbered from 1
-abbrev pub mutators_by : (dates : Bool) → Config → ℕ → List Private
-mutators_by dates config zero = []
-mutators_by dates config (suc n) = mutators_by dates config n ++ mutator_by dates config (suc n) ∷ []
+-- mutators as they are opened with these registers, numbered from this number on
+abbrev pub all_holding_by : (dates : Bool) → Config → (t : ℕ) → List (List (Option ℕ)) → List Private
+all_holding_by dates config t [] = []
+all_holding_by dates config t (held ∷ rows) = holding_by dates config t held ∷ all_holding_by dates config (t + 1) rows
 
--- a heap as it is opened, of bare words or of dated ones
-abbrev pub heap_by : (dates : Bool) → Config → Core
-heap_by dates config =
+-- A heap as it is opened from objects, of bare words or of dated ones. Object n stands in slot n, and each other slot is free. The words
+-- in fields are those of references from before all epochs. The collection of the epoch before the first counts as done: its snapshots
+-- are all registers, and each object is counted as often as fields and registers hold it.
+abbrev pub heap_from_by : (dates : Bool) → Config → Objects → Core
+heap_from_by dates config o =
     record {
       config = config;
-      headers = (opening_sight config.slots config.fields config.registers config.mutators).headers;
-      words = (opening_sight config.slots config.fields config.registers config.mutators).words;
+      headers = map (λ node. header_word node.1 node.0) o.nodes ++ replicate (config.slots - length o.nodes) 0;
+      words = early_words 0 o.fields ++ replicate ((config.slots - length o.nodes) * config.fields) 0;
       epoch = config.first_epoch;
       freed = 0;
       crossing = replicate config.mutators (crossing_word config.first_epoch Spare);
       boxes = replicate config.mutators (spare_of config);
-      mutators = mutators_by dates config config.mutators;
-      collector = collectors.opened config.slots config.fields config.registers config.mutators config.log_entries config.first_epoch config.steady;
-      made = 1;
+      mutators = all_holding_by dates config 1 (rows_of config.registers config.mutators o.registers);
+      collector = collectors.opened config.slots config.fields config.registers config.mutators config.log_entries config.first_epoch config.policy (counts_of o) o.registers;
+      made = length o.nodes;
     }
 
--- a mutator of a heap as it is opened
-abbrev pub opened_mutator : Config → ℕ → Private
-opened_mutator config t = mutator_by false config t
+-- those of a heap
+abbrev pub holding_mutator : Config → (t : ℕ) → List (Option ℕ) → Private
+holding_mutator config t held = holding_by false config t held
 
--- the first so many of them, numbered from 1
-abbrev pub opened_mutators : Config → ℕ → List Private
-opened_mutators config n = mutators_by false config n
+abbrev pub holding_mutators : Config → (t : ℕ) → List (List (Option ℕ)) → List Private
+holding_mutators config t rows = all_holding_by false config t rows
+
+-- a heap as it is opened from objects
+abbrev pub opened_from : Config → Objects → Core
+opened_from config o = heap_from_by false config o
+
+-- as it is opened with one object, of bare words or of dated ones
+abbrev pub heap_by : (dates : Bool) → Config → Core
+heap_by dates config = heap_from_by dates config (first_object config)
+
+-- a mutator of such a heap
+abbrev pub opened_mutator : Config → ℕ → Private
+opened_mutator config t = holding_mutator config t (first_registers config.registers)
 
 -- a heap as it is opened
 abbrev pub opened : Config → Core
-opened config = heap_by false config
+opened config = opened_from config (first_object config)

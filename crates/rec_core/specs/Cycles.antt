@@ -11,7 +11,7 @@ use Rattle.rec_counts.specs.Colour.{is_green}
 use Rattle.rec_counts.specs.Counts.{State, slot_at}
 use Rattle.rec_counts.specs.Lists.{times}
 use Rattle.rec_counts.specs.Slot.{is_in}
-use Rattle.rec_walk.specs.Load.{Load, place_loaded}
+use Rattle.rec_word.specs.Load.{Load, place_loaded}
 use Rattle.rec_trial.specs.Loaded.{Run}
 use Rattle.rec_trial.specs.Tried.{loaded}
 use Rattle.rec_trial.specs.Witnessed.{word_at}

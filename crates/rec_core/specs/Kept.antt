@@ -17,7 +17,7 @@ use Rattle.rec_counts.specs.Colour.{is_green}
 use Rattle.rec_counts.specs.Counts.{State, slot_at}
 use Rattle.rec_counts.specs.Lists.{times}
 use Rattle.rec_release.specs.declared.at.At.{At}
-use Rattle.rec_walk.specs.declared.member.Member.{Member}
+use Rattle.rec_word.specs.declared.member.Member.{Member}
 use Rattle.rec_mutator.specs.Causes.{gives_back}
 use Rattle.rec_mutator.specs.Private.{Private, IsMachine, is_busy, slot_behind}
 use Rattle.rec_mutator.specs.Took.{IsBetween, is_uncollected_in}
@@ -203,7 +203,7 @@ pub record HasCollector (dated : Bool) (config : Config) (requested : ℕ) (word
   pub fields : c.fields ≡ config.fields
   pub registers : c.registers ≡ config.registers
   pub capacity : c.capacity ≡ config.log_entries
-  pub steady : c.steady ≡ config.steady
+  pub policy : c.policy ≡ config.policy
   pub mutators : length c.newer ≡ config.mutators
   pub epoch : c.epoch ≡ requested
   pub begun : config.first_epoch + c.collections + collector_kept.under_way c.phase ≡ requested

@@ -12,7 +12,6 @@ pub mod Kept
 pub mod Loads
 pub mod Moves
 pub mod Objects
-pub mod OpenedFrom
 pub mod Pending
 pub mod Preconditions
 pub mod Reach

@@ -5,7 +5,7 @@ use Rattle.rec_word.specs.declared.op.Op.{Op}
 use Rattle.rec_word.specs.declared.op.Op.TheVariants.{LoadChild, ClearField}
 use Rattle.rec_model.specs.Pending.{epoch_of, Write}
 use Rattle.rec_model.specs.Sets.{Cleared}
-use Rattle.rec_walk.specs.Load.{Load}
+use Rattle.rec_word.specs.Load.{Load}
 use Rattle.rec_collector.specs.Next.{next_of}
 use Rattle.rec_collector.specs.Touched.{named_by, tried_at}
 use Rattle.rec_collector.specs.declared.phase.Phase.{Phase}

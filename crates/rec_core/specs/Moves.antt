@@ -16,9 +16,8 @@ use Rattle.rec_collector.specs.declared.phase.Phase.{Phase}
 use Rattle.rec_collector.specs.declared.phase.Phase.TheVariants.{Looking}
 use Rattle.rec_core.specs.Cells.{cell, with_cell, births_of}
 use Rattle.rec_core.specs.Config.{IsMutator, HasLabel}
-use Rattle.rec_core.specs.Core.{Core, cells_of, with_cells, mutator, box, opened}
+use Rattle.rec_core.specs.Core.{Core, cells_of, with_cells, mutator, box, opened_from}
 use Rattle.rec_core.specs.Objects.{Objects, AreObjects, HaveLabels}
-use Rattle.rec_core.specs.OpenedFrom.{opened_from}
 
 -- An operation of a mutator was carried out: its word was found, what it leaves stands there, the mutator is this now, this is
 -- in its mailbox, and a birth is counted where a claim succeeded.
@@ -116,10 +115,9 @@ abbrev pub AllFit : Core → List Move → Type 0
 AllFit w [] = Unit {0}
 AllFit w (m ∷ ms) = Fits w m × AllFit (after_move w m) ms
 
--- where a run may begin: a heap as it is opened with its numbers, with one object or from objects that a register reaches
-pub data IsStart (start : Core) : Type 0 where
-  opens : start ≡ opened start.config → IsStart start
-  opens_from : (o : Objects) → AreObjects start.config o → HaveLabels o.nodes → start ≡ opened_from start.config o → IsStart start
+-- where a run may begin: a heap as it is opened with its numbers, from objects that registers reach
+abbrev pub IsStart : Core → Type 0
+IsStart start = (o : Objects) × AreObjects start.config o × HaveLabels o.nodes × (start ≡ opened_from start.config o)
 
 -- a run from a start, and the state at its end
 pub record IsRun (start : Core) (moves : List Move) (end : Core) : Type 0 where

@@ -1,6 +1,6 @@
 -- Objects with which a heap is opened, and the heap that never frees that they describe.
-use Rattle.std.specs.Prelude.{◌≡◌, ℕ, ◌+◌, ◌*◌, ◌/◌, ◌%◌, ◌^◌, ◌<◌, ◌≤◌, Bool, true, false, Option, None, Some, IfSome, List, [], ◌∷◌, All, count_by, length, map, replicate, slice_index_or, slice_range}
-use Rattle.std.specs.List.{range_with_len}
+use Rattle.std.specs.Prelude.{◌≡◌, ℕ, ◌+◌, ◌-◌, ◌*◌, ◌/◌, ◌%◌, ◌^◌, ◌<◌, ◌≤◌, Bool, true, false, Option, None, Some, IfSome, List, [], ◌∷◌, All, count_by, length, map, replicate, slice_index_or, slice_range}
+use Rattle.std.specs.List.{range_with_len, repeat}
 use Rattle.rec_word.specs.Word.{is_slot, packed}
 use Rattle.rec_word.specs.declared.stamps.Stamp.{Stamp}
 use Rattle.rec_model.specs.Heap.{Field, Heap, Object}
@@ -49,6 +49,14 @@ holders o n = count_by (is_slot n) o.fields + count_by (is_slot n) o.registers
 -- so of each
 abbrev pub counts_of : Objects → List ℕ
 counts_of o = map (holders o) (range_with_len 0 (length o.nodes))
+
+-- the registers of a mutator that names one object: the first does, the others are null
+abbrev pub first_registers : (registers : ℕ) → List (Option ℕ)
+first_registers registers = Some 0 ∷ replicate (registers - 1) None
+
+-- the object with which a heap is opened that no others are given: its label is 0, its fields are null, and each mutator names it
+abbrev pub first_object : Config → Objects
+first_object config = record { nodes = (0, false) ∷ []; fields = replicate config.fields None; registers = repeat config.mutators (first_registers config.registers) }
 
 -- the stamp of a reference from before all epochs: no mutator's, and of its place alone
 abbrev pub early_stamp : (place : ℕ) → Stamp

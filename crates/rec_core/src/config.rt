@@ -2,11 +2,12 @@ ghost use Rattle.std.specs.Prelude.{IfSome, ◌≡◌, ◌↔◌, ◌<◌, ◌�
 ghost use Rattle.rec_core.specs.Config.{IsConfig, IsFirstWrong, HasOperands};
 
 use crate::Part;
+use rec_collector::Policy;
 use rec_model::Cmd;
 use rec_model::limits::{MOST_FIELDS, MOST_LOG_ENTRIES, MOST_MUTATORS, MOST_REGISTERS, MOST_SLOTS};
 use rec_word::LAST_EPOCH;
 
-/// The numbers of a heap, and whether it is steady. They never change.
+/// The numbers of a heap, and how it is collected. They never change.
 #[derive(Clone, Copy, Debug, PartialEq, Eq)]
 pub struct Config {
     /// How many objects fit: 1 to 65,535.
@@ -21,9 +22,8 @@ pub struct Config {
     pub log_entries: u32,
     /// The epoch in which the mutators begin: 1 to 16,777,215.
     pub first_epoch: u32,
-    /// Whether a batch leaves out registers that name the same slot at the end of an epoch as at its beginning. Their counts stay either
-    /// way. In a heap that isn't steady such a slot is a candidate root of the next trial, if it isn't a leaf.
-    pub steady: bool,
+    /// How the heap is collected.
+    pub policy: Policy,
 }
 
 impl Config {

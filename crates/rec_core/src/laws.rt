@@ -22,7 +22,7 @@ ghost use Rattle.rec_sigma.specs.Prepared.{seen};
 ghost use Rattle.rec_core.specs.Bare.{bare_core, Behind};
 ghost use Rattle.rec_core.specs.ByStamps.{by_stamps, cleared_by_stamp, load_by_stamp};
 ghost use Rattle.rec_core.specs.Config.{IsConfig, IsMutator};
-ghost use Rattle.rec_core.specs.Core.{Core, sight, mutator, heap_by, opened};
+ghost use Rattle.rec_core.specs.Core.{Core, sight, mutator, heap_by, opened, heap_from_by, opened_from};
 ghost use Rattle.rec_word.specs.declared.op.Op.TheVariants.{FreeHeader};
 ghost use Rattle.rec_word.specs.Header.{header_word};
 ghost use Rattle.rec_word.specs.Place.{places_of};
@@ -33,7 +33,6 @@ ghost use Rattle.rec_core.specs.Loads.{BeginsPreparing, cleared_over, fields_loa
 ghost use Rattle.rec_core.specs.Preconditions.{MayStep, MayTurn};
 ghost use Rattle.rec_core.specs.Moves.{Move, AllFit, Fits, after_move, after_moves, IsRun, EndsRun, RunsFrom, stepped, turned};
 ghost use Rattle.rec_core.specs.Objects.{AreObjects, HaveLabels, Objects};
-ghost use Rattle.rec_core.specs.OpenedFrom.{heap_from_by, opened_from};
 ghost use Rattle.rec_core.specs.Pending.{pending};
 ghost use Rattle.rec_core.specs.Reach.{KeepsReached};
 ghost use Rattle.rec_core.specs.Scans.{BeginsNone, FailsByProbes};
@@ -47,9 +46,9 @@ pub fn runs_keep()
     ensures { (start : Core) (moves : List Move) (end : Core) → IsConfig start.config → IsRun start moves end → IsKept false end }
 {}
 
-/// Where a run ends, one from an opening with its numbers ends too: from the opening with one object, or from one from objects.
+/// Where a run ends, one from an opening with its numbers ends too, from objects. The opening with one object is such an opening.
 pub fn runs_begin_with_an_opening()
-    ensures { (w : Core) → EndsRun w → RunsFrom (opened w.config) w ⊎ ((o : Objects) × AreObjects w.config o × HaveLabels o.nodes × RunsFrom (opened_from w.config o) w) }
+    ensures { (w : Core) → EndsRun w → (o : Objects) × AreObjects w.config o × HaveLabels o.nodes × RunsFrom (opened_from w.config o) w }
 {}
 
 /// A run goes on with every move that fits its end.

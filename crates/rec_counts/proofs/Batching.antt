@@ -18,7 +18,7 @@ use Rattle.rec_counts.specs.Slot.{absent, due_if, is_in, settled, settled_due, s
 use Rattle.rec_counts.specs.Touched.{firsts, greened_if, mark_of, settled_at}
 use Rattle.rec_counts.proofs.Decrementing.{stays_green}
 use Rattle.rec_counts.proofs.Keeping.{relisted, remade}
-use Rattle.rec_counts.proofs.Telling.{times-filter, times_firsts}
+use Rattle.rec_counts.proofs.ToldSlots.{times-filter, times_firsts}
 use Rattle.rec_counts.proofs.Times.{one-le, times-append, times-nil}
 
 -- What no change of a count or a colour changes.

@@ -319,30 +319,6 @@ keep_drop {slots = slots} {roots = roots} {sets = sets} {work = work} k some new
           | inr l ↦ omega (arith, times-append x work (last_set sets), k.work_once x, members_once k x, times_part x sets (length sets - 1), past_end x (length slots) l)
         ]
 
--- what all fresh slots have, and so what is read past them
-fresh_field : {A : Type 0} (f : Slot → A) (a : A) → f fresh ≡ a → f absent ≡ a → (n y : ℕ) → f (get_or (replicate n fresh) y absent) ≡ a
-fresh_field f a e e' n y =
-    elim (cases_lt y n) [
-      | inl l ↦ rw (get_or-replicate n y fresh absent l) e
-      | inr l ↦ rw (get_or_past (replicate n fresh) y absent (omega (arith, length-replicate n fresh))) e'
-    ]
-
-opening_field : {A : Type 0} (f : Slot → A) (a : A) → f fresh ≡ a → f absent ≡ a → (n : ℕ) (v : Slot) → f v ≡ a → (y : ℕ) → f (get_or (set (replicate n fresh) 0 v) y absent) ≡ a
-opening_field f a e e' n v h y = field_kept f (replicate n fresh) 0 v (h ∙ sym (fresh_field f a e e' n 0)) y ∙ fresh_field f a e e' n y
-
--- at opening
-pub keep_open : (n first : ℕ) → n < 2 ^ 16 → Kept (set (replicate n fresh) 0 (record fresh { count = first })) [] [] [] [] [] []
-keep_open n first l = record {
-  buffers = λ y. rw (times-nil y) (sym (ap one (opening_field (λ (w : Slot). w.buffered) false refl refl n (record fresh { count = first }) refl y)));
-  numbers = λ i y. rw (times-nil y) (sym (ap (λ (o : Option ℕ). one (is_in i o)) (opening_field (λ (w : Slot). w.set) None refl refl n (record fresh { count = first }) refl y)));
-  few_sets = omega arith;
-  marked_once = once_none _;
-  work_once = once_none _;
-  zeros_once = once_none _;
-  free_once = once_none _;
-  few_slots = omega (arith, length-set (replicate n fresh) 0 (record fresh { count = first }), length-replicate n fresh);
-}
-
 -- a slot that is not released is in range
 pub unreleased_within : (s : State) (x : ℕ) → (slot_at s x).released ≡ false → x < length s.slots
 unreleased_within s x e = elim (cases_lt x (length s.slots)) [

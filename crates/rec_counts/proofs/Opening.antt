@@ -4,7 +4,7 @@ use Rattle.std.proofs.lemmas.Bool.{cases_lt}
 use Rattle.std.proofs.lemmas.List.{get_or_past, get_or-replicate, length-map, length-replicate, replicate-append-replicate}
 use Rattle.std.proofs.lemmas.List.Elements.{All-cons, All-head, All-nil, All-tail}
 use Rattle.rec_counts.specs.declared.slot.Slot.{Slot}
-use Rattle.rec_counts.specs.Counts.{State, counted, counted_slots, opened, opened_from, slot_at}
+use Rattle.rec_counts.specs.Counts.{State, counted, counted_slots, opened, slot_at}
 use Rattle.rec_counts.specs.Kept.{Kept}
 use Rattle.rec_counts.specs.Lists.{one}
 use Rattle.rec_counts.specs.Slot.{absent, fresh, is_in}
@@ -30,11 +30,11 @@ each_counted P Q more [] own new past all x = elim (cases_lt x more) [
 each_counted P Q more (count ∷ counts) own new past all zero = own count (All-head Q count counts all)
 each_counted P Q more (count ∷ counts) own new past all (suc x) = each_counted P Q more counts own new past (All-tail Q count counts all) x
 
-pub each_opened : (P : Slot → Type 0) (Q : ℕ → Type 0) (slots : ℕ) (counts : List ℕ) → ((count : ℕ) → Q count → P (counted count)) → P fresh → P absent → All Q counts → (x : ℕ) → P (slot_at (opened_from slots counts) x)
+pub each_opened : (P : Slot → Type 0) (Q : ℕ → Type 0) (slots : ℕ) (counts : List ℕ) → ((count : ℕ) → Q count → P (counted count)) → P fresh → P absent → All Q counts → (x : ℕ) → P (slot_at (opened slots counts) x)
 each_opened P Q slots counts = each_counted P Q (slots - length counts) counts
 
 -- no slot is released
-pub unreleased_from : (slots : ℕ) (counts : List ℕ) (x : ℕ) → x < length (opened_from slots counts).slots → (slot_at (opened_from slots counts) x).released ≡ false
+pub unreleased_from : (slots : ℕ) (counts : List ℕ) (x : ℕ) → x < length (opened slots counts).slots → (slot_at (opened slots counts) x).released ≡ false
 unreleased_from slots counts x there = go counts x there
   where
     go : (ns : List ℕ) (y : ℕ) → y < length (map counted ns ++ replicate (slots - length counts) fresh) → (get_or (map counted ns ++ replicate (slots - length counts) fresh) y absent).released ≡ false

@@ -30,17 +30,9 @@ slot_at s x = item_at s.slots x absent
 abbrev pub with_slot : State → ℕ → Slot → State
 with_slot s x v = record s { slots = changed_at s.slots x v }
 
--- the slots at opening: the first has this count, every other one
-abbrev pub opened_slots : ℕ → ℕ → List Slot
-opened_slots slots first = changed_at (replicate slots fresh) 0 (record fresh { count = first })
-
 -- these slots, of which no list has any
 abbrev pub unlisted : List Slot → State
 unlisted slots = record { slots = slots; roots = []; sets = []; marked = []; work = []; zeros = []; free = [] }
-
--- at opening all lists are empty
-abbrev pub opened : ℕ → ℕ → State
-opened slots first = unlisted (opened_slots slots first)
 
 -- a slot at opening that has this count
 abbrev pub counted : ℕ → Slot
@@ -50,9 +42,9 @@ counted count = record fresh { count = count }
 abbrev pub counted_slots : ℕ → List ℕ → List Slot
 counted_slots slots counts = map counted counts ++ replicate (slots - length counts) fresh
 
--- at such an opening all lists are empty
-abbrev pub opened_from : ℕ → List ℕ → State
-opened_from slots counts = unlisted (counted_slots slots counts)
+-- at opening all lists are empty
+abbrev pub opened : ℕ → List ℕ → State
+opened slots counts = unlisted (counted_slots slots counts)
 
 -- the slot goes where it is due
 abbrev pub sent : Due → State → ℕ → State

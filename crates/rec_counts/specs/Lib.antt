@@ -1,4 +1,5 @@
 -- The modules of the definitions.
+pub mod Batch
 pub mod Batched
 pub mod Colour
 pub mod Counts
@@ -8,4 +9,6 @@ pub mod Lists
 pub mod Rest
 pub mod Shelf
 pub mod Slot
+pub mod Targets
+pub mod Telling
 pub mod Touched

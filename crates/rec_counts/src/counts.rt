@@ -1,7 +1,7 @@
 //! The counts, colours, flags, buffers and lists of all slots.
 ghost use Rattle.std.specs.Prelude.{IfOk, ◌≡◌, ℕ, ◌+◌, ◌-◌, ◌<◌, ◌≤◌, ◌^◌, true, false, Some, None, List, [], ◌∷◌, ◌++◌, length, drop, map, nat_lt, slice_get, slice_index_or as item_at};
 ghost use Rattle.rec_counts.specs.Batched.{batched};
-ghost use Rattle.rec_counts.specs.Counts.{IsKept, IsLastSetNew, counted_slots as counted_slots_of, decremented, opened, opened_from, opened_slots, slot_at, unlisted, with_joined, with_slot, without_last_set, without_root};
+ghost use Rattle.rec_counts.specs.Counts.{IsKept, IsLastSetNew, counted_slots as counted_slots_of, decremented, opened, slot_at, unlisted, with_joined, with_slot, without_last_set, without_root};
 ghost use Rattle.rec_counts.specs.Groups.{last_set};
 ghost use Rattle.rec_counts.specs.Kept.{Kept};
 ghost use Rattle.rec_counts.specs.Lists.{EachOnce, times};
@@ -54,17 +54,6 @@ impl Model for Counts {
     ghost invariant = { λ c.
         Kept c.slots.items c.roots.list c.sets.sets c.marked.list c.work.list c.zeros.list c.free.list
         × HasRoom (length c.slots.items) c.roots.room c.sets.room c.marked.room c.work.room c.zeros.room c.free.room c.touched };
-}
-
-/// The slots at opening.
-fn opening_slots(alloc: Global, number: usize, first: u64) -> Result<Vec<Slot>, NoMemory>
-    ensures { IfOk result (λ slots. slots.items ≡ opened_slots number first) }
-{
-    let mut slots = vec![in alloc; Slot::new(); number]?;
-    if number > 0 {
-        slots[0].count = first;
-    }
-    Ok(slots)
 }
 
 /// The slots at opening, of which the first have these counts.
@@ -130,19 +119,11 @@ impl Counts {
         })
     }
 
-    /// Counts for this many slots. Slot 0 has the true count `first`, every other slot one; all slots are Black and in no
-    /// buffer, and all lists are empty. All memory is taken here.
-    pub fn open(alloc: Global, slots: u16, first: u64) -> Result<Counts, NoMemory>
-        ensures { IfOk result (λ counts. counts ≡ opened slots first) }
-    {
-        Counts::of_slots(alloc, slots, opening_slots(alloc, slots as usize, first)?)
-    }
-
     /// Counts for this many slots, of which the first have these true counts, and every other one. All slots are Black and in
     /// no buffer, and all lists are empty. All memory is taken here.
-    pub fn open_from(alloc: Global, slots: u16, counts: &[u64]) -> Result<Counts, NoMemory>
+    pub fn open(alloc: Global, slots: u16, counts: &[u64]) -> Result<Counts, NoMemory>
         requires { length counts.now ≤ slots }
-        ensures { IfOk result (λ made. made ≡ opened_from slots counts.now) }
+        ensures { IfOk result (λ made. made ≡ opened slots counts.now) }
     {
         Counts::of_slots(alloc, slots, counted_slots(alloc, slots, counts)?)
     }

@@ -8,11 +8,12 @@ use Rattle.std.proofs.Math.Nat.{suc-mul}
 use Rattle.rec_image.specs.declared.line.Heap.{Heap}
 use Rattle.rec_image.specs.declared.objects.Objects.{Objects}
 use Rattle.rec_image.specs.declared.meeting.Meeting.{Meeting}
-use Rattle.rec_image.specs.Drafts.{EndsNumeral, unmet, begins, meets_all, walks, names, meeting, objects_of, objects_in, AreFieldsRead, AreFieldsUnread, IsNodeRead, AreObjects, IsObjectRead, IsOfHeap, NoObjectNext}
+use Rattle.rec_io.specs.Text.{EndsNumeral}
+use Rattle.rec_image.specs.Drafts.{unmet, begins, meets_all, walks, names, meeting, objects_of, objects_in, AreFieldsRead, AreFieldsUnread, IsNodeRead, AreObjects, IsObjectRead, IsOfHeap, NoObjectNext}
 use Rattle.rec_image.specs.Image.{Node, ImageContents, IsPlace, IsNode, IsImage, word, told_fields, node_head, object_line}
 use Rattle.rec_image.proofs.Continuing.{has_room}
 use Rattle.rec_image.proofs.Meetings.{walks-append}
-use Rattle.rec_image.proofs.Padding.{null_names}
+use Rattle.rec_model.proofs.Opened.{named-nones}
 use Rattle.rec_image.proofs.Prefixes.{numeral_front, head_front, words_end, feed_ends, object_parts, object_front}
 
 -- ---- objects in two lists
@@ -44,7 +45,7 @@ leaf_fields slots fields leaf bytes rest before after is e nodes more met = reco
   line = e ∙ ap (λ (b : Bool). flat_map word (told_fields b (replicate fields None)) ++ 10 ∷ rest) (sym is);
   nodes = nodes;
   more = more;
-  meeting = met ∙ ap (meets_all before.meeting) (sym (null_names fields));
+  meeting = met ∙ ap (meets_all before.meeting) (sym (named-nones fields));
 }
 
 -- ---- the line of an object

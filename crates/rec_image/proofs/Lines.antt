@@ -1,6 +1,6 @@
 -- Reading a line at the front: where it is found, and where none is.
 use Rattle.std.proofs.Common.{Result, Ok, Err, ◌≡◌, ℕ, zero, suc, ◌+◌, ◌<◌, ◌≤◌, List, [], ◌∷◌, ◌++◌, Option, None, Some, All, length, get_or, drop, refl, sym, ap, subst, ◌∙◌, arith, length-append, append_assoc, append-nil}
-use Rattle.std.specs.Prelude.{codes, IfNone, IfOk, IfSome, MatchOption}
+use Rattle.std.specs.Prelude.{codes, IfNone, IfOk, IfSome}
 use Rattle.std.specs.Fmt.{decimal}
 use Rattle.std.specs.List.{flat_map}
 use Rattle.std.proofs.lemmas.Grind.{flat_map-append}
@@ -10,13 +10,11 @@ use Rattle.rec_model.specs.Reach.{named}
 use Rattle.rec_model.specs.declared.limits.TheConstants.{MOST_FIELDS, MOST_MUTATORS, MOST_REGISTERS, MOST_SLOTS}
 use Rattle.rec_report.specs.Text.{line_feed}
 use Rattle.rec_image.specs.declared.meeting.Meeting.{Meeting}
-use Rattle.rec_image.specs.Drafts.{EndsNumeral, AreRead, AreRegistersRead, AreUnread, meets, meets_all}
+use Rattle.rec_io.specs.Text.{EndsNumeral}
+use Rattle.rec_image.specs.Drafts.{AreRead, AreRegistersRead, AreUnread, meets, meets_all}
 use Rattle.rec_image.specs.Image.{AreRegisters, IsPlace, IsSized, heap_line, registers_line, word}
 use Rattle.rec_image.proofs.Prefixes.{words_end, feed_ends}
-
-pub none_then : {X : Type 0} (r : Option X) {P S : Type 0} (Q : X → Type 0) → MatchOption r P Q → (P → S) → IfNone r S
-none_then None q h f = f h
-none_then (Some x) q h f = tt
+use Rattle.rec_image.proofs.Restoring.{named-append}
 
 -- i of the words are read
 pub record AreReading (count slots i : ℕ) (bytes rest : List ℕ) (before after : List (Option ℕ)) (met now : Meeting) : Type 0 where
@@ -31,11 +29,6 @@ pub record AreReading (count slots i : ℕ) (bytes rest : List ℕ) (before afte
 pub meets-append : (m : Meeting) (xs ys : List ℕ) → meets_all m (xs ++ ys) ≡ meets_all (meets_all m xs) ys
 meets-append m [] ys = refl
 meets-append m (x ∷ xs) ys = meets-append (meets m x) xs ys
-
-named-append : (xs ys : List (Option ℕ)) → named (xs ++ ys) ≡ named xs ++ named ys
-named-append [] ys = refl
-named-append (None ∷ xs) ys = named-append xs ys
-named-append (Some n ∷ xs) ys = ap (λ (ns : List ℕ). n ∷ ns) (named-append xs ys)
 
 -- the words that are left begin with the next one
 next_left : (slots i : ℕ) (own : List (Option ℕ)) (t rest : List ℕ) → i < length own → All (IsPlace slots) own → rest ≡ flat_map word (drop i own) ++ 10 ∷ t

@@ -6,6 +6,7 @@ use Rattle.std.proofs.lemmas.Bool.{both_ways, cases_eq, cases_lt, le-ltb, lt-ltb
 use Rattle.std.proofs.lemmas.List.{get_or-map, get_or_past, length-map}
 use Rattle.std.proofs.lemmas.List.Elements.{All-cons, All-from_get_or, All-get_or, All-head, All-nil, All-tail}
 use Rattle.std.proofs.lemmas.List.FromFn.{get_or-range_with_len, length-range_with_len}
+use Rattle.rec_collector.specs.declared.policy.Policy.{Policy}
 use Rattle.rec_word.specs.Header.{IsHeaderOf, IsTakenHeader}
 use Rattle.rec_word.specs.Word.{target_of}
 use Rattle.rec_model.specs.Heap.{Field, Heap, Object, nothing as no_object, object, roots}
@@ -28,13 +29,9 @@ use Rattle.rec_image.specs.Standing as images
 use Rattle.rec_image.proofs.Carrying.{at_place, here, later, member, place_at}
 use Rattle.rec_image.proofs.Restoring.{all_named, are_objects, below_reached, have_labels, nodes_many, reached_below, restored_by}
 use Rattle.rec_image.proofs.Returning.{image_again}
-use Rattle.rec_image.proofs.Worlds.{few_listed, header, is_image}
+use Rattle.rec_image.proofs.Worlds.{few_listed, header, is_image, two_maps}
 
 -- ---- numbers of numbers
-two_maps : (f : ℕ → ℕ) (words : List ℕ) → map (λ w. option_map f (target_of w)) words ≡ map (option_map f) (map target_of words)
-two_maps f [] = refl
-two_maps f (w ∷ words) = ap (λ (xs : List (Option ℕ)). option_map f (target_of w) ∷ xs) (two_maps f words)
-
 maps_one : (f g h : ℕ → ℕ) (xs : List (Option ℕ)) → ((n : ℕ) → is_in n (named xs) ≡ true → f (g n) ≡ h n) → map (option_map f) (map (option_map g) xs) ≡ map (option_map h) xs
 maps_one f g h [] each = refl
 maps_one f g h (None ∷ xs) each = ap (λ (ys : List (Option ℕ)). None ∷ ys) (maps_one f g h xs each)
@@ -145,11 +142,11 @@ module _ (w : Core) (list : List ℕ) (slots : ℕ) (world : IsWorld w) (numbers
   abbrev log : ℕ
   log = w.config.log_entries
 
-  abbrev steady : Bool
-  steady = w.config.steady
+  abbrev policy : Policy
+  policy = w.config.policy
 
   abbrev new : Core
-  new = restored v log steady
+  new = restored v log policy
 
   few : length list ≤ w.config.slots
   few = few_listed w list world numbers
@@ -160,7 +157,7 @@ module _ (w : Core) (list : List ℕ) (slots : ℕ) (world : IsWorld w) (numbers
   pub fits : IsImage v
   fits = in_slots_image (image_of w list) slots (is_image w list world numbers few) some (omega (arith, many, room))
 
-  pub config_is : IsConfig (config_of v log steady)
+  pub config_is : IsConfig (config_of v log policy)
   config_is = record {
     some_slots = some.0;
     few_slots = some.1;
@@ -177,13 +174,13 @@ module _ (w : Core) (list : List ℕ) (slots : ℕ) (world : IsWorld w) (numbers
   }
 
   by : images.StandsBy v (sight new) (λ s. s)
-  by = restored_by v fits log steady config_is
+  by = restored_by v fits log policy config_is
 
   below : (s : ℕ) → IsTaken (sight new) s → s < length list
   below s taken = omega (arith, by.there s taken, many)
 
   taken_new : (s : ℕ) → Reaches (sight new) s → IsTaken (sight new) s
-  taken_new = reached_is_taken (sight new) (seen.seen_sound (config_of v log steady) (objects_in v) config_is (are_objects v fits log steady) (have_labels v fits))
+  taken_new = reached_is_taken (sight new) (seen.seen_sound (config_of v log policy) (objects_in v) config_is (are_objects v fits log policy) (have_labels v fits))
 
   listed : (n : ℕ) → Reaches (sight w) n → is_in n list ≡ true
   listed n reached = (lists_reached (roots (sight w).registers) (targets_of (sight w)) list numbers n).0 reached
@@ -299,7 +296,7 @@ module _ (w : Core) (list : List ℕ) (slots : ℕ) (world : IsWorld w) (numbers
     ]
       where
         new_reached : (s : ℕ) → s < length list → Reaches (sight new) s
-        new_reached s within = seen.slot_reached (config_of v log steady) (objects_in v) config_is (are_objects v fits log steady) (have_labels v fits) s (omega (arith, within, many, nodes_many v fits))
+        new_reached s within = seen.slot_reached (config_of v log policy) (objects_in v) config_is (are_objects v fits log policy) (have_labels v fits) s (omega (arith, within, many, nodes_many v fits))
 
     agree : AgreeButWords h again
     agree = record {
@@ -342,11 +339,11 @@ module _ (w : Core) (list : List ℕ) (slots : ℕ) (world : IsWorld w) (numbers
   moved h (number, st) = (again h number st, agree h number st, (λ s. number (get_or list s 0), stands_again h number st))
 
 -- ---- what the heap that is restored from the image is beside the world
-pub is_renewed : (w new : Core) (slots log : ℕ) (steady : Bool) (u v : ImageContents) → IsWorld w → IsImageOf w u → IsSlots slots → length u.objects ≤ slots → v ≡ in_slots u slots → log ≡ w.config.log_entries → steady ≡ w.config.steady → new ≡ restored v log steady → IsRenewed w slots new
-is_renewed w new slots log steady u v world (list, numbers, is) some fit moved_slots logs kind opened =
+pub is_renewed : (w new : Core) (slots log : ℕ) (policy : Policy) (u v : ImageContents) → IsWorld w → IsImageOf w u → IsSlots slots → length u.objects ≤ slots → v ≡ in_slots u slots → log ≡ w.config.log_entries → policy ≡ w.config.policy → new ≡ restored v log policy → IsRenewed w slots new
+is_renewed w new slots log policy u v world (list, numbers, is) some fit moved_slots logs kind opened =
     let room : length list ≤ slots = omega (arith, fit, ap (λ (x : ImageContents). length x.objects) is, length-map list (node_of (sight w) list)) in
     let all : v ≡ in_slots (image_of w list) slots = moved_slots ∙ ap (λ (x : ImageContents). in_slots x slots) is in
-    let same : new ≡ restored (in_slots (image_of w list) slots) w.config.log_entries w.config.steady = opened ∙ (λ i. restored (all i) (logs i) (kind i)) in
+    let same : new ≡ restored (in_slots (image_of w list) slots) w.config.log_entries w.config.policy = opened ∙ (λ i. restored (all i) (logs i) (kind i)) in
     record {
       list = list;
       numbers = numbers;
@@ -356,7 +353,7 @@ is_renewed w new slots log steady u v world (list, numbers, is) some fit moved_s
       config = ap (λ (x : Core). x.config) same;
       made = ap (λ (x : Core). x.made) same ∙ length-map (map (node_of (sight w) list) list) mark_of ∙ length-map list (node_of (sight w) list);
       image = subst (λ (x : Core). (again : List ℕ) → NumbersSlots (sight x) again → image_of x again ≡ in_slots (image_of w list) slots) (sym same)
-          (image_again (in_slots (image_of w list) slots) w.config.log_entries w.config.steady (fits w list slots world numbers some room) (config_is w list slots world numbers some room));
+          (image_again (in_slots (image_of w list) slots) w.config.log_entries w.config.policy (fits w list slots world numbers some room) (config_is w list slots world numbers some room));
       stands = subst (λ (x : Core). (heap : Heap) → Represents heap (sight w) → (after : Heap) × AgreeButWords heap after × Represents after (sight x)) (sym same) (moved w list slots world numbers some room);
       stands_for = subst (λ (x : Core). (y : ImageContents) → StandsFor y (sight w) → StandsFor y (sight x)) (sym same) (moved_for w list slots world numbers some room);
     }

@@ -11,6 +11,7 @@ use Rattle.rec_model.specs.Heap.{roots}
 use Rattle.rec_model.specs.Reach.{named}
 use Rattle.rec_image.specs.Image.{Node, IsPlace, IsNode, AreRegisters}
 use Rattle.rec_image.specs.Drafts.{names}
+use Rattle.rec_model.proofs.Opened.{named-nones}
 use Rattle.rec_image.proofs.Growing.{Grows, highest, Follows, highest_all, grows_join, highest-append}
 
 -- ---- objects
@@ -18,10 +19,6 @@ use Rattle.rec_image.proofs.Growing.{Grows, highest, Follows, highest_all, grows
 -- an object with null fields
 abbrev pub null_node : (fields : ℕ) → Node
 null_node fields = record { label = 0; leaf = false; fields = replicate fields None }
-
-pub null_names : (n : ℕ) → named (replicate n None) ≡ []
-null_names zero = refl
-null_names (suc n) = null_names n
 
 pub null_is_node : (slots fields : ℕ) → IsNode slots fields (null_node fields)
 null_is_node slots fields = record {
@@ -35,14 +32,14 @@ pub null_follow : (m j fields count : ℕ) → j + count ≤ m → Follows m j (
 null_follow m j fields zero h = tt
 null_follow m j fields (suc count) h = (
   omega arith,
-  subst (Grows m) (sym (null_names fields)) tt,
-  subst (λ (ns : List ℕ). Follows (highest m ns) (j + 1) (map names (replicate count (null_node fields)))) (sym (null_names fields)) (null_follow m (j + 1) fields count (omega arith)),
+  subst (Grows m) (sym (named-nones fields)) tt,
+  subst (λ (ns : List ℕ). Follows (highest m ns) (j + 1) (map names (replicate count (null_node fields)))) (sym (named-nones fields)) (null_follow m (j + 1) fields count (omega arith)),
 )
 
 pub null_highest : (m fields count : ℕ) → highest_all m (map names (replicate count (null_node fields))) ≡ m
 null_highest m fields zero = refl
 null_highest m fields (suc count) =
-    ap (λ (ns : List ℕ). highest_all (highest m ns) (map names (replicate count (null_node fields)))) (null_names fields)
+    ap (λ (ns : List ℕ). highest_all (highest m ns) (map names (replicate count (null_node fields)))) (named-nones fields)
     ∙ null_highest m fields count
 
 -- ---- registers
@@ -57,7 +54,7 @@ all_registers zero registers «from» left = []
 all_registers (suc mutators) registers «from» left = next_registers registers «from» left ∷ all_registers mutators registers («from» + min registers left) (left - min registers left)
 
 some_names : (ns : List ℕ) (nulls : ℕ) → named (map Some ns ++ replicate nulls None) ≡ ns
-some_names [] nulls = null_names nulls
+some_names [] nulls = named-nones nulls
 some_names (n ∷ ns) nulls = ap (λ (ks : List ℕ). n ∷ ks) (some_names ns nulls)
 
 range_grows : (m k : ℕ) → Grows m (range_with_len m k)

@@ -2,48 +2,28 @@
 use Rattle.std.proofs.Common.{◌≡◌, ℕ, suc, ◌+◌, ◌^◌, ◌<◌, ◌≤◌, ◌==◌, Bool, true, false, cond, List, [], ◌∷◌, ◌++◌, Option, None, Some, All, length, replicate, get_or, refl, sym, ap, subst, ◌∙◌, arith, append_assoc}
 use Rattle.std.specs.Prelude.{codes}
 use Rattle.std.specs.Fmt.{decimal}
-use Rattle.std.specs.Int.{IsInRange}
 use Rattle.std.specs.List.{flat_map}
 use Rattle.std.proofs.lemmas.Bool.{ne_eqb, false≢true, true≢false}
 use Rattle.std.proofs.lemmas.List.Elements.{All-head, All-tail}
 use Rattle.std.proofs.lemmas.List.Sums.{sum_by-append}
 use Rattle.rec_report.specs.Text.{line_feed}
-use Rattle.rec_script.proofs.Numerals.{AreDigits, digits_of, same_number}
-use Rattle.rec_image.specs.Drafts.{EndsNumeral}
+use Rattle.rec_io.specs.Text.{EndsNumeral}
+use Rattle.rec_io.proofs.Numerals.{AreDigits, digits_of, same_numeral}
 use Rattle.rec_image.specs.Image.{Node, IsPlace, IsNode, AreRegisters, word, told_fields, node_head, object_line, registers_line, feeds}
 
 -- ---- numerals
 
-digits_tail : (d : ℕ) (ds : List ℕ) → AreDigits (d ∷ ds) → AreDigits ds
-digits_tail d ds are = λ i lt. are (suc i) (omega arith)
-
--- digits before another byte are told
-digits_front : (ds es s t : List ℕ) → AreDigits ds → AreDigits es → EndsNumeral s → EndsNumeral t → ds ++ s ≡ es ++ t → (ds ≡ es) × (s ≡ t)
-digits_front [] [] s t a b p q e = (refl, e)
-digits_front [] (x ∷ es) s t a b p q e = absurd (p.1 (subst (IsInRange 48 57) (sym (ap (λ (bs : List ℕ). get_or bs 0 0) e)) (b 0 (omega arith))))
-digits_front (x ∷ ds) [] s t a b p q e = absurd (q.1 (subst (IsInRange 48 57) (ap (λ (bs : List ℕ). get_or bs 0 0) e) (a 0 (omega arith))))
-digits_front (x ∷ ds) (y ∷ es) s t a b p q e =
-    let first : x ≡ y = cc in
-    let rest : ds ++ s ≡ es ++ t = cc in
-    let found : (ds ≡ es) × (s ≡ t) = digits_front ds es s t (digits_tail x ds a) (digits_tail y es b) p q rest in
-    (cc (first, found.0), found.1)
-
 pub numeral_front : (n m : ℕ) (s t : List ℕ) → n < 2 ^ 32 → m < 2 ^ 32 → EndsNumeral s → EndsNumeral t → decimal n ++ s ≡ decimal m ++ t → (n ≡ m) × (s ≡ t)
-numeral_front n m s t fits also p q e =
-    let found : (decimal n ≡ decimal m) × (s ≡ t) = digits_front (decimal n) (decimal m) s t (digits_of n (omega arith)) (digits_of m (omega arith)) p q e in
-    (same_number (decimal n) n m (fits, refl) (also, found.0), found.1)
+numeral_front n m s t fits also = same_numeral n m s t (omega arith) (omega arith)
 
 -- ---- what objects lead to
 
 pub feed_ends : (bytes : List ℕ) → EndsNumeral (10 ∷ bytes)
-feed_ends bytes = (omega arith, λ d. omega (arith, d.0))
-
-pub space_ends : (bytes : List ℕ) → EndsNumeral (32 ∷ bytes)
-space_ends bytes = (omega arith, λ d. omega (arith, d.0))
+feed_ends bytes = refl
 
 word_ends : (x : Option ℕ) (bytes : List ℕ) → EndsNumeral (word x ++ bytes)
-word_ends None bytes = (omega arith, λ d. omega (arith, d.0))
-word_ends (Some n) bytes = (omega arith, λ d. omega (arith, d.0))
+word_ends None bytes = refl
+word_ends (Some n) bytes = refl
 
 pub words_end : (xs : List (Option ℕ)) (bytes : List ℕ) → EndsNumeral bytes → EndsNumeral (flat_map word xs ++ bytes)
 words_end [] bytes ends = ends
@@ -149,7 +129,7 @@ no_feed_digits : (ds : List ℕ) → AreDigits ds → feeds ds ≡ 0
 no_feed_digits [] are = refl
 no_feed_digits (d ∷ ds) are =
     let other : (d == 10) ≡ false = ne_eqb d 10 (λ e. omega (arith, (are 0 (omega arith)).0)) in
-    rw other (no_feed_digits ds (digits_tail d ds are))
+    rw other (no_feed_digits ds (λ i lt. are (suc i) (omega arith)))
 
 pub no_feed_numeral : (n : ℕ) → n < 2 ^ 32 → feeds (decimal n) ≡ 0
 no_feed_numeral n fits = no_feed_digits (decimal n) (digits_of n (omega arith))

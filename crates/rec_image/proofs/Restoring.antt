@@ -9,6 +9,7 @@ use Rattle.std.proofs.lemmas.Bool.{cases_lt, false≢true}
 use Rattle.std.proofs.lemmas.List.{length-map, take-append-drop, take-append-le, take_all, get_or-map, get_or_past}
 use Rattle.std.proofs.lemmas.Iterator.Adapters.{option_map_id}
 use Rattle.std.proofs.lemmas.List.Elements.{All-append, All-cons, All-from_get_or, All-get_or, All-head, All-map, All-nil, All-tail}
+use Rattle.rec_collector.specs.declared.policy.Policy.{Policy}
 use Rattle.rec_word.specs.Header.{IsHeaderOf}
 use Rattle.rec_word.specs.Word.{target_of}
 use Rattle.rec_model.specs.Heap.{roots}
@@ -19,9 +20,8 @@ use Rattle.rec_model.proofs.Members.{is_in-cons, is_in-head, is_in-tail}
 use Rattle.rec_model.proofs.Numbered.{lists_reached}
 use Rattle.rec_model.proofs.Standing.{reached_is_taken}
 use Rattle.rec_core.specs.Config.{IsConfig}
-use Rattle.rec_core.specs.Core.{Core, sight}
+use Rattle.rec_core.specs.Core.{Core, sight, opened_from}
 use Rattle.rec_core.specs.Objects.{AreObjects, HaveLabels, IsOneOf, Objects, fields_at, node_at, rows_of}
-use Rattle.rec_core.specs.OpenedFrom.{opened_from}
 use Rattle.rec_core.specs.declared.config.Config.{Config}
 use Rattle.rec_core.proofs.OpenedFromSeen as seen
 use Rattle.rec_image.specs.Drafts as drafts
@@ -75,7 +75,7 @@ rows_again slots registers (own ∷ held) all =
     ∙ ap (λ (rs : List (List (Option ℕ))). own ∷ rs) (rows_again slots registers held (All-tail (AreRegisters slots registers) own held all))
 
 -- what they name
-named-append : (xs ys : List (Option ℕ)) → named (xs ++ ys) ≡ named xs ++ named ys
+pub named-append : (xs ys : List (Option ℕ)) → named (xs ++ ys) ≡ named xs ++ named ys
 named-append [] ys = refl
 named-append (None ∷ xs) ys = named-append xs ys
 named-append (Some n ∷ xs) ys = ap (λ (ns : List ℕ). n ∷ ns) (named-append xs ys)
@@ -147,8 +147,8 @@ module _ (v : ImageContents) (image : IsImage v) where
   object_reached n (child m k from there) =
       child m n (object_reached m from) (subst (λ (xs : List (Option ℕ)). is_in n (named xs) ≡ true) (sym (fields_own m (reached_below m from))) there)
 
-  pub are_objects : (log_entries : ℕ) (steady : Bool) → AreObjects (config_of v log_entries steady) o
-  are_objects log_entries steady = record {
+  pub are_objects : (log_entries : ℕ) (policy : Policy) → AreObjects (config_of v log_entries policy) o
+  are_objects log_entries policy = record {
     few = omega (arith, image.few, nodes_many);
     fields = fields_long v.slots v.fields v.objects image.objects ∙ ap (λ n. n * v.fields) (sym nodes_many);
     registers = registers_long v.slots v.registers v.held image.registers ∙ ap (λ n. n * v.registers) image.mutators;
@@ -176,24 +176,24 @@ module _ (v : ImageContents) (image : IsImage v) where
       let rest : map (option_map (λ n. n)) xs ≡ xs = row_same xs in
       (λ i. first i ∷ rest i)
 
-  pub restored_by : (log_entries : ℕ) (steady : Bool) → IsConfig (config_of v log_entries steady) → StandsBy v (sight (restored v log_entries steady)) (λ s. s)
-  restored_by log_entries steady is =
-      let config : Config = config_of v log_entries steady in
-      let are : AreObjects config o = are_objects log_entries steady in
+  pub restored_by : (log_entries : ℕ) (policy : Policy) → IsConfig (config_of v log_entries policy) → StandsBy v (sight (restored v log_entries policy)) (λ s. s)
+  restored_by log_entries policy is =
+      let config : Config = config_of v log_entries policy in
+      let are : AreObjects config o = are_objects log_entries policy in
       let by = seen.seen_stands config o is are have_labels in
-      let below : (s : ℕ) → IsTaken (sight (restored v log_entries steady)) s → s < length v.objects = λ s taken. omega (arith, seen.taken_below config o is are have_labels s taken, nodes_many) in
+      let below : (s : ℕ) → IsTaken (sight (restored v log_entries policy)) s → s < length v.objects = λ s taken. omega (arith, seen.taken_below config o is are have_labels s taken, nodes_many) in
       record {
         one_to_one = λ s t p q same. same;
         there = below;
-        header = λ s taken. subst (λ (x : ℕ × Bool). IsHeaderOf x.1 x.0 (get_or (restored v log_entries steady).headers s 0)) (node_own s (below s taken)) (seen.header_taken_is config o is are have_labels s (omega (arith, below s taken, nodes_many)));
+        header = λ s taken. subst (λ (x : ℕ × Bool). IsHeaderOf x.1 x.0 (get_or (restored v log_entries policy).headers s 0)) (node_own s (below s taken)) (seen.header_taken_is config o is are have_labels s (omega (arith, below s taken, nodes_many)));
         registers = sym (ap (λ n. rows_of v.registers n o.registers) (sym image.mutators) ∙ rows_again v.slots v.registers v.held image.registers) ∙ by.registers;
         fields = λ s from.
-            let there : s < length v.objects = below s (reached_is_taken (sight (restored v log_entries steady)) (seen.seen_sound config o is are have_labels) s from) in
-            sym (two_maps (words_of (sight (restored v log_entries steady)) s) ∙ row_same (map target_of (words_of (sight (restored v log_entries steady)) s)) ∙ seen.targets_at config o is are have_labels s (omega (arith, there, nodes_many)) ∙ fields_own s there);
+            let there : s < length v.objects = below s (reached_is_taken (sight (restored v log_entries policy)) (seen.seen_sound config o is are have_labels) s from) in
+            sym (two_maps (words_of (sight (restored v log_entries policy)) s) ∙ row_same (map target_of (words_of (sight (restored v log_entries policy)) s)) ∙ seen.targets_at config o is are have_labels s (omega (arith, there, nodes_many)) ∙ fields_own s there);
       }
 
-  pub restored_stands : (log_entries : ℕ) (steady : Bool) → IsConfig (config_of v log_entries steady) → StandsFor v (sight (restored v log_entries steady))
-  restored_stands log_entries steady is = (λ s. s, restored_by log_entries steady is)
+  pub restored_stands : (log_entries : ℕ) (policy : Policy) → IsConfig (config_of v log_entries policy) → StandsFor v (sight (restored v log_entries policy))
+  restored_stands log_entries policy is = (λ s. s, restored_by log_entries policy is)
 
 -- ---- the objects of what an `Image` holds
 nodes_in : (fields : ℕ) (nodes : List (ℕ × Bool)) (targets : List (Option ℕ)) → map mark_of (drafts.objects_of fields nodes targets) ≡ nodes
@@ -221,5 +221,5 @@ inside_objects fields registers mutators slots nodes targets held many rows =
     (λ i. record { nodes = of_nodes i; fields = of_fields i; registers = of_held i })
 
 -- what is opened from them is what the image makes
-pub opened_as : (v now : ImageContents) (log_entries : ℕ) (steady : Bool) (o : Objects) (w : Core) → o ≡ objects_in v → v ≡ now → w ≡ opened_from (config_of v log_entries steady) o → w ≡ restored now log_entries steady
-opened_as v now log_entries steady o w same view is = is ∙ ap (opened_from (config_of v log_entries steady)) same ∙ ap (λ x. restored x log_entries steady) view
+pub opened_as : (v now : ImageContents) (log_entries : ℕ) (policy : Policy) (o : Objects) (w : Core) → o ≡ objects_in v → v ≡ now → w ≡ opened_from (config_of v log_entries policy) o → w ≡ restored now log_entries policy
+opened_as v now log_entries policy o w same view is = is ∙ ap (opened_from (config_of v log_entries policy)) same ∙ ap (λ x. restored x log_entries policy) view

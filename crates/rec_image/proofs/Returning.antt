@@ -5,6 +5,7 @@ use Rattle.std.specs.List.{flat_map, range_with_len}
 use Rattle.std.proofs.lemmas.List.{get_or-map, get_or_default, length-map, same_lists}
 use Rattle.std.proofs.lemmas.List.Elements.{All-cons, All-head, All-nil, All-tail}
 use Rattle.std.proofs.lemmas.List.FromFn.{get_or-range_with_len, length-range_with_len}
+use Rattle.rec_collector.specs.declared.policy.Policy.{Policy}
 use Rattle.rec_word.specs.Header.{IsHeaderOf, is_leaf, label_of}
 use Rattle.rec_word.specs.Word.{target_of}
 use Rattle.rec_model.specs.Heap.{roots}
@@ -22,6 +23,7 @@ use Rattle.rec_image.specs.Image.{ImageContents, IsImage, Node, children, nothin
 use Rattle.rec_image.specs.Restored.{config_of, objects_in, restored}
 use Rattle.rec_image.specs.Standing.{held_of, image_of, node_of, place_in}
 use Rattle.rec_image.proofs.Carrying.{place_at}
+use Rattle.rec_image.proofs.Worlds.{two_maps}
 use Rattle.rec_image.proofs.Restoring.{are_objects, fields_own, have_labels, held_below, in_range, node_own, nodes_many, own_below, rows_again}
 
 -- children that agree are joined alike
@@ -57,26 +59,21 @@ all_right : (P : Option ℕ → Type 0) (xs ys : List (Option ℕ)) → All P (x
 all_right P [] ys all = all
 all_right P (x ∷ xs) ys all = all_right P xs ys (All-tail P x (xs ++ ys) all)
 
--- targets under a numbering
-mapped_targets : (f : ℕ → ℕ) (words : List ℕ) → map (λ w. option_map f (target_of w)) words ≡ map (option_map f) (map target_of words)
-mapped_targets f [] = refl
-mapped_targets f (w ∷ words) = ap (λ (xs : List (Option ℕ)). option_map f (target_of w) ∷ xs) (mapped_targets f words)
-
-module _ (v : ImageContents) (log_entries : ℕ) (steady : Bool) (image : IsImage v) (is : IsConfig (config_of v log_entries steady)) where
+module _ (v : ImageContents) (log_entries : ℕ) (policy : Policy) (image : IsImage v) (is : IsConfig (config_of v log_entries policy)) where
   abbrev config : Config
-  config = config_of v log_entries steady
+  config = config_of v log_entries policy
 
   abbrev o : Objects
   o = objects_in v
 
   abbrev w : Core
-  w = restored v log_entries steady
+  w = restored v log_entries policy
 
   abbrev range : List ℕ
   range = range_with_len 0 (length v.objects)
 
   are : AreObjects config o
-  are = are_objects v image log_entries steady
+  are = are_objects v image log_entries policy
 
   registers_are : (sight w).registers ≡ v.held
   registers_are = seen.registers_are config o is are (have_labels v image) ∙ ap (λ n. rows_of v.registers n o.registers) (sym image.mutators) ∙ rows_again v.slots v.registers v.held image.registers
@@ -112,7 +109,7 @@ module _ (v : ImageContents) (log_entries : ℕ) (steady : Bool) (image : IsImag
       let label : label_of (get_or w.headers n 0) ≡ node.label = omega (arith, own.label) in
       let leaf : is_leaf (get_or w.headers n 0) ≡ node.leaf = own.leaf in
       let fields : map (λ word. option_map (place_in range) (target_of word)) (words_of (sight w) n) ≡ node.fields
-      = mapped_targets (place_in range) (words_of (sight w) n) ∙ ap (map (option_map (place_in range))) (targets_are n below) ∙ kept_places range (length v.objects) node.fields places_same (own_below v image n below) in
+      = two_maps (place_in range) (words_of (sight w) n) ∙ ap (map (option_map (place_in range))) (targets_are n below) ∙ kept_places range (length v.objects) node.fields places_same (own_below v image n below) in
       (λ i. record { label = label i; leaf = leaf i; fields = fields i })
 
   objects_same : map (node_of (sight w) range) range ≡ v.objects

@@ -1,9 +1,8 @@
 -- The rows of a world are those of its image.
-use Rattle.std.proofs.Common.{◌≡◌, ℕ, zero, suc, ◌+◌, ◌-◌, ◌*◌, ◌<◌, ◌≤◌, inl, inr, Bool, true, List, [], ◌∷◌, ◌++◌, Option, None, Some, All, length, map, get_or, take, drop, refl, sym, ap, subst, ◌∙◌, arith, append-nil, append_assoc}
+use Rattle.std.proofs.Common.{◌≡◌, ℕ, zero, suc, ◌+◌, ◌-◌, ◌*◌, ◌<◌, ◌≤◌, Bool, true, List, [], ◌∷◌, ◌++◌, Option, None, Some, All, length, map, get_or, take, drop, refl, sym, ap, subst, ◌∙◌, arith, append-nil, append_assoc}
 use Rattle.std.specs.Prelude.{option_map, slice_range, unwrap_or}
 use Rattle.std.specs.List.{flat_map}
 use Rattle.std.proofs.Math.Seq.{drop-append-add}
-use Rattle.std.proofs.lemmas.Bool.{cases_eq, ne_eqb}
 use Rattle.std.proofs.lemmas.Grind.{flat_map-append}
 use Rattle.std.proofs.lemmas.List.{get_or-map, length-map, map-append, take-append-le, take_all, take_more}
 use Rattle.std.proofs.lemmas.List.Elements.{All-get_or, All-head, All-tail}
@@ -19,6 +18,7 @@ use Rattle.rec_model.proofs.Numbered.{lists_reached}
 use Rattle.rec_world.specs.Numbering.{Numbered}
 use Rattle.rec_world.specs.World.{Core, IsWorld, label_of, sight}
 use Rattle.rec_report.specs.Report.{IsNumbered}
+use Rattle.rec_report.proofs.Rows.{header_label}
 use Rattle.rec_image.specs.Drafts.{objects_of, rows_of}
 use Rattle.rec_image.specs.Image.{AreRegisters, IsImage, IsNode, Node}
 use Rattle.rec_image.specs.Restored.{fields_in, mark_of}
@@ -65,12 +65,6 @@ listed_places list (Some n ∷ xs) each =
 by_targets : (f : Option ℕ → Option ℕ) (words : List ℕ) → map (λ word. f (target_of word)) words ≡ map f (map target_of words)
 by_targets f [] = refl
 by_targets f (word ∷ words) = ap (λ (xs : List (Option ℕ)). f (target_of word) ∷ xs) (by_targets f words)
-
-header_label : (header : ℕ) → unwrap_or (label_of header) 0 ≡ label_in header
-header_label header = elim (cases_eq header 0) [
-  | inl e ↦ rw e refl
-  | inr apart ↦ rw (ne_eqb header 0 apart) refl
-]
 
 -- ---- what is put behind the others, one by one
 pub one_put : {A B : Type 0} (f : A → B) (xs : List A) (i : ℕ) (d : A) (first so_far more : List B) (x : B) → i < length xs → so_far ≡ first ++ map f (take i xs) → x ≡ f (get_or xs i d) → more ≡ so_far ++ x ∷ [] → more ≡ first ++ map f (take (i + 1) xs)

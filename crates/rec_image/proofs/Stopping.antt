@@ -9,7 +9,7 @@ use Rattle.rec_image.specs.declared.line.Heap.{Heap}
 use Rattle.rec_image.specs.Drafts.{BeginsObject, CanClose, IsOfHeap, NoObjectNext, NoRowNext, draft, so_far}
 use Rattle.rec_image.specs.Image.{AreRegisters, AreWhole, ImageContents, IsContinued, IsImage, IsNode, IsSized, IsText, Node, StopsAt, end_line, feeds, header_line, heap_line, node_head, object_line, registers_line, text}
 use Rattle.rec_image.proofs.Continuing.{regroup}
-use Rattle.rec_image.proofs.Prefixes.{IsLine, feed_ends, feeds-append, line_front, lines_front, no_feed_numeral, numeral_front, object_front, object_is_line, object_parts, registers_front, registers_is_line, space_ends}
+use Rattle.rec_image.proofs.Prefixes.{IsLine, feed_ends, feeds-append, line_front, lines_front, no_feed_numeral, numeral_front, object_front, object_is_line, object_parts, registers_front, registers_is_line}
 
 -- each image that goes on from the lines before has a next line, and it isn't at the front of the rest
 abbrev pub Misses : (before rest : List ℕ) → Type 0
@@ -62,11 +62,11 @@ heap_front a b c d a2 b2 c2 d2 s t p q e =
     let whole : codes "heap " ++ (decimal a ++ (32 ∷ (decimal b ++ (32 ∷ (decimal c ++ (32 ∷ (decimal d ++ (10 ∷ s)))))))) ≡ codes "heap " ++ (decimal a2 ++ (32 ∷ (decimal b2 ++ (32 ∷ (decimal c2 ++ (32 ∷ (decimal d2 ++ (10 ∷ t))))))))
     = sym (heap_parts a b c d s) ∙ e ∙ heap_parts a2 b2 c2 d2 t in
     let first : decimal a ++ (32 ∷ (decimal b ++ (32 ∷ (decimal c ++ (32 ∷ (decimal d ++ (10 ∷ s))))))) ≡ decimal a2 ++ (32 ∷ (decimal b2 ++ (32 ∷ (decimal c2 ++ (32 ∷ (decimal d2 ++ (10 ∷ t))))))) = cc in
-    let one = numeral_front a a2 (32 ∷ (decimal b ++ (32 ∷ (decimal c ++ (32 ∷ (decimal d ++ (10 ∷ s))))))) (32 ∷ (decimal b2 ++ (32 ∷ (decimal c2 ++ (32 ∷ (decimal d2 ++ (10 ∷ t))))))) p.slots_small q.slots_small (space_ends _) (space_ends _) first in
+    let one = numeral_front a a2 (32 ∷ (decimal b ++ (32 ∷ (decimal c ++ (32 ∷ (decimal d ++ (10 ∷ s))))))) (32 ∷ (decimal b2 ++ (32 ∷ (decimal c2 ++ (32 ∷ (decimal d2 ++ (10 ∷ t))))))) p.slots_small q.slots_small refl refl first in
     let second : decimal b ++ (32 ∷ (decimal c ++ (32 ∷ (decimal d ++ (10 ∷ s))))) ≡ decimal b2 ++ (32 ∷ (decimal c2 ++ (32 ∷ (decimal d2 ++ (10 ∷ t))))) = behind_byte 32 _ _ one.1 in
-    let two = numeral_front b b2 (32 ∷ (decimal c ++ (32 ∷ (decimal d ++ (10 ∷ s))))) (32 ∷ (decimal c2 ++ (32 ∷ (decimal d2 ++ (10 ∷ t))))) p.fields_small q.fields_small (space_ends _) (space_ends _) second in
+    let two = numeral_front b b2 (32 ∷ (decimal c ++ (32 ∷ (decimal d ++ (10 ∷ s))))) (32 ∷ (decimal c2 ++ (32 ∷ (decimal d2 ++ (10 ∷ t))))) p.fields_small q.fields_small refl refl second in
     let third : decimal c ++ (32 ∷ (decimal d ++ (10 ∷ s))) ≡ decimal c2 ++ (32 ∷ (decimal d2 ++ (10 ∷ t))) = behind_byte 32 _ _ two.1 in
-    let three = numeral_front c c2 (32 ∷ (decimal d ++ (10 ∷ s))) (32 ∷ (decimal d2 ++ (10 ∷ t))) p.registers_small q.registers_small (space_ends _) (space_ends _) third in
+    let three = numeral_front c c2 (32 ∷ (decimal d ++ (10 ∷ s))) (32 ∷ (decimal d2 ++ (10 ∷ t))) p.registers_small q.registers_small refl refl third in
     let fourth : decimal d ++ (10 ∷ s) ≡ decimal d2 ++ (10 ∷ t) = behind_byte 32 _ _ three.1 in
     let four = numeral_front d d2 (10 ∷ s) (10 ∷ t) p.mutators_small q.mutators_small (feed_ends s) (feed_ends t) fourth in
     (one.0, two.0, three.0, four.0, behind_byte 10 s t four.1)

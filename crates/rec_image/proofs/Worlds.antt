@@ -1,10 +1,9 @@
 -- A world has an image, which stands for it where it is settled.
-use Rattle.std.proofs.Common.{◌≡◌, ℕ, zero, suc, ◌+◌, ◌-◌, ◌*◌, ◌/◌, ◌<◌, ◌≤◌, true, List, [], ◌∷◌, ◌++◌, Option, None, Some, All, length, map, replicate, get_or, drop, refl, sym, ap, subst, ◌∙◌, arith, append_assoc, length-drop}
+use Rattle.std.proofs.Common.{◌≡◌, ℕ, zero, suc, ◌+◌, ◌-◌, ◌*◌, ◌<◌, ◌≤◌, true, List, [], ◌∷◌, ◌++◌, Option, None, Some, All, length, map, replicate, get_or, drop, refl, sym, ap, subst, ◌∙◌, arith, append_assoc, length-drop}
 use Rattle.std.specs.Prelude.{option_map}
 use Rattle.std.specs.List.{flat_map, range_with_len}
 use Rattle.std.proofs.lemmas.List.{get_or-map, length-map, length-take-le}
 use Rattle.std.proofs.lemmas.List.Elements.{All-cons, All-from_get_or, All-get_or, All-map, All-nil}
-use Rattle.std.proofs.Math.Nat.{mul-div_cancel_left}
 use Rattle.rec_word.specs.Header.{IsHeaderOf, IsTakenHeader}
 use Rattle.rec_word.specs.Word.{target_of}
 use Rattle.rec_model.specs.Heap.{registers_of, roots}
@@ -36,7 +35,8 @@ places_below slots most (Some n ∷ xs) few each =
     (let lt : place_in slots n < length slots = (at_place slots n (each n (is_in-head n (named xs)))).0 in omega arith)
     (places_below slots most xs few (λ m h. each m (is_in-tail m n (named xs) h)))
 
-two_maps : (f : ℕ → ℕ) (words : List ℕ) → map (λ w. option_map f (target_of w)) words ≡ map (option_map f) (map target_of words)
+-- targets under a numbering
+pub two_maps : (f : ℕ → ℕ) (words : List ℕ) → map (λ w. option_map f (target_of w)) words ≡ map (option_map f) (map target_of words)
 two_maps f [] = refl
 two_maps f (w ∷ words) = ap (λ (xs : List (Option ℕ)). option_map f (target_of w) ∷ xs) (two_maps f words)
 

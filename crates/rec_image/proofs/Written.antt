@@ -1,9 +1,8 @@
 -- The lines of a world's image, spelled from their ends and written one after another.
-use Rattle.std.proofs.Common.{◌≡◌, ℕ, zero, suc, ◌+◌, ◌-◌, ◌*◌, ◌<◌, ◌≤◌, inl, inr, Bool, true, false, List, [], ◌∷◌, ◌++◌, Option, None, Some, length, map, get_or, take, drop, refl, sym, ap, subst, ◌∙◌, arith, append_assoc, append-nil}
+use Rattle.std.proofs.Common.{◌≡◌, ℕ, zero, suc, ◌+◌, ◌-◌, ◌*◌, ◌<◌, ◌≤◌, Bool, true, false, List, [], ◌∷◌, ◌++◌, Option, None, Some, length, map, get_or, take, drop, refl, sym, ap, subst, ◌∙◌, arith, append_assoc, append-nil}
 use Rattle.std.specs.Prelude.{codes, option_map, slice_range, unwrap_or}
 use Rattle.std.specs.Fmt.{decimal}
 use Rattle.std.specs.List.{flat_map}
-use Rattle.std.proofs.lemmas.Bool.{cases_eq, ne_eqb}
 use Rattle.std.proofs.lemmas.Grind.{flat_map-append}
 use Rattle.std.proofs.lemmas.List.{drop_more, get_or-map, length-map, take_more}
 use Rattle.std.proofs.lemmas.List.Elements.{All-get_or}
@@ -20,8 +19,10 @@ use Rattle.rec_world.specs.Numbering.{Numbered}
 use Rattle.rec_world.specs.World.{Core, IsWorld, label_of, sight}
 use Rattle.rec_report.specs.Report.{IsNumbered}
 use Rattle.rec_report.specs.Text.{field_number, field_word, line_feed}
+use Rattle.rec_report.proofs.Rows.{header_label}
 use Rattle.rec_image.specs.Image.{node_head, object_line, registers_line, word}
 use Rattle.rec_image.specs.Standing.{held_of, node_of, place_in, spelled_fields, spelled_node, spelled_registers}
+use Rattle.rec_image.proofs.Worlds.{two_maps}
 
 pub past_end : (n : ℕ) (xs : List ℕ) → length xs ≤ n → drop n xs ≡ []
 past_end zero [] h = refl
@@ -55,27 +56,17 @@ by_targets : (f : Option ℕ → List ℕ) (words : List ℕ) → flat_map (λ w
 by_targets f [] = refl
 by_targets f (w ∷ words) = ap (λ (bs : List ℕ). f (target_of w) ++ bs) (by_targets f words)
 
-places_of : (f : ℕ → ℕ) (words : List ℕ) → map (λ w. option_map f (target_of w)) words ≡ map (option_map f) (map target_of words)
-places_of f [] = refl
-places_of f (w ∷ words) = ap (λ (xs : List (Option ℕ)). option_map f (target_of w) ∷ xs) (places_of f words)
-
 fields_spelled : (list words : List ℕ) → ((n : ℕ) → is_in n (named (map target_of words)) ≡ true → is_in n list ≡ true) → spelled_fields list words ≡ flat_map word (map (λ w. option_map (place_in list) (target_of w)) words)
 fields_spelled list words each =
     by_targets (λ x. field_word (field_number list x)) words
     ∙ spelled_listed list (map target_of words) each
-    ∙ ap (flat_map word) (sym (places_of (place_in list) words))
+    ∙ ap (flat_map word) (sym (two_maps (place_in list) words))
 
 -- ---- the line of an object
 
 node_spelled : (leaf : Bool) (label : ℕ) (list words : List ℕ) (fields : List (Option ℕ)) → spelled_fields list words ≡ flat_map word fields → spelled_node leaf label list words ≡ object_line (record { label = label; leaf = leaf; fields = fields })
 node_spelled true label list words fields e = refl
 node_spelled false label list words fields e = ap (λ (bs : List ℕ). node_head false ++ (decimal label ++ (bs ++ line_feed))) e
-
-header_label : (header : ℕ) → unwrap_or (label_of header) 0 ≡ label_in header
-header_label header = elim (cases_eq header 0) [
-  | inl e ↦ rw e refl
-  | inr apart ↦ rw (ne_eqb header 0 apart) refl
-]
 
 pub node_line : (w : Core) (fields : ℕ) (n : Numbered) (i slot wide again label : ℕ) (leaf : Bool) (found : Option ℕ) (words now line : List ℕ) → IsWorld w → IsNumbered w fields n → now ≡ n.list → i < length now → slot ≡ get_or now i 0 → wide ≡ fields → again ≡ fields → words ≡ w.words
     → found ≡ label_of (get_or w.headers (get_or now i 0) 0) → label ≡ unwrap_or found 0 → leaf ≡ is_leaf (get_or w.headers (get_or now i 0) 0) → line ≡ spelled_node leaf label n.list (slice_range words (slot * wide) (slot * wide + again)) → line ≡ object_line (node_of (sight w) n.list (get_or n.list i 0))

@@ -1,6 +1,5 @@
 -- What the lines so far have told, while an image is read: how many objects are met, and how many of them registers have to name.
 use Rattle.std.specs.Prelude.{◌≡◌, ◌≢◌, ◌⊎◌, ℕ, zero, suc, true, Bool, None, take, drop, replicate, ◌+◌, ◌-◌, ◌*◌, ◌<◌, ◌≤◌, max, nat_le, nat_lt, if◌then◌else◌, List, [], ◌∷◌, ◌++◌, Option, All, length, map, slice_index}
-use Rattle.std.specs.Int.{IsInRange}
 use Rattle.std.specs.List.{flat_map}
 use Rattle.rec_model.specs.Heap.{roots}
 use Rattle.rec_model.specs.Reach.{named}
@@ -79,10 +78,6 @@ pub record CanClose (v : ImageContents) : Type 0 where
 -- the same heap with these objects and these registers behind
 abbrev pub with_more : ImageContents → List Node → List (List (Option ℕ)) → ImageContents
 with_more v objects held = record v { objects = v.objects ++ objects; held = v.held ++ held }
-
--- bytes that go on with no digit
-abbrev pub EndsNumeral : List ℕ → Type 0
-EndsNumeral bytes = (0 < length bytes) × (IsInRange 48 57 (slice_index bytes 0) → ⊥)
 
 -- so many words that end a line were read from the front, added to others and met in order
 pub record AreRead (count slots : ℕ) (bytes rest : List ℕ) (before after : List (Option ℕ)) (met now : Meeting) : Type 0 where

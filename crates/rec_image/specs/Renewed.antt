@@ -43,7 +43,7 @@ pub record IsRenewed (w : Core) (slots : ℕ) (new : Core) : Type 0 where
   pub in_range : IsSlots slots
   pub room : length list ≤ slots
   -- it is restored from the image of the old one, in so many slots
-  pub opened : new ≡ restored (in_slots (image_of w list) slots) w.config.log_entries w.config.steady
+  pub opened : new ≡ restored (in_slots (image_of w list) slots) w.config.log_entries w.config.policy
   pub config : new.config ≡ config_anew w.config slots
   pub made : new.made ≡ length list
   -- what is written of it is what would have been written of the old one, but for the number of slots

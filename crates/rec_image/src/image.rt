@@ -17,7 +17,7 @@ use crate::held::Held;
 use crate::line::Heap;
 use crate::live::{heap_of, numbered, object_rows, register_rows};
 use crate::objects::Objects;
-use rec_world::{Config, Numbering, OpenError, World};
+use rec_world::{Config, Numbering, OpenError, Policy, World};
 use std::alloc::{AllocError as NoMemory, Global};
 use std::marker::Model;
 
@@ -142,22 +142,22 @@ impl Image {
     }
 }
 
-/// The settled heap that the image is of, with logs for so many entries and epochs from 1, steady or not: object n stands in slot n - 1.
+/// The settled heap that the image is of, with logs for so many entries and epochs from 1, collected by `policy`: object n stands in slot n - 1.
 /// All its memory is taken here.
 pub fn restore(
     alloc: Global,
     image: &Image,
     log_entries: u32,
-    steady: bool,
+    policy: Policy,
 ) -> Result<World, OpenError>
     // An image's numbers are in their ranges, so no other one than the log's is refused.
-    ensures refused { IfErr result (λ error. IsRefused (config_of image.now log_entries steady) error) }
-    ensures opened { IfOk result (λ world. world ≡ restored image.now log_entries steady) }
+    ensures refused { IfErr result (λ error. IsRefused (config_of image.now log_entries policy) error) }
+    ensures opened { IfOk result (λ world. world ≡ restored image.now log_entries policy) }
     // Its births are the image's objects.
     ensures made { IfOk result (λ world. world.made ≡ length image.now.objects) }
     // The image stands for it in all but the field words, and the heap that the image describes does with those that are written.
     ensures stands { IfOk result (λ world. StandsFor image.now (sight world)) }
-    ensures heap { IfOk result (λ world. Represents (described (config_of image.now log_entries steady) (objects_of_image image.now)) (sight world)) }
+    ensures heap { IfOk result (λ world. Represents (described (config_of image.now log_entries policy) (objects_of_image image.now)) (sight world)) }
     // Just what registers reach is taken, with true counts; and no mutator works.
     ensures settled { IfOk result IsSettled }
     ensures idle { IfOk result AreIdle }
@@ -170,7 +170,7 @@ pub fn restore(
         mutators: image.heap.mutators,
         log_entries,
         first_epoch: 1,
-        steady,
+        policy,
     };
     let opened = World::open_from(
         alloc,

@@ -5,7 +5,8 @@ ghost use Rattle.rec_image.specs.Drafts.{AreRead, AreRegistersRead, AreUnread};
 ghost use Rattle.rec_image.specs.Image.{AreRegisters, IsSized, heap_line as heap_line_of, node_head as node_head_of, registers_line as registers_line_of};
 
 use crate::meeting::Meeting;
-use crate::piece::{behind, behind_byte, numeral, two_sizes, word};
+use crate::piece::{behind, two_sizes, word};
+use rec_io::behind_byte;
 use rec_model::limits::{MOST_FIELDS, MOST_MUTATORS, MOST_REGISTERS, MOST_SLOTS};
 use std::alloc::AllocError as NoMemory;
 

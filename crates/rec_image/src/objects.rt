@@ -6,7 +6,8 @@ ghost use Rattle.rec_image.specs.Image.{IsNode, IsSized, Node, object_line};
 
 use crate::line::{Heap, node_head, words};
 use crate::meeting::Meeting;
-use crate::piece::{behind_byte, numeral};
+use crate::piece::numeral;
+use rec_io::behind_byte;
 use std::alloc::{AllocError as NoMemory, Global};
 
 /// The objects so far: their labels and leaf marks, the fields of all in one list, and what is met by them.

@@ -2,8 +2,10 @@
 
 ghost use Rattle.std.specs.Prelude.{◌≡◌, ◌≢◌, ℕ, ◌+◌, ◌<◌, ◌≤◌, ◌^◌, ◌++◌, [], ◌∷◌, List, Option, IfSome, IfNone, MatchOption, length, slice_index};
 ghost use Rattle.std.specs.Fmt.{decimal};
-ghost use Rattle.rec_image.specs.Drafts.{EndsNumeral};
+ghost use Rattle.rec_io.specs.Text.{EndsNumeral};
 ghost use Rattle.rec_image.specs.Image.{IsPlace, word as word_of};
+
+use rec_io::behind_byte;
 
 /// What is behind this piece at the front.
 #[inline(always)]
@@ -14,62 +16,16 @@ pub(crate) fn behind<'b>(piece: &[u8], bytes: &'b [u8]) -> Option<&'b [u8]>
     bytes.strip_prefix(piece)
 }
 
-/// What is behind this byte at the front.
-#[inline(always)]
-pub(crate) fn behind_byte(first: u8, bytes: &[u8]) -> Option<&[u8]>
-    ensures { MatchOption result ((t : List ℕ) → bytes.now ≢ first ∷ t)
-        (λ rest. bytes.now ≡ first ∷ rest.now) }
-{
-    match bytes {
-        [byte, rest @ ..] if *byte == first => Some(rest),
-        _ => None,
-    }
-}
-
-/// A numeral at the front whose first digit isn't 0, and what is behind it, which is some byte that is no digit.
-#[inline(always)]
-fn long_numeral(bytes: &[u8]) -> Option<(u32, &[u8])>
-    requires { slice_index bytes.now 0 ≢ 48 }
-    ensures found { IfSome result (λ x. (bytes.now ≡ decimal x.0 ++ x.1.now) × (x.0 < 2 ^ 32) × EndsNumeral x.1.now) }
-    ensures none { IfNone result ((n : ℕ) (t : List ℕ) → n < 2 ^ 32 → EndsNumeral t → bytes.now ≢ decimal n ++ t) }
-{
-    let mut value: u64 = 0;
-    for (i, byte) in bytes.iter().enumerate() {
-        if !byte.is_ascii_digit() {
-            return if i == 0 {
-                None
-            } else {
-                Some((value as u32, &bytes[i..]))
-            };
-        }
-        value = 10 * value + u64::from(*byte - b'0');
-        if value > u64::from(u32::MAX) {
-            return None;
-        }
-    }
-    None
-}
-
-/// A numeral at the front, and what is behind it, which is some byte that is no digit. A numeral has no leading zeros and is
-/// at most 4,294,967,295.
+/// A numeral of 32 bits at the front, and what is behind it, which begins with no digit.
 #[inline(always)]
 pub(crate) fn numeral(bytes: &[u8]) -> Option<(u32, &[u8])>
     ensures found { IfSome result (λ x. (bytes.now ≡ decimal x.0 ++ x.1.now) × (x.0 < 2 ^ 32) × EndsNumeral x.1.now) }
     ensures none { IfNone result ((n : ℕ) (t : List ℕ) → n < 2 ^ 32 → EndsNumeral t → bytes.now ≢ decimal n ++ t) }
 {
-    let [first, rest @ ..] = bytes else {
+    let Some((number, rest)) = rec_io::numeral(u64::from(u32::MAX), bytes) else {
         return None;
     };
-    if *first != b'0' {
-        return long_numeral(bytes);
-    }
-    let [second, ..] = rest else {
-        return None;
-    };
-    if second.is_ascii_digit() {
-        return None;
-    }
-    Some((0, rest))
+    Some((number as u32, rest))
 }
 
 /// A number from 1 to the greatest one at the front, with this byte behind it, and what is behind that.

@@ -11,7 +11,7 @@ ghost use Rattle.rec_image.specs.declared.error.RenewError.TheVariants.{FewSlots
 use crate::error::RenewError;
 use crate::image::{Image, restore};
 use rec_model::limits::MOST_SLOTS;
-use rec_world::World;
+use rec_world::{Policy, World};
 use std::alloc::Global;
 
 /// The same heap with epochs from 1 and with so many slots, from 1 to 65,535 and no fewer than registers reach; else the world, with
@@ -30,8 +30,8 @@ pub fn renew(alloc: Global, world: World, slots: u32) -> Result<World, (World, R
     ensures idle { IfOk result AreIdle }
     ensures kept { IfOk result IsWorld }
 {
-    let (world, log_entries, steady) = with_kind(world);
-    match open_anew(alloc, &world, slots, log_entries, steady) {
+    let (world, log_entries, policy) = with_kind(world);
+    match open_anew(alloc, &world, slots, log_entries, policy) {
         Ok(new) => {
             drop(world);
             Ok(new)
@@ -40,16 +40,16 @@ pub fn renew(alloc: Global, world: World, slots: u32) -> Result<World, (World, R
     }
 }
 
-// The same world, how many entries its logs have, and whether it is steady, which its parts tell.
-fn with_kind(world: World) -> (World, u32, bool)
+// The same world, how many entries its logs have, and its policy, which its parts tell.
+fn with_kind(world: World) -> (World, u32, Policy)
     ensures same { result.0 ≡ world }
     ensures entries { result.1 ≡ world.config.log_entries }
-    ensures steady { result.2 ≡ world.config.steady }
+    ensures policy { result.2 ≡ world.config.policy }
 {
     let parts = world.into_parts();
     let log_entries = parts.config.log_entries;
-    let steady = parts.config.steady;
-    (World::of_parts(parts), log_entries, steady)
+    let policy = parts.config.policy;
+    (World::of_parts(parts), log_entries, policy)
 }
 
 // Another heap that holds what this one holds.
@@ -58,10 +58,10 @@ fn open_anew(
     world: &World,
     slots: u32,
     log_entries: u32,
-    steady: bool,
+    policy: Policy,
 ) -> Result<World, RenewError>
     requires entries { log_entries ≡ world.now.config.log_entries }
-    requires steady { steady ≡ world.now.config.steady }
+    requires policy { policy ≡ world.now.config.policy }
     ensures renewed { IfOk result (λ new. IsRenewed world.now slots new) }
     ensures refused { IfErr result (λ error. IsUnrenewed world.now slots error) }
     ensures settled { IfOk result IsSettled }
@@ -72,7 +72,7 @@ fn open_anew(
         return Err(RenewError::Slots);
     }
     let image = Image::of_world(alloc, world)?;
-    restore_in(alloc, image, slots, log_entries, steady)
+    restore_in(alloc, image, slots, log_entries, policy)
 }
 
 // The heap that the image is of, with so many slots.
@@ -81,11 +81,11 @@ fn restore_in(
     image: Image,
     slots: u32,
     log_entries: u32,
-    steady: bool,
+    policy: Policy,
 ) -> Result<World, RenewError>
     requires { IsSlots slots }
     ensures opened { IfOk result (λ new. (length image.objects ≤ slots)
-        × (new ≡ restored (in_slots image slots) log_entries steady)) }
+        × (new ≡ restored (in_slots image slots) log_entries policy)) }
     ensures refused { IfErr result (λ error. (error ≢ Slots)
         × (error ≡ FewSlots → slots < length image.objects)) }
     ensures settled { IfOk result IsSettled }
@@ -95,7 +95,7 @@ fn restore_in(
     if image.count() > slots {
         return Err(RenewError::FewSlots);
     }
-    match restore(alloc, &image.with_slots(slots), log_entries, steady) {
+    match restore(alloc, &image.with_slots(slots), log_entries, policy) {
         Ok(new) => Ok(new),
         // Each number is in its range.
         Err(_) => Err(RenewError::NoMemory),

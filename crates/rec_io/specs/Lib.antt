@@ -1,5 +1,6 @@
 -- The modules of the definitions.
 pub mod Faults
+pub mod Text
 pub mod Told
 pub mod Source
 pub mod Sink

@@ -11,6 +11,9 @@
 //! all their bytes. `StdSource` and `StdSink` stand over std's reader and writer and tell none: they are the
 //! trusted edge.
 //!
+//! What is written is spelled in bytes, and `numeral` and `behind_byte` read what stands at the front of these: a numeral
+//! in decimal, which has no leading zeros, or a byte. `proofs/Numerals` has the law that a text begins with one numeral at most.
+//!
 //! The rule is this project's profile; the papers on the Recycler have no input or output.
 #![tactic(auto)]
 
@@ -19,6 +22,7 @@ mod calls;
 mod copy;
 mod flush;
 mod flush_fault;
+mod front;
 mod reader;
 mod room_sink;
 mod sink;
@@ -31,6 +35,7 @@ mod writer;
 pub use bytes_source::BytesSource;
 pub use flush::Flush;
 pub use flush_fault::FlushFault;
+pub use front::{behind_byte, numeral};
 pub use reader::{ReadStop, read_all};
 pub use room_sink::RoomSink;
 pub use sink::{Sink, Taken};

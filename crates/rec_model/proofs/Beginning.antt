@@ -5,7 +5,7 @@ use Rattle.std.proofs.lemmas.List.Folds.{sum_by-replicate}
 use Rattle.std.proofs.lemmas.List.Sums.{sum_by-append, sum_by-le-sum_by}
 use Rattle.std.proofs.lemmas.Bool.{cases_eq, true≢false}
 use Rattle.rec_model.proofs.Common.{only_if, one_if_same, sum_at, node_of, epoch_of, home, dated, Pending, is_at, Dated, is_late_word, is_wrong_write, is_wrong_register, is_late_snapshot, HasEpochs, names, puts_after, replaces_from, is_from, is_leaf_from, is_after, is_node, HasLedger, late, put_late, replaced_late, touches, IsHeld, is_dead, names_unreleased, IsUnnamed, IsAccounted}
-use Rattle.rec_model.specs.Opened.{IsBeginning, IsOpening, opening}
+use Rattle.rec_model.specs.Opened.{IsBeginning, opening}
 use Rattle.rec_model.proofs.Sums.{sum_at-le-sum_at, sum_at-replicate_none, sum_by_same}
 use Rattle.rec_model.proofs.Weights.{only_if-le, only_if_le, only_if_self, none_if_not_lt, none_if_differs}
 use Rattle.rec_model.proofs.Reaching.{root_in_reach}
@@ -84,48 +84,6 @@ module _ (w : Pending) (s : IsBeginning w) where
     leaves = λ x pos some. absurd (omega (arith, some, s.births (is_leaf_from w.applied x)));
   }
 
--- a heap as it is opened begins so
-module _ (w : Pending) (epoch mutators : ℕ) (s : IsOpening w epoch mutators) where
-  -- what a null word names, and what it weighs as a late word
-  no_names : (x : ℕ) → 0 < x → sum_at (names x) w.words ≡ 0
-  no_names x pos = s.words (names x) (λ place. none_if_differs x (node_of 0) (omega (arith, pos, node_of_null)))
-
-  none_late : (weight : ℕ → ℕ → ℕ) → sum_at (late w.applied weight) w.words ≡ 0
-  none_late weight = s.words (late w.applied weight) (λ place. none_if_not_lt w.applied (epoch_of 0) (weight place 0) (omega (arith, epoch_of_null)))
-
-  -- how often registers name a node: each mutator names node 1
-  registers_name : (x : ℕ) → 0 < x → sum_by (is_node x) w.registers ≡ mutators * one_if_same x 1
-  registers_name x pos = s.registers (is_node x) (λ d. null_differs x pos)
-
-  opening_begins : IsBeginning w
-  opening_begins = record {
-    near = s.applied ∙ sym s.requested;
-    early = none_late;
-    writes = s.writes;
-    births = s.births;
-    snapshots = λ weight null. s.snapshots weight null ∙ sym (s.registers (λ d. weight (dated w.applied d.node)) (λ d. null w.applied));
-    left = s.left;
-    entered = s.entered;
-    counted = λ x pos. elim (cases_eq x 1) [
-      | inl e ↦
-          let product : mutators * one_if_same x 1 ≡ mutators * 1 = ap (λ k. mutators * one_if_same k 1) e in
-          let taken : only_if (w.free x) 1 ≡ 0 = ap (λ k. only_if (w.free k) 1) e ∙ ap (λ b. only_if b 1) s.taken in
-          omega (arith, ap w.count e, s.count, product, taken, no_names x pos, registers_name x pos)
-      | inr e ↦
-          let product : mutators * one_if_same x 1 ≡ mutators * 0 = ap (λ k. mutators * k) (none_if_differs x 1 e) in
-          let free : only_if (w.free x) 1 ≡ 1 = ap (λ b. only_if b 1) (s.free x (omega (arith, pos, e))) in
-          omega (arith, s.counts x (omega (arith, pos, e)), product, free, no_names x pos, registers_name x pos)
-    ];
-    unnamed = λ x pos free.
-        let other : x ≢ 1 = λ is. true≢false (sym free ∙ ap w.free is ∙ s.taken) in
-        let product : mutators * one_if_same x 1 ≡ mutators * 0 = ap (λ k. mutators * k) (none_if_differs x 1 other) in
-        omega (arith, product, no_names x pos, registers_name x pos);
-    released = s.released;
-  }
-
-  pub opening_accounted : IsAccounted w
-  opening_accounted = beginning_accounted w opening_begins
-
 -- there is such a heap
 named_sum : (weight : Dated → ℕ) (mutators nulls epoch : ℕ) → sum_by weight (replicate mutators (dated epoch 1) ++ replicate (mutators * nulls) (dated epoch 0)) ≡ mutators * weight (dated epoch 1) + mutators * nulls * weight (dated epoch 0)
 named_sum weight mutators nulls epoch =
@@ -142,32 +100,52 @@ without_nulls weight mutators nulls epoch none = omega (arith, named_sum weight 
 none_of_them : (weight : Dated → ℕ) (mutators nulls epoch : ℕ) → weight (dated epoch 0) ≡ 0 → weight (dated epoch 1) ≡ 0 → sum_by weight (replicate mutators (dated epoch 1) ++ replicate (mutators * nulls) (dated epoch 0)) ≡ 0
 none_of_them weight mutators nulls epoch null one = omega (arith, without_nulls weight mutators nulls epoch null, ap (λ k. mutators * k) one)
 
-pub opening_is : (fields places epoch mutators nulls : ℕ) → 0 < epoch → IsOpening (opening fields places epoch mutators nulls) epoch mutators
-opening_is fields places epoch mutators nulls some = record {
-  applied = omega (arith, some);
-  requested = refl;
-  words = λ weight null. sum_at-replicate_none weight places 0 null;
-  writes = λ weight. refl;
-  births = λ weight. refl;
-  snapshots = λ weight null. without_nulls weight mutators nulls (epoch - 1) (null (epoch - 1));
-  left = none_of_them (is_late_snapshot epoch) mutators nulls (epoch - 1) (early 0) (early 1);
-  registers = λ weight null. without_nulls weight mutators nulls epoch (null epoch);
-  entered = none_of_them (is_wrong_register (epoch - 1) epoch) mutators nulls epoch (within 0) (within 1);
-  count = refl;
-  taken = refl;
-  free = λ node more. other node more;
-  counts = λ node more. single node more;
-  released = λ node pos. refl;
-}
-  where
-    early : (node : ℕ) → is_late_snapshot epoch (dated (epoch - 1) node) ≡ 0
-    early node = let less : epoch - 1 < epoch = omega (arith, some) in grind (arith, nat_tests)
+module _ (fields places epoch mutators nulls : ℕ) where
+  abbrev w : Pending
+  w = opening fields places epoch mutators nulls
 
-    within : (node : ℕ) → is_wrong_register (epoch - 1) epoch (dated epoch node) ≡ 0
-    within node = let less : epoch - 1 < epoch = omega (arith, some) in grind (arith, nat_tests)
+  -- no field names a node, and each mutator names node 1
+  no_names : (x : ℕ) → 0 < x → sum_at (names x) w.words ≡ 0
+  no_names x pos = sum_at-replicate_none (names x) places 0 (λ place. none_if_differs x (node_of 0) (omega (arith, pos, node_of_null)))
 
-    other : (node : ℕ) → 1 < node → not (eqb node 1) ≡ true
-    other node more = grind (arith, nat_tests)
+  registers_name : (x : ℕ) → 0 < x → sum_by (is_node x) w.registers ≡ mutators * one_if_same x 1
+  registers_name x pos = without_nulls (is_node x) mutators nulls epoch (null_differs x pos)
 
-    single : (node : ℕ) → 1 < node → cond (eqb node 1) mutators 1 ≡ 1
-    single node more = grind (arith, nat_tests)
+  other : (x : ℕ) → 1 < x → not (eqb x 1) ≡ true
+  other x more = grind (arith, nat_tests)
+
+  single : (x : ℕ) → 1 < x → cond (eqb x 1) mutators 1 ≡ 1
+  single x more = grind (arith, nat_tests)
+
+  pub opening_begins : 0 < epoch → IsBeginning w
+  opening_begins some = record {
+    near = omega (arith, some);
+    early = λ weight. sum_at-replicate_none (late w.applied weight) places 0 (λ place. none_if_not_lt w.applied (epoch_of 0) (weight place 0) (omega (arith, epoch_of_null)));
+    writes = λ weight. refl;
+    births = λ weight. refl;
+    snapshots = λ weight null.
+        without_nulls weight mutators nulls (epoch - 1) (null (epoch - 1))
+        ∙ sym (without_nulls (λ d. weight (dated w.applied d.node)) mutators nulls epoch (null (epoch - 1)));
+    left = none_of_them (is_late_snapshot epoch) mutators nulls (epoch - 1) (early 0) (early 1);
+    entered = none_of_them (is_wrong_register (epoch - 1) epoch) mutators nulls epoch (within 0) (within 1);
+    counted = λ x pos. elim (cases_eq x 1) [
+      | inl e ↦
+          let product : mutators * one_if_same x 1 ≡ mutators * 1 = ap (λ k. mutators * one_if_same k 1) e in
+          omega (arith, ap w.count e, product, ap (λ k. only_if (w.free k) 1) e, no_names x pos, registers_name x pos)
+      | inr e ↦
+          let more : 1 < x = omega (arith, pos, e) in
+          let product : mutators * one_if_same x 1 ≡ mutators * 0 = ap (λ k. mutators * k) (none_if_differs x 1 e) in
+          omega (arith, single x more, product, ap (λ b. only_if b 1) (other x more), no_names x pos, registers_name x pos)
+    ];
+    unnamed = λ x pos free.
+        let differs : x ≢ 1 = λ is. true≢false (sym free ∙ ap w.free is) in
+        let product : mutators * one_if_same x 1 ≡ mutators * 0 = ap (λ k. mutators * k) (none_if_differs x 1 differs) in
+        omega (arith, product, no_names x pos, registers_name x pos);
+    released = λ node pos. refl;
+  }
+    where
+      early : (node : ℕ) → is_late_snapshot epoch (dated (epoch - 1) node) ≡ 0
+      early node = let less : epoch - 1 < epoch = omega (arith, some) in grind (arith, nat_tests)
+
+      within : (node : ℕ) → is_wrong_register (epoch - 1) epoch (dated epoch node) ≡ 0
+      within node = let less : epoch - 1 < epoch = omega (arith, some) in grind (arith, nat_tests)

@@ -6,7 +6,7 @@ use Rattle.std.proofs.lemmas.List.Sums.{sum_by-le-sum_by, sum_by-le, get_or-le-s
 use Rattle.rec_model.proofs.Common.{is_in, times, only_if, one_if_same, sum_at, node_of, epoch_of, home, Dated, Pending, word_in, is_at, Holds, references_of, nodes_of, nodes_from, one_if_born, count_formula, IsInReach, IsWriteInReach, opened_to, puts_in, added, with_answer, AccountMove, names, puts_after, replaces_from, is_from, is_node, touches, is_dead, names_unreleased, named_anywhere, IsAccounted, HasUncountedReleased}
 use Rattle.rec_model.specs.Moves.AccountMove.{put, register, birth, crossing, leaving, request, batch, release, clearing, freeing, dropping}
 use Rattle.rec_model.specs.Accounted.{named}
-use Rattle.rec_model.specs.Opened.{IsOpening}
+use Rattle.rec_model.specs.Opened.{IsBeginning}
 use Rattle.rec_model.proofs.Sums.{get_or-le-sum_at, sum_by_split}
 use Rattle.rec_model.proofs.Weights.{only_if-le, only_if_lt, only_if_le, one_if_self, none_if_differs}
 use Rattle.rec_model.proofs.Places.{sum_at-le-from_get_or}
@@ -218,5 +218,5 @@ move_uncounted {w} {v} (freeing {node} s) i h x pos r =
     kept e = grind (arith, nat_tests)
 move_uncounted (dropping s) i h x pos r = s.slots.count x pos ∙ h x pos (sym (s.slots.released x pos) ∙ r)
 
-pub opening_uncounted : (w : Pending) (epoch mutators : ℕ) → IsOpening w epoch mutators → HasUncountedReleased w
-opening_uncounted w epoch mutators s x pos r = absurd (true≢false (sym r ∙ s.released x pos))
+pub beginning_uncounted : (w : Pending) → IsBeginning w → HasUncountedReleased w
+beginning_uncounted w s x pos r = absurd (true≢false (sym r ∙ s.released x pos))

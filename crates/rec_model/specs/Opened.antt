@@ -20,26 +20,7 @@ pub record IsBeginning (w : Pending) : Type 0 where
   pub unnamed : (node : ℕ) → 0 < node → w.free node ≡ true → sum_at (names node) w.words + sum_by (is_node node) w.registers ≡ 0
   pub released : (node : ℕ) → 0 < node → w.released node ≡ false
 
--- Node 1 is in a register of each mutator, in the first epoch, and all other registers and all fields are null. The collection
--- of the epoch before counts as done: its snapshots name node 1 for each mutator, and so often it is counted. All other slots
--- are free.
-pub record IsOpening (w : Pending) (epoch mutators : ℕ) : Type 0 where
-  pub applied : w.applied + 1 ≡ epoch
-  pub requested : w.requested ≡ epoch
-  pub words : (weight : ℕ → ℕ → ℕ) → ((place : ℕ) → weight place 0 ≡ 0) → sum_at weight w.words ≡ 0
-  pub writes : (weight : Write → ℕ) → sum_by weight w.writes ≡ 0
-  pub births : (weight : Dated → ℕ) → sum_by weight w.births ≡ 0
-  pub snapshots : (weight : Dated → ℕ) → ((d : ℕ) → weight (dated d 0) ≡ 0) → sum_by weight w.snapshots ≡ mutators * weight (dated w.applied 1)
-  pub left : sum_by (is_late_snapshot w.requested) w.snapshots ≡ 0
-  pub registers : (weight : Dated → ℕ) → ((d : ℕ) → weight (dated d 0) ≡ 0) → sum_by weight w.registers ≡ mutators * weight (dated epoch 1)
-  pub entered : sum_by (is_wrong_register w.applied w.requested) w.registers ≡ 0
-  pub count : w.count 1 ≡ mutators
-  pub taken : w.free 1 ≡ false
-  pub free : (node : ℕ) → 1 < node → w.free node ≡ true
-  pub counts : (node : ℕ) → 1 < node → w.count node ≡ 1
-  pub released : (node : ℕ) → 0 < node → w.released node ≡ false
-
--- such a heap: so many fields, and so many registers of each mutator that are null
+-- such a heap: node 1 is in a register of each mutator, and all other registers, so many of each mutator, and all fields are null
 abbrev pub opening : (fields places epoch mutators nulls : ℕ) → Pending
 opening fields places epoch mutators nulls =
     record {

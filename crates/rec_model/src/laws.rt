@@ -11,7 +11,7 @@ ghost use Rattle.rec_model.specs.Pending.{Pending, node_of, epoch_of, home, word
 ghost use Rattle.rec_model.specs.References.{count_formula, IsInReach, IsWriteInReach};
 ghost use Rattle.rec_model.specs.Moves.{AccountMove, added, taken};
 ghost use Rattle.rec_model.specs.Accounted.{IsAccounted, HasUncountedReleased, is_dead, names, named, named_anywhere};
-ghost use Rattle.rec_model.specs.Opened.{IsBeginning, IsOpening, opening};
+ghost use Rattle.rec_model.specs.Opened.{IsBeginning, opening};
 ghost use Rattle.rec_model.specs.Seen.{IsSightOf};
 
 /// A numbering has just the numbers that are reached, each once.
@@ -37,9 +37,8 @@ pub fn listing_is_unique()
 
 /// A heap that counts late keeps its accounts: as it is opened, and over every move of a mutator or of the collector.
 pub fn moves_keep_accounts()
-    ensures there { (fields places epoch mutators nulls : ℕ) → 0 < epoch → IsOpening (opening fields places epoch mutators nulls) epoch mutators }
+    ensures there { (fields places epoch mutators nulls : ℕ) → 0 < epoch → IsBeginning (opening fields places epoch mutators nulls) }
     ensures begun { (w : Pending) → IsBeginning w → IsAccounted w }
-    ensures opened { (w : Pending) (epoch mutators : ℕ) → IsOpening w epoch mutators → IsAccounted w }
     ensures moved { (before after : Pending) → AccountMove before after → IsAccounted before → IsAccounted after }
 {}
 
@@ -94,6 +93,6 @@ pub fn the_uncounted_are_gone()
 pub fn the_given_up_are_uncounted()
     ensures counted { (w : Pending) → IsAccounted w → (node : ℕ) → 0 < node → w.released node ≡ true → w.count node ≡ sum_at (names node) w.words }
     ensures emptied { (w : Pending) → IsAccounted w → ((place : ℕ) → place < length w.words → w.released (home w.fields place) ≡ true → node_of (word_in w place) ≡ 0) → HasUncountedReleased w }
-    ensures opened { (w : Pending) (epoch mutators : ℕ) → IsOpening w epoch mutators → HasUncountedReleased w }
+    ensures begun { (w : Pending) → IsBeginning w → HasUncountedReleased w }
     ensures moved { (before after : Pending) → AccountMove before after → IsAccounted before → HasUncountedReleased before → HasUncountedReleased after }
 {}

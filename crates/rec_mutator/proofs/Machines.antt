@@ -14,7 +14,7 @@ use Rattle.rec_model.specs.declared.told.Told.{Told}
 use Rattle.rec_model.specs.Asking.{allocation}
 use Rattle.rec_log.specs.declared.contents.Contents.{Contents}
 use Rattle.rec_log.specs.declared.entry.Entry.{Entry}
-use Rattle.rec_mutator.specs.Private.{Private, opened_with, register, HasOperands, work_of, work_at, limit_of, probe_of, HasNext, IsAt, IsMachine}
+use Rattle.rec_mutator.specs.Private.{Private, opened, register, HasOperands, work_of, work_at, limit_of, probe_of, HasNext, IsAt, IsMachine}
 use Rattle.rec_mutator.specs.Step.{Step, Decides, GoesOn, LetsGo, HasLeft, Crosses, HasRoom}
 use Rattle.rec_mutator.specs.Took.{moved, nulls_of, IsFound}
 use Rattle.rec_mutator.specs.declared.made.Made.TheVariants as makes
@@ -280,12 +280,12 @@ step_machine {p = p} m sized found (Step.give_box c) =
 
 -- a machine with an empty log is as it is opened
 pub opened_as : (number epoch slots fields : ℕ) {registers held : List (Option ℕ)} {log : Contents} (regs cap : ℕ) → registers ≡ held → log ≡ record { entries = []; snapshot = replicate regs None; capacity = cap; last = false }
-    → let p : Private = record { number = number; epoch = epoch; slots = slots; fields = fields; registers = registers; log = log; from = 0; phase = Idle; steps = 0; left = false; dates = false } in p ≡ opened_with number epoch slots fields held regs cap
+    → let p : Private = record { number = number; epoch = epoch; slots = slots; fields = fields; registers = registers; log = log; from = 0; phase = Idle; steps = 0; left = false; dates = false } in p ≡ opened number epoch slots fields held regs cap
 opened_as number epoch slots fields regs cap same empty i = record { number = number; epoch = epoch; slots = slots; fields = fields; registers = same i; log = empty i; from = 0; phase = Idle; steps = 0; left = false; dates = false }
 
 -- and is one
 pub opened_machine : (number epoch slots fields : ℕ) (held : List (Option ℕ)) (regs cap : ℕ) → number < 2 ^ 6 → epoch < 2 ^ 24 → 0 < slots → slots < 2 ^ 16 → cap ≤ 2 ^ 18 → All IsTarget held → regs ≡ length held
-    → IsMachine (opened_with number epoch slots fields held regs cap)
+    → IsMachine (opened number epoch slots fields held regs cap)
 opened_machine number epoch slots fields held regs cap few early some most room targets size = record {
   number = few;
   epoch = omega arith;
@@ -299,11 +299,3 @@ opened_machine number epoch slots fields held regs cap few early some most room 
   from = some;
   now = refl;
 }
-
--- the registers of a machine as it is opened
-pub first_registers : (regs : ℕ) → 0 < regs → set (replicate {A = Option ℕ} regs None) 0 (Some 0) ≡ Some 0 ∷ replicate (regs - 1) None
-first_registers zero some = absurd (omega (arith, some))
-first_registers (suc regs) some = let less : regs ≡ suc regs - 1 = omega arith in ap (λ n. Some 0 ∷ replicate n None) less
-
-pub first_targets : (regs : ℕ) → All IsTarget (Some 0 ∷ replicate regs None)
-first_targets regs = All-cons IsTarget (Some 0) (replicate regs None) (lit< tt) (All-replicate IsTarget regs None tt)

@@ -49,12 +49,8 @@ opened_by dates number epoch slots fields registers regs cap =
     }
 
 -- a machine as it is opened with these registers, as heaps have them
-abbrev pub opened_with : (number epoch slots fields : ℕ) (registers : List (Option ℕ)) (regs cap : ℕ) → Private
-opened_with number epoch slots fields registers regs cap = opened_by false number epoch slots fields registers regs cap
-
--- a machine as it is opened: register 0 names slot 0, all else is null or empty
-abbrev pub opened : (number epoch slots fields regs cap : ℕ) → Private
-opened number epoch slots fields regs cap = opened_with number epoch slots fields (Some 0 ∷ replicate (regs - 1) None) regs cap
+abbrev pub opened : (number epoch slots fields : ℕ) (registers : List (Option ℕ)) (regs cap : ℕ) → Private
+opened number epoch slots fields registers regs cap = opened_by false number epoch slots fields registers regs cap
 
 -- what a register names
 abbrev pub register : Private → ℕ → Option ℕ

@@ -1,7 +1,7 @@
 ghost use Rattle.std.specs.Prelude.{◌≡◌, ◌⊎◌, ◌+◌, ◌^◌, ◌<◌, ◌≤◌, ◌↔◌, true, false, All, length, IfOk, IfSome, IsNone, IsTrue};
 ghost use Rattle.rec_word.specs.Place.{place_of};
 ghost use Rattle.rec_word.specs.Word.{IsTarget};
-ghost use Rattle.rec_mutator.specs.Private.{Private, opened, opened_with, register, is_full, word_for, probe_of, is_busy, work_of, answer_of, HasOperands, IsValid, limit_of, HasStamp, IsMachine, KeepsSizes};
+ghost use Rattle.rec_mutator.specs.Private.{Private, opened, register, is_full, word_for, probe_of, is_busy, work_of, answer_of, HasOperands, IsValid, limit_of, HasStamp, IsMachine, KeepsSizes};
 ghost use Rattle.rec_mutator.specs.Next.{next_of, begun_op, first_op, own_word, write_op};
 ghost use Rattle.rec_mutator.specs.Causes.{HasCause, PollHasCause};
 ghost use Rattle.rec_mutator.specs.declared.made.Made.TheVariants as makes;
@@ -54,46 +54,9 @@ impl Model for Machine {
 // Most works end with their first step. The hints on inlining put it in where the work is begun, since there its phase is
 // known, and most of what the step asks is settled beforehand.
 impl Machine {
-    /// Mutator `number` of a heap with so many slots and fields per object, in this epoch, with no work. It has `regs`
-    /// registers, of which register 0 names slot 0, and a log for `cap` entries.
-    pub fn open(
-        alloc: Global,
-        number: u8,
-        epoch: u32,
-        slots: u16,
-        fields: u8,
-        regs: u8,
-        cap: u32,
-    ) -> Result<Machine, NoMemory>
-        requires number { number < 2 ^ 6 }
-        requires epoch { epoch < 2 ^ 24 }
-        requires slots { 0 < slots }
-        requires registers { 0 < regs }
-        requires capacity { cap ≤ 2 ^ 18 }
-
-        ensures opened { IfOk result (λ machine. machine ≡ opened number epoch slots fields regs cap) }
-        ensures kept { IfOk result IsMachine }
-    {
-        let mut frame = Frame::open(alloc, regs)?;
-        frame.set(0, 0);
-        let log = Buffer::open(alloc, cap, regs)?;
-        Ok(Machine {
-            number,
-            epoch,
-            slots,
-            fields,
-            frame,
-            log,
-            from: 0,
-            phase: Phase::Idle,
-            steps: 0,
-            left: false,
-        })
-    }
-
     /// Mutator `number` of a heap with so many slots and fields per object, in this epoch, with no work. Its registers name
     /// these slots, in order, and it has a log for `cap` entries.
-    pub fn open_from(
+    pub fn open(
         alloc: Global,
         number: u8,
         epoch: u32,
@@ -109,7 +72,7 @@ impl Machine {
         requires targets { All IsTarget registers.now }
         requires capacity { cap ≤ 2 ^ 18 }
 
-        ensures opened { IfOk result (λ machine. machine ≡ opened_with number epoch slots fields registers.now (length registers.now) cap) }
+        ensures opened { IfOk result (λ machine. machine ≡ opened number epoch slots fields registers.now (length registers.now) cap) }
         ensures kept { IfOk result IsMachine }
     {
         let frame = Frame::of(alloc, registers)?;

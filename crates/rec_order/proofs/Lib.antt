@@ -3,6 +3,7 @@ pub mod Agreement
 pub mod Legal
 pub mod NextAnswer
 pub mod Orders
+pub mod Refused
 pub mod Runs
 pub mod Scans
 pub mod Stamps

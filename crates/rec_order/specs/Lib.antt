@@ -2,3 +2,4 @@
 pub mod Events
 pub mod Legal
 pub mod Naming
+pub mod Refused

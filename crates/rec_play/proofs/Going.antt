@@ -1,5 +1,5 @@
 -- The run so far, as moves of the heap that tell the same, and a turn more.
-use Rattle.std.proofs.Common.{◌≡◌, ◌↔◌, inl, inr, ℕ, ◌+◌, ◌-◌, ◌<◌, ◌≤◌, ◌==◌, List, [], ◌∷◌, ◌++◌, Option, None, Some, Bool, true, false, if◌then◌else◌, slice_index_or, length, map, take, refl, sym, ap, subst, ◌∙◌, arith}
+use Rattle.std.proofs.Common.{◌≡◌, inl, inr, ℕ, ◌+◌, ◌-◌, ◌<◌, ◌≤◌, ◌==◌, List, [], ◌∷◌, ◌++◌, Option, None, Some, Bool, true, false, if◌then◌else◌, slice_index_or, length, map, take, refl, sym, ap, subst, ◌∙◌, arith}
 use Rattle.std.specs.List.{slice_get, filter_map, cons_option}
 use Rattle.std.proofs.lemmas.Bool.{cases_eq, eq-eqb, ne_eqb}
 use Rattle.std.proofs.lemmas.List.{append-nil, length_push, map_push, take_more}
@@ -8,7 +8,6 @@ use Rattle.std.proofs.lemmas.List.Sums.{sum_by-cons}
 use Rattle.std.proofs.lemmas.Option.{get_or_from_slice_get, slice_get_within}
 use Rattle.rec_word.specs.declared.op.Op.{Op}
 use Rattle.rec_word.specs.declared.op.Op.TheVariants as ops
-use Rattle.rec_model.specs.declared.answer.Answer.TheVariants as answers
 use Rattle.rec_model.specs.declared.command.Cmd.{Cmd}
 use Rattle.rec_model.specs.declared.told.Told.{Told}
 use Rattle.rec_model.specs.LegalOrder.{actor, actors, Line, Event, line_by}
@@ -16,31 +15,26 @@ use Rattle.rec_model.specs.LegalOrder.Event.{Answers, Frees, Marks}
 use Rattle.rec_model.specs.Numbering.{times}
 use Rattle.rec_model.specs.Sight.{Sight, IsTaken}
 use Rattle.rec_model.proofs.Operands.{operands_same}
-use Rattle.rec_mutator.specs.Causes.{FoundNoneAt, IsAwaited}
 use Rattle.rec_mutator.specs.Private.{Private, HasOperands, answer_of, is_busy, work_of}
-use Rattle.rec_mutator.specs.declared.made.Made.{Made}
 use Rattle.rec_mutator.specs.declared.made.Made.TheVariants as makes
-use Rattle.rec_mutator.specs.declared.phase.Phase.{Phase}
-use Rattle.rec_mutator.specs.declared.phase.Phase.TheVariants as phases
 use Rattle.rec_mutator.specs.declared.work.Work.TheVariants as works
 use Rattle.rec_collector.specs.Next.{next_of}
 use Rattle.rec_core.specs.Config.{IsMutator, HasLabel}
 use Rattle.rec_core.specs.Core.{Core, sight, mutator}
 use Rattle.rec_core.specs.Kept.{IsKept}
-use Rattle.rec_core.specs.Moves.{Move, begun as begun_in, found_by, stepped, turned}
-use Rattle.rec_core.specs.StepAnswers.{IsFilled, IsShown, IsShownAt}
+use Rattle.rec_core.specs.Moves.{Move, begun as begun_in, turned}
 use Rattle.rec_core.specs.Worked.{AreIdle, IsWorked}
 use Rattle.rec_core.specs.declared.config.Config.{Config}
 use Rattle.rec_core.proofs.Gathering.{awaited_stays}
 use Rattle.rec_core.proofs.Leaving.{IsStayingIn, polls_stay}
 use Rattle.rec_core.proofs.Runs.{config_after}
 use Rattle.rec_core.specs.Shown.{Shows}
-use Rattle.rec_core.proofs.Showing.{step_caused, step_shown}
 use Rattle.rec_core.proofs.Shows.{shows_then, shows_worked}
 use Rattle.rec_core.proofs.Steps.{actor_of}
 use Rattle.rec_order.specs.Events.{swept_by}
 use Rattle.rec_order.specs.Naming.{Naming, NamesGoOn}
 use Rattle.rec_order.proofs.Legal.{swept_lines}
+use Rattle.rec_order.proofs.Refused.{IsRefusedBy, step_refused}
 use Rattle.rec_order.proofs.Runs.{Runs, runs_both, runs_one, commanded_runs, polled_runs}
 use Rattle.rec_world.specs.World.{IsWorld}
 use Rattle.rec_world.proofs.Beginnings.{began_work}
@@ -156,27 +150,6 @@ polled_world w v t world is idle present done =
       subst IsWorld (sym done.steps) (moved_world u (Move.Steps t) last (there, done.busy)),
       stays_after u v t kept there done.busy stays done.steps,
     )
-
--- why the step that answered a command refused it
-pub record IsRefusedBy (u : Core) (t : ℕ) (cmd : Cmd) (told : Told) : Type 0 where
-  pub not_yet : (told.answer ≡ answers.NotYet) ↔ IsAwaited (mutator u t) (found_by u t) cmd
-  pub full : told.answer ≡ answers.Full → IsFilled u
-
--- Full is told by a step that found every slot taken
-filled_at : (w v : Core) (t before : ℕ) (told : Told) (phase : Phase) → FoundNoneAt phase before → IsShownAt w t phase (Some (makes.Answered told)) v → told.answer ≡ answers.Full → IsFilled w
-filled_at w v t before told (phases.Scanned reg label leaf first) same shown full = shown.2.full full
-filled_at w v t before told _ none shown full = absurd none
-
-step_refused : (w : Core) (t : ℕ) (cmd : Cmd) (told : Told) → IsKept false w → IsMutator w.config t → is_busy (mutator w t) ≡ true → work_of (mutator w t) ≡ Some (works.Command cmd)
-    → answer_of (mutator (stepped w t) t) ≡ Some (makes.Answered told) → IsRefusedBy w t cmd told
-step_refused w t cmd told kept is busy work answer =
-    let cause = step_caused w t cmd told kept is busy work answer in
-    record {
-      not_yet = cause.not_yet;
-      full = λ full.
-          let found = cause.full.0 full in
-          filled_at w (stepped w t) t found.0 told (mutator w t).phase found.1.scanned (subst (λ (x : Option Made). IsShown w t x (stepped w t)) answer (step_shown w t kept is busy)) full;
-    }
 
 -- A command of a world is told NotYet just where its last step is the first one of leaving and finds a log that is still to be collected,
 -- and Full only where every slot is taken at its last step.

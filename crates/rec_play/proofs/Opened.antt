@@ -1,21 +1,19 @@
 -- The played run has the legal order of its moves; and the opening of a script is a start.
 use Rattle.std.proofs.Common.{◌≡◌, ℕ, ◌+◌, ◌-◌, ◌<◌, zero, suc, List, [], ◌∷◌, ◌++◌, Option, slice_index_or, length, map, replicate, refl, sym, ap, subst, ◌∙◌, arith}
 use Rattle.std.specs.List.{filter_map}
-use Rattle.std.proofs.lemmas.List.{map_push}
 use Rattle.rec_model.specs.Heap.{opening}
 use Rattle.rec_model.specs.LegalOrder.{Line, Event, Limits, Moment, after_all, line_by, IsLegalOrder}
 use Rattle.rec_model.specs.Sight.{Sight, StandsBy}
 use Rattle.rec_model.specs.Unfreed.{AreUnfreed}
 use Rattle.rec_model.proofs.Opened.{opening_number, opening_stands_by, opening_unfreed}
 use Rattle.rec_mutator.specs.Private.{Private}
-use Rattle.rec_core.specs.Config.{IsMutator}
-use Rattle.rec_core.specs.Core.{Core, mutator, sight, opened, opened_mutators, opened_mutator}
-use Rattle.rec_core.specs.Objects.{Objects, rows_of}
-use Rattle.rec_core.specs.OpenedFrom.{holding_mutator, holding_mutators, opened_from}
+use Rattle.rec_core.specs.Config.{IsConfig, IsMutator}
+use Rattle.rec_core.specs.Core.{Core, mutator, sight, opened, holding_mutator, holding_mutators, opened_from}
+use Rattle.rec_core.specs.Objects.{Objects, first_object, rows_of}
 use Rattle.rec_core.specs.Moves.{Move, after_moves}
 use Rattle.rec_core.specs.declared.config.Config.{Config}
 use Rattle.rec_collector.proofs.Rows.{length-rows}
-use Rattle.rec_core.proofs.OpenedMutators.{sight_opened, mutator_opened}
+use Rattle.rec_core.proofs.Opened.{sight_opened}
 use Rattle.rec_core.proofs.Seated.{holding_at}
 use Rattle.rec_order.specs.Naming.{Naming, named_after_all}
 use Rattle.rec_order.specs.Events.{events_of}
@@ -28,38 +26,6 @@ use Rattle.rec_play.specs.Played as played
 use Rattle.rec_play.proofs.Going.{Went}
 use Rattle.rec_play.specs.Start.{IsStartOf, MayBegin, Start, moment_at, names_at, opening_of}
 use Rattle.rec_mutator.specs.Private.{is_busy}
-
--- one value more at the end
-replicate_push : (n x : ℕ) → replicate n x ++ x ∷ [] ≡ replicate (suc n) x
-replicate_push zero x = refl
-replicate_push (suc n) x = ap (λ xs. x ∷ xs) (replicate_push n x)
-
--- the logs are empty at opening
-done_opened : (config : Config) (n : ℕ) → map (λ (p : Private). length p.log.entries) (opened_mutators config n) ≡ replicate n 0
-done_opened config zero = refl
-done_opened config (suc n) =
-    map_push (λ (p : Private). length p.log.entries) (opened_mutators config n) (opened_mutator config (suc n)) ∙ ap (λ ns. ns ++ 0 ∷ []) (done_opened config n) ∙ replicate_push n 0
-
--- a script may be played on its opening
-pub opened_begins : (script : ScriptContents) → MayBegin script (opened (config_of script))
-opened_begins script = record {
-  config = refl;
-  idle = λ t there. ap is_busy (mutator_opened (config_of script) t there);
-  present = λ t there. ap (λ (p : Private). p.left) (mutator_opened (config_of script) t there);
-  logs = done_opened (config_of script) (length script.commands);
-  unswept = refl;
-}
-
--- and the opening heap stands for it
-pub opened_starts : (script : ScriptContents) → 0 < script.slots → IsStartOf script (opening_of script)
-opened_starts script some = record {
-  begins = opened_begins script;
-  stands = subst (λ (s : Sight). StandsBy (opening script.fields script.registers (length script.commands)) s opening_number) (sym (sight_opened (config_of script)))
-      (opening_stands_by script.slots script.fields script.registers (length script.commands) some);
-  unfreed = subst (λ (s : Sight). AreUnfreed s opening_number (0 ∷ [])) (sym (sight_opened (config_of script)))
-      (opening_unfreed script.slots script.fields script.registers (length script.commands));
-  made = refl;
-}
 
 -- logs are empty as a heap is opened from objects
 done_holding : (config : Config) (t : ℕ) (rows : List (List (Option ℕ))) → map (λ (p : Private). length p.log.entries) (holding_mutators config t rows) ≡ replicate (length rows) 0
@@ -88,10 +54,26 @@ opened_from_begins script o = record {
     one_of : (t : ℕ) → IsMutator config t → mutator (opened_from config o) t ≡ holding_mutator config (1 + (t - 1)) (slice_index_or rows (t - 1) [])
     one_of t (some, most) = holding_at config 1 rows (t - 1) (omega (arith, some, most, many))
 
+-- and so on its opening
+pub opened_begins : (script : ScriptContents) → MayBegin script (opened (config_of script))
+opened_begins script = opened_from_begins script (first_object (config_of script))
+
+-- for which the opening heap stands
+pub opened_starts : (script : ScriptContents) → IsConfig (config_of script) → IsStartOf script (opening_of script)
+opened_starts script is = record {
+  begins = opened_begins script;
+  stands = subst (λ (s : Sight). StandsBy (opening script.fields script.registers (length script.commands)) s opening_number) (sym (sight_opened (config_of script) is))
+      (opening_stands_by script.slots script.fields script.registers (length script.commands) is.some_slots);
+  unfreed = subst (λ (s : Sight). AreUnfreed s opening_number (0 ∷ [])) (sym (sight_opened (config_of script) is))
+      (opening_unfreed script.slots script.fields script.registers (length script.commands));
+  made = refl;
+}
+
 -- what is played has a legal order, and its heap stands for the world
 pub record IsPlayedLegally (script : ScriptContents) (start : Start) (world : Core) (lines : List (List Line)) (events : List Event) (n : Naming) : Type 0 where
   pub legal : IsLegalOrder (played.limits_of script) (moment_at script start) lines events
   pub stands : StandsBy (last_moment script start events).heap (sight world) n.number
+  pub unfreed : AreUnfreed (sight world) n.number (last_moment script start events).unfreed
   pub made : world.made ≡ length (last_moment script start events).heap.objects
 
 -- a run begins at that moment
@@ -119,6 +101,7 @@ ordered_legally script start is world moves lines all leads =
     record {
       legal = subst (λ m. IsLegalOrder (played.limits_of script) m lines events) moment (subst (λ (l : Limits). IsLegalOrder l (moment_of first start.heap start.unfreed) lines events) limits all.legal);
       stands = subst (λ (m : Moment). StandsBy m.heap (sight world) n.number) last (subst (λ (w : Core). StandsBy ends.heap (sight w) n.number) leads all.ends.stands);
+      unfreed = subst (λ (m : Moment). AreUnfreed (sight world) n.number m.unfreed) last (subst (λ (w : Core). AreUnfreed (sight w) n.number ends.unfreed) leads all.ends.unfreed);
       made = subst (λ (m : Moment). world.made ≡ length m.heap.objects) last (omega (arith, counted, next, same, is.made));
     }
 

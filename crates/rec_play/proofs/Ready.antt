@@ -6,6 +6,7 @@ use Rattle.std.proofs.lemmas.List.{take_more, take_all, length-map, get_or-map, 
 use Rattle.std.proofs.lemmas.List.Elements.{All-from_get_or, All-get_or}
 use Rattle.std.proofs.lemmas.List.Sums.{sum_by-append, sum_by-cons}
 use Rattle.std.proofs.lemmas.Option.{get_or_from_slice_get, slice_get-get_or, slice_get_within}
+use Rattle.rec_collector.specs.Private.{plain}
 use Rattle.rec_model.specs.declared.command.Cmd.{Cmd}
 use Rattle.rec_core.specs.Config.{IsConfig}
 use Rattle.rec_core.specs.declared.config.Config.{Config}
@@ -76,7 +77,7 @@ longest_is all most bound (k, found, there, is, most_is) =
 
 -- the heap's numbers
 pub config_is : (script : ScriptContents) (slots fields registers mutators room : ℕ) → slots ≡ script.slots → fields ≡ script.fields → registers ≡ script.registers → mutators ≡ length script.commands → room ≡ log_room script
-    → ◌≡◌ {A = Config} (record { slots = slots; fields = fields; registers = registers; mutators = mutators; log_entries = room; first_epoch = 1; steady = false }) (config_of script)
+    → ◌≡◌ {A = Config} (record { slots = slots; fields = fields; registers = registers; mutators = mutators; log_entries = room; first_epoch = 1; policy = plain }) (config_of script)
 config_is script slots fields registers mutators room s f r m l = cc
 
 -- a script's numbers are those of a heap

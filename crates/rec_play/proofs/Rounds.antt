@@ -366,5 +366,6 @@ module _ (script : ScriptContents) (at : Start) (seed turns : ℕ) (world : Core
         names = so.names;
         run = subst (λ actors. IsPlayedRun script at.world (names_at at) actors so.events so.names world) (sym (append-nil so.acted) ∙ ap (λ later. so.acted ++ later) (sym none) ∙ so.all) so.run;
         stands = legally.stands;
+        unfreed = legally.unfreed;
         no_log_full = no_log_full script at (lines_of journals) so.events so_commands legally.legal;
       }

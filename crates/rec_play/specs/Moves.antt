@@ -1,5 +1,5 @@
 -- What the turns of a run make of the heap, and what is told of them.
-use Rattle.std.specs.Prelude.{◌≡◌, ◌↔◌, ℕ, ◌+◌, ◌-◌, ◌<◌, ◌≤◌, false, Option, Some, List, ◌∷◌, length, slice_index_or, slice_set}
+use Rattle.std.specs.Prelude.{◌≡◌, ◌↔◌, ℕ, ◌+◌, ◌-◌, ◌<◌, ◌≤◌, false, Option, Some, IfSome, IsNone, List, [], ◌∷◌, length, slice_index_or, slice_set}
 use Rattle.std.specs.List.{slice_get}
 use Rattle.rec_word.specs.declared.op.Op.{Op}
 use Rattle.rec_model.specs.declared.answer.Answer.TheVariants as answers
@@ -15,11 +15,12 @@ use Rattle.rec_collector.specs.declared.turn.Turn.{Turn}
 use Rattle.rec_core.specs.Core.{Core, mutator}
 use Rattle.rec_core.specs.Moves.{found_by}
 use Rattle.rec_core.specs.StepAnswers.{IsFilled}
-use Rattle.rec_core.specs.Worked.{IsWorked}
+use Rattle.rec_core.specs.Worked.{AreIdle, IsWorked}
 use Rattle.rec_order.specs.Naming.{Naming, NamesGoOn}
 use Rattle.rec_core.specs.Turn.{step_seen}
 use Rattle.rec_script.specs.Script.{ScriptContents, IsScript}
 use Rattle.rec_settle.specs.Collecting.{HasStepped}
+use Rattle.rec_play.specs.Numbers.{config_of}
 use Rattle.rec_play.specs.Played.{lengths_of}
 use Rattle.rec_play.specs.Playing.{Rest, mutators_of, to_come}
 use Rattle.rec_play.specs.Run.{commands_of}
@@ -38,6 +39,12 @@ IsSpent script made t = length (commands_of script t) ≤ made_by made t
 -- whoever has a command left hasn't left the heap
 abbrev pub AreThere : ScriptContents → (made : List ℕ) → Core → Type 0
 AreThere script made w = (t : ℕ) → made_by made t < length (commands_of script t) → (mutator w t).left ≡ false
+
+-- The run of a script may go on in this world: it has the script's numbers, no mutator works, and whoever has a command left is there.
+pub record MayGoOn (script : ScriptContents) (made : List ℕ) (w : Core) : Type 0 where
+  pub config : w.config ≡ config_of script
+  pub idle : AreIdle w
+  pub present : AreThere script made w
 
 -- a run in the middle: its script, what the rule still has, and how many commands each mutator has made
 pub record Player : Type 0 where
@@ -84,3 +91,9 @@ pub record MakesStep (p q : Player) (before after : Core) (seen : Option (Op × 
 abbrev pub Makes : (p q : Player) (before after : Core) → Move → Type 0
 Makes p q before after (Command t cmd told) = MakesCommand p q before after t cmd told
 Makes p q before after (Step seen turn) = MakesStep p q before after seen turn
+
+-- The next turn of the rule was made, which is what is told. Where none is told, none was left, and nothing changed.
+pub record HasTurned (p q : Player) (before after : Core) (move : Option Move) : Type 0 where
+  pub told : IfSome move (Makes p q before after)
+  pub ended : IsNone move → to_come p.rest ≡ []
+  pub stays : IsNone move → (q ≡ p) × (after ≡ before)

@@ -1,5 +1,6 @@
 -- The numbers of the heap that a script runs on.
 use Rattle.std.specs.Prelude.{false, ℕ, max, List, [], ◌∷◌, length}
+use Rattle.rec_collector.specs.Private.{plain}
 use Rattle.rec_model.specs.declared.command.Cmd.{Cmd}
 use Rattle.rec_core.specs.declared.config.Config.{Config}
 use Rattle.rec_script.specs.Script.{ScriptContents}
@@ -23,5 +24,5 @@ config_of script =
       mutators = length script.commands;
       log_entries = log_room script;
       first_epoch = 1;
-      steady = false;
+      policy = plain;
     }

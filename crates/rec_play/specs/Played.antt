@@ -4,6 +4,7 @@ use Rattle.std.specs.List.{All, filter_map}
 use Rattle.rec_model.specs.declared.command.Cmd.{Cmd}
 use Rattle.rec_model.specs.LegalOrder.{Line, Event, Limits, Moment, after_all, actors, line_by, IsLegalOrder, NoLogFull}
 use Rattle.rec_model.specs.Sight.{StandsBy}
+use Rattle.rec_model.specs.Unfreed.{AreUnfreed}
 use Rattle.rec_core.specs.Core.{Core, sight}
 use Rattle.rec_core.specs.Moves.{turned}
 use Rattle.rec_world.specs.Journal.{Notes, no_notes}
@@ -49,6 +50,8 @@ pub record IsPlayed (script : ScriptContents) (start : Start) (seed turns : ℕ)
   pub names : Naming
   pub run : IsPlayedRun script start.world (names_at start) (all_turns (lengths_of script) seed turns) events names world
   pub stands : StandsBy (last_moment script start events).heap (sight world) names.number
+  -- and the objects that it has not freed are those in taken slots
+  pub unfreed : AreUnfreed (sight world) names.number (last_moment script start events).unfreed
   -- no answer is that a log is full
   pub no_log_full : NoLogFull journals
 

@@ -9,7 +9,7 @@ ghost use Rattle.rec_script.specs.Script.{IsScript};
 use crate::schedule::MOST_MUTATORS;
 use arrayvec::ArrayVec;
 use rec_script::Script;
-use rec_world::{Config, Journal, Order};
+use rec_world::{Config, Journal, Order, Policy};
 use std::alloc::{AllocError as NoMemory, Global};
 
 /// The numbers of the heap that a script is played on. Each log has room for the commands of the longest mutator, and for
@@ -25,7 +25,10 @@ pub fn config_for(script: &Script) -> Config
         mutators: u32::from(script.mutators()),
         log_entries: script.longest().max(1),
         first_epoch: 1,
-        steady: false,
+        policy: Policy {
+            steady: false,
+            least_roots: 0,
+        },
     }
 }
 

@@ -12,7 +12,7 @@ ghost use Rattle.rec_core.specs.Worked.{AreIdle};
 ghost use Rattle.rec_settle.specs.Collecting.{HasStepped};
 ghost use Rattle.rec_core.specs.Turn.{IsTurn, step_seen};
 ghost use Rattle.rec_world.specs.World.{IsWorld};
-ghost use Rattle.rec_play.specs.Moves.{AreDue, AreThere, Carries, IsSpent, Makes};
+ghost use Rattle.rec_play.specs.Moves.{AreDue, Carries, HasTurned, IsSpent, MayGoOn};
 ghost use Rattle.rec_play.specs.Numbers.{config_of};
 ghost use Rattle.rec_play.specs.Played.{lengths_of};
 ghost use Rattle.rec_play.specs.Playing.{generator_of, to_come};
@@ -68,19 +68,12 @@ impl<'a> Playing<'a> {
     /// all commands are made.
     #[inline(always)]
     pub fn next(&mut self, world: &mut World) -> Option<Move>
-        requires config { world.old.config ≡ config_of self.old.script }
-        requires idle { AreIdle world.old }
-        requires present { AreThere self.old.script self.old.made world.old }
+        requires { MayGoOn self.old.script self.old.made world.old }
 
-        // What is told is what was done.
-        ensures told { IfSome result (Makes self.old self.new world.old world.new) }
-        ensures ended { IsNone result → to_come self.old.rest ≡ [] }
-        ensures stays { IsNone result → (self.new ≡ self.old) × (world.new ≡ world.old) }
+        ensures turned { HasTurned self.old self.new world.old world.new result }
         ensures script { self.new.script ≡ self.old.script }
         ensures due { AreDue self.old × AreDue self.new }
-        ensures idle { AreIdle world.new }
-        ensures present { AreThere self.new.script self.new.made world.new }
-        ensures config { world.new.config ≡ config_of self.new.script }
+        ensures goes { MayGoOn self.new.script self.new.made world.new }
         ensures kept { IsWorld world.new }
     {
         match self.next_watched(world, &mut Unwatched) {
@@ -97,14 +90,9 @@ impl<'a> Playing<'a> {
         world: &mut World,
         watch: &mut W,
     ) -> Result<Option<Move>, NoMemory>
-        requires config { world.old.config ≡ config_of self.old.script }
-        requires idle { AreIdle world.old }
-        requires present { AreThere self.old.script self.old.made world.old }
+        requires { MayGoOn self.old.script self.old.made world.old }
 
-        // What is told is what was done.
-        ensures told { IfOk result (λ told. IfSome told (Makes self.old self.new world.old world.new)) }
-        ensures ended { IfOk result (λ told. IsNone told → to_come self.old.rest ≡ []) }
-        ensures stays { IfOk result (λ told. IsNone told → (self.new ≡ self.old) × (world.new ≡ world.old)) }
+        ensures turned { IfOk result (HasTurned self.old self.new world.old world.new) }
         ensures shown { IfOk result (λ told. W.WasShown watch.old (told_shown world.old told) watch.new) }
 
         ensures refused { IfErr result (λ error. (to_come self.old.rest ≡ Actor.Collector ∷ to_come self.new.rest) × (world.new ≡ turned world.old)) }
@@ -114,9 +102,7 @@ impl<'a> Playing<'a> {
 
         ensures script { self.new.script ≡ self.old.script }
         ensures due { AreDue self.old × AreDue self.new }
-        ensures idle { AreIdle world.new }
-        ensures present { AreThere self.new.script self.new.made world.new }
-        ensures config { world.new.config ≡ config_of self.new.script }
+        ensures goes { MayGoOn self.new.script self.new.made world.new }
         ensures kept { IsWorld world.new }
     {
         let told = self.turn(world, watch);
@@ -129,13 +115,9 @@ impl<'a> Playing<'a> {
     // The next turn.
     #[inline(always)]
     fn turn<W: Watch>(&mut self, world: &mut World, watch: &mut W) -> Result<Option<Move>, NoMemory>
-        requires config { world.old.config ≡ config_of self.old.script }
-        requires idle { AreIdle world.old }
-        requires present { AreThere self.old.script self.old.made world.old }
+        requires { MayGoOn self.old.script self.old.made world.old }
 
-        ensures told { IfOk result (λ told. IfSome told (Makes self.old self.new world.old world.new)) }
-        ensures ended { IfOk result (λ told. IsNone told → to_come self.old.rest ≡ []) }
-        ensures stays { IfOk result (λ told. IsNone told → (self.new ≡ self.old) × (world.new ≡ world.old)) }
+        ensures turned { IfOk result (HasTurned self.old self.new world.old world.new) }
         ensures shown { IfOk result (λ told. W.WasShown watch.old (told_shown world.old told) watch.new) }
         ensures refused { IfErr result (λ error. (to_come self.old.rest ≡ Actor.Collector ∷ to_come self.new.rest) × (world.new ≡ turned world.old)) }
         ensures unshown { IfErr result (λ error. W.WasShown watch.old [] watch.new) }
@@ -143,9 +125,7 @@ impl<'a> Playing<'a> {
         ensures never_falls { W.refused watch.old ≤ W.refused watch.new }
         ensures script { self.new.script ≡ self.old.script }
         ensures due { AreDue self.old }
-        ensures idle { AreIdle world.new }
-        ensures present { AreThere self.new.script self.new.made world.new }
-        ensures config { world.new.config ≡ config_of self.new.script }
+        ensures goes { MayGoOn self.new.script self.new.made world.new }
     {
         match self.schedule.next_turn() {
             Some(Actor::Mutator(mutator)) => {
@@ -214,9 +194,7 @@ fn turn_collector<W: Watch>(
     watch: &mut W,
 ) -> Result<(Turn, Option<(Op, u64)>), NoMemory>
     requires few { length script.now.commands ≤ MOST_MUTATORS }
-    requires config { world.old.config ≡ config_of script.now }
-    requires idle { AreIdle world.old }
-    requires present { AreThere script.now made.now world.old }
+    requires goes { MayGoOn script.now made.now world.old }
 
     ensures seen { IfOk result (λ told. told.1 ≡ step_seen world.old) }
     ensures stepped { IfOk result (λ told. HasStepped (IsSpent script.now made.now) world.old told.0 world.new) }
@@ -226,9 +204,7 @@ fn turn_collector<W: Watch>(
     ensures rose { IfErr result (λ error. Rose (W.refused watch.old) (W.refused watch.new)) }
     ensures never_falls { W.refused watch.old ≤ W.refused watch.new }
     ensures requested { world.new.epoch ≤ world.old.epoch + 1 }
-    ensures idle { AreIdle world.new }
-    ensures present { AreThere script.now made.now world.new }
-    ensures config { world.new.config ≡ config_of script.now }
+    ensures goes { MayGoOn script.now made.now world.new }
     ensures kept { IsWorld world.new }
 {
     let (turn, seen) = world.turn_watched(watch)?;
@@ -240,17 +216,13 @@ fn turn_collector<W: Watch>(
 #[inline(always)]
 fn follow(script: &Script, made: &[usize; MOST_MUTATORS], world: &mut World, turn: Turn)
     requires few { length script.now.commands ≤ MOST_MUTATORS }
-    requires config { world.old.config ≡ config_of script.now }
-    requires idle { AreIdle world.old }
-    requires present { AreThere script.now made.now world.old }
+    requires goes { MayGoOn script.now made.now world.old }
     requires awaited { (t : ℕ) → turn ≡ answers.Turn.Waiting t → IsMutator world.old.config t × ((mutator world.old t).left ≡ false) }
     requires kept { IsWorld world.old }
 
     ensures stepped { (before : Core) → IsTurn before world.old turn → HasStepped (IsSpent script.now made.now) before turn world.new }
     ensures requested { world.new.epoch ≡ world.old.epoch }
-    ensures idle { AreIdle world.new }
-    ensures present { AreThere script.now made.now world.new }
-    ensures config { world.new.config ≡ config_of script.now }
+    ensures goes { MayGoOn script.now made.now world.new }
     ensures kept { IsWorld world.new }
 {
     if let Turn::Waiting { mutator } = turn {

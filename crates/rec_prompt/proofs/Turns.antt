@@ -56,7 +56,8 @@ tries_rows p q w v turn (TriesOn.prepares done on) = prepares_rows p q _ _ turn 
 clears_rows : (p q : collectors.Private) (turn : Turn) {b : Begun} → ClearsOn p q turn b → Rows p q
 clears_rows p q turn {b} (ClearsOn.works phase at g) = goes_rows p q b.parts turn _ g
 clears_rows p q turn (ClearsOn.tests c none some tested on) = clears_rows p q turn on
-clears_rows p q turn (ClearsOn.tries none empty on) = tries_rows p q _ _ turn on
+clears_rows p q turn (ClearsOn.tries none empty due on) = tries_rows p q _ _ turn on
+clears_rows p q turn (ClearsOn.waits none empty off on) = prepares_rows p q _ _ turn on
 
 -- what a mailbox that the collector looks at is left with
 left_or : (c : collectors.Private) (found : ℕ) (b : Contents) (phase : Phase) → (left_by c found b phase ≡ b) ⊎ (left_by c found b phase ≡ collectors.spare c)

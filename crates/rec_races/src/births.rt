@@ -3,7 +3,7 @@
 use crate::crew::{End, Limits, Task};
 use crate::race::race;
 use rec_model::Cmd;
-use rec_world::{Config, World};
+use rec_world::{Config, Policy, World};
 use std::alloc::{AllocError as NoMemory, Global};
 use std::process::Abort;
 use std::test::Fail;
@@ -50,7 +50,10 @@ fn race_births<R: Abort + Threads + Sync>(
         mutators: 2,
         log_entries: 16,
         first_epoch: 1,
-        steady: false,
+        policy: Policy {
+            steady: false,
+            least_roots: 0,
+        },
     };
     let (world, seen) = race(rt, alloc, config, tasks, NO_TURNS)?;
     let labels = labels(&world);

@@ -5,7 +5,7 @@ use crate::race::race;
 use crate::settled::settles;
 use rec_model::Cmd;
 use rec_model::limits::MOST_MUTATORS;
-use rec_world::{Config, World};
+use rec_world::{Config, Policy, World};
 use std::alloc::{AllocError as NoMemory, Global};
 use std::process::Abort;
 use std::test::Fail;
@@ -110,7 +110,10 @@ fn race_leaving<R: Abort + Threads + Sync>(
         mutators,
         log_entries: 16,
         first_epoch: 1,
-        steady: false,
+        policy: Policy {
+            steady: false,
+            least_roots: 0,
+        },
     };
     let tasks = leaving_tasks(alloc, mutators, staying)?;
     let (mut world, seen) = race(rt, alloc, config, &tasks, LIMITS)?;

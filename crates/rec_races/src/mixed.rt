@@ -7,7 +7,7 @@ use crate::race::race_and_settle;
 use rand_core::utils::NextWord;
 use rand_pcg::Pcg32;
 use rec_model::Cmd;
-use rec_world::Config;
+use rec_world::{Config, Policy};
 use std::alloc::{AllocError as NoMemory, Global};
 use std::process::Abort;
 use std::test::Fail;
@@ -98,7 +98,10 @@ fn race_drawn<R: Abort + Threads + Sync>(
         mutators,
         log_entries: 64,
         first_epoch: 1,
-        steady: false,
+        policy: Policy {
+            steady: false,
+            least_roots: 0,
+        },
     };
     let tasks = draw_tasks(alloc, seed, mutators)?;
     let left = race_and_settle(rt, alloc, config, &tasks, LIMITS)?;

@@ -11,7 +11,7 @@ use rec_collector::Turn;
 use rec_model::Cmd;
 use rec_notice::{Listener, RoomTube, Teller, Tube, notices, together};
 use rec_table::{Collector, Heap, Mutator, Telling};
-use rec_world::{Config, World};
+use rec_world::{Config, Policy, World};
 use std::alloc::Global;
 use std::process::Abort;
 use std::test::Fail;
@@ -24,7 +24,10 @@ const CONFIG: Config = Config {
     mutators: 1,
     log_entries: 16,
     first_epoch: 1,
-    steady: false,
+    policy: Policy {
+        steady: false,
+        least_roots: 0,
+    },
 };
 
 // Two objects, that nothing holds any more.

@@ -1,19 +1,19 @@
-//! A heap that is opened, set running, raced over by its threads, and stopped.
+//! A heap that is opened, raced over by its threads, and stopped.
 
-ghost use Rattle.std.specs.Prelude.{◌≡◌, IfOk};
-ghost use Rattle.std.specs.Thread.{IsSync};
+ghost use Rattle.std.specs.Prelude.{IfOk};
 ghost use Rattle.rec_core.specs.Worked.{AreIdle};
-ghost use Rattle.rec_table.specs.Views.{AreMutatorsOf, IsCollectorOf, IsMutatorOf};
+ghost use Rattle.rec_table.specs.Views.{AreMutatorsOf, IsCollectorOf};
 
-use crate::crew::{Limits, Task, collect, mutate};
+use crate::crew::{Limits, Task};
 use crate::settled::settles;
 use crate::signals::Signals;
+use crate::threads::run;
 use rec_table::{Collector, Heap, Mutator};
 use rec_world::{Config, World};
 use std::alloc::Global;
 use std::process::Abort;
 use std::test::Fail;
-use std::thread::{Threads, for_each_mut, join};
+use std::thread::Threads;
 
 /// What was seen of a race.
 #[derive(Clone, Copy)]
@@ -56,7 +56,7 @@ pub fn race_and_settle<R: Abort + Threads + Sync>(
 }
 
 /// Opens a heap and sets it running, with a thread for each mutator and for the collector, and stops it once they have ended.
-pub fn race<R: Abort + Threads + Sync>(
+pub fn race<R: Threads + Sync>(
     rt: &R,
     alloc: Global,
     config: Config,
@@ -66,9 +66,12 @@ pub fn race<R: Abort + Threads + Sync>(
     ensures { IfOk result (λ raced. AreIdle raced.0) }
 {
     let signals = Signals::of(config.mutators);
-    let (heap, mutators, collector) = start(rt, alloc, config)?;
-    let (mutators, collector) = run(rt, &heap, mutators, collector, tasks, limits, &signals);
-    let world = stop(alloc, heap, mutators, collector);
+    let world = World::open(alloc, config)?;
+    if !world.at_rest() || !world.boxes_home() {
+        drop(world);
+        return Err(Fail::new("the world may not be started"));
+    }
+    let world = run(rt, alloc, world, tasks, limits, &signals)?;
     let seen = Seen {
         is_cut: signals.is_cut(),
         is_refused: signals.is_refused(),
@@ -110,73 +113,4 @@ pub fn set_running(
             Err(Fail::new("no memory"))
         }
     }
-}
-
-/// The world that a heap is when it is stopped, which is never refused.
-pub fn stop(alloc: Global, heap: Heap, mutators: Vec<Mutator>, collector: Collector) -> World
-    requires mutators { AreMutatorsOf heap mutators.items }
-    requires collector { IsCollectorOf heap collector }
-    ensures { AreIdle result }
-{
-    let Some(world) = heap.stop(alloc, mutators, collector).ok() else {
-        unreachable!();
-    };
-    world
-}
-
-// The mutators go through their tasks, and the collector makes its turns beside them.
-fn run<R: Threads + Sync>(
-    rt: &R,
-    heap: &Heap,
-    mutators: Vec<Mutator>,
-    collector: Collector,
-    tasks: &[Task],
-    limits: Limits,
-    signals: &Signals,
-) -> (Vec<Mutator>, Collector)
-    requires mutators { AreMutatorsOf heap.now mutators.items }
-    requires collector { IsCollectorOf heap.now collector }
-    ensures mutators { AreMutatorsOf heap.now result.0.items }
-    ensures collector { IsCollectorOf heap.now result.1 }
-{
-    let (collector, mutators) = join(
-        rt,
-        || -> Collector
-            requires { IsCollectorOf heap.now collector }
-            ensures { IsCollectorOf heap.entry.now result }
-        { collect(heap, collector, limits, signals) },
-        || -> Vec<Mutator>
-            requires { IsSync R.row × AreMutatorsOf heap.now mutators.items }
-            ensures { AreMutatorsOf heap.entry.now result.items }
-        { mutate_all(rt, heap, mutators, tasks, signals) },
-    );
-    (mutators, collector)
-}
-
-// Each mutator goes through its task on a thread of its own.
-fn mutate_all<R: Threads + Sync>(
-    rt: &R,
-    heap: &Heap,
-    mut mutators: Vec<Mutator>,
-    tasks: &[Task],
-    signals: &Signals,
-) -> Vec<Mutator>
-    requires { AreMutatorsOf heap.now mutators.items }
-    ensures { AreMutatorsOf heap.now result.items }
-{
-    let threads = mutators.len().max(1);
-    for_each_mut(
-        rt,
-        mutators.as_mut_slice(),
-        threads,
-        &|i: usize, mutator: &mut Mutator|
-            requires { IsMutatorOf heap.now mutator.old }
-            ensures { mutator.new ≡ record mutator.old { log = mutator.new.log } }
-        {
-            if let Some(task) = tasks.get(i) {
-                mutate(heap, mutator, task, signals);
-            }
-        },
-    );
-    mutators
 }

@@ -1,9 +1,9 @@
 //! Mutators that make rings and drop them while the collector turns.
 
-use crate::crew::{End, Limits, Task};
+use crate::crew::{Limits, Task};
 use crate::race::race_and_settle;
-use rec_model::Cmd;
-use rec_world::Config;
+use crate::ring::once;
+use rec_world::{Config, Policy};
 use std::alloc::{AllocError as NoMemory, Global};
 use std::process::Abort;
 use std::test::Fail;
@@ -21,31 +21,10 @@ const LIMITS: Limits = Limits {
     freed: 5,
 };
 
-// Makes a ring of two objects, and drops it.
-const RING: [Cmd; 6] = [
-    Cmd::New { reg: 1, label: 1 },
-    Cmd::New { reg: 2, label: 2 },
-    Cmd::Put {
-        src: 1,
-        field: 0,
-        val: 2,
-    },
-    Cmd::Put {
-        src: 2,
-        field: 0,
-        val: 1,
-    },
-    Cmd::Null { reg: 1 },
-    Cmd::Null { reg: 2 },
-];
-
 fn rings(alloc: Global) -> Result<Task, NoMemory> {
-    let commands = Vec::from_array(alloc, RING)?;
-    Ok(Task {
-        commands,
-        times: RINGS,
-        end: End::Stops,
-    })
+    let mut rings = once(alloc)?;
+    rings.times = RINGS;
+    Ok(rings)
 }
 
 // One race. What it leaves settles; the answer is whether enough rings were freed while the mutators had commands, and slots were
@@ -62,7 +41,10 @@ fn race_rings<R: Abort + Threads + Sync>(
         mutators: 2,
         log_entries: 16,
         first_epoch: 1,
-        steady: false,
+        policy: Policy {
+            steady: false,
+            least_roots: 0,
+        },
     };
     let left = race_and_settle(rt, alloc, config, tasks, LIMITS)?;
     assert!(rt; left.is_settled);

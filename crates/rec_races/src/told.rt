@@ -7,13 +7,14 @@ ghost use Rattle.rec_notice.specs.Ring.{AreEnds, SameListener};
 ghost use Rattle.rec_table.specs.Views.{AreMutatorsOf, IsCollectorOf, IsMutatorOf};
 
 use crate::crew::poll_on;
-use crate::race::{start, stop};
+use crate::race::start;
 use crate::signals::Signals;
+use crate::threads::stop;
 use rec_collector::Turn;
 use rec_model::{Answer, Cmd};
 use rec_notice::{Listener, RingTube, Teller, notices, together};
 use rec_table::{Collector, Heap, Mutator, Telling};
-use rec_world::{Config, World};
+use rec_world::{Config, Policy, World};
 use std::alloc::{AllocError as NoMemory, Global};
 use std::process::Abort;
 use std::sync::atomic::{AtomicBool, AtomicU64, Ordering};
@@ -28,7 +29,10 @@ const CONFIG: Config = Config {
     mutators: 4,
     log_entries: 16,
     first_epoch: 1,
-    steady: false,
+    policy: Policy {
+        steady: false,
+        least_roots: 0,
+    },
 };
 
 const ROUNDS: u32 = 300;

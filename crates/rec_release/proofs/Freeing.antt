@@ -4,11 +4,11 @@ use Rattle.std.proofs.lemmas.List.{append-nil, map-append}
 use Rattle.std.proofs.lemmas.Bool.{cases_lt}
 use Rattle.rec_word.specs.Place.{place_of}
 use Rattle.rec_word.specs.Word.{target_of, is_slot}
-use Rattle.rec_walk.specs.declared.member.Member.{Member}
-use Rattle.rec_walk.specs.Load.{Load, loaded_at, place_loaded}
-use Rattle.rec_walk.specs.Walk.{behind, first_in, places_left, IsOf}
-use Rattle.rec_walk.proofs.Given.{given_by}
-use Rattle.rec_walk.proofs.Walks.{behind_left, behind_stands, first_left, Stands}
+use Rattle.rec_word.specs.declared.member.Member.{Member}
+use Rattle.rec_word.specs.Load.{Load, loaded_at, place_loaded}
+use Rattle.rec_word.specs.Walk.{behind, first_in, places_left, IsOf}
+use Rattle.rec_word.proofs.Given.{given_by}
+use Rattle.rec_word.proofs.Walks.{behind_left, behind_stands, first_left, Stands}
 use Rattle.rec_counts.specs.Counts.{State, IsKept}
 use Rattle.rec_counts.specs.Groups.{last_set}
 use Rattle.rec_counts.specs.Lists.{one, times}

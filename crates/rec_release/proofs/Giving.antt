@@ -10,8 +10,8 @@ use Rattle.rec_counts.specs.Slot.{is_in, unbuffered_if, out_of_set}
 use Rattle.rec_counts.proofs.Changing.{Changed, changed_all}
 use Rattle.rec_counts.proofs.Keeping.{map_at, last_once}
 use Rattle.rec_counts.proofs.Times.{one-le, test_of, one-some, one-none}
-use Rattle.rec_walk.specs.Walk.{first_in, IsOf}
-use Rattle.rec_walk.proofs.Walks.{first_stands, Stands}
+use Rattle.rec_word.specs.Walk.{first_in, IsOf}
+use Rattle.rec_word.proofs.Walks.{first_stands, Stands}
 use Rattle.rec_release.specs.CycleFree.{dead_if, given_up, given_up_slot, IsAtWork, IsFreeable}
 
 -- what a slot has then

@@ -15,8 +15,8 @@ use Rattle.rec_counts.specs.Colour.{is_orange}
 use Rattle.rec_counts.proofs.Decrementing.{stays_released, all_zeros_kept, decremented_less, rest_decremented, zeros_from, ZerosFrom, zero_found, same_slot}
 use Rattle.rec_counts.proofs.Keeping.{field_kept, keep_drop, map_at, last_once}
 use Rattle.rec_counts.proofs.Times.{times-nil, times-append, times-cons, one-le, one-same, one-none}
-use Rattle.rec_walk.specs.declared.member.Member.{Member}
-use Rattle.rec_walk.specs.Walk.{behind}
+use Rattle.rec_word.specs.declared.member.Member.{Member}
+use Rattle.rec_word.specs.Walk.{behind}
 use Rattle.rec_release.specs.CycleFree.{dead_if, given_up, gone_on, listed_behind, IsFreeable}
 use Rattle.rec_release.specs.Release.{emptied, listed_if, next_from, without_first, IsReady}
 use Rattle.rec_release.specs.TakenOff.{down_if, is_lowered, taken_off, AllZerosButOrange, IsApart, IsMember, KeepsOrange}

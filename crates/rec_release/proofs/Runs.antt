@@ -16,8 +16,8 @@ use Rattle.rec_counts.proofs.Times.{inside_push, times-nil, times_push}
 use Rattle.rec_release.specs.declared.at.At.{At}
 use Rattle.rec_release.specs.Release.{Work, emptied, gone_on, listed_if, next_from, next_of, without_first, with_next, took_of, started_of, IsAtWork, IsHeld, IsReady}
 use Rattle.rec_release.specs.Released.{Released, HasReleased, exchanged, place_due, with_fields}
-use Rattle.rec_walk.specs.Load.{given}
-use Rattle.rec_walk.proofs.Given.{given-nil, given-cons}
+use Rattle.rec_word.specs.Load.{given}
+use Rattle.rec_word.proofs.Given.{given-nil, given-cons}
 use Rattle.rec_release.specs.TakenOff.{taken_off}
 use Rattle.rec_release.proofs.Keeping.{each_next, first_released, first_zero, held_off, listed_ready, next_work, none_left, work_last, work_next, work_on, FirstZero}
 use Rattle.rec_release.proofs.Orange.{last_keeps, off_keeps, Keeps}

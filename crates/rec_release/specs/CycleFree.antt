@@ -11,8 +11,8 @@ use Rattle.rec_counts.specs.Groups.{last_set, earlier_sets}
 use Rattle.rec_counts.specs.Lists.{times}
 use Rattle.rec_counts.specs.Slot.{is_in, out_of_set}
 pub use Rattle.rec_counts.specs.Slot.{dead_if}
-use Rattle.rec_walk.specs.declared.member.Member.{Member}
-use Rattle.rec_walk.specs.Walk.{behind, first_in, IsOf}
+use Rattle.rec_word.specs.declared.member.Member.{Member}
+use Rattle.rec_word.specs.Walk.{behind, first_in, IsOf}
 use Rattle.rec_release.specs.Release.{IsReady}
 use Rattle.rec_release.specs.TakenOff.{taken_off}
 

@@ -4,9 +4,9 @@ use Rattle.rec_word.specs.Place.{places_of}
 use Rattle.rec_counts.specs.Counts.{State, slot_at}
 use Rattle.rec_counts.specs.Groups.{last_set, earlier_sets}
 use Rattle.rec_counts.specs.Lists.{one, times}
-use Rattle.rec_walk.specs.declared.member.Member.{Member}
-use Rattle.rec_walk.specs.Load.{Load, given, loaded_at, place_loaded}
-use Rattle.rec_walk.specs.Walk.{places_left}
+use Rattle.rec_word.specs.declared.member.Member.{Member}
+use Rattle.rec_word.specs.Load.{Load, given, loaded_at, place_loaded}
+use Rattle.rec_word.specs.Walk.{places_left}
 use Rattle.rec_release.specs.CycleFree.{Work, took_of, started_of}
 use Rattle.rec_release.specs.Released.{leading}
 

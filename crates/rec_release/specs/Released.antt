@@ -5,7 +5,7 @@ use Rattle.rec_word.specs.Word.{target_of, is_slot}
 use Rattle.rec_counts.specs.Colour.{is_green}
 use Rattle.rec_counts.specs.Counts.{State, slot_at}
 use Rattle.rec_counts.specs.Lists.{one, times}
-use Rattle.rec_walk.specs.Load.{given}
+use Rattle.rec_word.specs.Load.{given}
 use Rattle.rec_release.specs.declared.at.At.{At}
 use Rattle.rec_release.specs.Release.{Machine, Work, IsReady, IsHeld, took_of, started_of}
 

@@ -4,8 +4,8 @@ ghost use Rattle.rec_word.specs.declared.op.Op.TheVariants.{ClearField};
 ghost use Rattle.rec_counts.specs.Counts.{State, slot_at};
 ghost use Rattle.rec_counts.specs.Groups.{earlier_sets, last_set};
 ghost use Rattle.rec_counts.specs.Lists.{times};
-ghost use Rattle.rec_walk.specs.Load.{Load, loaded_at};
-ghost use Rattle.rec_walk.specs.Walk.{IsOf, first_member};
+ghost use Rattle.rec_word.specs.Load.{Load, loaded_at};
+ghost use Rattle.rec_word.specs.Walk.{IsOf, first_member};
 ghost use Rattle.rec_release.specs.CycleFree.{IsAtWork, IsFreeable, Work, given_up, gone_on, listed, next_of, started_of, took_of};
 ghost use Rattle.rec_release.specs.Freed.{FreedTo};
 ghost use Rattle.rec_release.specs.Ran.{RanFreeing};
@@ -14,8 +14,7 @@ ghost use Rattle.rec_release.specs.TakenOff.{AllZerosButOrange, IsApart, KeepsOr
 use crate::clears::Clears;
 use crate::take_off::take_off;
 use rec_counts::Counts;
-use rec_walk::Member;
-use rec_word::{Op, place, target};
+use rec_word::{Member, Op, place, target};
 use std::marker::Model;
 
 /// The freeing of a set that passed both tests. It takes no memory.
@@ -27,7 +26,7 @@ pub struct CycleFree {
 
 impl Model for CycleFree {
     ghost use Rattle.std.specs.Prelude.{◌<◌, IfSome};
-    ghost use Rattle.rec_walk.specs.declared.member.Member.{Member};
+    ghost use Rattle.rec_word.specs.declared.member.Member.{Member};
     ghost use Rattle.rec_release.specs.CycleFree.{Machine};
 
     ghost Value = { Machine };

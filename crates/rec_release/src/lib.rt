@@ -14,7 +14,7 @@
 //! stays out of the free list; a swept slot has the count of its next birth, which is one. The orange slots stay apart: each
 //! is a member of a set, and none is released or stands in the zeros; each other slot that has no count and is not released
 //! stands there.
-//! A set's members are freed on a walk of `rec_walk`.
+//! A set's members are freed on a walk of `rec_word`.
 //! The layer above may use that `next`, `start` and `took` are exactly `next_of`, `started_of` and `took_of` of `specs/`,
 //! and the laws, which are the contracts of the functions in `laws`.
 //! Releasing by count with a flag for what is buffered is that of "Java without the Coffee Breaks" (2001); one exchange a

@@ -46,7 +46,7 @@ slot_fields w list slot numbers reached =
     ∙ fields_numbered list (map target_of (words_of w slot)) (λ n there. (lists_reached (roots w.registers) (targets_of w) list numbers n).0 (child slot n reached there))
     ∙ sym (by_targets (option_map (number_in list)) (words_of w slot))
 
-header_label : (header : ℕ) → unwrap_or (label_of header) 0 ≡ label_in header
+pub header_label : (header : ℕ) → unwrap_or (label_of header) 0 ≡ label_in header
 header_label header = elim (cases_eq header 0) [
   | inl e ↦ rw e refl
   | inr apart ↦ rw (ne_eqb header 0 apart) refl

@@ -3,7 +3,7 @@
 use crate::told::refusal;
 use rec_image::{ImageError, read, restore, write};
 use rec_settle::settle;
-use rec_world::World;
+use rec_world::{Policy, World};
 use std::alloc::{AllocError as NoMemory, Global};
 
 // How many entries a log of a heap has that an image makes.
@@ -77,7 +77,11 @@ fn heap_of(alloc: Global, asked: &str) -> Result<World, Result<String, NoMemory>
 fn heap_in(alloc: Global, bytes: &[u8]) -> Result<World, Result<String, NoMemory>> {
     match read(alloc, bytes) {
         Ok(image) => {
-            let heap = restore(alloc, &image, LOG_ENTRIES, false);
+            let plain = Policy {
+                steady: false,
+                least_roots: 0,
+            };
+            let heap = restore(alloc, &image, LOG_ENTRIES, plain);
             drop(image);
             heap.map_err(|error| refusal(alloc, &error))
         }

@@ -4,7 +4,7 @@ use crate::action::{Action, Deed, Fact, Message, Piece, Stage, Turns, Whole};
 use crate::wrong::Wrong;
 use rec_model::Cmd;
 use rec_mutator::Work;
-use rec_world::Config;
+use rec_world::{Config, Policy};
 
 /// What a line with these words asks. Where `words` is set, what a command saw and left is told too.
 pub fn action(line: &[&str], words: bool) -> Result<Action, Wrong> {
@@ -37,9 +37,10 @@ fn collecting(line: &[&str], first: &str, rest: &[&str]) -> Result<Action, Wrong
     }
 }
 
-/// The numbers of a heap, each preceded by its name, in their order. The word `steady` may follow.
+/// The numbers of a heap, each preceded by its name, in their order. `least` may follow with how many roots a trial wants, and then `steady`.
 pub fn config(words: &[&str]) -> Result<Config, Wrong> {
-    let (named, steady) = kind(words);
+    let (words, steady) = kind(words);
+    let (named, least_roots) = least(words)?;
     if !are_named(named) {
         return Err(Wrong::Unknown);
     }
@@ -51,7 +52,10 @@ pub fn config(words: &[&str]) -> Result<Config, Wrong> {
         mutators,
         log_entries,
         first_epoch,
-        steady,
+        policy: Policy {
+            steady,
+            least_roots,
+        },
     })
 }
 
@@ -60,6 +64,14 @@ fn kind<'a, 'b>(words: &'a [&'b str]) -> (&'a [&'b str], bool) {
     match words {
         [named @ .., "steady"] => (named, true),
         _ => (words, false),
+    }
+}
+
+// The words that name numbers, and how many roots a trial wants: none where that isn't said.
+fn least<'a, 'b>(words: &'a [&'b str]) -> Result<(&'a [&'b str], u32), Wrong> {
+    match words {
+        [named @ .., "least", roots] => Ok((named, number(roots)?)),
+        _ => Ok((words, 0)),
     }
 }
 

@@ -1,5 +1,5 @@
 -- What a running heap leaves as it is stopped, of whose mutators each carried out a script's commands.
-use Rattle.std.proofs.Common.{◌≡◌, ℕ, ◌+◌, ◌<◌, ◌≤◌, suc, List, [], ◌∷◌, ◌++◌, length, map, slice_index_or, refl, sym, ap, subst, ◌∙◌, arith}
+use Rattle.std.proofs.Common.{◌≡◌, false, ℕ, ◌+◌, ◌<◌, ◌≤◌, suc, List, [], ◌∷◌, ◌++◌, length, map, slice_index_or, refl, sym, ap, subst, ◌∙◌, arith}
 use Rattle.std.proofs.Math.ListN.{get_or-map}
 use Rattle.std.proofs.lemmas.List.{length-append}
 use Rattle.rec_model.specs.declared.command.Cmd.{Cmd}
@@ -8,12 +8,14 @@ use Rattle.rec_model.specs.Sight.{StandsBy}
 use Rattle.rec_model.specs.Unfreed.{AreUnfreed}
 use Rattle.rec_core.specs.Config.{IsConfig}
 use Rattle.rec_core.specs.Core.{Core, mutator, opened, sight}
+use Rattle.rec_core.specs.Kept.{IsKept}
 use Rattle.rec_core.specs.Moves.{Move, AllFit, after_moves}
 use Rattle.rec_order.specs.Events.{events_of}
 use Rattle.rec_order.specs.Legal.{HasLegalOrder}
 use Rattle.rec_order.specs.Naming.{Naming, named_after_all}
+use Rattle.rec_order.proofs.Refused.{full_told, not_yet_told}
 use Rattle.rec_world.specs.Journal.{Notes, no_notes}
-use Rattle.rec_world.proofs.Calls.{opened_world, world_kept}
+use Rattle.rec_core.proofs.BareRuns.{opened_kept}
 use Rattle.rec_table.specs.Beats.{beats_of}
 use Rattle.rec_table.specs.Ends.{Interleaves, IsStopped}
 use Rattle.rec_table.specs.Views.{MutatorView, Started, fresh, mutator_now}
@@ -22,7 +24,6 @@ use Rattle.rec_table.specs.declared.views.Beat.{Beat}
 use Rattle.rec_threads.specs.Done.{HasDone, HaveDone, begun, commands_at, worker_at}
 use Rattle.rec_script.specs.Script.{ScriptContents}
 use Rattle.rec_play.specs.Played.{config_of, last_moment, lines_of}
-use Rattle.rec_play.proofs.NotYet.{step_told}
 use Rattle.rec_play.specs.Start.{IsStartOf, Start, moment_at, names_at, opening_of}
 use Rattle.rec_play.proofs.Opened.{IsPlayedLegally, opened_starts, ordered_legally}
 use Rattle.rec_play.proofs.Room.{no_log_full}
@@ -142,10 +143,13 @@ module _ (script : ScriptContents) (s : Started) (ms ms' : List MutatorView) (js
     mutators = λ k lt. was.stopped.run.mutators k (subst (λ w. k < w.config.mutators) (sym was.opens) lt) ∙ ap (λ w. beats_of (k + 1) w moves) was.opens;
   }
 
+  kept : IsKept false (opened (config_of script))
+  kept = opened_kept (config_of script) was.config
+
   legally : IsPlayedLegally script (opening_of script) world (lines_of js') (events_of (names_at (opening_of script)) (opened (config_of script)) moves) (named_after_all (names_at (opening_of script)) (opened (config_of script)) moves)
   legally =
       let start : Start = opening_of script in
-      let is : IsStartOf script start = opened_starts script was.config.some_slots in
+      let is : IsStartOf script start = opened_starts script was.config in
       let order : HasLegalOrder s.world start.heap start.number start.unfreed moves (journals_from s.world 0 (map (λ (m : MutatorView). m.log) ms'))
       = was.stopped.order start.heap start.number start.unfreed (subst (λ w. StandsBy start.heap (sight w) start.number) (sym was.opens) is.stands)
       (subst (λ w. AreUnfreed (sight w) start.number start.unfreed) (sym was.opens) is.unfreed) in
@@ -166,6 +170,7 @@ module _ (script : ScriptContents) (s : Started) (ms ms' : List MutatorView) (js
     record {
       names = names;
       stands = legally.stands;
+      unfreed = legally.unfreed;
       steps = record {
         collected = collected ++ was.stopped.returned;
         lists = lists;
@@ -175,7 +180,8 @@ module _ (script : ScriptContents) (s : Started) (ms ms' : List MutatorView) (js
         told = ap (λ w. journals_from w 0 lists) (sym was.opens) ∙ lines_are;
         tells = refl;
         named = refl;
-        not_yet = step_told (names_at (opening_of script)) (opened (config_of script)) moves (world_kept (opened (config_of script)) (opened_world (config_of script) was.config)) interleaved.fit;
+        not_yet = not_yet_told (names_at (opening_of script)) (opened (config_of script)) moves kept interleaved.fit;
+        full = full_told (names_at (opening_of script)) (opened (config_of script)) moves kept interleaved.fit;
       };
     },
     legally.made,

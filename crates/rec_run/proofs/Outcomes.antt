@@ -48,6 +48,7 @@ pub played_run : (script : ScriptContents) (start : Start) (how : Play) (journal
 played_run script start how journals events world played = record {
   names = played.names;
   stands = played.stands;
+  unfreed = played.unfreed;
   steps = record { in_order = played.in_order; run = played.run; not_yet = turn_told script start.world (names_at start) _ events played.names world played.run };
 }
 

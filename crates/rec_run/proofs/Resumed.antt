@@ -2,6 +2,7 @@
 use Rattle.std.proofs.Common.{◌≡◌, false, inl, inr, ℕ, ◌-◌, ◌<◌, ◌≤◌, List, [], drop, length, replicate, take, sym, ap, subst, ◌∙◌, arith, length-append, get_or}
 use Rattle.std.proofs.lemmas.Bool.{cases_lt}
 use Rattle.std.proofs.lemmas.List.{length-replicate}
+use Rattle.rec_collector.specs.Private.{plain}
 use Rattle.rec_model.specs.declared.command.Cmd.{Cmd}
 use Rattle.rec_script.specs.Behind.{AreMutators, with_all}
 use Rattle.rec_script.specs.Script.{ScriptContents}
@@ -42,8 +43,8 @@ unresumed_none bytes line kind (inr (few, at)) (contents, given, told) = go at
         refused_none (numbers_of other) (drop place bytes) _ line kind refused behind
 
 -- A script that goes on with an image has the image's numbers.
-pub numbers_same : (bytes : List ℕ) (contents : ImageContents) (script : ScriptContents) → IsResumedAs bytes contents script → config_in contents (log_room script) false ≡ config_of script
-numbers_same bytes contents script is = subst (λ (s : ScriptContents). config_in contents (log_room s) false ≡ config_of s) (sym is.all) same
+pub numbers_same : (bytes : List ℕ) (contents : ImageContents) (script : ScriptContents) → IsResumedAs bytes contents script → config_in contents (log_room script) plain ≡ config_of script
+numbers_same bytes contents script is = subst (λ (s : ScriptContents). config_in contents (log_room s) plain ≡ config_of s) (sym is.all) same
   where
     given : ScriptContents
     given = is.given
@@ -60,9 +61,9 @@ numbers_same bytes contents script is = subst (λ (s : ScriptContents). config_i
         let few = is.told.spelled.few in
         omega (arith, few, length-append given.commands (replicate {A = List Cmd} (contents.mutators - length given.commands) []), length-replicate {A = List Cmd} (contents.mutators - length given.commands) [])
 
-    same : config_in contents (log_room all) false ≡ config_of all
+    same : config_in contents (log_room all) plain ≡ config_of all
     same =
-        ap (λ (n : ℕ). record (config_in contents (log_room all) false) { slots = n }) heap.slots
+        ap (λ (n : ℕ). record (config_in contents (log_room all) plain) { slots = n }) heap.slots
         ∙ ap (λ (n : ℕ). record (config_of all) { fields = n; registers = contents.registers; mutators = contents.mutators }) heap.fields
         ∙ ap (λ (n : ℕ). record (config_of all) { registers = n; mutators = contents.mutators }) heap.registers
         ∙ ap (λ (n : ℕ). record (config_of all) { mutators = n }) many

@@ -1,5 +1,6 @@
 -- Which run it was that an answer tells of: its steps, by the way it was made, and how its heap was settled. What the answer means is said
--- in `Headline`, which cites nothing of this but in its fields `made`. Some fields say what others imply: `not_yet` what the run does.
+-- in `Headline`, which cites nothing of this but in its fields `made`. Some fields say what others imply: `not_yet` and `full` what the run
+-- does.
 use Rattle.std.specs.Prelude.{◌≡◌, ℕ, ◌+◌, ◌<◌, ◌≤◌, Some, List, [], length, slice_index_or}
 use Rattle.std.specs.List.{slice_get}
 use Rattle.rec_model.specs.declared.answer.Answer.TheVariants as answers
@@ -7,10 +8,12 @@ use Rattle.rec_model.specs.declared.command.Cmd.{Cmd}
 use Rattle.rec_model.specs.declared.limits.TheConstants.{MOST_POLLS, MOST_TURNS}
 use Rattle.rec_model.specs.LegalOrder.{Line, Event, actors}
 use Rattle.rec_model.specs.Sight.{StandsBy}
+use Rattle.rec_model.specs.Unfreed.{AreUnfreed}
 use Rattle.rec_collector.specs.Shown.{Shown}
 use Rattle.rec_core.specs.Core.{Core, opened, sight}
 use Rattle.rec_order.specs.Events.{events_of}
 use Rattle.rec_order.specs.Naming.{Naming, named_after_all}
+use Rattle.rec_order.specs.Refused.{IsAwaitedStep, IsFilledStep}
 use Rattle.rec_settle.specs.Collecting.{IsSettling}
 use Rattle.rec_settle.specs.Shown.{IsShownTo}
 use Rattle.rec_settle.specs.declared.turns.Settling.TheVariants.{Settled}
@@ -18,7 +21,7 @@ use Rattle.rec_table.specs.Ends.{Interleaves}
 use Rattle.rec_table.specs.Journals.{journals_from}
 use Rattle.rec_table.specs.declared.views.Beat.{Beat}
 use Rattle.rec_threads.specs.Done.{begun, commands_at, driving_rule}
-use Rattle.rec_play.specs.Awaited.{IsAwaitedStep, IsAwaitedTurn}
+use Rattle.rec_play.specs.Awaited.{IsAwaitedTurn}
 use Rattle.rec_play.specs.Played.{config_of, last_moment, lengths_of}
 use Rattle.rec_play.specs.Playing.{all_turns, order}
 use Rattle.rec_play.specs.Run.{IsPlayedRun}
@@ -52,6 +55,8 @@ pub record IsDriven (script : ScriptContents) (start : Start) (journals : List (
   pub named : names ≡ named_after_all (names_at start) start.world interleaved.run
   -- each NotYet was decided by a step of this run that found a log which was still to be collected
   pub not_yet : (i t : ℕ) (line : Line) → slice_get events i ≡ Some (Event.Answers t line) → line.1.answer ≡ answers.NotYet → IsAwaitedStep (names_at start) start.world interleaved.run i t line
+  -- and each Full by one at which every slot held an object
+  pub full : (i t : ℕ) (line : Line) → slice_get events i ≡ Some (Event.Answers t line) → line.1.answer ≡ answers.Full → IsFilledStep (names_at start) start.world interleaved.run i t line
 
 -- The run that is played: its turns are those that the playing rule draws, and its answers stand in their order. The events are what
 -- these turns tell, with the frees and the sweeps of the collector's.
@@ -71,6 +76,8 @@ pub record HasRun (script : ScriptContents) (start : Start) (how : How) (journal
   -- which object each slot holds at the end: by this the heap of the order stands for the world
   pub names : Naming
   pub stands : StandsBy (last_moment script start events).heap (sight world) names.number
+  -- and the objects that the order has not freed are those in taken slots
+  pub unfreed : AreUnfreed (sight world) names.number (last_moment script start events).unfreed
   pub steps : MakesSteps script start how journals events names world
 
 -- There was such a run, and its heap was settled as that world.

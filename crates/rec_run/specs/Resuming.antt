@@ -1,5 +1,6 @@
 -- A source from which a heap goes on: the text of its image, and mutators behind it.
 use Rattle.std.specs.Prelude.{◌≡◌, false, ◌⊎◌, ℕ, ◌+◌, ◌-◌, ◌<◌, ◌≤◌, List, ◌++◌, drop, length, slice_index, take}
+use Rattle.rec_collector.specs.Private.{plain}
 use Rattle.rec_model.specs.declared.limits.TheConstants.{MOST_BYTES}
 use Rattle.rec_core.specs.Objects.{described}
 use Rattle.rec_script.specs.Behind.{Numbers, IsRefusedBehind, SpellsMutators, with_all}
@@ -66,6 +67,6 @@ IsUnresumed bytes line kind = IsTooLong bytes line kind ⊎ ((length bytes ≤ M
 -- A run of these commands begins in the heap that the image makes, with logs that have room for them. The heap that the image describes
 -- stands for it, and its objects count as born.
 pub record IsRestoredFor (contents : ImageContents) (script : ScriptContents) (start : Start) : Type 0 where
-  pub world : start.world ≡ restored contents (log_room script) false
+  pub world : start.world ≡ restored contents (log_room script) plain
   pub heap : start.heap ≡ described (config_of script) (objects_in contents)
   pub starts : IsStartOf script start

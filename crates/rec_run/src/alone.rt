@@ -1,6 +1,7 @@
 //! What a request asks, where nobody is waited for: all but the commands of a script on threads.
 ghost use Rattle.std.specs.Prelude.{◌≡◌, ◌≢◌, ℕ, ◌≤◌, false, List, Option, string_bytes, IfOk};
 ghost use Rattle.std.specs.List.{flat_map};
+ghost use Rattle.rec_collector.specs.Private.{plain};
 ghost use Rattle.rec_model.specs.declared.limits.TheConstants.{MOST_COMMANDS, MOST_SCRIPT_MUTATORS, MOST_TURNS};
 ghost use Rattle.rec_io.specs.Source.{Passes};
 ghost use Rattle.rec_image.specs.Restored.{config_of as config_in};
@@ -226,7 +227,7 @@ fn answer_resumed<R: Threads + Sync>(
     how: Play,
 ) -> Result<Text, NoMemory>
     requires turns { how.turns ≤ MOST_TURNS }
-    requires numbers { config_in image.now (log_room script.now) false ≡ config_of script.now }
+    requires numbers { config_in image.now (log_room script.now) plain ≡ config_of script.now }
     ensures { IfOk result (λ text. (start : Start) × IsRestoredFor image.now script.now start × Answers script.now start (hows.Play how) (flat_map (λ line. line) text)) }
 {
     let mut outcome = resume_script(alloc, script, image, how)?;

@@ -1,5 +1,6 @@
 //! A heap goes on from its image: the commands of the mutators behind it are carried out.
 ghost use Rattle.std.specs.Prelude.{◌≡◌, ℕ, ◌+◌, ◌<◌, ◌≤◌, ◌==◌, Err, IfOk, false, true, length, slice_index};
+ghost use Rattle.rec_collector.specs.Private.{plain};
 ghost use Rattle.rec_model.specs.declared.limits.TheConstants.{MOST_BYTES, MOST_TURNS};
 ghost use Rattle.rec_image.specs.Image.{StopsAt, feeds};
 ghost use Rattle.rec_image.specs.Restored.{config_of as config_in};
@@ -23,7 +24,7 @@ use rec_model::limits::MOST_BYTES;
 use rec_play::{config_for, journals_for, order_for};
 use rec_request::Play;
 use rec_script::{Kind, Script, ScriptError, read_after};
-use rec_world::{OpenError, World};
+use rec_world::{OpenError, Policy, World};
 use std::alloc::{AllocError as NoMemory, Global};
 
 // How many bytes stand before the first LF, or all where there is none.
@@ -126,7 +127,7 @@ pub fn resume_script(
     how: Play,
 ) -> Result<Outcome, NoMemory>
     requires turns { how.turns ≤ MOST_TURNS }
-    requires numbers { config_in image.now (log_room script.now) false ≡ config_of script.now }
+    requires numbers { config_in image.now (log_room script.now) plain ≡ config_of script.now }
     ensures outcome { IfOk result (λ outcome. (start : Start) × IsRestoredFor image.now script.now start × IsOutcome script.now start (hows.Play how) outcome) }
 
     // Each turn requests one epoch more at most.
@@ -141,12 +142,16 @@ pub fn resume_script(
 
 // The heap of an image, with logs that have room for a script's commands.
 fn restore_world(alloc: Global, script: &Script, image: &Image) -> Result<World, NoMemory>
-    requires numbers { config_in image.now (log_room script.now) false ≡ config_of script.now }
+    requires numbers { config_in image.now (log_room script.now) plain ≡ config_of script.now }
     ensures begins { IfOk result (MayBegin script.now) }
     ensures start { IfOk result (λ world. (start : Start) × (start.world ≡ world) × IsRestoredFor image.now script.now start) }
     ensures first { IfOk result (λ world. world.epoch ≡ 1) }
 {
-    match restore(alloc, image, config_for(script).log_entries, false) {
+    let plain = Policy {
+        steady: false,
+        least_roots: 0,
+    };
+    match restore(alloc, image, config_for(script).log_entries, plain) {
         Ok(world) => Ok(world),
         Err(OpenError::NoMemory) => Err(NoMemory),
         // An image's numbers and a script's are those of a heap.

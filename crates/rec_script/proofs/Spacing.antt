@@ -15,29 +15,13 @@ use Rattle.rec_script.specs.Lines.{is_end, is_blank, in_front, cut, without_cr, 
 use Rattle.rec_script.specs.Script.{IsCommand, IsNumeralOf, command_line}
 use Rattle.rec_script.specs.Drafts.{IsTaken}
 use Rattle.rec_script.proofs.Cuts.{cut_none, no_cr, some_word}
-use Rattle.rec_script.proofs.Numerals.{digits_of, is_numeral, one_more}
+use Rattle.rec_io.proofs.Numerals.{digits_of, found_numeral, one_more, tail}
 use Rattle.rec_script.proofs.Plainness.{plain_command, utf8_of_words}
 use Rattle.rec_script.proofs.Regrouping.{AreSmall}
 
 -- ---- numerals
 
-behind : (bytes : List ℕ) (k : ℕ) → take (length bytes - k) (drop k bytes) ≡ drop k bytes
-behind bytes k = take_all (length bytes - k) (drop k bytes) (omega (arith, length-drop k bytes))
-
--- the digits in front of a byte are the numeral of their number
-pub long_front : (bytes : List ℕ) (i value end : ℕ) → 0 < i → i < length bytes → (get_or bytes 0 0 ≡ 48 → ⊥) → ((k : ℕ) → k < i → IsInRange 48 57 (get_or bytes k 0)) → value ≡ digits_value 10 (take i bytes) → value < 2 ^ 32 → get_or bytes i 0 ≡ end
-    → bytes ≡ decimal value ++ end ∷ take (length bytes - (i + 1)) (drop (i + 1) bytes)
-long_front bytes i value end some within front digits is small at =
-    let size : length (take i bytes) ≡ i = length-take-le i bytes (omega arith) in
-    let first : get_or (take i bytes) 0 0 ≡ get_or bytes 0 0 = get_or-take i bytes 0 0 some in
-    let word : IsNumeralOf (take i bytes) value = is_numeral (take i bytes) value (omega arith) (λ e. front (sym first ∙ e)) (λ k lt. subst (IsInRange 48 57) (sym (get_or-take i bytes k 0 (omega arith))) (digits k (omega arith))) is small in
-    sym (take-append-drop i bytes)
-    ∙ ap (λ (t : List ℕ). t ++ drop i bytes) word.1
-    ∙ ap (λ (t : List ℕ). decimal value ++ t) (drop_more bytes i 0 within)
-    ∙ ap (λ (b : ℕ). decimal value ++ b ∷ drop (i + 1) bytes) at
-    ∙ ap (λ (t : List ℕ). decimal value ++ end ∷ t) (sym (behind bytes (i + 1)))
-
--- and so is one digit
+-- one digit in front of a byte is the numeral of its number
 pub short_front : (bytes : List ℕ) (value end : ℕ) → 2 ≤ length bytes → IsInRange 48 57 (get_or bytes 0 0) → value ≡ get_or bytes 0 0 - 48 → get_or bytes 1 0 ≡ end → bytes ≡ decimal value ++ end ∷ take (length bytes - 2) (drop 2 bytes)
 short_front [] value end two digit is at = absurd (omega arith)
 short_front (c ∷ []) value end two digit is at = absurd (omega arith)
@@ -47,7 +31,7 @@ short_front (c ∷ d ∷ cs) value end two digit is at =
     ap (λ (b : ℕ). c ∷ b ∷ cs) at
     ∙ ap (λ (b : ℕ). b ∷ end ∷ cs) same
     ∙ ap (λ (t : List ℕ). t ++ end ∷ cs) (sym one)
-    ∙ ap (λ (t : List ℕ). decimal value ++ end ∷ t) (sym (behind (c ∷ d ∷ cs) 2))
+    ∙ ap (λ (t : List ℕ). decimal value ++ end ∷ t) (sym (tail (c ∷ d ∷ cs) 2))
 
 -- and so are two
 pub two_front : (bytes : List ℕ) (value end : ℕ) → 3 ≤ length bytes → IsInRange 48 57 (get_or bytes 0 0) → IsInRange 48 57 (get_or bytes 1 0) → (get_or bytes 0 0 ≡ 48 → ⊥) → value ≡ 10 * (get_or bytes 0 0 - 48) + (get_or bytes 1 0 - 48) → get_or bytes 2 0 ≡ end
@@ -55,7 +39,8 @@ pub two_front : (bytes : List ℕ) (value end : ℕ) → 3 ≤ length bytes → 
 two_front bytes value end three tens ones front is at =
     let one : 10 * 0 + (get_or bytes 0 0 - 48) ≡ digits_value 10 (take 1 bytes) = one_more bytes 0 0 (get_or bytes 0 0) (omega arith) refl refl tens in
     let two : 10 * (get_or bytes 0 0 - 48) + (get_or bytes 1 0 - 48) ≡ digits_value 10 (take 2 bytes) = one_more bytes 1 (get_or bytes 0 0 - 48) (get_or bytes 1 0) (omega arith) (omega (arith, one)) refl ones in
-    long_front bytes 2 value end (omega arith) (omega arith) front (both bytes tens ones) (is ∙ two) (omega (arith, is, tens.1, ones.1)) at
+    found_numeral bytes 2 value (omega arith) (omega arith) front (both bytes tens ones) (is ∙ two) (omega (arith, is, tens.1, ones.1))
+    ∙ ap (λ (t : List ℕ). decimal value ++ t) (tail bytes 2 ∙ drop_more bytes 2 0 (omega arith) ∙ ap (λ (b : ℕ). b ∷ drop 3 bytes) at ∙ ap (λ (t : List ℕ). end ∷ t) (sym (tail bytes 3)))
   where
     both : (bytes : List ℕ) → IsInRange 48 57 (get_or bytes 0 0) → IsInRange 48 57 (get_or bytes 1 0) → (k : ℕ) → k < 2 → IsInRange 48 57 (get_or bytes k 0)
     both bytes tens ones zero lt = tens

@@ -16,23 +16,14 @@ use rec_model::limits::MOST_COMMANDS;
 pub fn numeral(word: &[u8]) -> Option<u32>
     ensures { MatchOption result ((n : ℕ) → ¬ IsNumeralOf word.now n) (λ n. IsNumeralOf word.now n) }
 {
-    if word.is_empty() {
+    let Some((number, rest)) = rec_io::numeral(u64::from(u32::MAX), word) else {
         return None;
+    };
+    if rest.is_empty() {
+        Some(number as u32)
+    } else {
+        None
     }
-    if word[0] == b'0' {
-        return if word.len() == 1 { Some(0) } else { None };
-    }
-    let mut value: u64 = 0;
-    for (i, byte) in word.iter().enumerate() {
-        if !byte.is_ascii_digit() {
-            return None;
-        }
-        value = 10 * value + u64::from(byte - b'0');
-        if value > u64::from(u32::MAX) {
-            return None;
-        }
-    }
-    Some(value as u32)
 }
 
 /// What an operand has to be below, and what is wrong with a numeral that isn't.

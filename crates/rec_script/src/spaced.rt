@@ -6,27 +6,20 @@ ghost use Rattle.std.specs.Fmt.{decimal};
 ghost use Rattle.rec_script.specs.Lines.{spaced};
 ghost use Rattle.rec_script.specs.Script.{Allows, IsCommand, IsVersion, command_line};
 
+use rec_io::behind_byte;
 use rec_model::Cmd;
 
 /// A numeral of any length at the front, with this byte behind it, and what is behind that.
 fn long_numeral(bytes: &[u8], end: u8) -> Option<(u32, &[u8])>
-    requires { slice_index bytes.now 0 ≢ 48 }
     ensures { IfSome result (λ x. bytes.now ≡ decimal x.0 ++ end ∷ x.1.now) }
 {
-    let mut value: u64 = 0;
-    for (i, byte) in bytes.iter().enumerate() {
-        if i > 0 && *byte == end {
-            return Some((value as u32, &bytes[i + 1..]));
-        }
-        if !byte.is_ascii_digit() {
-            return None;
-        }
-        value = 10 * value + u64::from(*byte - b'0');
-        if value > u64::from(u32::MAX) {
-            return None;
-        }
-    }
-    None
+    let Some((number, rest)) = rec_io::numeral(u64::from(u32::MAX), bytes) else {
+        return None;
+    };
+    let Some(rest) = behind_byte(end, rest) else {
+        return None;
+    };
+    Some((number as u32, rest))
 }
 
 /// The same, quicker where there are two digits.
@@ -140,17 +133,6 @@ fn birth(registers: u32, bytes: &[u8]) -> Option<(u8, u32, &[u8])>
     Some((reg, label, rest))
 }
 
-/// What is behind this byte at the front.
-#[inline(always)]
-fn behind(first: u8, bytes: &[u8]) -> Option<&[u8]>
-    ensures { IfSome result (λ rest. bytes.now ≡ first ∷ rest.now) }
-{
-    match bytes {
-        [byte, rest @ ..] if *byte == first => Some(rest),
-        _ => None,
-    }
-}
-
 /// A command at the front, spaced, and what is behind its line.
 #[inline(always)]
 pub fn spaced_command(
@@ -228,7 +210,7 @@ fn null(registers: u32, bytes: &[u8]) -> Option<(Cmd, &[u8])>
     ensures in_range { (fields : ℕ) → IfSome result (λ x. IsCommand registers fields x.0) }
     ensures allowed { (version : ℕ) → 1 ≤ version → IfSome result (λ x. Allows version x.0) }
 {
-    let Some(rest) = behind(b' ', bytes) else {
+    let Some(rest) = behind_byte(b' ', bytes) else {
         return None;
     };
     let Some((reg, rest)) = operand(registers, rest, b'\n') else {
@@ -245,7 +227,7 @@ fn copy(registers: u32, bytes: &[u8]) -> Option<(Cmd, &[u8])>
     ensures in_range { (fields : ℕ) → IfSome result (λ x. IsCommand registers fields x.0) }
     ensures allowed { (version : ℕ) → 1 ≤ version → IfSome result (λ x. Allows version x.0) }
 {
-    let Some(rest) = behind(b' ', bytes) else {
+    let Some(rest) = behind_byte(b' ', bytes) else {
         return None;
     };
     let Some((dst, src, rest)) = two_operands(registers, rest) else {
@@ -279,7 +261,7 @@ fn same(registers: u32, bytes: &[u8]) -> Option<(Cmd, &[u8])>
     ensures in_range { (fields : ℕ) → IfSome result (λ x. IsCommand registers fields x.0) }
     ensures allowed { (version : ℕ) → 1 ≤ version → IfSome result (λ x. Allows version x.0) }
 {
-    let Some(rest) = behind(b' ', bytes) else {
+    let Some(rest) = behind_byte(b' ', bytes) else {
         return None;
     };
     let Some((a, b, rest)) = two_operands(registers, rest) else {
@@ -296,7 +278,7 @@ fn leaf(registers: u32, bytes: &[u8]) -> Option<(Cmd, &[u8])>
     ensures in_range { (fields : ℕ) → IfSome result (λ x. IsCommand registers fields x.0) }
     ensures allowed { (version : ℕ) → 2 ≤ version → IfSome result (λ x. Allows version x.0) }
 {
-    let Some(rest) = behind(b' ', bytes) else {
+    let Some(rest) = behind_byte(b' ', bytes) else {
         return None;
     };
     let Some((reg, label, rest)) = birth(registers, rest) else {

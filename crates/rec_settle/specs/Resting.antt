@@ -4,9 +4,9 @@ use Rattle.std.specs.Prelude.{◌≡◌, ℕ, ◌+◌, ◌<◌, ◌==◌, true, 
 use Rattle.rec_model.specs.Sight.{Sight}
 use Rattle.rec_counts.specs.Counts.{State, slot_at, IsKept}
 use Rattle.rec_counts.specs.Lists.{one}
-use Rattle.rec_apply.specs.Targets.{named}
-use Rattle.rec_walk.specs.Walk.{places_left}
-use Rattle.rec_walk.specs.Load.{Load}
+use Rattle.rec_counts.specs.Targets.{named}
+use Rattle.rec_word.specs.Walk.{places_left}
+use Rattle.rec_word.specs.Load.{Load}
 use Rattle.rec_release.specs.CycleFree as frees
 use Rattle.rec_sigma.specs.Prepare as preps
 use Rattle.rec_sigma.specs.Prepared.{PreparedTo}

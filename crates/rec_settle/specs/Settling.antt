@@ -12,7 +12,7 @@ use Rattle.rec_counts.specs.Lists.{one, times}
 use Rattle.rec_counts.specs.Slot.{is_in, stays}
 use Rattle.rec_trial.specs.Still.{IsSeed, references}
 use Rattle.rec_trial.specs.Tried.{members}
-use Rattle.rec_walk.specs.Load.{Load, place_loaded}
+use Rattle.rec_word.specs.Load.{Load, place_loaded}
 
 -- the slots that are neither released nor Green
 abbrev pub offered_slots : State → List ℕ

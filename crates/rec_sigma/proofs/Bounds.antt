@@ -16,7 +16,7 @@ use Rattle.rec_sigma.specs.Judged.{SumsOutside}
 use Rattle.rec_sigma.specs.declared.at.At.{At}
 use Rattle.rec_sigma.specs.Prepare.{Machine, members_of, next_of, op_at, IsAtWork}
 use Rattle.rec_sigma.specs.Prepared.{LoadsWithin, outside, PreparedTo, places_left}
-use Rattle.rec_walk.specs.Load.{Load, place_loaded}
+use Rattle.rec_word.specs.Load.{Load, place_loaded}
 use Rattle.rec_sigma.proofs.Cyclics.{in_set, own_set, set_in_range}
 use Rattle.rec_sigma.proofs.Runs.{held_set}
 

@@ -13,7 +13,7 @@ use Rattle.rec_counts.specs.Slot.{absent, is_in}
 use Rattle.rec_counts.proofs.Times.{times_at, one-some}
 use Rattle.rec_counts.proofs.Keeping.{field_kept, less_at, map_at}
 use Rattle.rec_sigma.specs.Prepare.{members_of, renewed, renewed_if, less_if, taken_off}
-use Rattle.rec_walk.specs.Load.{Load}
+use Rattle.rec_word.specs.Load.{Load}
 use Rattle.rec_sigma.specs.Prepared.{KeepsOthers, seen}
 
 -- the set of a slot that is in the set of this number

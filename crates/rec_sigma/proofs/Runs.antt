@@ -6,11 +6,11 @@ use Rattle.std.proofs.lemmas.List.Concat.{flat_map-append}
 use Rattle.std.proofs.lemmas.Bool.{cases_lt}
 use Rattle.rec_word.specs.Place.{place_of, places_from, places_of}
 use Rattle.rec_word.specs.Word.{target_of, is_slot}
-use Rattle.rec_walk.specs.declared.member.Member.{Member}
-use Rattle.rec_walk.specs.Load.{Load, place_loaded}
-use Rattle.rec_walk.specs.Walk.{behind, places_left, IsOf}
-use Rattle.rec_walk.proofs.Given.{given_by}
-use Rattle.rec_walk.proofs.Walks.{behind_left, behind_stands, first_stands, Stands}
+use Rattle.rec_word.specs.declared.member.Member.{Member}
+use Rattle.rec_word.specs.Load.{Load, place_loaded}
+use Rattle.rec_word.specs.Walk.{behind, places_left, IsOf}
+use Rattle.rec_word.proofs.Given.{given_by}
+use Rattle.rec_word.proofs.Walks.{behind_left, behind_stands, first_stands, Stands}
 use Rattle.rec_counts.specs.declared.slot.Slot.{Slot}
 use Rattle.rec_counts.specs.Counts.{State, IsKept, slot_at}
 use Rattle.rec_counts.specs.Lists.{one, times}

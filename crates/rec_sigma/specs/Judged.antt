@@ -4,7 +4,7 @@ use Rattle.rec_counts.specs.declared.colour.Colour.TheVariants.{Orange}
 use Rattle.rec_counts.specs.Counts.{State, slot_at}
 use Rattle.rec_counts.specs.Lists.{times}
 use Rattle.rec_sigma.specs.Prepare.{members_of}
-use Rattle.rec_walk.specs.Load.{Load}
+use Rattle.rec_word.specs.Load.{Load}
 use Rattle.rec_sigma.specs.Prepared.{PreparedTo, outside}
 
 -- each member of the set of this number is Orange

@@ -7,8 +7,8 @@ use Rattle.rec_word.specs.declared.op.Op.TheVariants.{LoadChild}
 use Rattle.rec_counts.specs.Counts.{State, slot_at, with_slot}
 use Rattle.rec_counts.specs.Slot.{is_in}
 pub use Rattle.rec_counts.specs.Slot.{renewed_if}
-use Rattle.rec_walk.specs.declared.member.Member.{Member}
-use Rattle.rec_walk.specs.Walk.{behind, IsOf}
+use Rattle.rec_word.specs.declared.member.Member.{Member}
+use Rattle.rec_word.specs.Walk.{behind, IsOf}
 use Rattle.rec_sigma.specs.declared.at.At.{At}
 
 -- how many fields a slot has, and the field that is loaded next

@@ -6,8 +6,8 @@ use Rattle.rec_word.specs.declared.op.Op.{Op}
 use Rattle.rec_word.specs.declared.op.Op.TheVariants.{LoadChild}
 use Rattle.rec_counts.specs.Counts.{State, slot_at}
 use Rattle.rec_counts.specs.Slot.{is_in}
-use Rattle.rec_walk.specs.Load.{Load, given, leads_to, place_loaded}
-use Rattle.rec_walk.specs.Walk as walks
+use Rattle.rec_word.specs.Load.{Load, given, leads_to, place_loaded}
+use Rattle.rec_word.specs.Walk as walks
 use Rattle.rec_sigma.specs.declared.at.At.{At}
 use Rattle.rec_sigma.specs.Prepare.{Work, took_of, started_of}
 

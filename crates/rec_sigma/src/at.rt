@@ -1,4 +1,4 @@
-use rec_walk::Member;
+use rec_word::Member;
 
 /// The field that is loaded next.
 #[derive(Clone, Copy)]

@@ -7,7 +7,7 @@ ghost use Rattle.rec_sigma.specs.declared.at.At.{At};
 ghost use Rattle.rec_sigma.specs.Judged.{SumsOutside};
 ghost use Rattle.rec_sigma.specs.Prepare.{Machine, IsAtWork, next_of};
 ghost use Rattle.rec_sigma.specs.Prepared.{HasPrepared, LoadsWithin, PreparedTo};
-ghost use Rattle.rec_walk.specs.Load.{Load};
+ghost use Rattle.rec_word.specs.Load.{Load};
 
 /// Whatever words it is given, a preparation loads each field of each member of each set once and in order, and no other. A
 /// member's cyclic count is then its outside count: its true count less the words seen in fields of its own set's members

@@ -8,7 +8,7 @@
 //! The rule that this crate keeps: each field of each member is loaded once and no other; a word takes one off a member of
 //! its own set alone, not below zero; no true count, colour or list changes in preparation; a refurbished member loses no
 //! place that it is due.
-//! A set's members are prepared on a walk of `rec_walk`.
+//! A set's members are prepared on a walk of `rec_word`.
 //! The layer above may use that `next`, `start` and `took` are exactly `next_of`, `started_of` and `took_of` of `specs/`,
 //! that `refurbish` leaves the lists and slots of `Refurbished`, and the laws, which are the contracts of the functions in
 //! `laws`.

@@ -2,7 +2,7 @@ ghost use Rattle.std.specs.Prelude.{◌≡◌, ◌+◌, ◌<◌, ◌≤◌, ◌�
 ghost use Rattle.rec_word.specs.Word.{target_of};
 ghost use Rattle.rec_word.specs.declared.op.Op.TheVariants.{LoadChild};
 ghost use Rattle.rec_counts.specs.Counts.{State};
-ghost use Rattle.rec_walk.specs.Load.{Load};
+ghost use Rattle.rec_word.specs.Load.{Load};
 ghost use Rattle.rec_sigma.specs.declared.at.At.{At};
 ghost use Rattle.rec_sigma.specs.Prepare.{IsAtWork, IsHeld, Work, first_of, gone_on, next_of, next_set, renewed, started_of, taken_off, took_of};
 ghost use Rattle.rec_sigma.specs.Prepared.{KeepsOthers, PreparedTo, loaded_at};
@@ -11,8 +11,7 @@ ghost use Rattle.rec_sigma.specs.Ran.{Ran};
 use crate::at::At;
 use crate::loads::Loads;
 use rec_counts::Counts;
-use rec_walk::Member;
-use rec_word::{Op, place, target};
+use rec_word::{Member, Op, place, target};
 use std::marker::Model;
 
 /// The preparation of all sets for their tests. It takes no memory.

@@ -9,7 +9,7 @@ use Rattle.rec_release.specs.CycleFree.{op_at as freeing_op_at, next_of as freei
 use Rattle.rec_release.specs.Release.{op_at as release_op_at, next_of as release_next}
 use Rattle.rec_release.specs.Sweep.{next_of as sweep_next}
 use Rattle.rec_release.specs.declared.at.At.{At}
-use Rattle.rec_walk.specs.declared.member.Member.{Member}
+use Rattle.rec_word.specs.declared.member.Member.{Member}
 use Rattle.rec_sigma.specs.Prepare.{op_at as prep_op_at, next_of as prep_next}
 use Rattle.rec_sigma.specs.declared.at.At as loads
 use Rattle.rec_collector.specs.Followed.{Next, worked}
@@ -315,7 +315,7 @@ hit_turn p q r t word b m m' is hit took is_m swapped left =
         fields = ap (λ (x : Private). x.fields) r_is;
         registers = ap (λ (x : Private). x.registers) r_is;
         capacity = ap (λ (x : Private). x.capacity) r_is;
-        steady = ap (λ (x : Private). x.steady) r_is;
+        policy = ap (λ (x : Private). x.policy) r_is;
         mutators = ap (λ (x : Private). length x.newer) r_is ∙ length-set p.newer (t - 1) (held m);
       },
       subst (λ (x : Private). IsBetween x.phase) (sym r_is) tt,

@@ -60,7 +60,7 @@ kinds_loop (Sweeping due n) l = tt
 kinds_loop _ l = absurd l
 
 sizes_on : (a b d : Private) → KeepsSizes a b → KeepsSizes b d → KeepsSizes a d
-sizes_on a b d x y = record { slots = y.slots ∙ x.slots; fields = y.fields ∙ x.fields; registers = y.registers ∙ x.registers; capacity = y.capacity ∙ x.capacity; steady = y.steady ∙ x.steady; mutators = y.mutators ∙ x.mutators }
+sizes_on a b d x y = record { slots = y.slots ∙ x.slots; fields = y.fields ∙ x.fields; registers = y.registers ∙ x.registers; capacity = y.capacity ∙ x.capacity; policy = y.policy ∙ x.policy; mutators = y.mutators ∙ x.mutators }
 
 module _ (z : TableId) (key : Core) (start : CollectorSeat) (table : TableId) (me : Me (Option Contents) View) (n : ℕ) (p : Private) (op : Op) (s : Stands z key start table me n p turns.Moved) (l : IsLooped p.phase) (named : ◌≡◌ {A = Option Op} (next_of p) (Some op)) where
   -- one turn more

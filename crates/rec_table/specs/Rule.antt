@@ -212,7 +212,7 @@ word_of (Saw word) = word
 word_of (Took word b) = word
 
 abbrev pub no_collector : collectors.Private
-no_collector = collectors.opened 0 0 0 0 0 0 false
+no_collector = collectors.opened 0 0 0 0 0 0 collectors.plain [] []
 
 -- the first seat makes the seat of the next mutator
 abbrev pub without : View → View

@@ -2,8 +2,7 @@
 ghost use Rattle.std.specs.Prelude.{◌≡◌, ◌∷◌, [], IfOk};
 ghost use Rattle.rec_tests.specs.Paired.{IsSetOfOne, one_write};
 
-use rec_apply::apply;
-use rec_counts::{Colour, Counts};
+use rec_counts::{Colour, Counts, apply};
 use rec_log::{Buffer, Entry};
 use rec_sigma::delta;
 use std::alloc::{AllocError as NoMemory, Global};
@@ -62,7 +61,7 @@ fn pair(rt: &impl Abort, alloc: Global) -> Result<([Buffer; 1], [Buffer; 1]), No
 fn set_of_one(alloc: Global) -> Result<Counts, NoMemory>
     ensures { IfOk result IsSetOfOne }
 {
-    let mut counts = Counts::open(alloc, 2, 1)?;
+    let mut counts = Counts::open(alloc, 2, &[1])?;
     counts.begin_set();
     counts.join_set(1);
     counts.set_colour(1, Colour::Orange);

@@ -47,7 +47,7 @@ fn release_all(rt: &impl Abort, counts: &mut Counts)
 fn set_of_four(rt: &impl Abort, alloc: Global) -> Result<Counts, NoMemory>
     ensures { IfOk result IsWorked }
 {
-    let mut counts = Counts::open(alloc, 8, 1)?;
+    let mut counts = Counts::open(alloc, 8, &[1])?;
     counts.begin_set();
     join(rt, &mut counts, 1, Colour::Orange);
     join(rt, &mut counts, 2, Colour::Purple);

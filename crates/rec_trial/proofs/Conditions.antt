@@ -12,6 +12,7 @@ use Rattle.rec_counts.specs.Lists as in_counts
 use Rattle.rec_counts.specs.Slot.{absent, white_if}
 use Rattle.rec_counts.proofs.Leaving.{all_of}
 use Rattle.rec_counts.proofs.Times.{times-nil, times-cons, times_at, in_range_once, one-same, one-none}
+use Rattle.rec_trial.specs.Postponed.{AreUnlisted}
 use Rattle.rec_trial.specs.Moves.{one_off, touched_if, whitened, all_whitened}
 
 pub unbuffered_white : (s : State) → IsKept s → CanCollect s → (x : ℕ) → is_white (slot_at s x).colour ≡ true → (slot_at s x).buffered ≡ false
@@ -60,7 +61,7 @@ pub marked_in_range : (s : State) → IsKept s → (i : ℕ) → i < length s.ma
 marked_in_range s k i l = in_range_once (length s.slots) s.marked (get_or s.marked i 0) k.marked_once (times_at s.marked i l)
 
 -- so is the first root
-first_is : (x y : ℕ) → Some x ≡ Some y → x ≡ y
+pub first_is : (x y : ℕ) → Some x ≡ Some y → x ≡ y
 first_is x y h = cc
 
 pub first_there : (s : State) (x : ℕ) (xs : List ℕ) → s.roots ≡ x ∷ xs → 0 < in_counts.times x s.roots
@@ -71,8 +72,8 @@ root_range s k [] e x h = cc
 root_range s k (y ∷ ys) e x h = omega (arith, first_is x y h, first_root_in_range k y ys e, length-set s.slots y (record (slot_at s y) { buffered = false }))
 
 -- a released root is not in the free list
-pub root_unlisted : (s : State) → CanMark s → (rs : List ℕ) → s.roots ≡ rs → (x : ℕ) → Some x ≡ slice_get rs 0 → (slot_at (without_root rs s) x).released ≡ true → in_counts.times x (without_root rs s).free ≡ 0
+pub root_unlisted : (s : State) → AreUnlisted s → (rs : List ℕ) → s.roots ≡ rs → (x : ℕ) → Some x ≡ slice_get rs 0 → (slot_at (without_root rs s) x).released ≡ true → in_counts.times x (without_root rs s).free ≡ 0
 root_unlisted s c [] e x h r = cc
 root_unlisted s c (y ∷ ys) e x h r =
     let here : 0 < in_counts.times x s.roots = rw (first_is x y h) (first_there s y ys e) in
-    c.unlisted x here (sym (field_kept (λ (v : Slot). v.released) s.slots y (record (slot_at s y) { buffered = false }) refl x) ∙ r)
+    c x here (sym (field_kept (λ (v : Slot). v.released) s.slots y (record (slot_at s y) { buffered = false }) refl x) ∙ r)

@@ -3,7 +3,7 @@ use Rattle.std.proofs.Common.{◌≡◌, ℕ, suc, ◌+◌, ◌-◌, ◌<◌, �
 use Rattle.std.proofs.lemmas.Bool.Decides.{nat_tests}
 use Rattle.rec_trial.proofs.Common.{target_of, is_slot, predecessor, target_bits, State, slot_at, one, is_green, is_white, Run, run_of}
 use Rattle.rec_counts.specs.Lists as in_counts
-use Rattle.rec_walk.specs.Load.{Load}
+use Rattle.rec_word.specs.Load.{Load}
 use Rattle.rec_trial.specs.Still.{AreStill, IsReached, IsHeld, IsExact, TrialIsExact, rest, visible_words}
 use Rattle.rec_trial.specs.Still as still
 use Rattle.rec_trial.specs.Tried.{members}

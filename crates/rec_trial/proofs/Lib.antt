@@ -29,3 +29,4 @@ pub mod Exactly
 pub mod Witnesses
 pub mod Seen
 pub mod Sends
+pub mod Postponed

@@ -4,7 +4,7 @@ use Rattle.std.specs.List.{count_by, sum_by, range_with_len}
 use Rattle.std.proofs.lemmas.Bool.Decides.{nat_tests}
 use Rattle.std.proofs.lemmas.List.Sums.{sum_by-cons}
 use Rattle.rec_trial.proofs.Common.{target_of, is_slot, predecessor, target_bits, one}
-use Rattle.rec_walk.specs.Load.{Load, leads_to}
+use Rattle.rec_word.specs.Load.{Load, leads_to}
 use Rattle.rec_trial.specs.Tried as tried
 use Rattle.rec_trial.specs.Tried.{is_of}
 use Rattle.rec_trial.proofs.Deletion.{Seen}

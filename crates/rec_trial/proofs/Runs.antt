@@ -5,7 +5,7 @@ use Rattle.std.proofs.lemmas.List.{get_or-append-add}
 use Rattle.std.proofs.lemmas.Bool.{false≢true}
 use Rattle.rec_trial.proofs.Common.{target_of, target_bits, is_green, State, slot_at, Phase, Idle, Collecting, Run, load_of, noted_at, noted, begun, run_of, IsReady, LeadsToVisible, AllLeadToVisible, Machine, Work, next_of, list_of, is_due, settled, pointed, took_at, took_of, opened_of, started_of}
 use Rattle.rec_counts.specs.Groups.{last_set, earlier_sets}
-use Rattle.rec_walk.specs.Load.{Load}
+use Rattle.rec_word.specs.Load.{Load}
 use Rattle.rec_trial.proofs.Course.{Course, at_phase, course_of, learnt, learnt_course, first_view, moved_course, released_same, green_same}
 use Rattle.rec_trial.proofs.Deletion.{Seen, Loads, seen, queue_at, with_load}
 use Rattle.rec_trial.proofs.Moving.{settled_by, settled_is_due}

@@ -5,7 +5,7 @@ use Rattle.std.proofs.lemmas.Bool.{eqb-true}
 use Rattle.std.proofs.lemmas.Bool.Decides.{nat_tests}
 use Rattle.rec_trial.proofs.Common.{target_of, target_bits, State, one, unreleased_within, Run, run_of}
 use Rattle.rec_counts.specs.Lists as in_counts
-use Rattle.rec_walk.specs.Load.{Load}
+use Rattle.rec_word.specs.Load.{Load}
 use Rattle.rec_trial.specs.Still.{references}
 use Rattle.rec_trial.specs.Tried.{IsCareful, IsOver}
 use Rattle.rec_trial.specs.Witnessed.{word_at, TrialIsWitnessed}

@@ -7,3 +7,4 @@ pub mod Still
 pub mod Tried
 pub mod Witnessed
 pub mod Promised
+pub mod Postponed

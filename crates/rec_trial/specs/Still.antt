@@ -7,7 +7,7 @@ use Rattle.rec_counts.specs.declared.colour.Colour.TheVariants.{Purple}
 use Rattle.rec_counts.specs.Colour.{is_green}
 use Rattle.rec_counts.specs.Counts.{State, slot_at}
 use Rattle.rec_counts.specs.Lists.{times}
-use Rattle.rec_walk.specs.Load.{Load}
+use Rattle.rec_word.specs.Load.{Load}
 use Rattle.rec_trial.specs.Loaded.{Run, run_of}
 use Rattle.rec_trial.specs.Rules.{IsReady, AllLeadToVisible, visible}
 use Rattle.rec_trial.specs.Tried.{IsOver, members}

@@ -4,7 +4,7 @@ use Rattle.std.specs.List.{concat}
 use Rattle.rec_counts.specs.Counts.{State, slot_at}
 use Rattle.rec_counts.specs.Lists.{one, times}
 use Rattle.rec_counts.specs.Colour.{is_green, is_black, is_gray, is_white, is_orange}
-use Rattle.rec_walk.specs.Load.{Load, leads_to}
+use Rattle.rec_word.specs.Load.{Load, leads_to}
 use Rattle.rec_trial.specs.Loaded.{Run, run_of}
 use Rattle.rec_trial.specs.Rules.{IsReady, AllLeadToVisible, released_among}
 use Rattle.rec_trial.specs.Trial.{NamesPlace, next_of}

@@ -4,7 +4,7 @@ use Rattle.std.specs.List.{range_with_len}
 use Rattle.rec_word.specs.Word.{target_of}
 use Rattle.rec_counts.specs.Counts.{State, slot_at}
 use Rattle.rec_counts.specs.Lists.{times}
-use Rattle.rec_walk.specs.Load.{Load}
+use Rattle.rec_word.specs.Load.{Load}
 use Rattle.rec_trial.specs.Loaded.{Run, run_of}
 use Rattle.rec_trial.specs.Rules.{IsReady, AllLeadToVisible}
 use Rattle.rec_trial.specs.Still.{references}

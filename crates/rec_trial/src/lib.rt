@@ -12,6 +12,7 @@
 //! The layer above may use that `next`, `start` and `took` are exactly `next_of`, `started_of` and `took_of` of `specs/`,
 //! and the laws, which are the contracts of the functions in `laws`: they speak of the record of what was loaded, which
 //! proofs alone keep.
+//! A collection that makes no trial postpones it (`postpone`): released roots go to the free list, and the others wait.
 //! Marking, scanning and collecting with a cyclic count are those of "Concurrent Cycle Collection in Reference Counted
 //! Systems" (2001); lists in place of recursion and one load a turn are this project's profile (`docs/PROFILE.md`).
 #![tactic(auto)]
@@ -21,10 +22,12 @@ mod laws;
 mod loads;
 mod marking;
 mod phase;
+mod postponing;
 mod scanning;
 mod trial;
 
 pub use laws::{trial_ends, trial_is_careful, trial_is_exact, trial_is_whole, trial_is_witnessed};
 pub use loads::Loads;
 pub use phase::Phase;
+pub use postponing::postpone;
 pub use trial::Trial;

@@ -1,5 +1,7 @@
 -- The modules of the proofs.
 pub mod Bare
 pub mod FieldPlaces
+pub mod Given
 pub mod Headers
 pub mod Packing
+pub mod Walks

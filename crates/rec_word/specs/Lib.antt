@@ -2,8 +2,10 @@
 pub mod Atom
 pub mod Bare
 pub mod Header
+pub mod Load
 pub mod Mailbox
 pub mod Op
 pub mod Place
+pub mod Walk
 pub mod Wide
 pub mod Word

@@ -5,13 +5,18 @@
 //! The rule that this crate keeps: unpacking a packed word gives its parts, and no other word has them.
 //! The layer above may use exactly that, that places are one to one, and of each operation: which of the five words it names,
 //! which of the four atoms it is there, which word that leaves, and whose mailbox it takes.
-//! The layout of a word is this project's profile (`docs/PROFILE.md`).
+//! The machines of a collection exchange or load the fields of a set's members on walks (`Member`): a walk that begins at the first
+//! member passes exactly the places of all fields of all slots of its list, each once and in order, and then ends (`walk_is_whole`).
+//! What a machine learns on a walk is a `Load` of `specs/`.
+//! The layout of a word and a step of a walk for each operation are this project's profile (`docs/PROFILE.md`).
 #![tactic(auto)]
 
 mod atom;
 mod cell;
 mod header;
+mod laws;
 mod mailbox;
+mod member;
 mod op;
 mod places;
 mod stamps;
@@ -21,7 +26,9 @@ mod word;
 pub use atom::Atom;
 pub use cell::Cell;
 pub use header::Header;
+pub use laws::walk_is_whole;
 pub use mailbox::{Mailbox, crossing};
+pub use member::Member;
 pub use op::Op;
 pub use places::place;
 pub use stamps::Stamp;

@@ -1,5 +1,5 @@
 -- What the fields of a world become in a call is what the definitions say of the core that they make up.
-use Rattle.std.proofs.Common.{◌≡◌, ◌≢◌, inl, inr, ℕ, ◌+◌, ◌-◌, ◌*◌, ◌^◌, ◌<◌, ◌≤◌, ◌==◌, if◌then◌else◌, All, List, ◌∷◌, Option, None, Some, Bool, true, false, slice_index_or, slice_set, length, map, replicate, refl, sym, ap, subst, ◌∙◌, arith}
+use Rattle.std.proofs.Common.{◌≡◌, ◌≢◌, inl, inr, ℕ, ◌+◌, ◌-◌, ◌*◌, ◌^◌, ◌<◌, ◌≤◌, ◌==◌, if◌then◌else◌, All, List, Option, None, Some, Bool, true, false, slice_index_or, slice_set, length, map, replicate, refl, sym, ap, subst, ◌∙◌, arith}
 use Rattle.std.specs.List.{sum_by}
 use Rattle.std.specs.Option.{IsSome}
 use Rattle.std.proofs.lemmas.Bool.{cases_eq}
@@ -8,13 +8,10 @@ use Rattle.std.proofs.lemmas.List.{get_or_default, get_or-replicate, get_or-set_
 use Rattle.std.proofs.lemmas.List.Elements.{All-from_get_or}
 use Rattle.std.proofs.lemmas.List.Sums.{sum_by-le}
 use Rattle.std.proofs.Math.Nat.{mul-le-mul}
-use Rattle.rec_world.proofs.Common.{Contents, next_of, Private, is_busy, IsValid, begun_of, took_of, step_of, swapped_of, left_of, Cells, cell, with_cell, births_of, IsConfig, IsMutator, IsWork, Core, cells_of, mutator, box, nobody, opened, opened_mutators, spare_of, Move, after_move, Fits, begun, stepped, found_by, looked_at, core, IsWhole, held, IsShaped, IsWorld, IsFinished}
+use Rattle.rec_world.proofs.Common.{Contents, next_of, Private, is_busy, IsValid, begun_of, took_of, step_of, swapped_of, left_of, Cells, cell, with_cell, births_of, IsMutator, IsWork, Core, cells_of, mutator, box, nobody, spare_of, Move, after_move, Fits, begun, stepped, found_by, looked_at, core, IsWhole, held, IsShaped, IsWorld, IsFinished}
 use Rattle.rec_word.specs.Op.{written}
 use Rattle.rec_word.specs.declared.op.Op.{Op}
 use Rattle.rec_word.specs.declared.op.Op.TheVariants as ops
-use Rattle.rec_word.specs.Mailbox.{crossing_word}
-use Rattle.rec_word.specs.declared.mailbox.Mailbox.TheVariants.{Spare}
-use Rattle.rec_model.proofs.Opened.{map-replicate}
 use Rattle.rec_model.proofs.Operands.{operands_same}
 use Rattle.rec_mutator.specs.Causes.{gives_back}
 use Rattle.rec_mutator.specs.declared.made.Made.{Made}
@@ -29,7 +26,7 @@ use Rattle.rec_core.specs.Unfinished.{HasFound}
 use Rattle.rec_core.specs.Worked.{StepsTo, IsWorked}
 use Rattle.rec_core.specs.declared.config.Config.{Config}
 use Rattle.rec_core.proofs.BareRuns.{end_kept, move_kept}
-use Rattle.rec_core.proofs.Runs.{looked_is, run_more, run_opened}
+use Rattle.rec_core.proofs.Runs.{looked_is, run_more}
 use Rattle.rec_core.proofs.Showing.{mutator_left}
 use Rattle.rec_core.proofs.Steps.{actor_of}
 use Rattle.rec_core.proofs.Turns.{numbered}
@@ -169,31 +166,11 @@ stepped_is w t i boxes op found births p q mailbox left taken new cells shaped i
     ∙ ap (λ b. make t (with_cell (cells_of w) (next_of m) (written (next_of m) (found_by w t))) (step_of m (found_by w t) (box w t)) b births) boxed
     ∙ ap (λ k. make t (with_cell (cells_of w) (next_of m) (written (next_of m) (found_by w t))) (step_of m (found_by w t) (box w t)) (slice_set w.boxes (t - 1) (left_of (took_of m (found_by w t)) (box w t))) k) its_births
 
--- the opened heap is a world
-pub opened_world : (config : Config) → IsConfig config → IsWorld (opened config)
-opened_world config is = record { shaped = shaped_of (opened config) (end_kept (opened config) is (run_opened config)); run = run_opened config }
-
 -- every mailbox is home
 pub opened_home : (config : Config) (boxes : List (Option Contents)) → boxes ≡ replicate config.mutators (Some (spare_of config)) → (i : ℕ) → i < length boxes → IsSome (slice_index_or boxes i None)
 opened_home config boxes are i there =
     let many : length boxes ≡ config.mutators = ap (λ (bs : List (Option Contents)). length bs) are ∙ length-replicate config.mutators (Some (spare_of config)) in
     subst IsSome (sym (ap (λ (bs : List (Option Contents)). slice_index_or bs i None) are ∙ get_or-replicate config.mutators i (Some (spare_of config)) None (omega (arith, there)))) refl
-
--- its parts make it up
-pub opened_parts : (config : Config) (cells : Cells) (boxes : List (Option Contents)) (mutators : List Private) (collector : collectors.Private)
-    → cells ≡ record { headers = 1 ∷ replicate (config.slots - 1) 0; words = replicate (config.slots * config.fields) 0; epoch = config.first_epoch; freed = 0; crossing = replicate config.mutators (crossing_word config.first_epoch Spare) }
-    → boxes ≡ replicate config.mutators (Some (spare_of config)) → mutators ≡ opened_mutators config config.mutators
-    → collector ≡ collectors.opened config.slots config.fields config.registers config.mutators config.log_entries config.first_epoch config.steady
-    → ◌≡◌ {A = Core} (record { config = config; headers = cells.headers; words = cells.words; epoch = cells.epoch; freed = cells.freed; crossing = cells.crossing; boxes = map held boxes; mutators = mutators; collector = collector; made = 1 }) (opened config)
-opened_parts config cells boxes mutators collector is are own counts =
-    let make : Cells → List Contents → List Private → collectors.Private → Core
-    = λ x b m c. record { config = config; headers = x.headers; words = x.words; epoch = x.epoch; freed = x.freed; crossing = x.crossing; boxes = b; mutators = m; collector = c; made = 1 } in
-    let spares : map held boxes ≡ replicate config.mutators (spare_of config) = ap (map held) are ∙ map-replicate held config.mutators (Some (spare_of config)) in
-    let first : Cells = record { headers = 1 ∷ replicate (config.slots - 1) 0; words = replicate (config.slots * config.fields) 0; epoch = config.first_epoch; freed = 0; crossing = replicate config.mutators (crossing_word config.first_epoch Spare) } in
-    ap (λ x. make x (map held boxes) mutators collector) is
-    ∙ ap (λ b. make first b mutators collector) spares
-    ∙ ap (λ m. make first (replicate config.mutators (spare_of config)) m collector) own
-    ∙ ap (λ c. make first (replicate config.mutators (spare_of config)) (opened_mutators config config.mutators) c) counts
 
 -- a work that was begun has found nothing yet
 pub begun_found : (w : Core) (t : ℕ) (work : Work) → IsKept false w → IsMutator w.config t → HasFound (begun w t work) (mutator (begun w t work) t).from (mutator (begun w t work) t).phase

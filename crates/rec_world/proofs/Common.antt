@@ -7,7 +7,7 @@ pub use Rattle.rec_mutator.specs.Took.{IsAhead, IsBetween, IsSwapping}
 unfoldable pub use Rattle.rec_mutator.specs.Took.{begun_of, left_at, left_of, skipped_at, skipped_to, step_of, swapped_of, took_of}
 pub use Rattle.rec_core.specs.Cells.{Cells, IsWithin, births_of, cell, with_cell}
 pub use Rattle.rec_core.specs.Config.{HasLabel, IsConfig, IsMutator, IsWork}
-pub use Rattle.rec_core.specs.Core.{Core, box, cells_of, log_length, mutator, nobody, opened, opened_mutators, sight, spare_of, with_mutator}
+pub use Rattle.rec_core.specs.Core.{Core, box, cells_of, log_length, mutator, nobody, opened, sight, spare_of, with_mutator}
 pub use Rattle.rec_core.specs.Moves.{EndsRun, Fits, Move, after_move, begun, found_by, left_by, looked_at, offering, performed, stepped, turned, turned_at, turned_by}
 pub use Rattle.rec_world.specs.Inside.{IsWhole, core}
 pub use Rattle.rec_world.specs.Mailbox.{gathered_by, gathered_from, held, held_by}

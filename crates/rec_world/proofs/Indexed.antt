@@ -1,7 +1,7 @@
 -- An operation's word is at its number in the row, and what is written there is the operation's.
-use Rattle.std.proofs.Common.{◌≡◌, ℕ, ◌+◌, ◌-◌, ◌<◌, ◌≤◌, List, [], ◌∷◌, ◌++◌, length, get_or, set, take, replicate, append_assoc, length-set, refl, sym, ap, subst, ◌∙◌, arith}
+use Rattle.std.proofs.Common.{◌≡◌, ℕ, ◌+◌, ◌-◌, ◌<◌, ◌≤◌, List, ◌++◌, length, get_or, set, take, replicate, length-set, refl, sym, ap, subst, ◌∙◌, arith}
 use Rattle.std.specs.Vec.{with_item}
-use Rattle.std.proofs.lemmas.List.{get_or_default, set-get_or, take_all, length-replicate}
+use Rattle.std.proofs.lemmas.List.{get_or_default, set-get_or, take_all}
 use Rattle.rec_world.proofs.Common.{Cells, IsWithin, with_cell}
 use Rattle.rec_word.specs.Op.{cell_of, written}
 use Rattle.rec_word.specs.declared.cell.Cell.{Cell}
@@ -9,7 +9,7 @@ use Rattle.rec_word.specs.declared.cell.Cell.TheVariants.{Field, Header, Epoch, 
 use Rattle.rec_word.specs.declared.op.Op.{Op}
 use Rattle.rec_core.specs.Cells.{with_word}
 use Rattle.rec_core.specs.Row.{row, index_of, cells_of_row}
-use Rattle.rec_core.proofs.Row.{cells_row, in_row, left_at, slots_are}
+use Rattle.rec_core.proofs.Row.{in_row, left_at, slots_are}
 use Rattle.rec_world.specs.Indexed.{cells, Finds, IsLaidOut, IsNoHeader}
 use Rattle.rec_world.specs.declared.memory.Memory.TheInside.{Inside}
 
@@ -64,14 +64,3 @@ module _ (m : Inside) (laid : IsLaidOut m) where
 -- a row that is filled up to this length
 pub filled_up : (n len x many : ℕ) (old now : List ℕ) → old ≡ now → length now ≤ n → n - len ≡ many → take n old ++ replicate (n - len) x ≡ now ++ replicate many x
 filled_up n len x many old now is few rest = (λ i. take n (is i) ++ replicate (rest i) x) ∙ ap (λ l. l ++ replicate many x) (take_all n now few)
-
--- the row of a heap as it is opened
-pub opened_cells : (places slots mutators epoch word : ℕ) → 0 < slots
-    → cells_of_row places slots (((((replicate places 0 ++ 1 ∷ []) ++ replicate (slots - 1) 0) ++ epoch ∷ []) ++ 0 ∷ []) ++ replicate mutators word)
-    ≡ record { headers = 1 ∷ replicate (slots - 1) 0; words = replicate places 0; epoch = epoch; freed = 0; crossing = replicate mutators word }
-opened_cells places slots mutators epoch word some =
-    let c : Cells = record { headers = 1 ∷ replicate (slots - 1) 0; words = replicate places 0; epoch = epoch; freed = 0; crossing = replicate mutators word } in
-    let laid : ((((replicate places 0 ++ 1 ∷ []) ++ replicate (slots - 1) 0) ++ epoch ∷ []) ++ 0 ∷ []) ++ replicate mutators word ≡ row c = simp append_assoc in
-    let many_places : length c.words ≡ places = length-replicate places 0 in
-    let many_slots : length c.headers ≡ slots = omega (arith, some, length-replicate {A = ℕ} (slots - 1) 0) in
-    (λ i. cells_of_row (sym many_places i) (sym many_slots i) (laid i)) ∙ cells_row c

@@ -5,7 +5,7 @@ use Rattle.std.proofs.lemmas.List.FromFn.{get_or-map-range_with_len, length-map-
 use Rattle.rec_model.proofs.Opened.{map-replicate}
 use Rattle.rec_collector.specs.Private as collectors
 use Rattle.rec_core.specs.Objects.{AreObjects, HaveLabels, Objects, counts_of, holders, rows_of}
-use Rattle.rec_core.specs.OpenedFrom.{holding_mutators, opened_from}
+use Rattle.rec_core.specs.Core.{holding_mutators, opened_from}
 use Rattle.rec_core.specs.Row.{cells_of_row, row}
 use Rattle.rec_core.specs.Worked.{AreIdle}
 use Rattle.rec_core.specs.declared.config.Config.{Config}

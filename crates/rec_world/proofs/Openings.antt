@@ -8,7 +8,7 @@ use Rattle.rec_word.specs.Header.{header_word}
 use Rattle.rec_word.specs.Word.{is_slot}
 use Rattle.rec_world.proofs.Common.{Private}
 use Rattle.rec_core.specs.Objects.{HaveLabels, IsOneOf, early_word, early_words, rows_of}
-use Rattle.rec_core.specs.OpenedFrom.{holding_mutator, holding_mutators}
+use Rattle.rec_core.specs.Core.{holding_mutator, holding_mutators}
 use Rattle.rec_core.specs.Row.{row}
 use Rattle.rec_core.specs.declared.config.Config.{Config}
 

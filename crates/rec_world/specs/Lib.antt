@@ -21,7 +21,6 @@ pub use Rattle.rec_core.specs.Loads
 pub use Rattle.rec_core.specs.Preconditions
 pub use Rattle.rec_core.specs.Moves
 pub use Rattle.rec_core.specs.Objects
-pub use Rattle.rec_core.specs.OpenedFrom
 pub use Rattle.rec_core.specs.Pending
 pub use Rattle.rec_core.specs.Reach
 pub use Rattle.rec_core.specs.Row

@@ -38,7 +38,7 @@ pub use numbering::Numbering;
 pub use open_error::OpenError;
 pub use order::Order;
 pub use parts::Parts;
-pub use rec_collector::{Sets, Turn};
+pub use rec_collector::{Policy, Sets, Turn};
 pub use rec_core::{
     Config, Part, answers_are_explained, conditions_are_met, failed_allocations_probed_every_slot,
     freed_slots_are_forgotten, loaded_words_stay_references, nothing_reached_is_freed,

@@ -1,17 +1,14 @@
-ghost use Rattle.std.specs.Prelude.{◌≡◌, ℕ, ◌+◌, ◌-◌, ◌*◌, ◌^◌, ◌<◌, ◌≤◌, length, ◌∷◌, replicate, slice_index_or, IfOk};
+ghost use Rattle.std.specs.Prelude.{◌≡◌, ℕ, ◌+◌, ◌^◌, ◌<◌, ◌≤◌, length, slice_index_or};
 ghost use Rattle.rec_word.specs.Op.{atom_of, cell_of, written};
 ghost use Rattle.rec_word.specs.declared.atom.Atom.TheVariants.{Load};
 ghost use Rattle.rec_word.specs.declared.op.Op.TheVariants as ops;
-ghost use Rattle.rec_word.specs.Mailbox.{crossing_word};
-ghost use Rattle.rec_word.specs.declared.mailbox.Mailbox.TheVariants.{Spare};
 ghost use Rattle.rec_core.specs.Cells.{IsWithin, cell, with_cell};
 ghost use Rattle.rec_core.specs.Row.{row, cells_of_row, IsLayout};
 ghost use Rattle.rec_world.specs.Indexed.{Finds, IsNoHeader};
 
 use rec_core::Layout;
 use rec_index::Index;
-use rec_word::{Cell, Mailbox, Op, crossing};
-use std::alloc::{AllocError as NoMemory, Global};
+use rec_word::{Cell, Op};
 use std::marker::Model;
 
 /// The shared words of a heap in one row: the fields by place, a header for each slot, the epoch word, the freed word, and a
@@ -37,39 +34,6 @@ impl Model for Memory {
 }
 
 impl Memory {
-    /// The words of a heap with one object, whose label is 0, in slot 0, and with so many mutators in epoch `epoch`. All its
-    /// memory is taken here.
-    pub fn open(
-        alloc: Global,
-        slots: usize,
-        places: usize,
-        mutators: usize,
-        epoch: u32,
-    ) -> Result<Memory, NoMemory>
-        requires some_slots { 0 < slots }
-        requires few_slots { slots < 2 ^ 16 }
-        requires few_places { places < 2 ^ 32 }
-        requires few_mutators { mutators < 2 ^ 8 }
-        ensures { IfOk result (λ memory. memory ≡ record {
-          headers = 1 ∷ replicate (slots - 1) 0;
-          words = replicate places 0;
-          epoch = epoch;
-          freed = 0;
-          crossing = replicate mutators (crossing_word epoch Spare);
-        }) }
-    {
-        let words = places + slots + 2 + mutators;
-        let mut row = Vec::with_capacity(alloc, words)?;
-        row.resize(places, 0)?;
-        row.push(1)?;
-        row.resize(places + slots, 0)?;
-        row.push(u64::from(epoch))?;
-        row.push(0)?;
-        row.resize(words, crossing(epoch, Mailbox::Spare))?;
-        let free = Index::open(alloc)?;
-        Ok(Memory::of_row(row, Layout::new(places, slots), free))
-    }
-
     /// The words that such a row holds. What the index has as its members is of no account.
     pub fn of_row(row: Vec<u64>, layout: Layout, mut free: Index) -> Memory
         requires layout { IsLayout layout }

@@ -9,7 +9,7 @@ ghost use Rattle.rec_mutator.specs.declared.made.Made.TheVariants as makes;
 ghost use Rattle.rec_mutator.specs.declared.work.Work.TheVariants as works;
 ghost use Rattle.rec_collector.specs.declared.turn.Turn as turns;
 ghost use Rattle.rec_core.specs.Config.{IsConfig, IsMutator, IsValid, IsWork, HasLabel};
-ghost use Rattle.rec_core.specs.Core.{Core, sight, mutator, opened, opened_mutator, opened_mutators};
+ghost use Rattle.rec_core.specs.Core.{Core, sight, mutator, opened, opened_mutator};
 ghost use Rattle.rec_core.specs.Moves.{begun, stepped, offering, EndsRun};
 ghost use Rattle.rec_core.specs.Step.{IsStep};
 ghost use Rattle.rec_core.specs.Turn.{IsTurn, step_seen};
@@ -27,7 +27,7 @@ ghost use Rattle.rec_world.specs.World.{IsWorld, MayAsk, label_of, Refuses, Chan
 
 mod opening;
 
-use crate::mailbox::{gather, open_boxes, swap_own};
+use crate::mailbox::{gather, swap_own};
 use crate::memory::Memory;
 use crate::{Config, Numbering, OpenError, Parts};
 use rec_collector::{Machine as Collector, Sets, Turn};
@@ -36,7 +36,7 @@ use rec_log::Buffer;
 use rec_model::{Cmd, Told};
 use rec_mutator::{Machine, Made, Work};
 use rec_word::{Header, Op};
-use std::alloc::{AllocError as NoMemory, Global};
+use std::alloc::Global;
 use std::marker::Model;
 
 /// A heap on which the commands of one to 63 mutators run, and the turns of its collector, step by step, in any order.
@@ -79,7 +79,7 @@ impl World {
         if let Some(field) = config.first_wrong() {
             return Err(OpenError::Config { field });
         }
-        let world = open_in_range(alloc, config)?;
+        let world = opening::open_with_one(alloc, config)?;
         Ok(world)
     }
 
@@ -587,79 +587,6 @@ fn are_idle(machines: &[Machine]) -> bool
     ensures { IsTrue result ↔ All (λ machine. is_busy machine ≡ false) machines.now }
 {
     machines.iter().all(|machine| !machine.is_busy())
-}
-
-// A heap with these numbers, which are in their ranges.
-fn open_in_range(alloc: Global, config: Config) -> Result<World, NoMemory>
-    requires { IsConfig config }
-
-    ensures opened { IfOk result (λ world. world ≡ opened config) }
-    ensures kept { IfOk result IsWorld }
-{
-    let slots = config.slots as usize;
-    let memory = Memory::open(
-        alloc,
-        slots,
-        slots * config.fields as usize,
-        config.mutators as usize,
-        config.first_epoch,
-    )?;
-    let boxes = open_boxes(alloc, &config)?;
-    let machines = open_machines(alloc, &config)?;
-    let collector = Collector::open(
-        alloc,
-        config.slots as u16,
-        config.fields as u8,
-        config.registers as u8,
-        config.mutators as u8,
-        config.log_entries,
-        config.first_epoch,
-        config.steady,
-    );
-    let collector = match collector {
-        Ok(collector) => collector,
-        Err(error) => {
-            drop((memory, boxes, machines));
-            return Err(error);
-        }
-    };
-    Ok(World {
-        config,
-        memory,
-        boxes,
-        machines,
-        collector,
-        made: 1,
-    })
-}
-
-// The mutators of a heap with these numbers, in order.
-fn open_machines(alloc: Global, config: &Config) -> Result<Vec<Machine>, NoMemory>
-    requires { IsConfig config.now }
-    ensures { IfOk result (λ machines. machines.items ≡ opened_mutators config.now config.now.mutators) }
-{
-    let mut machines = Vec::with_capacity(alloc, config.mutators as usize)?;
-    for t in 0..config.mutators as u8 {
-        machines.push_reserved(open_machine(alloc, config, t + 1)?);
-    }
-    Ok(machines)
-}
-
-// Mutator `number` of a heap with these numbers.
-fn open_machine(alloc: Global, config: &Config, number: u8) -> Result<Machine, NoMemory>
-    requires config { IsConfig config.now }
-    requires number { IsMutator config.now number }
-    ensures { IfOk result (λ machine. machine ≡ opened_mutator config.now number) }
-{
-    Machine::open(
-        alloc,
-        number,
-        config.first_epoch,
-        config.slots as u16,
-        config.fields as u8,
-        config.registers as u8,
-        config.log_entries,
-    )
 }
 
 // The label of an allocation fits a header.

@@ -2,7 +2,7 @@
 ghost use Rattle.std.specs.Prelude.{◌≡◌};
 ghost use Rattle.recycler_c.specs.Sizes.{config_of};
 
-use rec_world::Config;
+use rec_world::{Config, Policy};
 
 /// What a caller wants of a heap. `include/recycler.h` has the range of each number.
 #[repr(C)]
@@ -14,6 +14,7 @@ pub struct Sizes {
     pub mutators: u32,
     pub log_entries: u32,
     pub first_epoch: u32,
+    pub least_roots: u32,
 }
 
 /// The heap that is asked for. It is steady: registers that didn't change touch nothing.
@@ -27,6 +28,9 @@ pub fn config(sizes: &Sizes) -> Config
         mutators: sizes.mutators,
         log_entries: sizes.log_entries,
         first_epoch: sizes.first_epoch,
-        steady: true,
+        policy: Policy {
+            steady: true,
+            least_roots: sizes.least_roots,
+        },
     }
 }

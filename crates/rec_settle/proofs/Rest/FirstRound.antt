@@ -8,7 +8,6 @@ use Rattle.rec_trial.proofs.Keeps.{started_keeps}
 use Rattle.rec_release.specs.CycleFree as frees
 use Rattle.rec_sigma.specs.Prepare as preps
 use Rattle.rec_collector.specs.Private.{Private}
-use Rattle.rec_collector.proofs.Offering.{where_ready}
 use Rattle.rec_collector.proofs.Testing.{clear_ready}
 use Rattle.rec_settle.specs.Quiet.{gathered, AreGathered}
 use Rattle.rec_core.proofs.TurnCases.{Awaits, TurnCase, word_at}
@@ -22,6 +21,8 @@ use Rattle.rec_settle.proofs.Rest.FirstPreparing.{prep_rests_more, sets_rest_beg
 use Rattle.rec_settle.proofs.Rest.FirstTrial.{prep_rests_begun, trial_rests_begun, trial_rests_more}
 use Rattle.rec_settle.proofs.Rest.QuietTurns.{awaits_gathered, awaits_way}
 use Rattle.rec_settle.proofs.Rest.RestingSeen.{comes_awaited}
+use Rattle.std.proofs.lemmas.Bool.{false≢true}
+use Rattle.rec_collector.proofs.Offering.{offers_try, where_ready}
 use Rattle.rec_core.proofs.SetTests.{tested_lands}
 use Rattle.rec_core.proofs.Trying.{trying_lands}
 use Rattle.rec_core.proofs.Gathering.{awaits_kept}
@@ -70,10 +71,11 @@ first_clears {w} {crossing} {words} {q} {turn} {b} h asked counted (ClearsOn.wor
     subst (ComesTo Round.First w words) (sym g.after) (ComesTo.goes_on refl (asked_in w words b.parts (moved (with_parts w.collector b.parts) phase) phase (subst (IsClearingIn b.parts) is h.clears.clearing) asked))
 first_clears {w} {crossing} {words} {q} {turn} {b} h asked counted (ClearsOn.tests c none some tested on) =
     first_clears (tested_lands w crossing words b.parts (subst (λ o. HasCleared w crossing words (record { parts = b.parts; phase = o })) none h) some c tested) (tested_offers tested ∙ asked) counted on
-first_clears {w} {crossing} {words} {q} {turn} {b} h asked counted (ClearsOn.tries none empty on) =
+first_clears {w} {crossing} {words} {q} {turn} {b} h asked counted (ClearsOn.tries none empty due on) =
     let its : HasCleared w crossing words (still b.parts) = subst (λ o. HasCleared w crossing words (record { parts = b.parts; phase = o })) none h in
     let ready : IsReady b.parts.counts = clear_ready b.parts its.landed.counts its.clears.clearing empty in
     first_tries {u = with_offers b.parts} (trial_lands its.landed ready) (trial_rests_begun its.landed ready empty asked (counted b h.landed)) on
+first_clears {b = b} h asked counted (ClearsOn.waits none empty off on) = absurd (false≢true (sym off ∙ offers_try b.parts asked))
 
 -- where a collection has no mailbox to gather any more
 pub all_gathered : (w : Core) (phase : Phase) → w.collector.phase ≡ phase → ((t : ℕ) → IsMutator w.config t → gathered phase t ≡ true) → AreGathered w

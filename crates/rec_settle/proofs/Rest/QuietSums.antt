@@ -8,7 +8,7 @@ use Rattle.rec_core.proofs.Common.{puts_after, replaces_from, is_from, puts_in, 
 use Rattle.rec_core.specs.declared.config.Config.{Config}
 use Rattle.rec_model.specs.Reach.{named as named_slots}
 use Rattle.rec_log.specs.declared.entry.Entry.TheVariants as entries
-use Rattle.rec_apply.proofs.Naming.{named-nil}
+use Rattle.rec_counts.proofs.Naming.{named-nil}
 use Rattle.rec_core.proofs.Batches.{gain_named, gain_none, none_of, sum_parts}
 use Rattle.rec_core.proofs.Sums.{share, log_share, box_share, zip_sum-none, buffers_sum}
 

@@ -137,7 +137,8 @@ clears_comes : {w : Core} {crossing words : List ℕ} {q : Private} {turn : Turn
 clears_comes {w} {crossing} {words} {q} {turn} {b} h (ClearsOn.works phase is g) = goes_to {w = b.parts} phase (clearing_past b.parts phase (subst (IsClearingIn b.parts) is h.clears.clearing)) g
 clears_comes {w} {crossing} {words} {q} {turn} {b} h (ClearsOn.tests c none some tested on) =
     clears_comes (tested_lands w crossing words b.parts (subst (λ o. HasCleared w crossing words (record { parts = b.parts; phase = o })) none h) some c tested) on
-clears_comes h (ClearsOn.tries none left on) = tries_comes on
+clears_comes h (ClearsOn.tries none left due on) = tries_comes on
+clears_comes h (ClearsOn.waits none left off on) = prepares_comes on
 
 -- Where every mailbox was gathered, and the collection goes on or is complete, the mutators rest. Headers, words and the freed word don't
 -- matter.

@@ -14,7 +14,7 @@ use Rattle.rec_model.specs.Reach.IsReached.{root, child}
 use Rattle.rec_model.proofs.Names.{named_at}
 use Rattle.rec_model.proofs.Words.{named-nulls}
 use Rattle.rec_model.proofs.Members.{is_in-left, is_in-right, is_in-head, is_in-tail}
-use Rattle.rec_apply.proofs.Naming.{named-nil, named-cons}
+use Rattle.rec_counts.proofs.Naming.{named-nil, named-cons}
 use Rattle.rec_collector.proofs.Following.{none_released}
 use Rattle.rec_core.specs.Settled.{IsSettled}
 use Rattle.rec_settle.proofs.Rest.Reachable.{reached_or_not}

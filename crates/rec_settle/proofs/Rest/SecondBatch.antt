@@ -1,9 +1,9 @@
 -- The batch of a heap at rest: it counts what registers name, and no register names a member of a set. So nothing holds the sets still.
 use Rattle.std.proofs.Common.{◌≡◌, ℕ, ◌+◌, ◌-◌, ◌<◌, Bool, false, Option, None, Some, List, [], length, map, sym, ap, subst, ◌∙◌, arith, ◌/◌, ◌≢◌, ◌∷◌, true, inl, inr, refl, slice_index_or}
 use Rattle.std.proofs.lemmas.List.Sums.{get_or-le-sum_by}
-use Rattle.rec_apply.specs.Batch.{applied, IsApplied, touches}
-use Rattle.rec_apply.proofs.Told.{leaves_told, touches_named}
-use Rattle.rec_apply.proofs.Naming.{named-nil}
+use Rattle.rec_counts.specs.Batch.{applied, IsApplied, touches}
+use Rattle.rec_counts.proofs.Told.{leaves_told, touches_named}
+use Rattle.rec_counts.proofs.Naming.{named-nil}
 use Rattle.rec_release.specs.Release.{started_of}
 use Rattle.rec_collector.specs.Kept.{IsAt}
 use Rattle.rec_collector.specs.Private as collectors
@@ -113,7 +113,7 @@ module _ (w : Core) (t : ℕ) (kept : IsKeptBy true (stand_at w.collector.left O
   open w use {collector as c}
 
   abbrev s : State
-  s = applied c.steady c.counts c.newer c.older
+  s = applied c.policy.steady c.counts c.newer c.older
 
   open (subst (IsAt c) phase kept.collector.machine.now) use {rest}
 
@@ -139,7 +139,7 @@ module _ (w : Core) (t : ℕ) (kept : IsKeptBy true (stand_at w.collector.left O
       ap (λ (es : List Entry). named x (map leaf_born es)) (own place (omega (arith, below, kept.collector.mutators))).1.entries ∙ named-nil x)
 
   -- and the batch touches no member
-  spared : (x i : ℕ) → (slot_at c.counts x).set ≡ Some i → touches c.steady x c.newer c.older ≡ 0
+  spared : (x i : ℕ) → (slot_at c.counts x).set ≡ Some i → touches c.policy.steady x c.newer c.older ≡ 0
   spared x i is =
       let up : added x c.newer ≡ 0 = none_of (λ (b : Contents). named x (map new_target b.entries) + named x b.snapshot) c.newer (collectors.blank 0 0) (λ place below.
       let o = own place (omega (arith, below, kept.collector.mutators)) in
@@ -147,20 +147,20 @@ module _ (w : Core) (t : ℕ) (kept : IsKeptBy true (stand_at w.collector.left O
       let down : taken x c.older ≡ 0 = none_of (λ (b : Contents). named x (map old_target b.entries) + named x b.snapshot) c.older (collectors.blank 0 0) (λ place below.
       let o = own place (omega (arith, below, kept.collector.machine.both, kept.collector.mutators)) in
       taken_by x (mutator w (place + 1)).registers (buffer_at c.older place) o.2 (unnamed x i (place + 1) is o.0)) in
-      omega (arith, up, down, unborn x, touches_named c.steady x c.newer c.older (rows_alike c kept.collector.machine))
+      omega (arith, up, down, unborn x, touches_named c.policy.steady x c.newer c.older (rows_alike c kept.collector.machine))
 
-  is : IsApplied c.steady c.counts c.newer c.older s
+  is : IsApplied c.policy.steady c.counts c.newer c.older s
   is = is_counted w t kept phase
 
   rested_then : SetsRest w w.words [] s
   rested_then = record {
     unheld = unheld_batch w.config.fields w.words [] is spared rested.unheld;
-    found = λ x unreleased other none. rested.found x (sym (is.rest.released x) ∙ unreleased) (sym (is.greens x (leaves_told c.steady x c.newer c.older ∙ unborn x)) ∙ other) (sym (is.rest.set x) ∙ none);
+    found = λ x unreleased other none. rested.found x (sym (is.rest.released x) ∙ unreleased) (sym (is.greens x (leaves_told c.policy.steady x c.newer c.older ∙ unborn x)) ∙ other) (sym (is.rest.set x) ∙ none);
     unnamed = λ x i e. rested.unnamed x i (sym (is.rest.set x) ∙ e);
   }
 
   -- The batch is applied. All zeros that it leaves are Green, as the counts come to what fields and registers name.
-  pub frees_rest_applied : AreCounted w w.words (applied w.collector.steady w.collector.counts w.collector.newer w.collector.older) → FreesOn w w.words (zeros_released false (batched w.collector))
+  pub frees_rest_applied : AreCounted w w.words (applied w.collector.policy.steady w.collector.counts w.collector.newer w.collector.older) → FreesOn w w.words (zeros_released false (batched w.collector))
   frees_rest_applied counted =
       let before : IsCleared (parts_of c) = resting_cleared (parts_of c) rest in
       let tidy = batched_clear is (none_released rest) before.tidy rest.counted before.ready before.work in

@@ -5,7 +5,7 @@ use Rattle.std.proofs.lemmas.List.{drop_all, drop_more, get_or-replicate, get_or
 use Rattle.std.proofs.lemmas.Nat.{div-mul-add}
 use Rattle.rec_word.proofs.FieldPlaces.{places_step, places_end}
 use Rattle.rec_release.specs.CycleFree.{Machine}
-use Rattle.rec_walk.specs.Walk.{places_left}
+use Rattle.rec_word.specs.Walk.{places_left}
 use Rattle.rec_release.proofs.TakenOff.{ready_off}
 use Rattle.rec_collector.proofs.Tidy.{tidy_off}
 use Rattle.rec_core.proofs.TurnCases.{word_at, words_without}

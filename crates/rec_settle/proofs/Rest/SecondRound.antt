@@ -1,14 +1,14 @@
 -- The tests of the sets in a heap at rest: the last set passes and is given up, till none is left; then all that isn't released is within
 -- reach, and a trial begins.
-use Rattle.std.proofs.Common.{◌≡◌, ℕ, ◌+◌, ◌-◌, ◌<◌, Bool, true, false, Option, Some, None, List, [], ◌∷◌, ◌++◌, length, slice_get, refl, sym, ap, subst, ◌∙◌, arith}
+use Rattle.std.proofs.Common.{◌≡◌, ◌⊎◌, inl, inr, ℕ, ◌+◌, ◌-◌, ◌<◌, Bool, true, false, Option, Some, None, List, [], ◌∷◌, ◌++◌, length, slice_get, refl, sym, ap, subst, ◌∙◌, arith}
 use Rattle.std.proofs.lemmas.Bool.{false≢true}
-use Rattle.rec_core.proofs.Common.{places_of, Slot, slot_at, is_in, Member, given_up, IsCleared, with_offers, Parts, new_freeing, with_parts, ClearsOn, IsTested, TriesOn, Begun, freeing_at, with_freeing, moved, Phase, Freeing, Turn, still, Core, is_green}
+use Rattle.rec_core.proofs.Common.{places_of, Slot, slot_at, is_in, Member, given_up, IsCleared, prep_started, put_off, with_offers, Parts, new_freeing, with_parts, ClearsOn, IsTested, PreparesOn, TriesOn, Begun, freeing_at, with_freeing, moved, Phase, Freeing, Turn, still, Core, is_green}
 use Rattle.rec_settle.specs.Resting.{ComesTo, RestsIn, Round, SetsRest, AreFound}
 use Rattle.rec_counts.specs.Counts.{IsKept}
 use Rattle.rec_counts.specs.Groups.{last_set}
-use Rattle.rec_walk.specs.Walk.{first_member}
+use Rattle.rec_word.specs.Walk.{first_member}
 use Rattle.rec_release.specs.CycleFree.{started_of}
-use Rattle.rec_walk.specs.Walk.{places_left}
+use Rattle.rec_word.specs.Walk.{places_left}
 use Rattle.rec_sigma.specs.Judged.{AreOrange, cyclic_sum}
 use Rattle.rec_trial.specs.Trial as trials
 use Rattle.rec_collector.specs.Private.{Private}
@@ -77,11 +77,11 @@ frees_in : (w : Core) (words : List ℕ) (v : Parts) (phase : Phase) → FreesIn
 frees_in w words v (Freeing m) rested = rested
 frees_in w words v _ rested = absurd rested
 
--- The second collection goes on: while a set is left, it is freed, as it passes its tests; then a trial begins, with all within reach that
--- is neither released nor Green.
+-- The second collection goes on: while a set is left, it is freed, as it passes its tests; then a trial begins or is postponed, with all within
+-- reach that is neither released nor Green.
 pub second_clears : {w : Core} {crossing words : List ℕ} {q : Private} {turn : Turn} {b : Begun} → HasCleared w crossing words b → FreesOn w words b
     → ((u : Parts) → HasCleared w crossing words (still u) → u.counts.sets ≡ [] → AreFound w words u.counts
-    → TriesOn w.collector (with_offers u) (trials.started_of u.fields (with_offers u).counts) q turn → ComesTo Round.Second w words q)
+    → TriesOn w.collector (with_offers u) (trials.started_of u.fields (with_offers u).counts) q turn ⊎ PreparesOn w.collector (put_off u) (prep_started (put_off u)) q turn → ComesTo Round.Second w words q)
     → ClearsOn w.collector q turn b → ComesTo Round.Second w words q
 second_clears {w} {crossing} {words} {q} {turn} {b} h rested tries (ClearsOn.works phase is g) =
     subst (ComesTo Round.Second w words) (sym g.after) (goes_on refl (frees_in w words b.parts phase (subst (FreesIn w words b.parts) is rested)))
@@ -89,7 +89,11 @@ second_clears {w} {crossing} {words} {q} {turn} {b} h rested tries (ClearsOn.tes
     let its : HasCleared w crossing words (still b.parts) = subst (λ o. HasCleared w crossing words (record { parts = b.parts; phase = o })) none h in
     let sets : SetsRest w words [] b.parts.counts = subst (FreesIn w words b.parts) none rested in
     second_clears (tested_lands w crossing words b.parts its some c tested) (tested_rests w words b.parts (some_fields its.landed) its.landed.fields its.landed.counts its.clears.clearing sets c tested) tries on
-second_clears {w} {crossing} {words} {q} {turn} {b} h rested tries (ClearsOn.tries none empty on) =
+second_clears {w} {crossing} {words} {q} {turn} {b} h rested tries (ClearsOn.tries none empty due on) =
     let its : HasCleared w crossing words (still b.parts) = subst (λ o. HasCleared w crossing words (record { parts = b.parts; phase = o })) none h in
     let sets : SetsRest w words [] b.parts.counts = subst (FreesIn w words b.parts) none rested in
-    tries b.parts its empty sets.found on
+    tries b.parts its empty sets.found (inl on)
+second_clears {w} {crossing} {words} {q} {turn} {b} h rested tries (ClearsOn.waits none empty off on) =
+    let its : HasCleared w crossing words (still b.parts) = subst (λ o. HasCleared w crossing words (record { parts = b.parts; phase = o })) none h in
+    let sets : SetsRest w words [] b.parts.counts = subst (FreesIn w words b.parts) none rested in
+    tries b.parts its empty sets.found (inr on)

@@ -1,6 +1,6 @@
 -- The collection that frees the sets, turn by turn, but for the sweep of a slot, which changes what is held.
-use Rattle.std.proofs.Common.{◌≡◌, ℕ, ◌+◌, ◌-◌, ◌<◌, true, Option, Some, List, [], length, slice_index_or, refl, sym, ap, subst, ◌∙◌, arith}
-use Rattle.rec_core.proofs.Common.{target_of, Slot, taken_off, Member, Work, started_of, with_offers, Parts, TriesOn, Phase, Idle, Looking, Returning, Releasing, Freeing, Trying, Preparing, Opening, Sweeping, Closing, Turn, still, Core, IsKept, stand_in, older_at, visible}
+use Rattle.std.proofs.Common.{◌≡◌, ◌⊎◌, inl, inr, ℕ, ◌+◌, ◌-◌, ◌<◌, true, Option, Some, List, [], length, slice_index_or, refl, sym, ap, subst, ◌∙◌, arith}
+use Rattle.rec_core.proofs.Common.{target_of, Slot, taken_off, Member, Work, started_of, prep_started, put_off, with_offers, Parts, PreparesOn, TriesOn, Phase, Idle, Looking, Returning, Releasing, Freeing, Trying, Preparing, Opening, Sweeping, Closing, Turn, still, Core, IsKept, stand_in, older_at, visible}
 use Rattle.rec_settle.specs.Resting.{AreCounted, Round, RestsIn, SetsRest, ComesTo, AreFound}
 use Rattle.rec_release.specs.CycleFree as frees
 use Rattle.rec_release.proofs.TakenOff.{off_most}
@@ -23,7 +23,7 @@ use Rattle.rec_settle.proofs.Rest.RestingSeen.{comes_awaited, rests_seen}
 use Rattle.rec_settle.proofs.Rest.SecondBatch.{frees_rest_applied}
 use Rattle.rec_settle.proofs.Rest.SecondFreeing.{frees_rest_more}
 use Rattle.rec_settle.proofs.Rest.SecondRound.{second_clears}
-use Rattle.rec_settle.proofs.Rest.Within.{within_begun, within_same, within_tries, within_prepares}
+use Rattle.rec_settle.proofs.Rest.Within.{within_begun, within_same, within_tries, within_prepares, within_waits}
 use Rattle.rec_core.proofs.Taken.{off_accounted, MayEmpty}
 use Rattle.rec_core.proofs.Trying.{loaded_leads}
 use Rattle.rec_core.proofs.Gathering.{awaits_kept}
@@ -31,10 +31,11 @@ use Rattle.rec_core.proofs.Turns.{now_at}
 use Rattle.rec_trial.proofs.Visible.{visible_leads}
 use Rattle.rec_settle.proofs.Rest.SecondReach.{within_all}
 
--- once no set is left, a trial begins
+-- once no set is left, a trial begins or is postponed
 tries_on : {w : Core} {crossing words : List ℕ} {q : Private} {turn : Turn} → ((u : Parts) → HasLanded w crossing words (still u) → AreCounted w words u.counts) → (u : Parts) → HasCleared w crossing words (still u) → u.counts.sets ≡ [] → AreFound w words u.counts
-    → TriesOn w.collector (with_offers u) (started_of u.fields (with_offers u).counts) q turn → ComesTo Round.Second w words q
-tries_on counted u h none found on = within_tries (within_begun h.landed (clear_ready u h.landed.counts h.clears.clearing none) (within_all h.landed h.clears.clearing none (counted u h.landed) found)) on
+    → TriesOn w.collector (with_offers u) (started_of u.fields (with_offers u).counts) q turn ⊎ PreparesOn w.collector (put_off u) (prep_started (put_off u)) q turn → ComesTo Round.Second w words q
+tries_on counted u h none found (inr on) = let ready = clear_ready u h.landed.counts h.clears.clearing none in within_waits h.landed ready (within_all h.landed h.clears.clearing none (counted u h.landed) found) on
+tries_on counted u h none found (inl on) = within_tries (within_begun h.landed (clear_ready u h.landed.counts h.clears.clearing none) (within_all h.landed h.clears.clearing none (counted u h.landed) found)) on
 
 module _ (first : ℕ) (w : Core) (kept : IsKept true w) (quiet : AreQuiet first w) where
   -- what is known in this phase

@@ -4,7 +4,7 @@ use Rattle.std.proofs.Common.{◌≡◌, ℕ, ◌/◌, ◌<◌, Bool, true, fals
 use Rattle.std.proofs.lemmas.Bool.{false≢true, ltb-true}
 use Rattle.rec_core.proofs.Common.{target_of, Contents, Slot, State, slot_at, times, is_in, times-nil, Swept, swept_if}
 use Rattle.rec_settle.specs.Settling.{AreUnheld}
-use Rattle.rec_apply.specs.Batch.{names, IsBatch}
+use Rattle.rec_counts.specs.Batch.{names, IsBatch}
 use Rattle.rec_settle.proofs.Rest.SettlingTests.{outside_same, unheld_alike}
 
 -- A batch that names no member.

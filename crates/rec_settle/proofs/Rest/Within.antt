@@ -2,11 +2,12 @@
 use Rattle.std.proofs.Common.{◌≡◌, ◌≢◌, inl, inr, ℕ, ◌+◌, ◌<◌, ◌==◌, nat_lt, true, Some, List, [], ◌∷◌, drop, length, slice_get, slice_index_or, slice_set, sum_by, refl, sym, ap, subst, ◌∙◌, arith}
 use Rattle.std.proofs.lemmas.Bool.{cases_eq, false≢true, lt-ltb, ne_eqb}
 use Rattle.std.proofs.lemmas.List.{get_or-set_same, get_or-set_other, length-set}
-use Rattle.rec_core.proofs.Common.{State, slot_at, one, times, absent, swept_clean, Slot, times-nil, times-cons, one-same, named, Swept, swept, swept_if, Work, started_of, KeepsOthers, prep_started, with_offers, Parts, PreparesOn, TriesOn, Sweeping, Turn, still, Core, sight, IsKept, is_green}
+use Rattle.rec_core.proofs.Common.{State, slot_at, one, times, absent, swept_clean, Slot, times-nil, times-cons, one-same, named, Swept, swept, swept_if, Work, started_of, KeepsOthers, prep_started, put_off, with_offers, Parts, PreparesOn, TriesOn, Sweeping, Turn, still, Core, sight, IsKept, is_green}
 use Rattle.rec_settle.specs.Resting.{holds, IsHeldIn, AreFound, AreWithinReach, SetsRest, Round, ComesTo}
 use Rattle.rec_settle.specs.Settling.{IsReachable}
 use Rattle.rec_trial.specs.Rules.{IsReady}
 use Rattle.rec_trial.proofs.Keeps.{started_keeps}
+use Rattle.rec_trial.proofs.Postponed.{postponed_keeps}
 use Rattle.rec_sigma.specs.Prepare as preps
 use Rattle.rec_sigma.proofs.Runs.{next_set_others}
 use Rattle.rec_collector.specs.Private.{Private}
@@ -40,6 +41,12 @@ pub within_prepares : {w : Core} {words : List ℕ} {u : Parts} {v : preps.Work}
 within_prepares within (PreparesOn.more some g) = rw (g.after) (ComesTo.goes_on refl within)
 within_prepares within (PreparesOn.sweeps_next none some g) = rw (g.after) (ComesTo.goes_on refl within)
 within_prepares within (PreparesOn.completes none empty e) = rw (e.after) (ComesTo.completes refl refl within)
+
+-- a postponed trial
+pub within_waits : {w : Core} {crossing words : List ℕ} {v : Parts} {q : Private} {turn : Turn} → HasLanded w crossing words (still v) → IsReady v.counts → AreWithinReach w words v.counts → PreparesOn w.collector (put_off v) (prep_started (put_off v)) q turn → ComesTo Round.Second w words q
+within_waits {w} {crossing} {words} {v} l ready within on =
+    let keeps = postponed_keeps v.counts l.counts ready in
+    within_prepares (within_same w words v.counts (prep_started (put_off v)).counts (λ x. ap (λ (y : Slot). y.released) ((prep_others (put_off v)).slots x) ∙ keeps.released x) within) on
 
 -- and a trial
 pub within_tries : {w : Core} {words : List ℕ} {u : Parts} {v : Work} {q : Private} {turn : Turn} → AreWithinReach w words v.counts → TriesOn w.collector u v q turn → ComesTo Round.Second w words q

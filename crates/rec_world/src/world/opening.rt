@@ -7,9 +7,8 @@ ghost use Rattle.rec_word.specs.Word.{IsTarget, is_slot};
 ghost use Rattle.rec_word.specs.declared.mailbox.Mailbox.TheVariants.{Spare};
 ghost use Rattle.rec_model.specs.Sight.{StandsBy};
 ghost use Rattle.rec_core.specs.Config.{IsConfig, IsMutator};
-ghost use Rattle.rec_core.specs.Core.{sight};
+ghost use Rattle.rec_core.specs.Core.{holding_mutator, holding_mutators, opened, opened_from, sight};
 ghost use Rattle.rec_core.specs.Objects.{AreObjects, HaveLabels, IsOneOf, counts_of, described, early_word as early_word_of, early_words, rows_of};
-ghost use Rattle.rec_core.specs.OpenedFrom.{holding_mutator, holding_mutators, opened_from};
 ghost use Rattle.rec_core.specs.Row.{row};
 ghost use Rattle.rec_core.specs.Settled.{IsSettled};
 ghost use Rattle.rec_core.specs.Worked.{AreIdle};
@@ -66,6 +65,26 @@ impl World {
     }
 }
 
+/// A heap with these numbers, which are in their ranges, and one object, whose label is 0.
+pub(super) fn open_with_one(alloc: Global, config: Config) -> Result<World, NoMemory>
+    requires { IsConfig config }
+
+    ensures opened { IfOk result (λ world. world ≡ opened config) }
+    ensures kept { IfOk result IsWorld }
+{
+    let fields = vec![in alloc; None; config.fields as usize]?;
+    let mut own = vec![in alloc; None; config.registers as usize]?;
+    own[0] = Some(0);
+    let registers = own.repeat(alloc, config.mutators as usize)?;
+    open_objects(
+        alloc,
+        config,
+        &[(0, false)],
+        fields.as_slice(),
+        registers.as_slice(),
+    )
+}
+
 // A heap with these numbers, which are in their ranges, and these objects.
 fn open_objects(
     alloc: Global,
@@ -118,7 +137,7 @@ fn open_collector(
     ensures { IfOk result (λ collector. collector ≡ (opened_from config.now (record { nodes = nodes.now; fields = fields.now; registers = registers.now })).collector) }
 {
     let counts = count_holders(alloc, nodes.len(), fields, registers)?;
-    Collector::open_from(
+    Collector::open(
         alloc,
         config.slots as u16,
         config.fields as u8,
@@ -126,7 +145,7 @@ fn open_collector(
         config.mutators as u8,
         config.log_entries,
         config.first_epoch,
-        config.steady,
+        config.policy,
         counts.as_slice(),
         registers,
     )
@@ -282,7 +301,7 @@ fn open_holder(
     requires targets { All IsTarget held.now }
     ensures { IfOk result (λ machine. machine ≡ holding_mutator config.now number held.now) }
 {
-    Machine::open_from(
+    Machine::open(
         alloc,
         number,
         config.first_epoch,

@@ -8,4 +8,4 @@ use Rattle.rec_core.proofs.Runs.{run_opened}
 use Rattle.rec_audit.proofs.run_laws.buffers_are_their_mutators_own.Goals as goal
 
 pub returns : goal.returns
-returns c = λ config w is run. subst HasOwnBuffers run.2 (moves_own (opened config) run.0 (end_kept (opened config) is (run_opened config)) run.1 (opened_own config is))
+returns c = λ config w is run. subst HasOwnBuffers run.2 (moves_own (opened config) run.0 (end_kept (opened config) is (run_opened config is)) run.1 (opened_own config is))

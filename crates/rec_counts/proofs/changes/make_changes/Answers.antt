@@ -3,7 +3,7 @@ use Rattle.std.proofs.Common.{ℕ, ◌++◌, List, arith, sym, ap, ◌∙◌}
 use Rattle.rec_counts.specs.Batched.{is_root, is_zero}
 use Rattle.rec_counts.specs.Shelf.{Shelf}
 use Rattle.rec_counts.specs.Slot.{settled_due}
-use Rattle.rec_counts.proofs.Telling.{told_list, told_open, told_slots}
+use Rattle.rec_counts.proofs.ToldSlots.{told_list, told_open, told_slots}
 use Rattle.rec_counts.proofs.changes.make_changes.Goals as goal
 
 pub settle-requires-clause-marked : goal.settle-requires-clause-marked

@@ -28,18 +28,18 @@ passed_is c =
 
 pub open_from-opened-requires : goal.open_from-opened-requires
 unfolding passed
-open_from-opened-requires c = subst (λ (o : Objects). AreObjects (config_of (contents c.image.inside) c.args.log_entries c.args.steady) o) (sym (passed_is c)) (are_objects (contents c.image.inside) c.image.invariant.image c.args.log_entries c.args.steady)
+open_from-opened-requires c = subst (λ (o : Objects). AreObjects (config_of (contents c.image.inside) c.args.log_entries c.args.policy) o) (sym (passed_is c)) (are_objects (contents c.image.inside) c.image.invariant.image c.args.log_entries c.args.policy)
 
 -- it is what the image makes
-opened : (c : In-Ok) → c.in-Ok.world ≡ restored c.args.image.now c.args.log_entries c.args.steady
+opened : (c : In-Ok) → c.in-Ok.world ≡ restored c.args.image.now c.args.log_entries c.args.policy
 unfolding passed
-opened c = opened_as (contents c.image.inside) c.args.image.now c.args.log_entries c.args.steady (record { nodes = c.as_slice.result.now; fields = c.as_slice-2.result.now; registers = c.as_slice-3.result.now }) c.in-Ok.world (passed_is (goal.at.returns-in-Ok-clause-opened c).After-as_slice-3) c.image.view_is c.in-Ok.ensures.opened
+opened c = opened_as (contents c.image.inside) c.args.image.now c.args.log_entries c.args.policy (record { nodes = c.as_slice.result.now; fields = c.as_slice-2.result.now; registers = c.as_slice-3.result.now }) c.in-Ok.world (passed_is (goal.at.returns-in-Ok-clause-opened c).After-as_slice-3) c.image.view_is c.in-Ok.ensures.opened
 
 image_now : (c : In-Ok) → IsImage c.args.image.now
 image_now c = subst (λ (v : ImageContents). IsImage v) c.image.view_is c.image.invariant.image
 
-config_now : (c : In-Ok) → IsConfig (config_of c.args.image.now c.args.log_entries c.args.steady)
-config_now c = subst (λ (v : ImageContents). IsConfig (config_of v c.args.log_entries c.args.steady)) c.image.view_is c.in-Ok.ensures.config
+config_now : (c : In-Ok) → IsConfig (config_of c.args.image.now c.args.log_entries c.args.policy)
+config_now c = subst (λ (v : ImageContents). IsConfig (config_of v c.args.log_entries c.args.policy)) c.image.view_is c.in-Ok.ensures.config
 
 pub returns-in-Ok-clause-opened : goal.returns-in-Ok-clause-opened
 returns-in-Ok-clause-opened c = opened c
@@ -48,11 +48,11 @@ pub returns-in-Ok-clause-made : goal.returns-in-Ok-clause-made
 returns-in-Ok-clause-made c = ap (λ (w : Core). w.made) (opened c) ∙ length-map c.args.image.now.objects mark_of
 
 pub returns-in-Ok-clause-stands : goal.returns-in-Ok-clause-stands
-returns-in-Ok-clause-stands c = subst (λ (w : Core). StandsFor c.args.image.now (sight w)) (sym (opened c)) (restored_stands c.args.image.now (image_now c) c.args.log_entries c.args.steady (config_now c))
+returns-in-Ok-clause-stands c = subst (λ (w : Core). StandsFor c.args.image.now (sight w)) (sym (opened c)) (restored_stands c.args.image.now (image_now c) c.args.log_entries c.args.policy (config_now c))
 
 pub returns-in-Ok-clause-heap : goal.returns-in-Ok-clause-heap
 returns-in-Ok-clause-heap c =
     let v : ImageContents = c.args.image.now in
-    let config : Config = config_of v c.args.log_entries c.args.steady in
+    let config : Config = config_of v c.args.log_entries c.args.policy in
     subst (λ (w : Core). Represents (described config (objects_in v)) (sight w)) (sym (opened c))
-    (λ s. s, seen_stands config (objects_in v) (config_now c) (are_objects v (image_now c) c.args.log_entries c.args.steady) (have_labels v (image_now c)))
+    (λ s. s, seen_stands config (objects_in v) (config_now c) (are_objects v (image_now c) c.args.log_entries c.args.policy) (have_labels v (image_now c)))

@@ -3,4 +3,4 @@ use Rattle.rec_image.proofs.Returning.{image_again}
 use Rattle.rec_image.proofs.laws.restored_heaps_have_their_image.Goals as goal
 
 pub returns : goal.returns
-returns c = λ v log_entries steady slots image is numbers. image_again v log_entries steady image is slots numbers
+returns c = λ v log_entries policy slots image is numbers. image_again v log_entries policy image is slots numbers

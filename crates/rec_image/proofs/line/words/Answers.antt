@@ -1,5 +1,6 @@
 -- Each word is read as any words go on there.
-use Rattle.rec_image.proofs.Lines.{no_next, reading_next, no_feed, none_then}
+use Rattle.rec_io.proofs.Options.{none_then}
+use Rattle.rec_image.proofs.Lines.{no_next, reading_next, no_feed}
 use Rattle.std.proofs.Common.{arith}
 use Rattle.rec_image.proofs.line.words.Goals as goal
 

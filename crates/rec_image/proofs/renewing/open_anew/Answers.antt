@@ -21,7 +21,7 @@ pub returns-clause-renewed : goal.returns-clause-renewed
 returns-clause-renewed c =
     let some : IsSlots c.args.slots = search rules in
     IfOk-weaker c.restore_in.result _ _
-    (λ new h. is_renewed c.args.world.now new c.args.slots c.args.log_entries c.args.steady c.in_ok-image.image (in_slots c.in_ok-image.image c.args.slots) c.of_world.ensures.kept c.in_ok-image.ensures.image some h.0 refl c.requires.entries c.requires.steady h.1)
+    (λ new h. is_renewed c.args.world.now new c.args.slots c.args.log_entries c.args.policy c.in_ok-image.image (in_slots c.in_ok-image.image c.args.slots) c.of_world.ensures.kept c.in_ok-image.ensures.image some h.0 refl c.requires.entries c.requires.policy h.1)
     c.restore_in.ensures.opened
 
 pub returns-clause-refused : goal.returns-clause-refused

@@ -31,7 +31,7 @@ poll-requires-clause-present c = (c.requires.awaited c.in-Waiting.mutator c.in-W
 
 -- its number is small
 pub bounds-made-from : goal.bounds-made-from
-bounds-made-from c = omega (arith, (is_of_script c.args.script.now c.args.world.now c.in-Waiting.mutator c.requires.config (c.requires.awaited c.in-Waiting.mutator c.in-Waiting.is).0).1, c.requires.few, c.from.ensures)
+bounds-made-from c = omega (arith, (is_of_script c.args.script.now c.args.world.now c.in-Waiting.mutator c.requires.goes.config (c.requires.awaited c.in-Waiting.mutator c.in-Waiting.is).0).1, c.requires.few, c.from.ensures)
 
 pub returns-then-made-from-clause-stepped : goal.returns-then-made-from-clause-stepped
 returns-then-made-from-clause-stepped c = λ before turn.
@@ -40,11 +40,6 @@ returns-then-made-from-clause-stepped c = λ before turn.
     (omega (arith, ap length (theirs c.args.script.now c.in-Waiting.mutator c.commands.result.now (c.requires.awaited c.in-Waiting.mutator c.in-Waiting.is).0.0 c.commands.ensures.value), c.if-made-from.true, ap (λ n. slice_index_or c.args.made.now (n - 1) 0) c.from.ensures))
     turn.turned c.requires.kept (subst (TurnHasCause before c.args.world.now) c.in-Waiting.is turn.cause)
     (has_polled c.args.world.now c.poll.new.self c.in-Waiting.mutator c.poll.result c.poll.ensures.worked c.poll.ensures.quiet c.poll.ensures.idle c.poll.ensures.crossed c.poll.ensures.none c.poll.ensures.some))
-
--- the mutator that polled is idle again, and the others stayed so
-pub returns-then-made-from-clause-idle : goal.returns-then-made-from-clause-idle
-returns-then-made-from-clause-idle c =
-    others_idle c.args.world.now c.poll.new.self c.in-Waiting.mutator c.poll.ensures.quiet.config c.poll.ensures.quiet.others c.poll.ensures.idle c.requires.idle
 
 pub returns-else-made-from-clause-stepped : goal.returns-else-made-from-clause-stepped
 returns-else-made-from-clause-stepped c = λ before turn.
@@ -67,22 +62,16 @@ pub overflow_sub-from : goal.overflow_sub-from
 overflow_sub-from c = omega (arith, (c.requires.awaited c.in-Waiting.mutator c.in-Waiting.is).0.0, c.from.ensures)
 
 pub commands-requires-clause-some : goal.commands-requires-clause-some
-commands-requires-clause-some c = (is_of_script c.args.script.now c.args.world.now c.in-Waiting.mutator c.requires.config (c.requires.awaited c.in-Waiting.mutator c.in-Waiting.is).0).0
+commands-requires-clause-some c = (is_of_script c.args.script.now c.args.world.now c.in-Waiting.mutator c.requires.goes.config (c.requires.awaited c.in-Waiting.mutator c.in-Waiting.is).0).0
 
 pub commands-requires-clause-most : goal.commands-requires-clause-most
-commands-requires-clause-most c = (is_of_script c.args.script.now c.args.world.now c.in-Waiting.mutator c.requires.config (c.requires.awaited c.in-Waiting.mutator c.in-Waiting.is).0).1
+commands-requires-clause-most c = (is_of_script c.args.script.now c.args.world.now c.in-Waiting.mutator c.requires.goes.config (c.requires.awaited c.in-Waiting.mutator c.in-Waiting.is).0).1
 
 pub poll-requires-clause-idle : goal.poll-requires-clause-idle
-poll-requires-clause-idle c = c.requires.idle c.in-Waiting.mutator (c.requires.awaited c.in-Waiting.mutator c.in-Waiting.is).0
+poll-requires-clause-idle c = c.requires.goes.idle c.in-Waiting.mutator (c.requires.awaited c.in-Waiting.mutator c.in-Waiting.is).0
 
 pub returns-then-made-from-clause-requested : goal.returns-then-made-from-clause-requested
 returns-then-made-from-clause-requested c = c.poll.ensures.quiet.requested
-
-pub returns-then-made-from-clause-present : goal.returns-then-made-from-clause-present
-returns-then-made-from-clause-present c = polled_there c.args.script.now c.args.made.now c.in-Waiting.mutator c.args.world.now c.poll.new.self c.poll.ensures.quiet.others c.poll.ensures.left c.requires.present
-
-pub returns-then-made-from-clause-config : goal.returns-then-made-from-clause-config
-returns-then-made-from-clause-config c = c.poll.ensures.quiet.config ∙ c.requires.config
 
 pub returns-then-made-from-clause-kept : goal.returns-then-made-from-clause-kept
 returns-then-made-from-clause-kept c = c.poll.ensures.kept
@@ -90,24 +79,23 @@ returns-then-made-from-clause-kept c = c.poll.ensures.kept
 pub returns-else-made-from-clause-requested : goal.returns-else-made-from-clause-requested
 returns-else-made-from-clause-requested c = refl
 
-pub returns-else-made-from-clause-idle : goal.returns-else-made-from-clause-idle
-returns-else-made-from-clause-idle c = c.requires.idle
-
-pub returns-else-made-from-clause-present : goal.returns-else-made-from-clause-present
-returns-else-made-from-clause-present c = c.requires.present
-
-pub returns-else-made-from-clause-config : goal.returns-else-made-from-clause-config
-returns-else-made-from-clause-config c = c.requires.config
-
 pub returns-else-made-from-clause-kept : goal.returns-else-made-from-clause-kept
 returns-else-made-from-clause-kept c = c.requires.kept
+
+pub returns-then-made-from-clause-goes : goal.returns-then-made-from-clause-goes
+returns-then-made-from-clause-goes c = record {
+  config = c.poll.ensures.quiet.config ∙ c.requires.goes.config;
+  idle = others_idle c.args.world.now c.poll.new.self c.in-Waiting.mutator c.poll.ensures.quiet.config c.poll.ensures.quiet.others c.poll.ensures.idle c.requires.goes.idle;
+  present = polled_there c.args.script.now c.args.made.now c.in-Waiting.mutator c.args.world.now c.poll.new.self c.poll.ensures.quiet.others c.poll.ensures.left c.requires.goes.present;
+}
+
+pub returns-else-made-from-clause-goes : goal.returns-else-made-from-clause-goes
+returns-else-made-from-clause-goes c = c.requires.goes
 
 pub returns-in_default : goal.returns-in_default
 returns-in_default c = record {
   stepped = λ before turn. record { cause = subst (λ (x : Core). TurnHasCause before x c.args.turn) turn.turned turn.cause; follows = Follows.rests (λ t waits spent. c.in_default.not-Waiting t (turn.waiting t waits.looks waits.behind)) turn.turned };
   requested = refl;
-  idle = c.requires.idle;
-  present = c.requires.present;
-  config = c.requires.config;
+  goes = c.requires.goes;
   kept = c.requires.kept;
 }

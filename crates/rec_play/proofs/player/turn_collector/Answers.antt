@@ -29,15 +29,6 @@ returns-in_err-turn-clause-refused g c = if_err c.from_residual.result c.in_err-
 pub returns-in_err-turn-clause-requested : goal.returns-in_err-turn-clause-requested
 returns-in_err-turn-clause-requested g c = c.in_err-turn.ensures.refused.1.requested
 
-pub returns-in_err-turn-clause-config : goal.returns-in_err-turn-clause-config
-returns-in_err-turn-clause-config g c = c.in_err-turn.ensures.refused.1.config ∙ c.requires.config
-
-pub returns-in_err-turn-clause-idle : goal.returns-in_err-turn-clause-idle
-returns-in_err-turn-clause-idle g c = idle_behind c.args.world.now c.turn_watched.new.self c.in_err-turn.ensures.refused.0 c.in_err-turn.ensures.refused.1 c.requires.idle
-
-pub returns-in_err-turn-clause-present : goal.returns-in_err-turn-clause-present
-returns-in_err-turn-clause-present g c = there_behind c.args.script.now c.args.made.now c.args.world.now c.turn_watched.new.self c.in_err-turn.ensures.refused.0 c.in_err-turn.ensures.refused.1 c.requires.present
-
 pub returns-in_err-turn-clause-never_falls : goal.returns-in_err-turn-clause-never_falls
 returns-in_err-turn-clause-never_falls g c = c.turn_watched.ensures.never_falls
 
@@ -47,9 +38,11 @@ returns-in_err-turn-clause-kept g c = c.turn_watched.ensures.kept
 pub follow-requires : goal.follow-requires
 follow-requires g c = record {
   few = c.requires.few;
-  config = c.in_ok-turn.ensures.turn.config ∙ c.requires.config;
-  idle = idle_behind c.args.world.now c.turn_watched.new.self c.in_ok-turn.turn c.in_ok-turn.ensures.turn c.requires.idle;
-  present = there_behind c.args.script.now c.args.made.now c.args.world.now c.turn_watched.new.self c.in_ok-turn.turn c.in_ok-turn.ensures.turn c.requires.present;
+  goes = record {
+    config = c.in_ok-turn.ensures.turn.config ∙ c.requires.goes.config;
+    idle = idle_behind c.args.world.now c.turn_watched.new.self c.in_ok-turn.turn c.in_ok-turn.ensures.turn c.requires.goes.idle;
+    present = there_behind c.args.script.now c.args.made.now c.args.world.now c.turn_watched.new.self c.in_ok-turn.turn c.in_ok-turn.ensures.turn c.requires.goes.present;
+  };
   awaited = λ t waits. (c.in_ok-turn.ensures.turn.awaited t waits, left_behind c.args.world.now c.turn_watched.new.self c.in_ok-turn.turn t c.in_ok-turn.ensures.turn ∙ c.in_ok-turn.ensures.turn.present t waits);
   kept = c.turn_watched.ensures.kept;
 }
@@ -66,14 +59,15 @@ returns-clause-never_falls g c = c.turn_watched.ensures.never_falls
 pub returns-clause-requested : goal.returns-clause-requested
 returns-clause-requested g c = omega (arith, c.follow.ensures.requested, c.in_ok-turn.ensures.turn.requested)
 
-pub returns-clause-idle : goal.returns-clause-idle
-returns-clause-idle g c = c.follow.ensures.idle
-
-pub returns-clause-present : goal.returns-clause-present
-returns-clause-present g c = c.follow.ensures.present
-
-pub returns-clause-config : goal.returns-clause-config
-returns-clause-config g c = c.follow.ensures.config
-
 pub returns-clause-kept : goal.returns-clause-kept
 returns-clause-kept g c = c.follow.ensures.kept
+
+pub returns-in_err-turn-clause-goes : goal.returns-in_err-turn-clause-goes
+returns-in_err-turn-clause-goes g c = record {
+  config = c.in_err-turn.ensures.refused.1.config ∙ c.requires.goes.config;
+  idle = idle_behind c.args.world.now c.turn_watched.new.self c.in_err-turn.ensures.refused.0 c.in_err-turn.ensures.refused.1 c.requires.goes.idle;
+  present = there_behind c.args.script.now c.args.made.now c.args.world.now c.turn_watched.new.self c.in_err-turn.ensures.refused.0 c.in_err-turn.ensures.refused.1 c.requires.goes.present;
+}
+
+pub returns-clause-goes : goal.returns-clause-goes
+returns-clause-goes g c = c.follow.ensures.goes

@@ -43,7 +43,7 @@ loop-made-init g c =
 pub note-requires : goal.note-requires
 note-requires g c =
     let makes : MakesCommand c.loop-made.playing c.next_watched.new.self c.loop-made.world c.next_watched.new.world c.in-Command.mutator c.in-Command.cmd c.in-Command.told
-    = command_told c.loop-made.playing c.next_watched.new.self c.loop-made.world c.next_watched.new.world c.in_ok-made.field-0 c.in-Some.made c.in-Command.mutator c.in-Command.cmd c.in-Command.told c.in-Some.is c.in-Command.is c.in_ok-made.ensures.told in
+    = command_told c.loop-made.playing c.next_watched.new.self c.loop-made.world c.next_watched.new.world c.in_ok-made.field-0 c.in-Some.made c.in-Command.mutator c.in-Command.cmd c.in-Command.told c.in-Some.is c.in-Command.is c.in_ok-made.ensures.turned.told in
     let r : HasRoom c.args.script.now c.loop-made.journals c.loop-made.order c.in-Command.mutator
     = has_room c.args.script.now c.args.world.now first_naming c.args.seed c.args.turns c.loop-made.world c.next_watched.new.world c.loop-made.journals c.loop-made.order c.loop-made.playing c.next_watched.new.self
     c.in-Command.mutator c.in-Command.cmd c.in-Command.told c.loop-made.invariant.between makes in
@@ -52,14 +52,14 @@ note-requires g c =
 pub note-requires-in-Command : goal.note-requires-in-Command
 note-requires-in-Command g c =
     let makes : MakesCommand c.loop-made.playing c.next_watched.new.self c.loop-made.world c.next_watched.new.world c.in-Command.mutator c.in-Command.cmd c.in-Command.told
-    = command_told c.loop-made.playing c.next_watched.new.self c.loop-made.world c.next_watched.new.world c.in_ok-made.field-0 c.in-Some.made c.in-Command.mutator c.in-Command.cmd c.in-Command.told c.in-Some.is c.in-Command.is c.in_ok-made.ensures.told in
+    = command_told c.loop-made.playing c.next_watched.new.self c.loop-made.world c.next_watched.new.world c.in_ok-made.field-0 c.in-Some.made c.in-Command.mutator c.in-Command.cmd c.in-Command.told c.in-Some.is c.in-Command.is c.in_ok-made.ensures.turned.told in
     (has_room c.args.script.now c.args.world.now first_naming c.args.seed c.args.turns c.loop-made.world c.next_watched.new.world c.loop-made.journals c.loop-made.order c.loop-made.playing c.next_watched.new.self
     c.in-Command.mutator c.in-Command.cmd c.in-Command.told c.loop-made.invariant.between makes).order_room
 
 pub loop-made-preserved-in-Command : goal.loop-made-preserved-in-Command
 loop-made-preserved-in-Command g c =
     let makes : MakesCommand c.loop-made.playing c.next_watched.new.self c.loop-made.world c.next_watched.new.world c.in-Command.mutator c.in-Command.cmd c.in-Command.told
-    = command_told c.loop-made.playing c.next_watched.new.self c.loop-made.world c.next_watched.new.world c.in_ok-made.field-0 c.in-Some.made c.in-Command.mutator c.in-Command.cmd c.in-Command.told c.in-Some.is c.in-Command.is c.in_ok-made.ensures.told in
+    = command_told c.loop-made.playing c.next_watched.new.self c.loop-made.world c.next_watched.new.world c.in_ok-made.field-0 c.in-Some.made c.in-Command.mutator c.in-Command.cmd c.in-Command.told c.in-Some.is c.in-Command.is c.in_ok-made.ensures.turned.told in
     let r : HasRoom c.args.script.now c.loop-made.journals c.loop-made.order c.in-Command.mutator
     = has_room c.args.script.now c.args.world.now first_naming c.args.seed c.args.turns c.loop-made.world c.next_watched.new.world c.loop-made.journals c.loop-made.order c.loop-made.playing c.next_watched.new.self
     c.in-Command.mutator c.in-Command.cmd c.in-Command.told c.loop-made.invariant.between makes in
@@ -71,16 +71,16 @@ loop-made-preserved-in-Command g c =
     (command_made c.args.script.now c.args.world.now named c.args.seed c.args.turns c.loop-made.world c.next_watched.new.world c.loop-made.journals c.loop-made.order c.loop-made.playing c.next_watched.new.self
     c.in-Command.mutator c.in-Command.cmd c.in-Command.told (c.loop-made.invariant.each named) makes c.note.new.self c.note-in-Command.new.self
     (c.note.ensures.lines ∙ ap (λ (j : Notes). j.lines ++ (c.in-Command.cmd, c.in-Command.told) ∷ []) journal) (c.note.ensures.room ∙ ap (λ (j : Notes). j.room - 1) journal)
-    c.note-in-Command.ensures.list c.note-in-Command.ensures.room c.next_watched.ensures.script c.next_watched.ensures.due.1.long c.next_watched.ensures.kept c.next_watched.ensures.idle c.next_watched.ensures.present
-    (c.next_watched.ensures.config ∙ ap config_of (c.next_watched.ensures.script ∙ c.loop-made.invariant.between.of))) in
+    c.note-in-Command.ensures.list c.note-in-Command.ensures.room c.next_watched.ensures.script c.next_watched.ensures.due.1.long c.next_watched.ensures.kept c.next_watched.ensures.goes.idle c.next_watched.ensures.goes.present
+    (c.next_watched.ensures.goes.config ∙ ap config_of (c.next_watched.ensures.script ∙ c.loop-made.invariant.between.of))) in
     record {
       between = each first_naming;
       each = each;
       shown = (
         so.0 ++ told_shown c.loop-made.world c.in_ok-made.field-0,
-        shown_more (first_player c.args.script.now c.args.seed c.args.turns) c.args.world.now so.0 c.loop-made.playing c.next_watched.new.self c.loop-made.world c.next_watched.new.world c.in_ok-made.field-0 so.1 c.in_ok-made.ensures.told c.in_ok-made.ensures.stays,
+        shown_more (first_player c.args.script.now c.args.seed c.args.turns) c.args.world.now so.0 c.loop-made.playing c.next_watched.new.self c.loop-made.world c.next_watched.new.world c.in_ok-made.field-0 so.1 c.in_ok-made.ensures.turned.told c.in_ok-made.ensures.turned.stays,
         g.met.W.Watch.shown_then c.args.watch.now c.loop-made.watch c.next_watched.new.watch so.0 (told_shown c.loop-made.world c.in_ok-made.field-0) so.2 c.in_ok-made.ensures.shown,
-        shows_then c.args.world.now c.loop-made.world c.next_watched.new.world so.0 (told_shown c.loop-made.world c.in_ok-made.field-0) so.3 (shows_told c.args.script.now c.args.world.now first_naming c.args.seed c.args.turns c.loop-made.world c.next_watched.new.world c.loop-made.journals c.loop-made.order c.loop-made.playing c.next_watched.new.self c.in_ok-made.field-0 c.loop-made.invariant.between c.in_ok-made.ensures.told c.in_ok-made.ensures.stays),
+        shows_then c.args.world.now c.loop-made.world c.next_watched.new.world so.0 (told_shown c.loop-made.world c.in_ok-made.field-0) so.3 (shows_told c.args.script.now c.args.world.now first_naming c.args.seed c.args.turns c.loop-made.world c.next_watched.new.world c.loop-made.journals c.loop-made.order c.loop-made.playing c.next_watched.new.self c.in_ok-made.field-0 c.loop-made.invariant.between c.in_ok-made.ensures.turned.told c.in_ok-made.ensures.turned.stays),
       );
       never_falls = omega (arith, c.loop-made.invariant.never_falls, c.next_watched.ensures.never_falls);
     }
@@ -96,17 +96,17 @@ loop-made-preserved g c =
     let so = c.loop-made.invariant.shown in
     let each : (named : Naming) → Between c.args.script.now c.args.world.now named c.args.seed c.args.turns c.next_watched.new.world c.loop-made.journals c.loop-made.order c.next_watched.new.self =
     λ named. stepped c.args.script.now c.args.world.now named c.args.seed c.args.turns c.loop-made.world c.next_watched.new.world c.loop-made.journals c.loop-made.order c.loop-made.playing c.next_watched.new.self
-    c.in-Some.made c.in_default-made.not-Command (move_made c.loop-made.playing c.next_watched.new.self c.loop-made.world c.next_watched.new.world c.in_ok-made.field-0 c.in-Some.made c.in-Some.is c.in_ok-made.ensures.told)
-    c.next_watched.ensures.script c.next_watched.ensures.kept c.next_watched.ensures.idle c.next_watched.ensures.present
-    (c.next_watched.ensures.config ∙ ap config_of (c.next_watched.ensures.script ∙ c.loop-made.invariant.between.of)) (c.loop-made.invariant.each named) in
+    c.in-Some.made c.in_default-made.not-Command (move_made c.loop-made.playing c.next_watched.new.self c.loop-made.world c.next_watched.new.world c.in_ok-made.field-0 c.in-Some.made c.in-Some.is c.in_ok-made.ensures.turned.told)
+    c.next_watched.ensures.script c.next_watched.ensures.kept c.next_watched.ensures.goes.idle c.next_watched.ensures.goes.present
+    (c.next_watched.ensures.goes.config ∙ ap config_of (c.next_watched.ensures.script ∙ c.loop-made.invariant.between.of)) (c.loop-made.invariant.each named) in
     record {
       between = each first_naming;
       each = each;
       shown = (
         so.0 ++ told_shown c.loop-made.world c.in_ok-made.field-0,
-        shown_more (first_player c.args.script.now c.args.seed c.args.turns) c.args.world.now so.0 c.loop-made.playing c.next_watched.new.self c.loop-made.world c.next_watched.new.world c.in_ok-made.field-0 so.1 c.in_ok-made.ensures.told c.in_ok-made.ensures.stays,
+        shown_more (first_player c.args.script.now c.args.seed c.args.turns) c.args.world.now so.0 c.loop-made.playing c.next_watched.new.self c.loop-made.world c.next_watched.new.world c.in_ok-made.field-0 so.1 c.in_ok-made.ensures.turned.told c.in_ok-made.ensures.turned.stays,
         g.met.W.Watch.shown_then c.args.watch.now c.loop-made.watch c.next_watched.new.watch so.0 (told_shown c.loop-made.world c.in_ok-made.field-0) so.2 c.in_ok-made.ensures.shown,
-        shows_then c.args.world.now c.loop-made.world c.next_watched.new.world so.0 (told_shown c.loop-made.world c.in_ok-made.field-0) so.3 (shows_told c.args.script.now c.args.world.now first_naming c.args.seed c.args.turns c.loop-made.world c.next_watched.new.world c.loop-made.journals c.loop-made.order c.loop-made.playing c.next_watched.new.self c.in_ok-made.field-0 c.loop-made.invariant.between c.in_ok-made.ensures.told c.in_ok-made.ensures.stays),
+        shows_then c.args.world.now c.loop-made.world c.next_watched.new.world so.0 (told_shown c.loop-made.world c.in_ok-made.field-0) so.3 (shows_told c.args.script.now c.args.world.now first_naming c.args.seed c.args.turns c.loop-made.world c.next_watched.new.world c.loop-made.journals c.loop-made.order c.loop-made.playing c.next_watched.new.self c.in_ok-made.field-0 c.loop-made.invariant.between c.in_ok-made.ensures.turned.told c.in_ok-made.ensures.turned.stays),
       );
       never_falls = omega (arith, c.loop-made.invariant.never_falls, c.next_watched.ensures.never_falls);
     }
@@ -132,14 +132,14 @@ returns-clause-played g c = λ at same is.
     let here : Between c.args.script.now at.world (names_at at) c.args.seed c.args.turns c.loop-made.world c.loop-made.journals c.loop-made.order c.loop-made.playing =
     subst (λ w. Between c.args.script.now w (names_at at) c.args.seed c.args.turns c.loop-made.world c.loop-made.journals c.loop-made.order c.loop-made.playing) (sym same) (c.loop-made.invariant.each (names_at at)) in
     let so : Between c.args.script.now at.world (names_at at) c.args.seed c.args.turns c.next_watched.new.world c.loop-made.journals c.loop-made.order c.loop-made.playing =
-    subst (λ w. Between c.args.script.now at.world (names_at at) c.args.seed c.args.turns w c.loop-made.journals c.loop-made.order c.loop-made.playing) (sym (none_left c.in_ok-made.field-0 c.in_default.is c.in_ok-made.ensures.stays).1) here in
-    let none : to_come c.loop-made.playing.rest ≡ [] = none_left c.in_ok-made.field-0 c.in_default.is c.in_ok-made.ensures.ended in
+    subst (λ w. Between c.args.script.now at.world (names_at at) c.args.seed c.args.turns w c.loop-made.journals c.loop-made.order c.loop-made.playing) (sym (none_left c.in_ok-made.field-0 c.in_default.is c.in_ok-made.ensures.turned.stays).1) here in
+    let none : to_come c.loop-made.playing.rest ≡ [] = none_left c.in_ok-made.field-0 c.in_default.is c.in_ok-made.ensures.turned.ended in
     let law = legally c.args.script.now at c.args.seed c.args.turns c.next_watched.new.world c.loop-made.journals c.loop-made.order c.loop-made.playing none is so in
     (so.events, all_played c.args.script.now at c.args.seed c.args.turns c.next_watched.new.world c.loop-made.journals c.loop-made.order c.loop-made.playing none is so, (so.names.number, law.stands), law.made)
 
 pub returns-clause-order : goal.returns-clause-order
 returns-clause-order g c =
-    order_made c.args.script.now c.args.world.now first_naming c.args.seed c.args.turns c.loop-made.world c.loop-made.journals c.loop-made.order c.loop-made.playing (none_left c.in_ok-made.field-0 c.in_default.is c.in_ok-made.ensures.ended) c.loop-made.invariant.between
+    order_made c.args.script.now c.args.world.now first_naming c.args.seed c.args.turns c.loop-made.world c.loop-made.journals c.loop-made.order c.loop-made.playing (none_left c.in_ok-made.field-0 c.in_default.is c.in_ok-made.ensures.turned.ended) c.loop-made.invariant.between
 
 pub returns-clause-shown : goal.returns-clause-shown
 returns-clause-shown g c =
@@ -147,21 +147,19 @@ returns-clause-shown g c =
       so.0 ++ told_shown c.loop-made.world c.in_ok-made.field-0,
       record {
         last = c.next_watched.new.self;
-        so = shown_more (first_player c.args.script.now c.args.seed c.args.turns) c.args.world.now so.0 c.loop-made.playing c.next_watched.new.self c.loop-made.world c.next_watched.new.world c.in_ok-made.field-0 so.1 c.in_ok-made.ensures.told c.in_ok-made.ensures.stays;
-        ended = ap (λ (p : Player). to_come p.rest) (none_left c.in_ok-made.field-0 c.in_default.is c.in_ok-made.ensures.stays).0 ∙ none_left c.in_ok-made.field-0 c.in_default.is c.in_ok-made.ensures.ended;
+        so = shown_more (first_player c.args.script.now c.args.seed c.args.turns) c.args.world.now so.0 c.loop-made.playing c.next_watched.new.self c.loop-made.world c.next_watched.new.world c.in_ok-made.field-0 so.1 c.in_ok-made.ensures.turned.told c.in_ok-made.ensures.turned.stays;
+        ended = ap (λ (p : Player). to_come p.rest) (none_left c.in_ok-made.field-0 c.in_default.is c.in_ok-made.ensures.turned.stays).0 ∙ none_left c.in_ok-made.field-0 c.in_default.is c.in_ok-made.ensures.turned.ended;
       },
       g.met.W.Watch.shown_then c.args.watch.now c.loop-made.watch c.next_watched.new.watch so.0 (told_shown c.loop-made.world c.in_ok-made.field-0) so.2 c.in_ok-made.ensures.shown,
-      shows_then c.args.world.now c.loop-made.world c.next_watched.new.world so.0 (told_shown c.loop-made.world c.in_ok-made.field-0) so.3 (shows_told c.args.script.now c.args.world.now first_naming c.args.seed c.args.turns c.loop-made.world c.next_watched.new.world c.loop-made.journals c.loop-made.order c.loop-made.playing c.next_watched.new.self c.in_ok-made.field-0 c.loop-made.invariant.between c.in_ok-made.ensures.told c.in_ok-made.ensures.stays),
+      shows_then c.args.world.now c.loop-made.world c.next_watched.new.world so.0 (told_shown c.loop-made.world c.in_ok-made.field-0) so.3 (shows_told c.args.script.now c.args.world.now first_naming c.args.seed c.args.turns c.loop-made.world c.next_watched.new.world c.loop-made.journals c.loop-made.order c.loop-made.playing c.next_watched.new.self c.in_ok-made.field-0 c.loop-made.invariant.between c.in_ok-made.ensures.turned.told c.in_ok-made.ensures.turned.stays),
     )
 
-pub next_watched-requires-clause-config : goal.next_watched-requires-clause-config
-next_watched-requires-clause-config g c = c.loop-made.invariant.between.config ∙ ap config_of (sym c.loop-made.invariant.between.of)
-
-pub next_watched-requires-clause-idle : goal.next_watched-requires-clause-idle
-next_watched-requires-clause-idle g c = c.loop-made.invariant.between.idle
-
-pub next_watched-requires-clause-present : goal.next_watched-requires-clause-present
-next_watched-requires-clause-present g c = c.loop-made.invariant.between.present
+pub next_watched-requires : goal.next_watched-requires
+next_watched-requires g c = record {
+  config = c.loop-made.invariant.between.config ∙ ap config_of (sym c.loop-made.invariant.between.of);
+  idle = c.loop-made.invariant.between.idle;
+  present = c.loop-made.invariant.between.present;
+}
 
 pub returns-in_err-made-clause-played : goal.returns-in_err-made-clause-played
 returns-in_err-made-clause-played g c = IfOk-from_err c.from_residual.result _ c.from_residual.ensures.0
@@ -179,10 +177,10 @@ pub returns-in_err-made-clause-rose : goal.returns-in_err-made-clause-rose
 returns-in_err-made-clause-rose g c = if_err c.from_residual.result (rose_since (g.W.Watch.refused c.args.watch.now) (g.W.Watch.refused c.loop-made.watch) (g.W.Watch.refused c.next_watched.new.watch) c.loop-made.invariant.never_falls c.in_err-made.ensures.rose)
 
 pub returns-in_err-made-clause-config : goal.returns-in_err-made-clause-config
-returns-in_err-made-clause-config g c = c.next_watched.ensures.config ∙ ap config_of (c.next_watched.ensures.script ∙ c.loop-made.invariant.between.of)
+returns-in_err-made-clause-config g c = c.next_watched.ensures.goes.config ∙ ap config_of (c.next_watched.ensures.script ∙ c.loop-made.invariant.between.of)
 
 pub returns-in_err-made-clause-idle : goal.returns-in_err-made-clause-idle
-returns-in_err-made-clause-idle g c = c.next_watched.ensures.idle
+returns-in_err-made-clause-idle g c = c.next_watched.ensures.goes.idle
 
 pub returns-in_err-made-clause-kept : goal.returns-in_err-made-clause-kept
 returns-in_err-made-clause-kept g c = c.next_watched.ensures.kept
@@ -191,10 +189,10 @@ pub returns-in_err-made-clause-never_falls : goal.returns-in_err-made-clause-nev
 returns-in_err-made-clause-never_falls g c = omega (arith, c.loop-made.invariant.never_falls, c.next_watched.ensures.never_falls)
 
 pub returns-clause-config : goal.returns-clause-config
-returns-clause-config g c = c.next_watched.ensures.config ∙ ap config_of (c.next_watched.ensures.script ∙ c.loop-made.invariant.between.of)
+returns-clause-config g c = c.next_watched.ensures.goes.config ∙ ap config_of (c.next_watched.ensures.script ∙ c.loop-made.invariant.between.of)
 
 pub returns-clause-idle : goal.returns-clause-idle
-returns-clause-idle g c = c.next_watched.ensures.idle
+returns-clause-idle g c = c.next_watched.ensures.goes.idle
 
 pub returns-clause-kept : goal.returns-clause-kept
 returns-clause-kept g c = c.next_watched.ensures.kept
@@ -203,18 +201,18 @@ pub returns-clause-never_falls : goal.returns-clause-never_falls
 returns-clause-never_falls g c = omega (arith, c.loop-made.invariant.never_falls, c.next_watched.ensures.never_falls)
 
 pub loop-made-smaller-in-Command : goal.loop-made-smaller-in-Command
-loop-made-smaller-in-Command g c = fewer_come c.loop-made.playing c.next_watched.new.self c.loop-made.world c.next_watched.new.world c.in-Some.made (move_made c.loop-made.playing c.next_watched.new.self c.loop-made.world c.next_watched.new.world c.in_ok-made.field-0 c.in-Some.made c.in-Some.is c.in_ok-made.ensures.told)
+loop-made-smaller-in-Command g c = fewer_come c.loop-made.playing c.next_watched.new.self c.loop-made.world c.next_watched.new.world c.in-Some.made (move_made c.loop-made.playing c.next_watched.new.self c.loop-made.world c.next_watched.new.world c.in_ok-made.field-0 c.in-Some.made c.in-Some.is c.in_ok-made.ensures.turned.told)
 
 pub loop-made-smaller : goal.loop-made-smaller
-loop-made-smaller g c = fewer_come c.loop-made.playing c.next_watched.new.self c.loop-made.world c.next_watched.new.world c.in-Some.made (move_made c.loop-made.playing c.next_watched.new.self c.loop-made.world c.next_watched.new.world c.in_ok-made.field-0 c.in-Some.made c.in-Some.is c.in_ok-made.ensures.told)
+loop-made-smaller g c = fewer_come c.loop-made.playing c.next_watched.new.self c.loop-made.world c.next_watched.new.world c.in-Some.made (move_made c.loop-made.playing c.next_watched.new.self c.loop-made.world c.next_watched.new.world c.in_ok-made.field-0 c.in-Some.made c.in-Some.is c.in_ok-made.ensures.turned.told)
 
 pub returns-clause-epochs : goal.returns-clause-epochs
-returns-clause-epochs g c = omega (arith, c.loop-made.invariant.between.epochs, ap (λ (x : Core). x.epoch) (none_left c.in_ok-made.field-0 c.in_default.is c.in_ok-made.ensures.stays).1)
+returns-clause-epochs g c = omega (arith, c.loop-made.invariant.between.epochs, ap (λ (x : Core). x.epoch) (none_left c.in_ok-made.field-0 c.in_default.is c.in_ok-made.ensures.turned.stays).1)
 
 pub overflow_sub-from : goal.overflow_sub-from
 overflow_sub-from g c =
     let makes : MakesCommand c.loop-made.playing c.next_watched.new.self c.loop-made.world c.next_watched.new.world c.in-Command.mutator c.in-Command.cmd c.in-Command.told
-    = command_told c.loop-made.playing c.next_watched.new.self c.loop-made.world c.next_watched.new.world c.in_ok-made.field-0 c.in-Some.made c.in-Command.mutator c.in-Command.cmd c.in-Command.told c.in-Some.is c.in-Command.is c.in_ok-made.ensures.told in
+    = command_told c.loop-made.playing c.next_watched.new.self c.loop-made.world c.next_watched.new.world c.in_ok-made.field-0 c.in-Some.made c.in-Command.mutator c.in-Command.cmd c.in-Command.told c.in-Some.is c.in-Command.is c.in_ok-made.ensures.turned.told in
     let r : HasRoom c.args.script.now c.loop-made.journals c.loop-made.order c.in-Command.mutator
     = has_room c.args.script.now c.args.world.now first_naming c.args.seed c.args.turns c.loop-made.world c.next_watched.new.world c.loop-made.journals c.loop-made.order c.loop-made.playing c.next_watched.new.self
     c.in-Command.mutator c.in-Command.cmd c.in-Command.told c.loop-made.invariant.between makes in
@@ -223,7 +221,7 @@ overflow_sub-from g c =
 pub bounds-journals-from : goal.bounds-journals-from
 bounds-journals-from g c =
     let makes : MakesCommand c.loop-made.playing c.next_watched.new.self c.loop-made.world c.next_watched.new.world c.in-Command.mutator c.in-Command.cmd c.in-Command.told
-    = command_told c.loop-made.playing c.next_watched.new.self c.loop-made.world c.next_watched.new.world c.in_ok-made.field-0 c.in-Some.made c.in-Command.mutator c.in-Command.cmd c.in-Command.told c.in-Some.is c.in-Command.is c.in_ok-made.ensures.told in
+    = command_told c.loop-made.playing c.next_watched.new.self c.loop-made.world c.next_watched.new.world c.in_ok-made.field-0 c.in-Some.made c.in-Command.mutator c.in-Command.cmd c.in-Command.told c.in-Some.is c.in-Command.is c.in_ok-made.ensures.turned.told in
     let r : HasRoom c.args.script.now c.loop-made.journals c.loop-made.order c.in-Command.mutator
     = has_room c.args.script.now c.args.world.now first_naming c.args.seed c.args.turns c.loop-made.world c.next_watched.new.world c.loop-made.journals c.loop-made.order c.loop-made.playing c.next_watched.new.self
     c.in-Command.mutator c.in-Command.cmd c.in-Command.told c.loop-made.invariant.between makes in

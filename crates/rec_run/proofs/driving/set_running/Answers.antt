@@ -4,7 +4,7 @@ use Rattle.std.proofs.lemmas.List.Elements.{All-get_or}
 use Rattle.rec_mutator.specs.Private.{Private}
 use Rattle.rec_core.specs.Config.{IsConfig, IsMutator}
 use Rattle.rec_core.specs.Core.{Core, mutator, opened, opened_mutator}
-use Rattle.rec_core.proofs.OpenedMutators.{mutator_opened, registers_many}
+use Rattle.rec_core.proofs.Opened.{mutator_opened, registers_many}
 use Rattle.rec_world.specs.Journal.{Notes, no_notes}
 use Rattle.rec_table.specs.Views.{AreMutatorsOf, MutatorView, Started, fresh, mutator_now}
 use Rattle.rec_threads.specs.Done.{IsReady, worker_at}
@@ -28,12 +28,12 @@ module _ (script : ScriptContents) (heap : Started) (ms : List MutatorView) (js 
       let one_each = journals.one_each in
       let there : IsMutator (config_of script) (k + 1) = (omega arith, omega (arith, lt, as_many)) in
       let is : mutator_now (slice_index_or ms k d) ≡ opened_mutator (config_of script) (k + 1)
-      = ap mutator_now (new k d lt) ∙ ap (λ (w : Core). mutator w (k + 1)) opens ∙ mutator_opened (config_of script) (k + 1) there in
+      = ap mutator_now (new k d lt) ∙ ap (λ (w : Core). mutator w (k + 1)) opens ∙ mutator_opened (config_of script) config (k + 1) there in
       record {
         own = (all.each k d lt).0;
         number = (all.each k d lt).1;
         named = ap (λ (p : Private). p.number) is;
-        registers = ap (λ (p : Private). length p.registers) is ∙ registers_many (config_of script) (k + 1) config;
+        registers = ap (λ (p : Private). length p.registers) is ∙ registers_many (config_of script) config;
         fields = ap (λ (p : Private). p.fields) is;
         present = λ some. ap (λ (p : Private). p.left) is;
         empty = All-get_or (λ (j : Notes). j.lines ≡ []) js k no_notes (omega (arith, lt, as_many, one_each)) journals.empty;

@@ -4,27 +4,20 @@ use Rattle.std.proofs.lemmas.List.Elements.{All-replicate}
 use Rattle.std.proofs.lemmas.Result.{IfOk-at_ok, IfOk-from_err}
 use Rattle.rec_word.specs.Mailbox.{crossing_word}
 use Rattle.rec_word.specs.declared.mailbox.Mailbox.TheVariants.{Spare}
-use Rattle.rec_mutator.specs.Private.{is_busy}
 use Rattle.rec_core.specs.Core.{Core, opened}
 use Rattle.rec_core.specs.Config.{IsConfig}
-use Rattle.rec_core.specs.Worked.{AreIdle}
 use Rattle.rec_core.specs.declared.config.Config.{Config}
-use Rattle.rec_core.proofs.OpenedMutators.{mutator_opened}
 use Rattle.rec_play.specs.Played.{config_of}
 use Rattle.rec_run.proofs.Endings.{each_ok, if_ok_or}
 use Rattle.rec_run.proofs.driving.start.Goals as goal
 
--- nobody works in a newly opened heap
-idle_opened : (config : Config) (w : Core) → w ≡ opened config → AreIdle w
-idle_opened config w is = subst AreIdle (sym is) (λ t there. ap is_busy (mutator_opened config t there))
-
--- and no mailbox is with anybody
+-- no mailbox is with anybody
 home_opened : (config : Config) (w : Core) → w ≡ opened config → All (λ word. word % 2 ≡ 0) w.crossing
 home_opened config w is =
     subst (λ (w : Core). All (λ word. word % 2 ≡ 0) w.crossing) (sym is) (All-replicate (λ (word : ℕ). word % 2 ≡ 0) config.mutators (crossing_word config.first_epoch Spare) (omega arith))
 
 pub start-requires-clause-idle : goal.start-requires-clause-idle
-start-requires-clause-idle c = idle_opened (config_of c.args.script.now) c.in_ok-world.world c.in_ok-world.ensures.opened
+start-requires-clause-idle c = c.in_ok-world.ensures.begins.idle
 
 pub start-requires-clause-home : goal.start-requires-clause-home
 start-requires-clause-home c = home_opened (config_of c.args.script.now) c.in_ok-world.world c.in_ok-world.ensures.opened

@@ -1,5 +1,5 @@
 -- The outcome is that of a run from the script's opening.
-use Rattle.std.proofs.Common.{◌<◌, subst, sym}
+use Rattle.std.proofs.Common.{subst, sym}
 use Rattle.rec_core.specs.Config.{IsConfig}
 use Rattle.rec_core.specs.Core.{Core}
 use Rattle.rec_core.specs.Shown.{Shows}
@@ -16,7 +16,7 @@ pub returns-clause-outcome : goal.returns-clause-outcome
 returns-clause-outcome c =
     let script = c.args.script.now in
     IfOk-weaker c.play_on.result _ (IsOutcome script (opening_of script) (hows.Play c.args.how))
-    (λ outcome held. held (opening_of script) (sym c.in_ok-world.ensures.opened) (opened_starts script (subst (λ (w : Core). 0 < w.config.slots) c.in_ok-world.ensures.opened c.in_ok-world.ensures.config.some_slots)))
+    (λ outcome held. held (opening_of script) (sym c.in_ok-world.ensures.opened) (opened_starts script (subst (λ (w : Core). IsConfig w.config) c.in_ok-world.ensures.opened c.in_ok-world.ensures.config)))
     c.play_on.ensures.outcome
 
 pub returns-clause-valid : goal.returns-clause-valid

@@ -2,12 +2,12 @@
 use Rattle.std.proofs.Common.{◌≡◌, false, ◌∙◌, length, refl, sym, ap, subst}
 use Rattle.std.proofs.lemmas.List.{length-map}
 use Rattle.std.proofs.lemmas.List.FromFn.{length-map-range_with_len}
+use Rattle.rec_collector.specs.Private.{plain}
 use Rattle.rec_model.specs.Heap.{Heap}
 use Rattle.rec_model.specs.Sight.{Represents}
 use Rattle.rec_core.specs.Config.{IsConfig}
-use Rattle.rec_core.specs.Core.{Core, sight}
+use Rattle.rec_core.specs.Core.{Core, sight, opened_from}
 use Rattle.rec_core.specs.Objects.{described, object_at}
-use Rattle.rec_core.specs.OpenedFrom.{opened_from}
 use Rattle.rec_core.specs.declared.config.Config.{Config}
 use Rattle.rec_order.proofs.Unfreed.{there_are_unfreed}
 use Rattle.rec_world.specs.OpenError.{IsRefused}
@@ -22,13 +22,13 @@ use Rattle.rec_run.proofs.resuming.restore_world.Goals as goal
 use Rattle.rec_run.proofs.resuming.restore_world.Goals.{After-restore, In-Ok}
 
 -- the numbers of the heap are the script's
-numbers : (c : After-restore) → config_in c.args.image.now c.config_for.result.log_entries false ≡ config_of c.args.script.now
-numbers c = ap (λ (k : Config). config_in c.args.image.now k.log_entries false) c.config_for.ensures.config ∙ c.requires.numbers
+numbers : (c : After-restore) → config_in c.args.image.now c.config_for.result.log_entries plain ≡ config_of c.args.script.now
+numbers c = ap (λ (k : Config). config_in c.args.image.now k.log_entries plain) c.config_for.ensures.config ∙ c.requires.numbers
 
 pub unreachable-requires : goal.unreachable-requires
 unreachable-requires c =
     let same = numbers (goal.at.unreachable-requires c).After-restore in
-    let config : Config = config_in c.args.image.now c.config_for.result.log_entries false in
+    let config : Config = config_in c.args.image.now c.config_for.result.log_entries plain in
     none_wrong config c.in-Err-Config.field-0-0 (subst IsConfig (c.config_for.ensures.config ∙ sym same) c.config_for.ensures.valid) (subst (IsRefused config) c.in-Err-Config.field-0-is c.in-Err-Config.ensures.refused)
 
 -- it is opened from the image's objects
@@ -54,7 +54,7 @@ returns-in-Ok-clause-start c =
       start,
       refl,
       record {
-        world = c.in-Ok.ensures.opened ∙ ap (λ (k : Config). restored v k.log_entries false) c.config_for.ensures.config;
+        world = c.in-Ok.ensures.opened ∙ ap (λ (k : Config). restored v k.log_entries plain) c.config_for.ensures.config;
         heap = refl;
         starts = record { begins = returns-in-Ok-clause-begins c; stands = stands; unfreed = are; made = c.in-Ok.ensures.made ∙ sym many };
       },

@@ -1,6 +1,6 @@
 -- The contract of `more_digits`: the same, quicker where there are two digits.
 use Rattle.std.proofs.Common.{◌≡◌, ◌+◌, ◌-◌, ◌*◌, get_or, sym, ◌∙◌, arith}
-use Rattle.rec_script.proofs.Numerals.{digit_range}
+use Rattle.rec_io.proofs.Numerals.{digit_range}
 use Rattle.rec_script.proofs.Spacing.{two_front}
 use Rattle.rec_script.proofs.spaced.more_digits.Goals as goal
 

@@ -1,6 +1,6 @@
 -- The contract of `numeral`: a numeral at the front, with this byte behind it, and what is behind that.
 use Rattle.std.proofs.Common.{get_or, sym, ◌∙◌}
-use Rattle.rec_script.proofs.Numerals.{digit_range}
+use Rattle.rec_io.proofs.Numerals.{digit_range}
 use Rattle.rec_script.proofs.Spacing.{short_front}
 use Rattle.rec_script.proofs.spaced.numeral.Goals as goal
 

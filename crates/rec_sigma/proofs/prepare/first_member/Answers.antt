@@ -2,8 +2,8 @@
 use Rattle.std.proofs.Common.{◌≡◌, ℕ, ◌+◌, ◌<◌, ◌≤◌, List, [], ◌∷◌, None, Some, length, get_or, drop, refl, sym, ap, subst, ◌∙◌}
 use Rattle.std.proofs.lemmas.List.{drop_all, drop_more}
 use Rattle.std.proofs.lemmas.Option.{same_Some}
-use Rattle.rec_walk.specs.Walk.{first_in}
-use Rattle.rec_walk.specs.declared.member.Member.{Member}
+use Rattle.rec_word.specs.Walk.{first_in}
+use Rattle.rec_word.specs.declared.member.Member.{Member}
 use Rattle.rec_sigma.specs.Prepare.{first_of}
 use Rattle.rec_sigma.proofs.prepare.first_member.Goals as goal
 

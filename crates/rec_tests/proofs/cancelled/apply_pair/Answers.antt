@@ -6,9 +6,9 @@ use Rattle.rec_counts.specs.Counts.{State, slot_at}
 use Rattle.rec_counts.specs.Lists.{one}
 use Rattle.rec_counts.proofs.Times.{one-le}
 use Rattle.rec_log.specs.declared.contents.Contents.{Contents}
-use Rattle.rec_apply.specs.Batch.{IsCovered}
-use Rattle.rec_apply.specs.Targets.{added, leaf_born, leaves, named, new_target, old_target, taken}
-use Rattle.rec_apply.proofs.Naming.{named-cons, named-nil}
+use Rattle.rec_counts.specs.Batch.{IsCovered}
+use Rattle.rec_counts.specs.Targets.{added, leaf_born, leaves, named, new_target, old_target, taken}
+use Rattle.rec_counts.proofs.Naming.{named-cons, named-nil}
 use Rattle.rec_tests.specs.Paired.{IsSetOfOne, one_write}
 use Rattle.rec_tests.proofs.cancelled.apply_pair.Goals as goal
 

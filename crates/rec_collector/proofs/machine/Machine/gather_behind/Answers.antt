@@ -1,7 +1,7 @@
 -- The contract of `Machine::gather_behind`: the next mutator's mailbox is looked at that hasn't left, or the batch is applied.
 use Rattle.std.proofs.Common.{◌≡◌, ℕ, ◌+◌, ◌*◌, ◌^◌, ◌<◌, ◌≤◌, Bool, List, length, arith, ap, sym, subst, ◌∙◌}
 use Rattle.rec_log.specs.declared.contents.Contents.{Contents}
-use Rattle.rec_apply.specs.Batch.{AreAlike, IsCovered}
+use Rattle.rec_counts.specs.Batch.{AreAlike, IsCovered}
 use Rattle.rec_collector.proofs.Common.{IsFewTold, IsMachine, KeepsSizes, MayGatherBehind, Next, next_present, parts_of, told, Private}
 use Rattle.rec_collector.specs.Inside.{private}
 use Rattle.rec_collector.proofs.Following.{none_released, resting_cleared, rows_alike}

@@ -1,23 +1,14 @@
 -- The contract of `Parts::run_freeing`: fields of members of the set that is freed are cleared.
-use Rattle.std.proofs.Common.{◌≡◌, is_some, not, Bool, ℕ, Option, sym, ◌∙◌, ap, subst}
+use Rattle.std.proofs.Common.{◌≡◌, ℕ, sym, ◌∙◌, ap, subst}
 use Rattle.rec_release.specs.CycleFree.{Machine, Work}
 use Rattle.rec_release.specs.Ran.{RanFreeing}
-use Rattle.rec_collector.proofs.Common.{Op, Phase, State, Freeing, IsClear, Parts, followed, relieved}
+use Rattle.rec_collector.proofs.Common.{Phase, State, Freeing, IsClear, Parts, followed, relieved}
 use Rattle.rec_collector.specs.Works.{MayFree}
-use Rattle.rec_collector.specs.declared.parts.Parts.TheInside.{Inside}
-use Rattle.rec_collector.proofs.Answering.{begun_follows, more_freed, over_freed}
+use Rattle.rec_collector.proofs.Answering.{begun_follows, due, more_freed, over_freed, whole}
 use Rattle.rec_collector.proofs.FreeingRuns.{ran_clear}
 use Rattle.rec_collector.proofs.Goings.{with_counts}
 use Rattle.rec_collector.proofs.Steps.{freeing_next}
 use Rattle.rec_collector.proofs.parts.Parts.run_freeing.Goals as goal
-
--- the parts that these fields make up
-abbrev whole : Inside → Parts
-whole inside = record { counts = inside.counts; fields = inside.fields; sets = inside.sets; offers = inside.offers }
-
--- whether a machine names an operation, as its answer is looked at
-due : {none is : Bool} {next op : Option Op} → next ≡ op → is_some next ≡ not none → none ≡ is → is_some op ≡ not is
-due names looked told = sym (ap (λ (o : Option Op). is_some o) names) ∙ looked ∙ ap not told
 
 same_freeing : (m n : Machine) → Freeing m ≡ Freeing n → m ≡ n
 same_freeing m n e = cc

@@ -1,22 +1,13 @@
 -- The contract of `Parts::run_prep`: fields are loaded for the preparation.
-use Rattle.std.proofs.Common.{◌≡◌, is_some, not, Bool, ℕ, Option, sym, ◌∙◌, ap, subst}
+use Rattle.std.proofs.Common.{◌≡◌, ℕ, sym, ◌∙◌, ap, subst}
 use Rattle.rec_sigma.specs.Prepare.{Machine, Work}
 use Rattle.rec_sigma.specs.Ran.{Ran}
-use Rattle.rec_collector.proofs.Common.{Op, Phase, State, Preparing, prepared, Parts}
+use Rattle.rec_collector.proofs.Common.{Phase, State, Preparing, prepared, Parts}
 use Rattle.rec_collector.specs.Works.{MayPrepare}
-use Rattle.rec_collector.specs.declared.parts.Parts.TheInside.{Inside}
-use Rattle.rec_collector.proofs.Answering.{more_prepared, over_prepared}
+use Rattle.rec_collector.proofs.Answering.{due, more_prepared, over_prepared, whole}
 use Rattle.rec_collector.proofs.Goings.{with_counts}
 use Rattle.rec_collector.proofs.Steps.{prep_next}
 use Rattle.rec_collector.proofs.parts.Parts.run_prep.Goals as goal
-
--- the parts that these fields make up
-abbrev whole : Inside → Parts
-whole inside = record { counts = inside.counts; fields = inside.fields; sets = inside.sets; offers = inside.offers }
-
--- whether a machine names an operation, as its answer is looked at
-due : {none is : Bool} {next op : Option Op} → next ≡ op → is_some next ≡ not none → none ≡ is → is_some op ≡ not is
-due names looked told = sym (ap (λ (o : Option Op). is_some o) names) ∙ looked ∙ ap not told
 
 same_prep : (m n : Machine) → Preparing m ≡ Preparing n → m ≡ n
 same_prep m n e = cc

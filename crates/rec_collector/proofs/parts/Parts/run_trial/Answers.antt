@@ -1,19 +1,10 @@
 -- The contract of `Parts::run_trial`: fields are loaded for the trial.
-use Rattle.std.proofs.Common.{◌≡◌, is_some, not, Bool, ℕ, Option, sym, ◌∙◌, ap, subst}
+use Rattle.std.proofs.Common.{◌≡◌, ℕ, sym, ◌∙◌, ap, subst}
 use Rattle.rec_trial.specs.Loaded.{Ran}
 use Rattle.rec_trial.specs.Trial.{Machine, Work}
-use Rattle.rec_collector.proofs.Common.{Op, Phase, State, Trying, tried, Parts}
-use Rattle.rec_collector.specs.declared.parts.Parts.TheInside.{Inside}
-use Rattle.rec_collector.proofs.Answering.{more_tried, over_tried}
+use Rattle.rec_collector.proofs.Common.{Phase, State, Trying, tried, Parts}
+use Rattle.rec_collector.proofs.Answering.{due, more_tried, over_tried, whole}
 use Rattle.rec_collector.proofs.parts.Parts.run_trial.Goals as goal
-
--- the parts that these fields make up
-abbrev whole : Inside → Parts
-whole inside = record { counts = inside.counts; fields = inside.fields; sets = inside.sets; offers = inside.offers }
-
--- whether a machine names an operation, as its answer is looked at
-due : {none is : Bool} {next op : Option Op} → next ≡ op → is_some next ≡ not none → none ≡ is → is_some op ≡ not is
-due names looked told = sym (ap (λ (o : Option Op). is_some o) names) ∙ looked ∙ ap not told
 
 same_trial : (m n : Machine) → Trying m ≡ Trying n → m ≡ n
 same_trial m n e = cc

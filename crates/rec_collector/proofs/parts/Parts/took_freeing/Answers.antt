@@ -1,21 +1,12 @@
 -- The contract of `Parts::took_freeing`: a word came out of a field of a member of the set that is freed.
-use Rattle.std.proofs.Common.{◌≡◌, ℕ, ◌<◌, true, false, is_some, not, Bool, Option, sym, ◌∙◌, ap, subst}
-use Rattle.rec_collector.proofs.Common.{Op, IsKept, IsClear, followed, relieved, with_freed, worked, Parts, zeros_released, Freeing}
+use Rattle.std.proofs.Common.{◌≡◌, ℕ, ◌<◌, true, false, is_some, sym, ◌∙◌, ap, subst}
+use Rattle.rec_collector.proofs.Common.{IsKept, IsClear, followed, relieved, with_freed, worked, Parts, zeros_released, Freeing}
 use Rattle.rec_collector.specs.Works.{MayWork}
-use Rattle.rec_collector.specs.declared.parts.Parts.TheInside.{Inside}
 use Rattle.rec_release.specs.CycleFree as frees
-use Rattle.rec_collector.proofs.Answering.{begun_follows, freed_clear, more_freed, over_freed}
+use Rattle.rec_collector.proofs.Answering.{begun_follows, due, freed_clear, more_freed, over_freed, whole}
 use Rattle.rec_collector.proofs.Goings.{with_counts}
 use Rattle.rec_collector.proofs.Steps.{freeing_next}
 use Rattle.rec_collector.proofs.parts.Parts.took_freeing.Goals as goal
-
--- the parts that these fields make up
-abbrev whole : Inside → Parts
-whole inside = record { counts = inside.counts; fields = inside.fields; sets = inside.sets; offers = inside.offers }
-
--- whether a machine names an operation, as its answer is looked at
-due : {none is : Bool} {next op : Option Op} → next ≡ op → is_some next ≡ not none → none ≡ is → is_some op ≡ not is
-due names looked told = sym (ap (λ (o : Option Op). is_some o) names) ∙ looked ∙ ap not told
 
 pub took-requires-clause-busy : goal.took-requires-clause-busy
 took-requires-clause-busy c = freeing_next c.in-Freeing.freeing ∙ (subst (MayWork c.args.self.now c.args.word) c.in-Freeing.is c.requires.may).0.clearing.busy

@@ -1,21 +1,12 @@
 -- The contract of `Parts::took_prep`: a field was loaded for the preparation.
-use Rattle.std.proofs.Common.{◌≡◌, is_some, not, Bool, Option, sym, ◌∙◌, ap, subst}
-use Rattle.rec_collector.proofs.Common.{Op, prepared, with_loaded, worked, Parts}
+use Rattle.std.proofs.Common.{sym, ◌∙◌, ap, subst}
+use Rattle.rec_collector.proofs.Common.{prepared, with_loaded, worked, Parts}
 use Rattle.rec_collector.specs.Works.{MayWork}
-use Rattle.rec_collector.specs.declared.parts.Parts.TheInside.{Inside}
 use Rattle.rec_sigma.specs.Prepare as preps
-use Rattle.rec_collector.proofs.Answering.{more_prepared, over_prepared}
+use Rattle.rec_collector.proofs.Answering.{due, more_prepared, over_prepared, whole}
 use Rattle.rec_collector.proofs.Goings.{with_counts}
 use Rattle.rec_collector.proofs.Steps.{prep_next}
 use Rattle.rec_collector.proofs.parts.Parts.took_prep.Goals as goal
-
--- the parts that these fields make up
-abbrev whole : Inside → Parts
-whole inside = record { counts = inside.counts; fields = inside.fields; sets = inside.sets; offers = inside.offers }
-
--- whether a machine names an operation, as its answer is looked at
-due : {none is : Bool} {next op : Option Op} → next ≡ op → is_some next ≡ not none → none ≡ is → is_some op ≡ not is
-due names looked told = sym (ap (λ (o : Option Op). is_some o) names) ∙ looked ∙ ap not told
 
 pub took-requires-clause-busy : goal.took-requires-clause-busy
 took-requires-clause-busy c = prep_next _ ∙ (subst (MayWork c.args.self.now c.args.word) c.in-Preparing.is c.requires.may).0

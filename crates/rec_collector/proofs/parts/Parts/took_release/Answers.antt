@@ -1,21 +1,12 @@
 -- The contract of `Parts::took_release`: a word came out of a field of a released slot.
-use Rattle.std.proofs.Common.{◌≡◌, ℕ, ◌<◌, false, is_some, not, Bool, Option, sym, ◌∙◌, ap, subst}
-use Rattle.rec_collector.proofs.Common.{Op, IsKept, IsClear, followed, with_released, worked, Parts, with_release, Releasing}
+use Rattle.std.proofs.Common.{◌≡◌, ℕ, ◌<◌, false, is_some, sym, ◌∙◌, ap, subst}
+use Rattle.rec_collector.proofs.Common.{IsKept, IsClear, followed, with_released, worked, Parts, with_release, Releasing}
 use Rattle.rec_collector.specs.Works.{MayWork}
-use Rattle.rec_collector.specs.declared.parts.Parts.TheInside.{Inside}
 use Rattle.rec_release.specs.Release as releases
-use Rattle.rec_collector.proofs.Answering.{begun_follows, more_released, over_released, released_clear}
+use Rattle.rec_collector.proofs.Answering.{begun_follows, due, more_released, over_released, released_clear, whole}
 use Rattle.rec_collector.proofs.Goings.{still, with_counts}
 use Rattle.rec_collector.proofs.Steps.{release_next}
 use Rattle.rec_collector.proofs.parts.Parts.took_release.Goals as goal
-
--- the parts that these fields make up
-abbrev whole : Inside → Parts
-whole inside = record { counts = inside.counts; fields = inside.fields; sets = inside.sets; offers = inside.offers }
-
--- whether a machine names an operation, as its answer is looked at
-due : {none is : Bool} {next op : Option Op} → next ≡ op → is_some next ≡ not none → none ≡ is → is_some op ≡ not is
-due names looked told = sym (ap (λ (o : Option Op). is_some o) names) ∙ looked ∙ ap not told
 
 pub took-requires-clause-busy : goal.took-requires-clause-busy
 took-requires-clause-busy c = release_next c.in-Releasing.release ∙ (subst (MayWork c.args.self.now c.args.word) c.in-Releasing.is c.requires.may).0.clearing.busy

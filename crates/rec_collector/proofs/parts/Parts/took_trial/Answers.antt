@@ -1,18 +1,9 @@
 -- The contract of `Parts::took_trial`: a field was loaded for the trial.
-use Rattle.std.proofs.Common.{◌≡◌, is_some, not, Bool, Option, sym, ◌∙◌, ap}
-use Rattle.rec_collector.proofs.Common.{Op, tried, with_tried, worked, Parts}
-use Rattle.rec_collector.specs.declared.parts.Parts.TheInside.{Inside}
+use Rattle.std.proofs.Common.{sym, ◌∙◌, ap}
+use Rattle.rec_collector.proofs.Common.{tried, with_tried, worked, Parts}
 use Rattle.rec_trial.specs.Trial as trials
-use Rattle.rec_collector.proofs.Answering.{more_tried, over_tried}
+use Rattle.rec_collector.proofs.Answering.{due, more_tried, over_tried, whole}
 use Rattle.rec_collector.proofs.parts.Parts.took_trial.Goals as goal
-
--- the parts that these fields make up
-abbrev whole : Inside → Parts
-whole inside = record { counts = inside.counts; fields = inside.fields; sets = inside.sets; offers = inside.offers }
-
--- whether a machine names an operation, as its answer is looked at
-due : {none is : Bool} {next op : Option Op} → next ≡ op → is_some next ≡ not none → none ≡ is → is_some op ≡ not is
-due names looked told = sym (ap (λ (o : Option Op). is_some o) names) ∙ looked ∙ ap not told
 
 pub returns-else-is_none : goal.returns-else-is_none
 returns-else-is_none c =

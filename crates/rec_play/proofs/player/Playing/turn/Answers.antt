@@ -1,10 +1,11 @@
 -- A turn of the rule was made, or none is left.
 use Rattle.std.proofs.Common.{◌≡◌, ℕ, ◌+◌, ◌-◌, ◌<◌, List, [], ◌∷◌, slice_index_or, slice_set, length, refl, sym, ap, subst, ◌∙◌, arith}
+use Rattle.std.proofs.lemmas.Bool.{true≢false}
 use Rattle.std.proofs.lemmas.Result.{IfOk-from_err}
 use Rattle.rec_settle.specs.Collecting.{HasStepped}
 use Rattle.rec_settle.proofs.Goes.{if_err}
 use Rattle.rec_play.specs.InsidePlaying.{player}
-use Rattle.rec_play.specs.Moves.{AreDue, AreThere, Carries, IsSpent, Player, made_by}
+use Rattle.rec_play.specs.Moves.{AreDue, AreThere, Carries, IsSpent, MayGoOn, Player, made_by}
 use Rattle.rec_play.specs.Numbers.{config_of}
 use Rattle.rec_play.specs.Playing.{to_come}
 use Rattle.rec_play.specs.Run.{commands_of}
@@ -23,19 +24,6 @@ overflow_add-made g c =
 -- nothing is shown of a command
 pub returns-in-Some-Mutator-clause-shown : goal.returns-in-Some-Mutator-clause-shown
 returns-in-Some-Mutator-clause-shown g c = g.met.W.Watch.none_shown c.args.watch.now
-
--- the others go on as before, and it is there until its last command
-pub returns-in-Some-Mutator-clause-present : goal.returns-in-Some-Mutator-clause-present
-returns-in-Some-Mutator-clause-present g c =
-    let m = c.in-Some-Mutator.mutator in
-    let script = c.self.inside.script.now in
-    let made : List ℕ = c.self.inside.made in
-    let n : HasCommand script m (made_by made m)
-    = next_turn (player c.self.inside) c.self.invariant c.next_turn.new.self m (c.in-Some-Mutator.ensures.turn ∙ ap (λ a. a ∷ to_come c.next_turn.new.self) c.in-Some-Mutator.field-0-is) in
-    subst (λ x. AreThere script (slice_set made (x - 1) (slice_index_or made (x - 1) 0 + 1)) c.give_turn-cmd.new.world) (sym c.from.ensures)
-    (made_there script made m c.args.world.now c.give_turn-cmd.new.world n.some (omega (arith, n.some, n.most, few_mutators script c.self.invariant.valid, c.self.invariant.long)) c.give_turn-cmd.ensures.others
-    (λ more. c.give_turn-cmd.ensures.present (subst (λ x. slice_index_or made (x - 1) 0 + 1 < length (commands_of script m)) (sym c.from.ensures) more))
-    (subst (λ (q : Player). AreThere q.script q.made c.args.world.now) (sym c.self.view_is) c.requires.present))
 
 pub invariant_of-self : goal.invariant_of-self
 invariant_of-self g c =
@@ -88,24 +76,6 @@ give_turn-cmd-requires-clause-present g c =
 pub turn_collector-requires-clause-few : goal.turn_collector-requires-clause-few
 turn_collector-requires-clause-few g c = few_mutators c.self.inside.script.now c.self.invariant.valid
 
-pub turn_collector-requires-clause-config : goal.turn_collector-requires-clause-config
-turn_collector-requires-clause-config g c = subst (λ (q : Player). c.args.world.now.config ≡ config_of q.script) (sym c.self.view_is) c.requires.config
-
-pub turn_collector-requires-clause-idle : goal.turn_collector-requires-clause-idle
-turn_collector-requires-clause-idle g c = c.requires.idle
-
-pub turn_collector-requires-clause-present : goal.turn_collector-requires-clause-present
-turn_collector-requires-clause-present g c = subst (λ (q : Player). AreThere q.script q.made c.args.world.now) (sym c.self.view_is) c.requires.present
-
-pub returns-in_err-turn-in-Some-Collector-clause-told : goal.returns-in_err-turn-in-Some-Collector-clause-told
-returns-in_err-turn-in-Some-Collector-clause-told g c = IfOk-from_err c.from_residual.result _ c.from_residual.ensures.0
-
-pub returns-in_err-turn-in-Some-Collector-clause-ended : goal.returns-in_err-turn-in-Some-Collector-clause-ended
-returns-in_err-turn-in-Some-Collector-clause-ended g c = IfOk-from_err c.from_residual.result _ c.from_residual.ensures.0
-
-pub returns-in_err-turn-in-Some-Collector-clause-stays : goal.returns-in_err-turn-in-Some-Collector-clause-stays
-returns-in_err-turn-in-Some-Collector-clause-stays g c = IfOk-from_err c.from_residual.result _ c.from_residual.ensures.0
-
 pub returns-in_err-turn-in-Some-Collector-clause-shown : goal.returns-in_err-turn-in-Some-Collector-clause-shown
 returns-in_err-turn-in-Some-Collector-clause-shown g c = IfOk-from_err c.from_residual.result _ c.from_residual.ensures.0
 
@@ -118,26 +88,8 @@ returns-in_err-turn-in-Some-Collector-clause-rose g c = if_err c.from_residual.r
 pub returns-in_err-turn-in-Some-Collector-clause-never_falls : goal.returns-in_err-turn-in-Some-Collector-clause-never_falls
 returns-in_err-turn-in-Some-Collector-clause-never_falls g c = c.turn_collector.ensures.never_falls
 
-pub returns-in_err-turn-in-Some-Collector-clause-idle : goal.returns-in_err-turn-in-Some-Collector-clause-idle
-returns-in_err-turn-in-Some-Collector-clause-idle g c = c.turn_collector.ensures.idle
-
-pub returns-in_err-turn-in-Some-Collector-clause-present : goal.returns-in_err-turn-in-Some-Collector-clause-present
-returns-in_err-turn-in-Some-Collector-clause-present g c = c.turn_collector.ensures.present
-
-pub returns-in_err-turn-in-Some-Collector-clause-config : goal.returns-in_err-turn-in-Some-Collector-clause-config
-returns-in_err-turn-in-Some-Collector-clause-config g c = c.turn_collector.ensures.config
-
 pub returns-in_ok-turn-in-Some-Collector-clause-never_falls : goal.returns-in_ok-turn-in-Some-Collector-clause-never_falls
 returns-in_ok-turn-in-Some-Collector-clause-never_falls g c = c.turn_collector.ensures.never_falls
-
-pub returns-in_ok-turn-in-Some-Collector-clause-idle : goal.returns-in_ok-turn-in-Some-Collector-clause-idle
-returns-in_ok-turn-in-Some-Collector-clause-idle g c = c.turn_collector.ensures.idle
-
-pub returns-in_ok-turn-in-Some-Collector-clause-present : goal.returns-in_ok-turn-in-Some-Collector-clause-present
-returns-in_ok-turn-in-Some-Collector-clause-present g c = c.turn_collector.ensures.present
-
-pub returns-in_ok-turn-in-Some-Collector-clause-config : goal.returns-in_ok-turn-in-Some-Collector-clause-config
-returns-in_ok-turn-in-Some-Collector-clause-config g c = c.turn_collector.ensures.config
 
 pub returns-in_ok-turn-in-Some-Collector-clause-shown : goal.returns-in_ok-turn-in-Some-Collector-clause-shown
 returns-in_ok-turn-in-Some-Collector-clause-shown g c = c.in_ok-turn-in-Some-Collector.ensures.shown
@@ -169,26 +121,11 @@ returns-in-None-clause-due g c = subst AreDue c.self.view_is c.self.invariant
 pub returns-in-Some-Mutator-clause-never_falls : goal.returns-in-Some-Mutator-clause-never_falls
 returns-in-Some-Mutator-clause-never_falls g c = omega arith
 
-pub returns-in-Some-Mutator-clause-idle : goal.returns-in-Some-Mutator-clause-idle
-returns-in-Some-Mutator-clause-idle g c = c.give_turn-cmd.ensures.idle
-
-pub returns-in-Some-Mutator-clause-config : goal.returns-in-Some-Mutator-clause-config
-returns-in-Some-Mutator-clause-config g c = c.give_turn-cmd.ensures.config
-
 pub returns-in-None-clause-shown : goal.returns-in-None-clause-shown
 returns-in-None-clause-shown g c = g.met.W.Watch.none_shown c.args.watch.now
 
 pub returns-in-None-clause-never_falls : goal.returns-in-None-clause-never_falls
 returns-in-None-clause-never_falls g c = omega arith
-
-pub returns-in-None-clause-idle : goal.returns-in-None-clause-idle
-returns-in-None-clause-idle g c = c.requires.idle
-
-pub returns-in-None-clause-present : goal.returns-in-None-clause-present
-returns-in-None-clause-present g c = subst (λ (q : Player). AreThere q.script q.made c.args.world.now) (sym c.self.view_is) c.requires.present
-
-pub returns-in-None-clause-config : goal.returns-in-None-clause-config
-returns-in-None-clause-config g c = subst (λ (q : Player). c.args.world.now.config ≡ config_of q.script) (sym c.self.view_is) c.requires.config
 
 pub invariant_of-self-in_err-turn-in-Some-Collector : goal.invariant_of-self-in_err-turn-in-Some-Collector
 invariant_of-self-in_err-turn-in-Some-Collector g c = due_stepped (player c.self.inside) c.self.invariant c.next_turn.new.self (c.in-Some-Collector.ensures.turn ∙ ap (λ a. a ∷ to_come c.next_turn.new.self) c.in-Some-Collector.field-0-is)
@@ -202,20 +139,71 @@ invariant_of-self-in-None g c = subst (λ r. AreDue (record (player c.self.insid
 pub returns-in_err-turn-in-Some-Collector-clause-refused : goal.returns-in_err-turn-in-Some-Collector-clause-refused
 returns-in_err-turn-in-Some-Collector-clause-refused g c = if_err c.from_residual.result (ap (λ (q : Player). to_come q.rest) (sym c.self.view_is) ∙ c.in-Some-Collector.ensures.turn ∙ ap (λ a. a ∷ to_come c.next_turn.new.self) c.in-Some-Collector.field-0-is, c.in_err-turn-in-Some-Collector.ensures.refused)
 
-pub returns-in_ok-turn-in-Some-Collector-clause-told : goal.returns-in_ok-turn-in-Some-Collector-clause-told
-returns-in_ok-turn-in-Some-Collector-clause-told g c = record {
-  turn_so = ap (λ (q : Player). to_come q.rest) (sym c.self.view_is) ∙ c.in-Some-Collector.ensures.turn ∙ ap (λ a. a ∷ to_come c.next_turn.new.self) c.in-Some-Collector.field-0-is;
-  is = c.in_ok-turn-in-Some-Collector.ensures.seen;
-  steps = subst (λ (q : Player). HasStepped (IsSpent q.script q.made) c.args.world.now c.in_ok-turn-in-Some-Collector.turn c.turn_collector.new.world) c.self.view_is c.in_ok-turn-in-Some-Collector.ensures.stepped;
-  made = ap (λ (q : Player). q.made) c.self.view_is;
-  requested = c.turn_collector.ensures.requested;
+pub returns-in_err-turn-in-Some-Collector-clause-goes : goal.returns-in_err-turn-in-Some-Collector-clause-goes
+returns-in_err-turn-in-Some-Collector-clause-goes g c = c.turn_collector.ensures.goes
+
+pub returns-in_ok-turn-in-Some-Collector-clause-goes : goal.returns-in_ok-turn-in-Some-Collector-clause-goes
+returns-in_ok-turn-in-Some-Collector-clause-goes g c = c.turn_collector.ensures.goes
+
+-- the others go on as before, and it is there until its last command
+pub returns-in-Some-Mutator-clause-goes : goal.returns-in-Some-Mutator-clause-goes
+returns-in-Some-Mutator-clause-goes g c =
+    let m = c.in-Some-Mutator.mutator in
+    let script = c.self.inside.script.now in
+    let made : List ℕ = c.self.inside.made in
+    let n : HasCommand script m (made_by made m)
+    = next_turn (player c.self.inside) c.self.invariant c.next_turn.new.self m (c.in-Some-Mutator.ensures.turn ∙ ap (λ a. a ∷ to_come c.next_turn.new.self) c.in-Some-Mutator.field-0-is) in
+    record {
+      config = c.give_turn-cmd.ensures.config;
+      idle = c.give_turn-cmd.ensures.idle;
+      present = subst (λ x. AreThere script (slice_set made (x - 1) (slice_index_or made (x - 1) 0 + 1)) c.give_turn-cmd.new.world) (sym c.from.ensures)
+          (made_there script made m c.args.world.now c.give_turn-cmd.new.world n.some (omega (arith, n.some, n.most, few_mutators script c.self.invariant.valid, c.self.invariant.long)) c.give_turn-cmd.ensures.others
+          (λ more. c.give_turn-cmd.ensures.present (subst (λ x. slice_index_or made (x - 1) 0 + 1 < length (commands_of script m)) (sym c.from.ensures) more))
+          (subst (λ (q : Player). AreThere q.script q.made c.args.world.now) (sym c.self.view_is) c.requires.present));
+    }
+
+pub returns-in-None-clause-goes : goal.returns-in-None-clause-goes
+returns-in-None-clause-goes g c = record {
+  config = subst (λ (q : Player). c.args.world.now.config ≡ config_of q.script) (sym c.self.view_is) c.requires.config;
+  idle = c.requires.idle;
+  present = subst (λ (q : Player). AreThere q.script q.made c.args.world.now) (sym c.self.view_is) c.requires.present;
 }
 
-pub returns-in-Some-Mutator-clause-told : goal.returns-in-Some-Mutator-clause-told
-returns-in-Some-Mutator-clause-told g c = record {
-  turn = ap (λ (q : Player). to_come q.rest) (sym c.self.view_is) ∙ c.in-Some-Mutator.ensures.turn ∙ ap (λ a. a ∷ to_come c.next_turn.new.self) c.in-Some-Mutator.field-0-is;
-  carries = subst (λ (q : Player). Carries q.script c.in-Some-Mutator.mutator (made_by q.made c.in-Some-Mutator.mutator) c.args.world.now c.give_turn-cmd.result.0 c.give_turn-cmd.result.1 c.give_turn-cmd.new.world) c.self.view_is
-      (subst (λ n. Carries c.self.inside.script.now c.in-Some-Mutator.mutator (slice_index_or c.self.inside.made (n - 1) 0) c.args.world.now c.give_turn-cmd.result.0 c.give_turn-cmd.result.1 c.give_turn-cmd.new.world) c.from.ensures c.give_turn-cmd.ensures.carried);
-  made = ap (λ n. slice_set c.self.inside.made (n - 1) (slice_index_or c.self.inside.made (n - 1) 0 + 1)) c.from.ensures ∙ ap (λ (q : Player). slice_set q.made (c.in-Some-Mutator.mutator - 1) (made_by q.made c.in-Some-Mutator.mutator + 1)) c.self.view_is;
-  requested = c.give_turn-cmd.ensures.requested;
+pub returns-in_err-turn-in-Some-Collector-clause-turned : goal.returns-in_err-turn-in-Some-Collector-clause-turned
+returns-in_err-turn-in-Some-Collector-clause-turned g c = IfOk-from_err c.from_residual.result _ c.from_residual.ensures.0
+
+pub returns-in_ok-turn-in-Some-Collector-clause-turned : goal.returns-in_ok-turn-in-Some-Collector-clause-turned
+returns-in_ok-turn-in-Some-Collector-clause-turned g c = record {
+  told = record {
+    turn_so = ap (λ (q : Player). to_come q.rest) (sym c.self.view_is) ∙ c.in-Some-Collector.ensures.turn ∙ ap (λ a. a ∷ to_come c.next_turn.new.self) c.in-Some-Collector.field-0-is;
+    is = c.in_ok-turn-in-Some-Collector.ensures.seen;
+    steps = subst (λ (q : Player). HasStepped (IsSpent q.script q.made) c.args.world.now c.in_ok-turn-in-Some-Collector.turn c.turn_collector.new.world) c.self.view_is c.in_ok-turn-in-Some-Collector.ensures.stepped;
+    made = ap (λ (q : Player). q.made) c.self.view_is;
+    requested = c.turn_collector.ensures.requested;
+  };
+  ended = λ none. absurd (true≢false none);
+  stays = λ none. absurd (true≢false none);
 }
+
+pub returns-in-Some-Mutator-clause-turned : goal.returns-in-Some-Mutator-clause-turned
+returns-in-Some-Mutator-clause-turned g c = record {
+  told = record {
+    turn = ap (λ (q : Player). to_come q.rest) (sym c.self.view_is) ∙ c.in-Some-Mutator.ensures.turn ∙ ap (λ a. a ∷ to_come c.next_turn.new.self) c.in-Some-Mutator.field-0-is;
+    carries = subst (λ (q : Player). Carries q.script c.in-Some-Mutator.mutator (made_by q.made c.in-Some-Mutator.mutator) c.args.world.now c.give_turn-cmd.result.0 c.give_turn-cmd.result.1 c.give_turn-cmd.new.world) c.self.view_is
+        (subst (λ n. Carries c.self.inside.script.now c.in-Some-Mutator.mutator (slice_index_or c.self.inside.made (n - 1) 0) c.args.world.now c.give_turn-cmd.result.0 c.give_turn-cmd.result.1 c.give_turn-cmd.new.world) c.from.ensures c.give_turn-cmd.ensures.carried);
+    made = ap (λ n. slice_set c.self.inside.made (n - 1) (slice_index_or c.self.inside.made (n - 1) 0 + 1)) c.from.ensures ∙ ap (λ (q : Player). slice_set q.made (c.in-Some-Mutator.mutator - 1) (made_by q.made c.in-Some-Mutator.mutator + 1)) c.self.view_is;
+    requested = c.give_turn-cmd.ensures.requested;
+  };
+  ended = λ none. absurd (true≢false none);
+  stays = λ none. absurd (true≢false none);
+}
+
+pub returns-in-None-clause-turned : goal.returns-in-None-clause-turned
+returns-in-None-clause-turned g c = record {
+  told = tt;
+  ended = λ none. ap (λ (q : Player). to_come q.rest) (sym c.self.view_is) ∙ c.in-None.ensures.ended refl;
+  stays = λ none. (ap (λ r. record (player c.self.inside) { rest = r }) (c.in-None.ensures.stays refl) ∙ c.self.view_is, refl);
+}
+
+pub turn_collector-requires-clause-goes : goal.turn_collector-requires-clause-goes
+turn_collector-requires-clause-goes g c = subst (λ (q : Player). MayGoOn q.script q.made c.args.world.now) (sym c.self.view_is) c.requires

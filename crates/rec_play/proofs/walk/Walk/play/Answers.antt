@@ -16,27 +16,25 @@ playing c = ap (λ (w : Watched). w.stage) c.self.view_is ∙ c.requires
 
 pub invariant_of-self : goal.invariant_of-self
 invariant_of-self c =
-    turn_made (watched c.self.inside) c.next.new.self c.next.new.world (playing (goal.at.invariant_of-self c).After-next) c.self.invariant c.next.ensures.script c.next.ensures.due.1 c.next.ensures.idle c.next.ensures.present c.next.ensures.config c.next.ensures.kept
-    c.in-Some.told c.in-Some.ensures.told
+    turn_made (watched c.self.inside) c.next.new.self c.next.new.world (playing (goal.at.invariant_of-self c).After-next) c.self.invariant c.next.ensures.script c.next.ensures.due.1 c.next.ensures.goes.idle c.next.ensures.goes.present c.next.ensures.goes.config c.next.ensures.kept
+    c.in-Some.told c.in-Some.ensures.turned.told
 
 pub returns-in-Some-clause-told : goal.returns-in-Some-clause-told
 returns-in-Some-clause-told c =
     let w : Watched = watched c.self.inside in
     subst (λ x. Tells x (record w { script = c.next.new.self.script; rest = c.next.new.self.rest; made = c.next.new.self.made; world = c.next.new.world }) c.in-Some.told) c.self.view_is
-    (turn_tells w c.next.new.self c.next.new.world (playing (goal.at.returns-in-Some-clause-told c).After-next) c.self.invariant c.next.ensures.script c.next.ensures.due.1 c.next.ensures.idle c.next.ensures.present c.next.ensures.config c.next.ensures.kept
-    c.in-Some.told c.in-Some.ensures.told)
+    (turn_tells w c.next.new.self c.next.new.world (playing (goal.at.returns-in-Some-clause-told c).After-next) c.self.invariant c.next.ensures.script c.next.ensures.due.1 c.next.ensures.goes.idle c.next.ensures.goes.present c.next.ensures.goes.config c.next.ensures.kept
+    c.in-Some.told c.in-Some.ensures.turned.told)
 
-pub next-requires-clause-config : goal.next-requires-clause-config
-next-requires-clause-config c = c.self.invariant.config
-
-pub next-requires-clause-idle : goal.next-requires-clause-idle
-next-requires-clause-idle c = c.self.invariant.idle
-
-pub next-requires-clause-present : goal.next-requires-clause-present
-next-requires-clause-present c = c.self.invariant.present
+pub next-requires : goal.next-requires
+next-requires c = record {
+  config = c.self.invariant.config;
+  idle = c.self.invariant.idle;
+  present = c.self.invariant.present;
+}
 
 pub begin_settling-requires-clause-none : goal.begin_settling-requires-clause-none
-begin_settling-requires-clause-none c = ap (λ (q : Player). to_come q.rest) (c.in-None.ensures.stays refl).0 ∙ c.in-None.ensures.ended refl
+begin_settling-requires-clause-none c = ap (λ (q : Player). to_come q.rest) (c.in-None.ensures.turned.stays refl).0 ∙ c.in-None.ensures.turned.ended refl
 
 pub returns-in-Some-clause-script : goal.returns-in-Some-clause-script
 returns-in-Some-clause-script c = c.next.ensures.script ∙ ap (λ (w : Watched). w.script) c.self.view_is
@@ -56,8 +54,8 @@ returns-in-None-clause-told c =
     let p : Player = c.next.new.self in
     let Q : Watched → Type 0 = λ x. IfSome c.begin_settling.result (Tells x c.begin_settling.new.self) in
     subst Q c.self.view_is
-    (subst (λ (q : Player). Q (record w { script = q.script; rest = q.rest; made = q.made })) (c.in-None.ensures.stays refl).0
-    (subst (λ (v : Core). Q (record w { script = p.script; rest = p.rest; made = p.made; world = v })) (c.in-None.ensures.stays refl).1 c.begin_settling.ensures.told))
+    (subst (λ (q : Player). Q (record w { script = q.script; rest = q.rest; made = q.made })) (c.in-None.ensures.turned.stays refl).0
+    (subst (λ (v : Core). Q (record w { script = p.script; rest = p.rest; made = p.made; world = v })) (c.in-None.ensures.turned.stays refl).1 c.begin_settling.ensures.told))
 
 pub returns-in-None-clause-nearer : goal.returns-in-None-clause-nearer
 returns-in-None-clause-nearer c =
@@ -65,8 +63,8 @@ returns-in-None-clause-nearer c =
     let p : Player = c.next.new.self in
     let Q : Watched → Type 0 = λ x. IfSome c.begin_settling.result (λ told. moves_left c.begin_settling.new.self < moves_left x) in
     subst Q c.self.view_is
-    (subst (λ (q : Player). Q (record w { script = q.script; rest = q.rest; made = q.made })) (c.in-None.ensures.stays refl).0
-    (subst (λ (v : Core). Q (record w { script = p.script; rest = p.rest; made = p.made; world = v })) (c.in-None.ensures.stays refl).1 c.begin_settling.ensures.nearer))
+    (subst (λ (q : Player). Q (record w { script = q.script; rest = q.rest; made = q.made })) (c.in-None.ensures.turned.stays refl).0
+    (subst (λ (v : Core). Q (record w { script = p.script; rest = p.rest; made = p.made; world = v })) (c.in-None.ensures.turned.stays refl).1 c.begin_settling.ensures.nearer))
 
 pub returns-in-None-clause-ended : goal.returns-in-None-clause-ended
 returns-in-None-clause-ended c = c.begin_settling.ensures.ended

@@ -2,7 +2,7 @@
 use Rattle.std.proofs.Common.{◌≡◌, IsSome, Option, None, Some, sym, subst, ap, ◌∙◌}
 use Rattle.std.proofs.lemmas.Bool.{false≢true}
 use Rattle.rec_word.specs.declared.op.Op.TheVariants.{ClearField}
-use Rattle.rec_walk.specs.declared.member.Member.{Member}
+use Rattle.rec_word.specs.declared.member.Member.{Member}
 use Rattle.rec_release.specs.CycleFree.{Machine, next_of}
 use Rattle.rec_release.proofs.cycle_free.CycleFree.place.Goals as goal
 

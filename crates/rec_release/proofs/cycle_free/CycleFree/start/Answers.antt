@@ -1,6 +1,6 @@
 -- The contract of `CycleFree::start`: begins to free set `set`, the last one: its members leave the cycle buffer, and are released and Black.
 use Rattle.std.proofs.Common.{◌≡◌, [], get_or, refl, arith, ap, ◌∙◌}
-use Rattle.rec_walk.specs.Walk.{first_in}
+use Rattle.rec_word.specs.Walk.{first_in}
 use Rattle.rec_counts.specs.Counts.{State}
 use Rattle.rec_counts.specs.Groups.{last_set}
 use Rattle.rec_release.specs.CycleFree.{started_of, work_of}

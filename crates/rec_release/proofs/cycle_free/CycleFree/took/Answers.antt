@@ -1,13 +1,13 @@
 -- The contract of `CycleFree::took`: learns the word that came out of the field: its target has one reference less.
 use Rattle.std.proofs.Common.{◌≡◌, ℕ, ◌++◌, true, Option, Some, IfSome, IsSome, is_some, refl, sym, subst, ap, ◌∙◌}
 use Rattle.rec_word.specs.Word.{target_of}
-use Rattle.rec_walk.specs.declared.member.Member.{Member}
-use Rattle.rec_walk.specs.Load.{loaded_at}
+use Rattle.rec_word.specs.declared.member.Member.{Member}
+use Rattle.rec_word.specs.Load.{loaded_at}
 use Rattle.rec_counts.specs.Counts.{State}
 use Rattle.rec_release.specs.CycleFree.{Machine, Next, gone_on, next_of, op_at, took_of, work_of, IsAtWork}
 use Rattle.rec_release.specs.Freed.{FreedTo}
 use Rattle.rec_release.specs.TakenOff.{taken_off}
-use Rattle.rec_walk.proofs.Given.{works_at, WorksAt}
+use Rattle.rec_word.proofs.Given.{works_at, WorksAt}
 use Rattle.rec_release.proofs.Freeing.{came_more, gone_work, off_work, took_some}
 use Rattle.rec_release.proofs.Orange.{gone_keeps, keeps_orange, Keeps}
 use Rattle.rec_release.proofs.cycle_free.CycleFree.took.Goals as goal

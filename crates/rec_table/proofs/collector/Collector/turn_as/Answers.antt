@@ -44,7 +44,7 @@ there c =
     turn_there (key c) c.in-Some.op c.self.inside.opened.value c.self.inside.machine c.args.board.now.table.shared.table_id.words c.requires.world (opened c) c.self.invariant.2 c.turns-turns.ensures.kept (named c) (omega (arith, wide.0, wide.1, wide.2))
 
 keeps : (a b d : Private) → KeepsSizes a b → KeepsSizes b d → KeepsSizes a d
-keeps a b d x y = record { slots = y.slots ∙ x.slots; fields = y.fields ∙ x.fields; registers = y.registers ∙ x.registers; capacity = y.capacity ∙ x.capacity; steady = y.steady ∙ x.steady; mutators = y.mutators ∙ x.mutators }
+keeps a b d x y = record { slots = y.slots ∙ x.slots; fields = y.fields ∙ x.fields; registers = y.registers ∙ x.registers; capacity = y.capacity ∙ x.capacity; policy = y.policy ∙ x.policy; mutators = y.mutators ∙ x.mutators }
 
 looking : (c : In-Some) (t e : ℕ) → c.in-Some.op ≡ ops.LookBox t e → (c.self.inside.machine.phase ≡ Looking t) × (c.self.inside.machine.epoch ≡ e)
 looking c t e is = looking_of c.self.inside.machine c.in-Some.op t e c.self.invariant.3 (named c) is

@@ -3,7 +3,7 @@ use Rattle.std.proofs.Common.{sym, ap, subst, ◌∙◌}
 use Rattle.rec_world.proofs.Common.{Core, sight, mutator}
 use Rattle.rec_model.specs.Heap.{opening}
 use Rattle.rec_model.specs.Sight.{Represents}
-use Rattle.rec_core.proofs.OpenedMutators.{mutator_opened, opened_stands}
+use Rattle.rec_core.proofs.Opened.{mutator_opened, opened_stands}
 use Rattle.rec_world.proofs.world.World.open.Goals as goal
 
 pub returns-clause-stands : goal.returns-clause-stands
@@ -12,4 +12,4 @@ returns-clause-stands c =
     subst P (sym c.in_ok-world.ensures.opened) (opened_stands c.args.config (c.first_wrong.ensures.none.0 c.in_default.is))
 
 pub returns-clause-mutators : goal.returns-clause-mutators
-returns-clause-mutators c = λ t there. ap (λ (w : Core). mutator w t) c.in_ok-world.ensures.opened ∙ mutator_opened c.args.config t there
+returns-clause-mutators c = λ t there. ap (λ (w : Core). mutator w t) c.in_ok-world.ensures.opened ∙ mutator_opened c.args.config (c.first_wrong.ensures.none.0 c.in_default.is) t there

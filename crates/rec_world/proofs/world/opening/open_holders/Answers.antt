@@ -4,7 +4,7 @@ use Rattle.std.proofs.Math.Nat.{suc-mul}
 use Rattle.std.proofs.lemmas.List.Elements.{All-drop}
 use Rattle.rec_word.specs.Word.{IsTarget}
 use Rattle.rec_core.specs.Objects.{rows_of}
-use Rattle.rec_core.specs.OpenedFrom.{holding_mutator, holding_mutators}
+use Rattle.rec_core.specs.Core.{holding_mutator, holding_mutators}
 use Rattle.rec_world.proofs.Common.{Private}
 use Rattle.rec_world.proofs.Openings.{holders_more}
 use Rattle.rec_world.proofs.world.opening.open_holders.Goals as goal

@@ -2,7 +2,7 @@
 use Rattle.std.proofs.Common.{◌≡◌, ◌+◌, ◌-◌, ◌*◌, ◌++◌, All, length}
 use Rattle.rec_word.specs.Word.{IsTarget}
 use Rattle.rec_core.specs.Objects.{rows_of}
-use Rattle.rec_core.specs.OpenedFrom.{holding_mutators}
+use Rattle.rec_core.specs.Core.{holding_mutators}
 use Rattle.rec_world.proofs.world.opening.open_holders.Given as goal
 
 abbrev pub invariant-loop-t : goal.invariant-loop-t

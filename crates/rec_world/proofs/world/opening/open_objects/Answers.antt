@@ -1,7 +1,7 @@
 -- The parts make up the heap as it is opened from objects.
 use Rattle.std.proofs.Common.{◌≡◌, map, length, sym, subst}
 use Rattle.rec_core.specs.Objects.{Objects}
-use Rattle.rec_core.specs.OpenedFrom.{opened_from}
+use Rattle.rec_core.specs.Core.{opened_from}
 use Rattle.rec_world.proofs.Common.{Core, IsWorld, cells_of, held}
 use Rattle.rec_world.proofs.Calls.{opened_home}
 use Rattle.rec_world.proofs.OpenedObjects.{objects_parts, objects_world, row_holds, row_long}

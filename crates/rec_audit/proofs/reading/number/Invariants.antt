@@ -1,7 +1,0 @@
--- The loop of `number`: the number of the digits so far.
-use Rattle.std.proofs.Common.{◌≡◌, take}
-use Rattle.std.specs.Str.Parse.{digits_value}
-use Rattle.rec_audit.proofs.reading.number.Given as goal
-
-abbrev pub invariant-loop-i : goal.invariant-loop-i
-invariant-loop-i l = l.value ≡ digits_value 10 (take l.i l.word)

@@ -1,3 +1,0 @@
--- The modules of the proofs.
-pub mod Given
-pub mod Walks

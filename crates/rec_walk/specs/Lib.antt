@@ -1,3 +1,0 @@
--- The modules of the definitions.
-pub mod Load
-pub mod Walk
