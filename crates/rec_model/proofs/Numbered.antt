@@ -17,7 +17,7 @@ closed_has_reached roots children ns of_roots of_children k (child m n from ther
     of_children m n (closed_has_reached roots children ns of_roots of_children m from) there
 
 -- the front of a numbering that its first numbers give
-abbrev pub front : (roots : List ℕ) (children : ℕ → List ℕ) → List ℕ → List ℕ
+abbrev front : (roots : List ℕ) (children : ℕ → List ℕ) → List ℕ → List ℕ
 front roots children ns = firsts (roots ++ flat_map children ns)
 
 has_roots : (roots : List ℕ) (children : ℕ → List ℕ) (ns : List ℕ) (n : ℕ) → is_in n roots ≡ true → is_in n (front roots children ns) ≡ true

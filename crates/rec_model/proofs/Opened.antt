@@ -59,7 +59,7 @@ length_headers : (slots : ℕ) → 0 < slots → length {A = ℕ} (1 ∷ replica
 length_headers slots some = let rest : length {A = ℕ} (replicate (slots - 1) 0) ≡ slots - 1 = length-replicate (slots - 1) 0 in omega arith
 
 -- registers and fields name taken slots
-pub opening_sound : (slots fields registers mutators : ℕ) → 0 < slots → IsSound (opening_sight slots fields registers mutators)
+opening_sound : (slots fields registers mutators : ℕ) → 0 < slots → IsSound (opening_sight slots fields registers mutators)
 opening_sound slots fields registers mutators some =
     record {
       places = length-replicate (slots * fields) 0 ∙ ap (λ n. n * fields) (sym (length_headers slots some));

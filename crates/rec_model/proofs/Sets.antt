@@ -11,14 +11,14 @@ use Rattle.rec_model.proofs.Reaching.{all_in_reach}
 use Rattle.rec_model.proofs.Naming.{count_is}
 
 -- the open references of the applied epoch from members, and from others
-abbrev pub inner_word : Pending → (ℕ → Bool) → (node place word : ℕ) → ℕ
+abbrev inner_word : Pending → (ℕ → Bool) → (node place word : ℕ) → ℕ
 inner_word w member y place word = only_if (member (home w.fields place)) (opened_to w.applied y place word)
 
 abbrev pub outer_word : Pending → (ℕ → Bool) → (node place word : ℕ) → ℕ
 outer_word w member y place word = only_if (not (member (home w.fields place))) (opened_to w.applied y place word)
 
 -- the closed ones
-abbrev pub inner_write : Pending → (ℕ → Bool) → (node : ℕ) → Write → ℕ
+abbrev inner_write : Pending → (ℕ → Bool) → (node : ℕ) → Write → ℕ
 inner_write w member y e = only_if (member (home w.fields e.place)) (closed_from w.applied y e)
 
 abbrev pub outer_write : Pending → (ℕ → Bool) → (node : ℕ) → Write → ℕ

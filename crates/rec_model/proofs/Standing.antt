@@ -158,7 +158,7 @@ there_after heap x number slot s there =
     ]
 
 -- the header is that of this object
-abbrev pub IsHeaderFor : Object → (header : ℕ) → Type 0
+abbrev IsHeaderFor : Object → (header : ℕ) → Type 0
 IsHeaderFor x header = IsHeaderOf x.leaf x.label header
 
 -- so is an equal one of an equal object

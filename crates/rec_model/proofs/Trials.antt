@@ -19,7 +19,7 @@ pub null_elsewhere : (p z place : ℕ) → 0 < z → at_place p z place 0 ≡ 0
 null_elsewhere p z place pos = let null : node_of 0 ≡ 0 = node_of_null in grind (arith, nat_tests)
 
 -- members that were given up since the batch
-abbrev pub given_up : (member released : ℕ → Bool) → ℕ → Bool
+abbrev given_up : (member released : ℕ → Bool) → ℕ → Bool
 given_up member released s = cond (member s) (released s) false
 
 module _ (w u : Pending) (member : ℕ → Bool) (mark : ℕ → ℕ) (gone : List Cleared) (m : IsMarked u member mark) (v : IsSince w u member gone) where

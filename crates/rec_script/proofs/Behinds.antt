@@ -83,18 +83,6 @@ pub record IsReadBehind (h : Numbers) (bytes rest : List ℕ) (d : Draft) (n : �
   pub few : n + length rest ≤ length bytes
   pub mutators : mutators_in d ≤ h.mutators
 
--- at first nothing was
-pub read_first : (h : Numbers) (bytes : List ℕ) (d : Draft) → IsDraft d → so_far d ≡ heading h → mutators_in d ≡ 0 → IsReadBehind h bytes bytes d 0
-read_first h bytes d is spelt none = record {
-  draft = is;
-  spelt = spelt ∙ sym (append-nil (heading h));
-  utf8 = λ k x lt. absurd (omega (arith, lt));
-  others = refl;
-  within = omega arith;
-  few = omega arith;
-  mutators = omega (arith, none);
-}
-
 -- at most one line counts of one
 counted_one : (line : List ℕ) → length (counted (line ∷ [])) ≤ 1
 counted_one line = go (is_counted (words line))
@@ -219,7 +207,7 @@ need_is before _ (IsNeed.of_heap v known one) long = absurd (omega (arith, long,
 need_is before _ (IsNeed.of_mutator v s f r known heap two) long = refl
 
 -- all lines were read
-pub record IsAllRead (h : Numbers) (bytes : List ℕ) (d : Draft) (n : ℕ) : Type 0 where
+record IsAllRead (h : Numbers) (bytes : List ℕ) (d : Draft) (n : ℕ) : Type 0 where
   pub count : n ≡ length (lines bytes)
   pub spelt : so_far d ≡ heading h ++ counted (lines bytes)
   pub utf8 : AreUtf8 (lines bytes)

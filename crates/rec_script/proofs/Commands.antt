@@ -13,7 +13,7 @@ abbrev pub letters : List ℕ → ℕ
 letters word = 256 * get_or word 0 0 + get_or word 1 0
 
 -- the fourth letter, which tells the two words apart that begin alike
-abbrev pub fourth : List ℕ → ℕ
+abbrev fourth : List ℕ → ℕ
 fourth word = get_or word 3 0
 
 -- what a word chooses of nine things

@@ -9,10 +9,6 @@ use Rattle.rec_script.specs.Script.{IsNumeralOf}
 pub same_number : (word : List ℕ) (m n : ℕ) → IsNumeralOf word m → IsNumeralOf word n → m ≡ n
 same_number word m n a b = decimal_injective m n (omega (arith, a.0)) (omega (arith, b.0)) (sym a.1 ∙ b.1)
 
--- the numeral at the front is the word
-pub whole_word : (word : List ℕ) (n : ℕ) → n ≤ 4294967295 → word ≡ decimal n ++ [] → IsNumeralOf word n
-whole_word word n small is = (omega arith, is ∙ append-nil (decimal n))
-
 pub no_word : (word : List ℕ) → ((n : ℕ) (t : List ℕ) → n ≤ 4294967295 → EndsNumeral t → word ≡ decimal n ++ t → ⊥) → (n : ℕ)
     → IsNumeralOf word n → ⊥
 no_word word none n is = none n [] (omega (arith, is.0)) refl (is.1 ∙ sym (append-nil (decimal n)))

@@ -73,7 +73,7 @@ stays_turned w kept =
     record { registers = keeps.registers; stands = λ heap number h. keeps_stands_by heap (sight w) (sight (turned w)) number keeps h; made = stays.made; freed = stays.freed }
 
 -- In the midst of a collection, all that it swept is what its sweep tells.
-pub record StaysAmid (before w : Core) : Type 0 where
+record StaysAmid (before w : Core) : Type 0 where
   pub stays : Stays before w
   pub sweeps : w.collector.freed + swept before ≡ before.collector.freed + swept w
 
@@ -111,7 +111,7 @@ few_swept w kept = go w.collector.phase refl
     go _ is = omega (arith, ap swept_at is)
 
 -- Once it is complete: a collection sweeps as many slots as there are, at most.
-pub record StaysAfter (before after : Core) : Type 0 where
+record StaysAfter (before after : Core) : Type 0 where
   pub stays : Stays before after
   pub few : after.collector.freed ≤ before.collector.freed + before.config.slots
 
