@@ -30,7 +30,7 @@ bare_some : (word : ℕ) → has_target word ≡ true → bare word ≡ 0 → �
 bare_some word leads none = false≢true (sym (ap has_target none) ∙ (leads_same word ∙ leads))
 
 -- a line that opened the reference which a line of bare words opens
-record Opened (ls : List Line) (b : Line) : Type 0 where
+pub record Opened (ls : List Line) (b : Line) : Type 0 where
   pub line : Line
   pub listed : Contains ls line
   pub opens_one : opens line ≡ true

@@ -25,11 +25,11 @@ use Rattle.rec_audit.specs.declared.kind.Kind.TheVariants as kinds
 abbrev pub stamp_number : (epoch writer index : ℕ) → ℕ
 stamp_number epoch writer index = epoch * 2 ^ 24 + writer * 2 ^ 18 + index
 
-abbrev number_of : (word : ℕ) → ℕ
+abbrev pub number_of : (word : ℕ) → ℕ
 number_of word = stamp_number (stamp_of word).epoch (stamp_of word).writer (stamp_of word).index
 
 -- what these lines put has stamps that rise, from this number on and below that
-abbrev Rises : ℕ → List Line → ℕ → Type 0
+abbrev pub Rises : ℕ → List Line → ℕ → Type 0
 Rises k [] m = k ≤ m
 Rises k (line ∷ lines) m = (n : ℕ) × (k ≤ n) × (opens line ≡ true → (k ≤ number_of (number 2 line)) × (number_of (number 2 line) < n)) × Rises n lines m
 

@@ -295,7 +295,7 @@ passed_keeps v at kept working (Some members) is =
     (working ∙ passed_works v.collector v.collector.phase members is, within.0, within.1)
 
 -- Steps keep what they have to, and this is where they lead.
-record KeepTo (heap : Heap) (at : Place) (shown : List Shown) (to : Place) : Type 0 where
+pub record KeepTo (heap : Heap) (at : Place) (shown : List Shown) (to : Place) : Type 0 where
   pub keep : Keep heap at shown
   pub stamped : AreStamped shown
   pub ends : behind_steps at shown ≡ to

@@ -143,7 +143,7 @@ module _ (p now : Private) (word : ℕ) (phase : Phase) (n : Next) (k : IsMachin
   pub turned_keeps : IsMachine (landed p n)
   turned_keeps = subst (λ (m : Next). IsMachine (landed p m)) (sym is) (work_keeps p word phase k at given at_work)
 
-  turned : (q : Private) (turn : Turn) → q ≡ ended_if n.phase (landed p n) → turn ≡ came_turn p.epoch n.phase → KeepsSizes (landed p n) q → (q ≡ took_at now word phase) × (turn ≡ turn_at now word phase) × KeepsSizes now q
+  pub turned : (q : Private) (turn : Turn) → q ≡ ended_if n.phase (landed p n) → turn ≡ came_turn p.epoch n.phase → KeepsSizes (landed p n) q → (q ≡ took_at now word phase) × (turn ≡ turn_at now word phase) × KeepsSizes now q
   turned q turn ends answers sizes = (
     ends ∙ ap (came p) is ∙ (work_took p word phase at_work).0 ∙ ap (λ (r : Private). took_at r word phase) v,
     answers ∙ ap (λ (m : Next). came_turn p.epoch m.phase) is ∙ (work_took p word phase at_work).1 ∙ ap (λ (r : Private). turn_at r word phase) v,

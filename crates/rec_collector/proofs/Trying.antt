@@ -44,7 +44,7 @@ others_tried {least} s t o k = record {
 }
 
 -- A collection has come so far in its preparation.
-record HasPrepared (p : Private) (w : Parts) (v : preps.Work) : Type 0 where
+pub record HasPrepared (p : Private) (w : Parts) (v : preps.Work) : Type 0 where
   pub fields : v.machine.fields ≡ w.fields
   pub preparation : AreInPreparation w.policy.least_roots v.counts v.machine
   pub open preparation use *
@@ -188,7 +188,7 @@ over_apart m s a n none z = λ x e.
     record { member = all x e; no_zero = ap (times x) z ∙ times-nil x; unreleased = k.released x ∙ k.members x (all x e) }
 
 -- A collection has come so far in its trial.
-record HasTried (p : Private) (w : Parts) (v : Work) : Type 0 where
+pub record HasTried (p : Private) (w : Parts) (v : Work) : Type 0 where
   pub fields : v.machine.fields ≡ w.fields
   pub on_trial : AreOnTrial v.counts v.machine
   pub open on_trial use *

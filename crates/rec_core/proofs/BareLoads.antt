@@ -68,7 +68,7 @@ module _ (s : State) (number n x : ℕ) where
 -- ---- outside counts
 
 -- a preparation began with this state, and they are of the moves since
-record AreOfRun (n : ℕ) (t : Core) : Type 0 where
+pub record AreOfRun (n : ℕ) (t : Core) : Type 0 where
   pub places : (moves : List Move) → AllFit t moves → IsSameTrial t (after_moves t moves) → HasSets (after_moves t moves).collector.phase → map (λ (l : Loaded). l.place) (loaded_over t moves) ≡ places_of n (concat t.collector.counts.sets)
   pub passed : (moves : List Move) → AllFit t moves → IsSameTrial t (after_moves t moves) → HasSets (after_moves t moves).collector.phase → (number x : ℕ) → Passes (after_moves t moves) number → (slot_at (after_moves t moves).collector.counts x).set ≡ Some number
       → (slot_at (after_moves t moves).collector.counts x).count ≤ seen t.collector.counts number (fields_loaded n (loaded_over t moves)) x

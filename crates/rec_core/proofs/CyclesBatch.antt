@@ -15,7 +15,7 @@ use Rattle.rec_core.proofs.CyclesLess.{TestsLess, member_before}
 use Rattle.rec_core.proofs.CyclesTest.{counted_less}
 
 -- What the next batch of `w` makes of the counts: less is left to be tested, and its writes put nothing to a slot that is Orange after it.
-record IsBatchOf (w : Pending) (s t : State) : Type 0 where
+pub record IsBatchOf (w : Pending) (s t : State) : Type 0 where
   pub less : TestsLess s t
   pub unput : (x : ℕ) → (slot_at t x).colour ≡ Orange → sum_by (puts_in (w.applied + 1) (x + 1)) w.writes ≡ 0
 

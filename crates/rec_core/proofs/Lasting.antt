@@ -53,7 +53,7 @@ pub writes_sum : (g : Write → ℕ) (w : Core) → sum_by g (writes_of w) ≡ s
 writes_sum g w = buffers_sum g (λ b. writes_in b.buffer.entries) w
 
 -- what becomes of the word in a field
-data Goes (w v : Core) (gone : List Cleared) (epoch place : ℕ) : Type 0 where
+pub data Goes (w v : Core) (gone : List Cleared) (epoch place : ℕ) : Type 0 where
   stays : slice_index_or v.words place 0 ≡ slice_index_or w.words place 0 → Goes w v gone epoch place
   written_over : (new : ℕ) → epoch ≤ epoch_of new → ((g : Write → ℕ) → g (record { place = place; new = new; old = slice_index_or w.words place 0 }) ≤ sum_by g (writes_of v)) → Goes w v gone epoch place
   goes_out : Contains gone (record { place = place; word = slice_index_or w.words place 0 }) → Goes w v gone epoch place
@@ -115,12 +115,12 @@ known_lasts v gone l (inr (inl some)) =
 known_lasts v gone l (inr (inr c)) = IsKnown.taken_out c
 
 -- A step of a mutator, told by what it does to words and logs: it leaves the words, and log and mailbox hold the same writes,
-record IsPlain (op : Op) (word : ℕ) (p q : Private) (box left : Contents) : Type 0 where
+pub record IsPlain (op : Op) (word : ℕ) (p q : Private) (box left : Contents) : Type 0 where
   pub words : (cells : Cells) → cell cells op ≡ word → (with_cell cells op (written op word)).words ≡ cells.words
   pub same : (g : Write → ℕ) → wrote g q.log + wrote g left ≡ wrote g p.log + wrote g box
 
 -- or it exchanges a word and logs it.
-record IsPut (op : Op) (word : ℕ) (p q : Private) (box left : Contents) : Type 0 where
+pub record IsPut (op : Op) (word : ℕ) (p q : Private) (box left : Contents) : Type 0 where
   pub place : ℕ
   pub new : ℕ
   pub operation : op ≡ ops.SwapField place new

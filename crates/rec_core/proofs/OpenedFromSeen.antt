@@ -82,7 +82,7 @@ module _ (config : Config) (o : Objects) (is : IsConfig config) (are : AreObject
   few = omega (arith, are.few, is.few_slots)
 
   -- how many fields there are
-  fields_many : many * width ≤ 2 ^ 42
+  pub fields_many : many * width ≤ 2 ^ 42
   fields_many =
       let most : many * width ≤ 65535 * 16 = mul-le-mul few is.few_fields in
       omega (arith, most)
@@ -136,7 +136,7 @@ module _ (config : Config) (o : Objects) (is : IsConfig config) (are : AreObject
       ∙ ap (λ p. early_words p (take k (drop (s * width) o.fields))) from
 
   -- and of a free one
-  nulls_past : (s : ℕ) → many ≤ s → s < config.slots → words_of (sight w) s ≡ replicate width 0
+  pub nulls_past : (s : ℕ) → many ≤ s → s < config.slots → words_of (sight w) s ≡ replicate width 0
   nulls_past s past there =
       let behind : many * width ≤ s * width = mul-le-mul_right width past in
       let next : (s + 1) * width ≤ config.slots * width = mul-le-mul_right width (omega (arith, there)) in
@@ -172,7 +172,7 @@ module _ (config : Config) (o : Objects) (is : IsConfig config) (are : AreObject
   pub registers_are : (sight w).registers ≡ rows_of config.registers config.mutators o.registers
   registers_are = registers_held false config 1 (rows_of config.registers config.mutators o.registers)
 
-  roots_are : roots (sight w).registers ≡ named o.registers
+  pub roots_are : roots (sight w).registers ≡ named o.registers
   roots_are = ap roots registers_are ∙ roots-rows config.registers config.mutators o.registers are.registers
 
   -- Names are those of taken slots.
@@ -204,13 +204,13 @@ module _ (config : Config) (o : Objects) (is : IsConfig config) (are : AreObject
   slot_reached s below = object_reached s (are.reached s below)
 
   -- how many fields and registers hold a slot
-  held_by_fields : (s : ℕ) → fields_holding w s ≡ count_by (is_slot s) o.fields
+  pub held_by_fields : (s : ℕ) → fields_holding w s ≡ count_by (is_slot s) o.fields
   held_by_fields s = early_holding s 0 o.fields ((config.slots - many) * width) few_fields all_targets
 
-  held_by_registers : (s : ℕ) → registers_holding w s ≡ count_by (is_slot s) o.registers
+  pub held_by_registers : (s : ℕ) → registers_holding w s ≡ count_by (is_slot s) o.registers
   held_by_registers s = ap (sum_by (count_by (is_slot s))) registers_are ∙ rows_sum (λ x. if is_slot s x then 1 else 0) config.registers config.mutators o.registers are.registers
 
-  count_at : (s : ℕ) → s < many → (slot_at w.collector.counts s).count ≡ holders o s
+  pub count_at : (s : ℕ) → s < many → (slot_at w.collector.counts s).count ≡ holders o s
   count_at s below =
       let counts : length (counts_of o) ≡ many = length-map-range_with_len (holders o) 0 many in
       ap (λ v. v.count) (counted_at config.slots (counts_of o) s absent (omega (arith, below, counts))) ∙ get_or-map-range_with_len (holders o) 0 many s s 0 below (omega arith)

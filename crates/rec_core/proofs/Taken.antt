@@ -19,7 +19,7 @@ use Rattle.rec_core.proofs.Turns.{phase_moves, stands_as}
 use Rattle.rec_core.proofs.Zeros.{HasCome}
 
 -- the place of a field that the collector empties, the word there, and the words without it
-record Emptied : Type 0 where
+pub record Emptied : Type 0 where
   pub place : ℕ
   pub word : ℕ
   pub words : List ℕ
@@ -129,7 +129,7 @@ module _ (w : Core) (slot field : ℕ) (may : MayEmpty w slot field) where
   off_accounted lowers = move_accounted (AccountMove.clearing (rule lowers)) accounted
 
   -- what is still to be emptied, where this was begun
-  abbrev IsLeftBy : (lowers : Bool) → Option Phase → Type 0
+  abbrev pub IsLeftBy : (lowers : Bool) → Option Phase → Type 0
   IsLeftBy lowers begun =
       (x f : ℕ) → x < w.config.slots → f < w.config.fields → (slot_at (off lowers) x).released ≡ true → IsLeft (begun_release begun) x f ⊎ (IsLeftOf (off lowers).work (begun_freeing begun) x f ⊎ (slice_index_or words (place_of x f w.config.fields) 0 ≡ 0))
 

@@ -52,7 +52,7 @@ freed_more w kept =
     small n below = grind (arith, below)
 
 -- A turn of a kept heap, with its operation and the word that it finds.
-record Turns (w : Core) (op : Op) (word : ℕ) (q : collectors.Private) : Type 0 where
+pub record Turns (w : Core) (op : Op) (word : ℕ) (q : collectors.Private) : Type 0 where
   pub kept : IsKept true w
   pub found : word ≡ cell (cells_of w) op
   pub machine : collector_kept.IsMachine q

@@ -14,14 +14,14 @@ use Rattle.rec_counts.proofs.Keeping.{keep_slot, keep_push_root, relisted}
 use Rattle.rec_counts.proofs.Times.{once_push}
 
 -- what is known of a slot that is due at the zeros
-record ToZeros (v : Slot) : Type 0 where
+pub record ToZeros (v : Slot) : Type 0 where
   pub unreleased : v.released ≡ false
   pub last : v.count ≡ 1
   pub buffered : (lessened v).buffered ≡ v.buffered
   pub set : (lessened v).set ≡ v.set
 
 -- what is known of a slot that is due at the root buffer
-record ToRoots (v : Slot) : Type 0 where
+pub record ToRoots (v : Slot) : Type 0 where
   pub unbuffered : v.buffered ≡ false
   pub buffered : (lessened v).buffered ≡ true
   pub set : (lessened v).set ≡ v.set

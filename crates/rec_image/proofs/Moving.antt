@@ -154,10 +154,10 @@ module _ (w : Core) (list : List ℕ) (slots : ℕ) (world : IsWorld w) (numbers
   many : length v.objects ≡ length list
   many = length-map list (node_of (sight w) list)
 
-  fits : IsImage v
+  pub fits : IsImage v
   fits = in_slots_image (image_of w list) slots (is_image w list world numbers few) some (omega (arith, many, room))
 
-  config_is : IsConfig (config_of v log policy)
+  pub config_is : IsConfig (config_of v log policy)
   config_is = record {
     some_slots = some.0;
     few_slots = some.1;
@@ -226,7 +226,7 @@ module _ (w : Core) (list : List ℕ) (slots : ℕ) (world : IsWorld w) (numbers
       let own = subst (λ (node : Node). IsHeaderOf node.leaf node.label (get_or new.headers s 0)) (node_at s within) (by.header s taken) in
       record { leaf = own.leaf ∙ was.leaf; label = omega (arith, own.label, was.label, head.some) }
 
-  moved_for : (u : ImageContents) → StandsFor u (sight w) → StandsFor u (sight new)
+  pub moved_for : (u : ImageContents) → StandsFor u (sight w) → StandsFor u (sight new)
   moved_for u (number, st) = (
     λ s. number (get_or list s 0),
     record {
@@ -335,7 +335,7 @@ module _ (w : Core) (list : List ℕ) (slots : ℕ) (world : IsWorld w) (numbers
           ∙ ap (λ (k : ℕ). map (field_of numbered) (words_of (sight new) k)) (slot_numbered s within);
     }
 
-  moved : (h : Heap) → Represents h (sight w) → (same : Heap) × AgreeButWords h same × Represents same (sight new)
+  pub moved : (h : Heap) → Represents h (sight w) → (same : Heap) × AgreeButWords h same × Represents same (sight new)
   moved h (number, st) = (again h number st, agree h number st, (λ s. number (get_or list s 0), stands_again h number st))
 
 -- ---- what the heap that is restored from the image is beside the world

@@ -100,7 +100,7 @@ module _ (v : ImageContents) (image : IsImage v) where
     | inr rest ↦ omega (arith, in_range n m (from + 1) rest)
   ]
 
-  range_in : (n m from : ℕ) → from ≤ n → n < from + m → is_in n (range_with_len from m) ≡ true
+  pub range_in : (n m from : ℕ) → from ≤ n → n < from + m → is_in n (range_with_len from m) ≡ true
   range_in n zero from low high = absurd (omega (arith, low, high))
   range_in n (suc m) from low high = elim (cases_lt from n) [
     | inl more ↦ is_in-tail n from (range_with_len (from + 1) m) (range_in n m (from + 1) (omega arith) (omega (arith, high)))

@@ -51,7 +51,7 @@ module _ (w : Core) (slots : List ℕ) (world : IsWorld w) (numbers : NumbersSlo
       let below : slot < length w.headers = reached_below (sight w) (length w.headers) (names_sound (sight w) world.shaped.sound) slot reached in
       All-get_or (λ h. 0 < h → IsTakenHeader h) w.headers slot 0 below world.shaped.labels (reached_is_taken (sight w) world.shaped.sound slot reached)
 
-  width : (slot : ℕ) → is_in slot slots ≡ true → length (words_of (sight w) slot) ≡ w.config.fields
+  pub width : (slot : ℕ) → is_in slot slots ≡ true → length (words_of (sight w) slot) ≡ w.config.fields
   width slot there =
       let reached : Reaches (sight w) slot = (lists_reached (roots (sight w).registers) (targets_of (sight w)) slots numbers slot).1 there in
       let below : slot < length w.headers = reached_below (sight w) (length w.headers) (names_sound (sight w) world.shaped.sound) slot reached in
@@ -102,7 +102,7 @@ module _ (w : Core) (slots : List ℕ) (world : IsWorld w) (numbers : NumbersSlo
     numbered = subst (λ (n : ℕ). Rattle.rec_model.specs.Numbering.IsNumbering (roots (held_of (sight w) slots)) (children (map (node_of (sight w) slots) slots)) (range_with_len 0 n)) (sym (length-map slots (node_of (sight w) slots))) (numbered (sight w) slots numbers);
   }
 
-  stands : IsSettled w → StandsFor (image_of w slots) (sight w)
+  pub stands : IsSettled w → StandsFor (image_of w slots) (sight w)
   stands settled = (
     place_in slots,
     record {

@@ -122,7 +122,7 @@ pub distinct_below : (ns : List ℕ) (bound : ℕ) → IsDistinct ns → ((n : �
 distinct_below ns bound d below = length-le_from_distinct_below ns bound (by_std ns d) (λ n h. below n (any_is_in n ns h))
 
 -- the numbers but for one
-abbrev without : ℕ → List ℕ → List ℕ
+abbrev pub without : ℕ → List ℕ → List ℕ
 without k ns = filter (λ m. not (m == k)) ns
 
 -- a number stands among those that are left where one is taken out, as long as it is another

@@ -16,7 +16,7 @@ next_fits p m stamp room =
     record { writer = m.number; epoch = stamp; index = omega arith }
 
 -- the word that a machine would write, without its date
-abbrev bare_for : Private → (val : ℕ) → ℕ
+abbrev pub bare_for : Private → (val : ℕ) → ℕ
 bare_for p val = packed (register p val) (next_stamp p)
 
 small_for : (p : Private) (val : ℕ) → IsMachine p → HasStamp p → HasRoom p → bare_for p val < 2 ^ 64

@@ -18,7 +18,7 @@ front (first ∷ labels) label later n begins fits =
     (ap (λ x. x ∷ take n labels) here ∙ ap (λ l. label ∷ l) (sym same ∙ ap (take n) rest), omega arith)
 
 -- the answers are the labels that wait, and these are heard
-record AreHeard (before after : Listener) (answers : List (Option ℕ)) : Type 0 where
+pub record AreHeard (before after : Listener) (answers : List (Option ℕ)) : Type 0 where
   pub each : answers ≡ map (λ label. Some label) (take (length answers) (waits_for before))
   pub heard : heard_by after ≡ heard_by before ++ take (length answers) (waits_for before)
 

@@ -19,7 +19,7 @@ moment-here : (limits : Limits) (start : Moment) (events : List Event) → momen
 moment-here limits start events = let end : length events ≤ length events = omega arith in ap (after_all limits start) (take_all (length events) events end)
 
 -- This was so at some moment since the mutator's last event, or since the start.
-record Since (limits : Limits) (start : Moment) (events : List Event) (t : ℕ) (P : Moment → Type 0) : Type 0 where
+pub record Since (limits : Limits) (start : Moment) (events : List Event) (t : ℕ) (P : Moment → Type 0) : Type 0 where
   pub at : ℕ
   pub within : at ≤ length events
   pub quiet : IsQuiet t events at (length events)

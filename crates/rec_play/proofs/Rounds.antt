@@ -44,7 +44,7 @@ use Rattle.rec_play.proofs.Orders.{order_names, order_length, collectors, collec
 use Rattle.rec_play.proofs.There.{begun_there}
 
 -- each mutator has made as many commands as were answered
-abbrev AreCounted : ScriptContents → (made : List ℕ) → List Event → Type 0
+abbrev pub AreCounted : ScriptContents → (made : List ℕ) → List Event → Type 0
 AreCounted script made events = (t : ℕ) → 1 ≤ t → t ≤ length script.commands → made_by made t ≡ made_in events t
 
 -- A command more is counted.

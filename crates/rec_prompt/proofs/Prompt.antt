@@ -53,7 +53,7 @@ module _ (v : Core) (ms : List Move) (slot : ℕ) (kept : IsKept true v) (fit : 
         (place % fields, mod-lt place kept.config.some_fields, ap (λ n. target_of (slice_index_or v.words n 0)) here ∙ f.still place x leads is),
       )
 
-  is_freed : is_in slot (freed_over v ms) ≡ true
+  pub is_freed : is_in slot (freed_over v ms) ≡ true
   is_freed = elim (cases_Bool (is_in slot (freed_over v ms))) [
     | inl freed ↦ freed
     | inr unfreed ↦ absurd (none_lost (sight v) lost v.config.slots (λ x is. taken_slot v kept x is.0.taken) led slot none (gone, unfreed))

@@ -57,7 +57,7 @@ module _ (v : Core) (ms : List Move) (kept : IsKept true v) (fit : AllFit v ms) 
   kept_then = moves_kept v ms kept fit
 
   -- what leads to it
-  still_led : (from slot : ℕ) → lost slot → Leads (sight u) from slot → lost from × Leads (sight v) from slot
+  pub still_led : (from slot : ℕ) → lost slot → Leads (sight u) from slot → lost from × Leads (sight v) from slot
   still_led from slot gone (field, within, leads) =
       let same : u.config ≡ v.config = config_after v ms in
       let here : place_of from field u.config.fields / u.config.fields + 1 ≡ from + 1 = home_of from field u.config.fields within in
@@ -82,10 +82,10 @@ module _ (v : Core) (ms : List Move) (kept : IsKept true v) (fit : AllFit v ms) 
           let (field, within, inside, node) = field_target (sight u) m n there in
           apart (still_led m n gone (field, within, node_leads (slice_index_or u.words (place_of m field u.config.fields) 0) n node)).0
 
-  still_lost : (slot : ℕ) → lost slot → IsLost (sight u) slot
+  pub still_lost : (slot : ℕ) → lost slot → IsLost (sight u) slot
   still_lost slot gone = record { taken = f.taken slot gone; unreached = λ from. still_unreached slot from gone }
 
-  still_counted : u.collector.phase ≡ Idle → v.epoch + 2 ≤ u.epoch → (slot : ℕ) → lost slot → (slot_at u.collector.counts slot).count ≡ fields_to (sight u) slot
+  pub still_counted : u.collector.phase ≡ Idle → v.epoch + 2 ≤ u.epoch → (slot : ℕ) → lost slot → (slot_at u.collector.counts slot).count ≡ fields_to (sight u) slot
   still_counted idle past slot gone =
       let begun : counted u + under_way u.collector.phase ≡ u.epoch = kept_then.collector.begun in
       counted_fields (v.epoch + 1) v lost u kept_then idle f (omega (arith, past, begun, ap under_way idle)) slot gone

@@ -123,7 +123,7 @@ abbrev pub at_work : (fields : ℕ) (lowers : Bool) → Option At → State → 
 at_work fields lowers at s = record { machine = record { fields = fields; at = at; lowers = lowers }; counts = s }
 
 -- what a release came to, as its parts
-record Came (fields : ℕ) (lowers : Bool) (before : State) (w : Work) (words from : List ℕ) : Type 0 where
+pub record Came (fields : ℕ) (lowers : Bool) (before : State) (w : Work) (words from : List ℕ) : Type 0 where
   pub at : Option At
   pub counts : State
   pub is : w ≡ at_work fields lowers at counts

@@ -91,7 +91,7 @@ need_no_script before _ contents (IsNeed.of_heap v known one) script e = omega (
 need_no_script before _ contents (IsNeed.of_mutator v s f r known heap two) script e = three_lines contents.commands script.some_mutators (sym (ap (drop 2) (sym two ∙ e)))
 
 -- what the whole text has spelled
-record Ended (d : Draft) (text : List (List ℕ)) (n : ℕ) : Type 0 where
+pub record Ended (d : Draft) (text : List (List ℕ)) (n : ℕ) : Type 0 where
   pub count : n ≡ length text
   pub spelt : so_far d ≡ counted text
   pub utf8 : AreUtf8 text

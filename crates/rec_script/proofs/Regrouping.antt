@@ -61,7 +61,7 @@ command_again r f (Same a b) h is = ap (λ (n : ℕ). Same n (digits_value 10 (d
 command_again r f Leave h is = refl
 
 -- a line begins with the letters of `mutator`
-abbrev is_mutator : List (List ℕ) → Bool
+abbrev pub is_mutator : List (List ℕ) → Bool
 is_mutator line = letters (get_or line 0 []) == 28021
 
 no_mutator_word : (cmd : Cmd) → letters (word_of cmd) == 28021 ≡ false

@@ -16,7 +16,7 @@ use Rattle.rec_core.proofs.Runs.{move_stays}
 use Rattle.rec_settle.specs.Collecting.{IsAmid, IsCollection}
 
 -- In the midst of a collection mutators are at rest, and no collection more is complete.
-record IsQuietAmid (first : ℕ) (before w : Core) : Type 0 where
+pub record IsQuietAmid (first : ℕ) (before w : Core) : Type 0 where
   pub kept : IsKept false w
   pub quiet : AreQuiet first w
   pub config : w.config ≡ before.config

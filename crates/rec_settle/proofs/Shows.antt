@@ -29,7 +29,7 @@ turned_idle w idle = go (next_of w.collector)
     go (Some op) = idle
 
 -- A turn of the collector was made, and the poll that may follow it.
-record ShowsStep (w v : Core) : Type 0 where
+pub record ShowsStep (w v : Core) : Type 0 where
   pub shows : Shows w (turn_shown w) v
   pub idle : AreIdle v
 
@@ -52,7 +52,7 @@ offered_shows Freeing w = shows_none w
 offered_shows Settled w = shows_none w
 
 -- All turns so far.
-record ShowsTo (first : Core) (shown : List Shown) (w : Core) : Type 0 where
+pub record ShowsTo (first : Core) (shown : List Shown) (w : Core) : Type 0 where
   pub shows : Shows first shown w
   pub idle : AreIdle w
 

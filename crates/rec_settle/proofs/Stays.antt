@@ -111,7 +111,7 @@ few_swept w kept = go w.collector.phase refl
     go _ is = omega (arith, ap swept_at is)
 
 -- Once it is complete: a collection sweeps as many slots as there are, at most.
-record StaysAfter (before after : Core) : Type 0 where
+pub record StaysAfter (before after : Core) : Type 0 where
   pub stays : Stays before after
   pub few : after.collector.freed ≤ before.collector.freed + before.config.slots
 

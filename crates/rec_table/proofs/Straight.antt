@@ -203,7 +203,7 @@ carried_twice h h' cmd from first second m answer may low between machine is mac
     }
 
 -- What the fields of an actor keep.
-abbrev Kept : (o m : Private) (me : Me (Option Contents) View) (births : ℕ) → Type 0
+abbrev pub Kept : (o m : Private) (me : Me (Option Contents) View) (births : ℕ) → Type 0
 Kept o m me births =
     (me ≡ (Mutates (seated_of me.0), hands (seated_of me.0) m)) × (m ≡ told o (seated_of me.0).log) × NamesSlots m × KeepsSizes o m × IsBetween m.phase × (births ≡ births_told o (seated_of me.0).log % 2 ^ 64)
 
@@ -290,7 +290,7 @@ one_born key o me me' op word births now opened is one at was more =
     births_more o p t.log None word births now (ap (λ (q : Private). told q t.log) (sym opened)) was (more ∙ ap (λ n. (births + n) % 2 ^ 64) (sym one_of)) ∙ ap (λ (l : List Beat). births_told o l % 2 ^ 64) (λ k. (seated_of (sym at k).0).log)
 
 -- the list after two steps of a command
-abbrev list_twice : MutatorView → Cmd → (from first second : ℕ) → List Beat
+abbrev pub list_twice : MutatorView → Cmd → (from first second : ℕ) → List Beat
 list_twice h cmd from first second = (h.log ++ beats (Some (record { work = works.Command cmd; from = from })) first) ++ beats None second
 
 -- A command that has made two steps, and how it goes on from there.

@@ -60,7 +60,7 @@ pub no_white_left : {o s : Deletion} {ls : Loads} → Finished o s ls → (x : �
 no_white_left {s = s} f x h = let all : 0 < total_of_first (same x) s.tried s.marked = rw f.all_tried (omega (arith, first_whole (same x) s.marked)) in f.tested x all
 
 -- a list that is worked off up to some place
-record Swept (fields : ℕ) (xs : List ℕ) (ls : List Seen) : Type 0 where
+pub record Swept (fields : ℕ) (xs : List ℕ) (ls : List Seen) : Type 0 where
   pub at : ℕ
   pub field : ℕ
   pub place : Placed fields xs at field ls

@@ -87,7 +87,7 @@ pub record WhileMarking (o s : Deletion) (ls : Loads) : Type 0 where
   pub uncollected : NotBegun s.members ls.finds
 
 -- marking is over
-record AllMarked (o : Deletion) (fields : ℕ) (released : ℕ → Bool) (cyclic count : ℕ → ℕ) (marked : List ℕ) (marks : List Seen) : Type 0 where
+pub record AllMarked (o : Deletion) (fields : ℕ) (released : ℕ → Bool) (cyclic count : ℕ → ℕ) (marked : List ℕ) (marks : List Seen) : Type 0 where
   pub base : BaseOf o fields released cyclic count marked marks
   pub open base use *
   pub seeds : (x : ℕ) → Seed o x → 0 < times x marked
@@ -115,7 +115,7 @@ pub record WhileScanning (o s : Deletion) (ls : Loads) : Type 0 where
   pub uncollected : NotBegun s.members ls.finds
 
 -- scanning is over
-record AllScanned (o : Deletion) (fields : ℕ) (released : ℕ → Bool) (cyclic count : ℕ → ℕ) (marked work : List ℕ) (marks blacks : List Seen) : Type 0 where
+pub record AllScanned (o : Deletion) (fields : ℕ) (released : ℕ → Bool) (cyclic count : ℕ → ℕ) (marked work : List ℕ) (marks blacks : List Seen) : Type 0 where
   pub all : AllMarked o fields released cyclic count marked marks
   pub open all use *
   pub hot : (x : ℕ) → 0 < times x work → Hot marked cyclic blacks x

@@ -21,7 +21,7 @@ abbrev out : Slot → Slot
 out v = record v { buffered = false }
 
 -- What waits, waits: nothing but the root buffer and the free list changes, and which slots are buffered.
-record Waits (s t : State) : Type 0 where
+pub record Waits (s t : State) : Type 0 where
   pub slot : (x : ℕ) → out (slot_at t x) ≡ out (slot_at s x)
   pub slots : length t.slots ≡ length s.slots
   pub sets : t.sets ≡ s.sets
@@ -137,7 +137,7 @@ module _ (s : State) (x : ℕ) (xs : List ℕ) (first : s.roots ≡ x ∷ xs) (k
   ]
 
   -- a released slot is another one, where the first root isn't released
-  other_than : (z : ℕ) → (slot_at s z).released ≡ true → (slot_at t x).released ≡ false → eqb z x ≡ false
+  pub other_than : (z : ℕ) → (slot_at s z).released ≡ true → (slot_at t x).released ≡ false → eqb z x ≡ false
   other_than z is r = elim (cases_Bool (eqb z x)) [
     | inl same ↦ absurd (false≢true (sym r ∙ released_too ∙ ap (λ y. (slot_at s y).released) (sym (eqb-true z x same)) ∙ is))
     | inr differs ↦ differs

@@ -24,7 +24,7 @@ home_some (b ∷ boxes) (suc j) there = home_some boxes j (omega (arith, there))
 
 module _ (w : Core) (parts : Parts) (world : IsWorld w) (are : AreParts w parts) where
   -- the row holds the shared words
-  words_are : cells_of_row (parts.config.slots * parts.config.fields) parts.config.slots parts.row.items ≡ cells_of w
+  pub words_are : cells_of_row (parts.config.slots * parts.config.fields) parts.config.slots parts.row.items ≡ cells_of w
   words_are =
       let slots : parts.config.slots ≡ length w.headers = ap (λ config. config.slots) are.config ∙ sym world.shaped.headers in
       let places : parts.config.slots * parts.config.fields ≡ length w.words =

@@ -27,7 +27,7 @@ pub given : (s : State) (x : ℕ) → IsGivenUp (is_in (length s.sets - 1) (slot
 given s x = rw (given_slot s x) (given_if (is_in (length s.sets - 1) (slot_at s x).set) (slot_at s x))
 
 -- what is in a set then was in no other before
-record StillIn (s : State) (x i : ℕ) : Type 0 where
+pub record StillIn (s : State) (x i : ℕ) : Type 0 where
   pub same : slot_at (given_up s) x ≡ slot_at s x
   pub was : (slot_at s x).set ≡ Some i
   pub other : i ≢ length s.sets - 1

@@ -21,7 +21,7 @@ outside_same words fields s t number x h =
 
 -- Counts that differ in nothing that matters here: which slots are in which sets, which are released, and the members' colours and
 -- cyclic counts.
-record AreAlike (s t : State) : Type 0 where
+pub record AreAlike (s t : State) : Type 0 where
   pub set : (x : ℕ) → (slot_at t x).set ≡ (slot_at s x).set
   pub released : (x : ℕ) → (slot_at t x).released ≡ (slot_at s x).released
   pub colour : (x i : ℕ) → (slot_at s x).set ≡ Some i → (slot_at s x).colour ≡ Orange → (slot_at t x).colour ≡ Orange
