@@ -73,7 +73,7 @@ plain_header version is = ((omega arith, (omega arith, (omega arith, (omega arit
 plain_heap : (s f r : ℕ) → IsHeap s f r → ArePlain (heap_line s f r)
 plain_heap s f r h = ((omega arith, (omega arith, (omega arith, (omega arith, tt)))), (plain_decimal s (omega (arith, h.most_slots)), (plain_decimal f (omega (arith, h.most_fields)), (plain_decimal r (omega (arith, h.most_registers)), tt))))
 
-plain_mutator : ArePlain mutator_line
+pub plain_mutator : ArePlain mutator_line
 plain_mutator = ((omega arith, (omega arith, (omega arith, (omega arith, (omega arith, (omega arith, (omega arith, tt))))))), tt)
 
 pub plain_command : (registers fields : ℕ) (cmd : Cmd) → AreSmall registers fields → IsCommand registers fields cmd → ArePlain (command_line cmd)

@@ -1,5 +1,5 @@
 -- Commands that are spelled with one space between each two words.
-use Rattle.std.proofs.Common.{◌≡◌, ℕ, zero, suc, ◌+◌, ◌-◌, ◌*◌, ◌^◌, ◌<◌, ◌≤◌, true, false, Bool, cond, List, [], ◌∷◌, ◌++◌, length, get_or, take, drop, map, refl, sym, ap, subst, ◌∙◌, arith, append_assoc, length-append, length-drop}
+use Rattle.std.proofs.Common.{◌≡◌, ℕ, zero, suc, ◌+◌, ◌-◌, ◌*◌, ◌^◌, ◌<◌, ◌≤◌, true, false, Bool, cond, List, [], ◌∷◌, ◌++◌, length, get_or, take, drop, map, refl, sym, ap, ◌∙◌, arith, append_assoc, length-append}
 use Rattle.std.specs.Prelude.{filter}
 use Rattle.std.specs.Fmt.{decimal}
 use Rattle.std.specs.Int.{IsInRange}
@@ -8,11 +8,11 @@ use Rattle.std.specs.Str.Parse.{digits_value}
 use Rattle.std.proofs.lemmas.Bool.{ne_eqb}
 use Rattle.std.proofs.lemmas.Bool.Decides.{nat_tests}
 use Rattle.std.proofs.lemmas.Fmt.{decimal_digit, decimal_nonempty}
-use Rattle.std.proofs.lemmas.List.{get_or-take, length-take-le, take_all, take-append-drop, drop_more}
+use Rattle.std.proofs.lemmas.List.{drop_more}
 use Rattle.rec_model.specs.declared.command.Cmd.{Cmd}
 use Rattle.rec_model.specs.declared.command.Cmd.TheVariants.{New, Leaf, Null, Copy, Get, Put, Value, Same, Leave}
 use Rattle.rec_script.specs.Lines.{is_end, is_blank, in_front, cut, without_cr, lines, is_some_word, words, is_counted, spaced}
-use Rattle.rec_script.specs.Script.{IsCommand, IsNumeralOf, command_line}
+use Rattle.rec_script.specs.Script.{IsCommand, command_line}
 use Rattle.rec_script.specs.Drafts.{IsTaken}
 use Rattle.rec_script.proofs.Cuts.{cut_none, no_cr, some_word}
 use Rattle.rec_io.proofs.Numerals.{digits_of, found_numeral, one_more, tail}

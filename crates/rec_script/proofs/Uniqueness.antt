@@ -5,12 +5,15 @@ use Rattle.std.proofs.lemmas.Bool.{cases_lt}
 use Rattle.std.proofs.lemmas.List.{append-nil, take-append-drop, take-take}
 use Rattle.rec_model.specs.declared.command.Cmd.{Cmd}
 use Rattle.rec_script.specs.declared.error.Kind.{Kind}
+use Rattle.rec_script.specs.declared.error.Kind.TheVariants.{TooManyMutators}
+use Rattle.rec_script.specs.Behind.{GoOn, IsRefusedBehind, IsWrongLine, Numbers, SpellsMutators, StaysOpenBehind, StopsBehind, heading}
 use Rattle.rec_script.specs.Lines.{lines, words, counted}
-use Rattle.rec_script.specs.Script.{ScriptContents, IsScript, IsRefused, Spells, Continues, StopsAt, StaysOpen, IsFault, IsNeed, Fits, IsBadCommand, IsRight, IsWrong, AreWrong, limits_of, last_commands, header, heap_line, mutator_lines, spelled}
+use Rattle.rec_script.specs.Script.{ScriptContents, IsScript, IsRefused, Spells, Continues, StopsAt, StaysOpen, IsFault, IsNeed, Fits, IsBadCommand, IsRight, IsWrong, AreWrong, limits_of, last_commands, header, heap_line, mutator_line, mutator_lines, spelled}
 use Rattle.rec_script.proofs.Numerals.{same_number}
 use Rattle.rec_script.proofs.Commands.{same_limits}
 use Rattle.rec_script.proofs.Regrouping.{same_script}
 use Rattle.rec_script.proofs.Continuing.{continues_before}
+use Rattle.rec_script.proofs.Plainness.{plain_mutator, utf8_of_words}
 
 -- ---- operands
 
@@ -153,3 +156,52 @@ refused_once bytes line other kind wrong (inr x) (inr y) = named x.named y.named
     named (inl x) (inr y) = absurd (not_open (lines bytes) x.0 kind wrong x.2 y.1)
     named (inr x) (inl y) = absurd (not_open (lines bytes) y.0 wrong kind y.2 x.1)
     named (inr x) (inr y) = (x.0 ∙ sym y.0, need_once (counted (lines bytes)) kind wrong x.1.need y.1.need)
+
+-- ---- mutators behind a heap that is told before
+
+-- a mutator's line behind as many as the heap has
+mutator_fits : (before : List (List (List ℕ))) (contents : ScriptContents) (kind : Kind) → IsScript contents → before ≡ spelled contents → Fits before mutator_line kind → kind ≡ TooManyMutators
+mutator_fits before mine kind is-mine spelt (Fits.no_header none wrong) = absurd (omega (arith, lengths before ([]) (spelled mine) none spelt, three mine is-mine))
+mutator_fits before mine kind is-mine spelt (Fits.bad_heap v known one wrong) = absurd (omega (arith, lengths before (header v ∷ []) (spelled mine) one spelt, three mine is-mine))
+mutator_fits before mine kind is-mine spelt (Fits.no_mutator v s f r known heap two wrong) = absurd (wrong refl)
+mutator_fits before mine kind is-mine spelt (Fits.too_many_mutators other is-other spelt' is full) = refl
+mutator_fits before mine kind is-mine spelt (Fits.bad_command other _ is-other spelt' no-mutator bad) = absurd (no-mutator refl)
+
+mutator_faults : (before : List (List (List ℕ))) (line : List ℕ) (contents : ScriptContents) (kind : Kind) → IsScript contents → before ≡ spelled contents → words line ≡ mutator_line → IsFault before line kind → kind ≡ TooManyMutators
+mutator_faults before line mine kind is-mine spelt is (IsFault.not_utf8 none) = absurd (none (utf8_of_words line mutator_line is plain_mutator))
+mutator_faults before line mine kind is-mine spelt is (IsFault.bad_words _ utf8 counts fits) = mutator_fits before mine kind is-mine spelt (subst (λ (ws : List (List ℕ)). Fits before ws kind) is fits)
+
+wrong_line_once : (h : Numbers) (before : List (List (List ℕ))) (line : List ℕ) (a b : Kind) → IsWrongLine h before line a → IsWrongLine h before line b → a ≡ b
+wrong_line_once h before line a b (IsWrongLine.fault _ x) (IsWrongLine.fault _ y) = fault_once before line a b x y
+wrong_line_once h before line a _ (IsWrongLine.fault _ x) (IsWrongLine.one_more mine is-mine spelt is full) = mutator_faults before line mine a is-mine spelt is x
+wrong_line_once h before line _ b (IsWrongLine.one_more mine is-mine spelt is full) (IsWrongLine.fault _ y) = sym (mutator_faults before line mine b is-mine spelt is y)
+wrong_line_once h before line _ _ (IsWrongLine.one_more mine is-mine spelt is full) (IsWrongLine.one_more other is-other spelt' is' full') = refl
+
+front_goes_on : (h : Numbers) (before after : List (List ℕ)) → GoOn h (before ++ after) → GoOn h before
+front_goes_on h before after on = (after ++ on.0, on.1, subst (λ (t : List (List ℕ)). SpellsMutators h t on.1) (append_assoc before after on.0) on.2)
+
+not_earlier_behind : (h : Numbers) (text : List (List ℕ)) (m n : ℕ) (a b : Kind) → StopsBehind h text m a → StopsBehind h text n b → m < n → ⊥
+not_earlier_behind h text m n a b x y lt =
+    x.not_with (front_goes_on h (take (m + 1) text) (drop (m + 1) (take n text)) (subst (λ (t : List (List ℕ)). GoOn h t) (sym (take-append-drop (m + 1) (take n text)) ∙ ap (λ (t : List (List ℕ)). t ++ drop (m + 1) (take n text)) (take-take (m + 1) n text (omega arith))) y.before))
+
+not_open_behind : (h : Numbers) (text : List (List ℕ)) (n : ℕ) (a b : Kind) → StopsBehind h text n a → StaysOpenBehind h text b → ⊥
+not_open_behind h text n a b x y = x.not_with (front_goes_on h (take (n + 1) text) (drop (n + 1) text) (subst (λ (t : List (List ℕ)). GoOn h t) (sym (take-append-drop (n + 1) text)) y.before))
+
+stops_once_behind : (h : Numbers) (text : List (List ℕ)) (m n : ℕ) (a b : Kind) → StopsBehind h text m a → StopsBehind h text n b → (m ≡ n) × (a ≡ b)
+stops_once_behind h text m n a b x y = elim (cases_lt m n) [
+  | inl lt ↦ absurd (not_earlier_behind h text m n a b x y lt)
+  | inr ge ↦ elim (cases_lt n m) [
+    | inl gt ↦ absurd (not_earlier_behind h text n m b a y x gt)
+    | inr le ↦
+        let same : n ≡ m = omega arith in
+        (sym same, wrong_line_once h (heading h ++ counted (take m text)) (get_or text m []) a b x.wrong (subst (λ (k : ℕ). IsWrongLine h (heading h ++ counted (take k text)) (get_or text k []) b) same y.wrong))
+  ]
+]
+
+pub refused_behind_once : (h : Numbers) (bytes : List ℕ) (line number other : ℕ) (kind wrong : Kind) → IsRefusedBehind h bytes line number kind → IsRefusedBehind h bytes line other wrong → (number ≡ other) × (kind ≡ wrong)
+refused_behind_once h bytes line number other kind wrong (inl x) (inl y) =
+    let once = stops_once_behind h (lines bytes) x.0 y.0 kind wrong x.2 y.2 in
+    (x.1 ∙ ap (λ (n : ℕ). line + n + 1) once.0 ∙ sym y.1, once.1)
+refused_behind_once h bytes line number other kind wrong (inl x) (inr y) = absurd (not_open_behind h (lines bytes) x.0 kind wrong x.2 y.1)
+refused_behind_once h bytes line number other kind wrong (inr x) (inl y) = absurd (not_open_behind h (lines bytes) y.0 wrong kind y.2 x.1)
+refused_behind_once h bytes line number other kind wrong (inr x) (inr y) = (x.0 ∙ sym y.0, x.1.need ∙ sym y.1.need)

@@ -1,6 +1,7 @@
 //! What follows from the definitions alone, each law as the contract of a function that does nothing.
 
 ghost use Rattle.std.specs.Prelude.{◌≡◌, ℕ, List};
+ghost use Rattle.rec_script.specs.Behind.{IsRefusedBehind, Numbers};
 ghost use Rattle.rec_script.specs.Script.{ScriptContents, IsRefused, IsText, Spells};
 ghost use Rattle.rec_script.specs.declared.error.Kind.{Kind};
 
@@ -18,4 +19,10 @@ pub fn refused_texts_spell_nothing()
 pub fn refusals_are_unique()
     ensures { (bytes : List ℕ) (line other : ℕ) (kind wrong : Kind) → IsRefused bytes line kind
         → IsRefused bytes other wrong → (line ≡ other) × (kind ≡ wrong) }
+{}
+
+/// And so are mutators behind a heap that is told before: their bytes, which follow this line, are refused with one number and one kind.
+pub fn refusals_behind_are_unique()
+    ensures { (heap : Numbers) (bytes : List ℕ) (line number other : ℕ) (kind wrong : Kind) → IsRefusedBehind heap bytes line number kind
+        → IsRefusedBehind heap bytes line other wrong → (number ≡ other) × (kind ≡ wrong) }
 {}

@@ -26,7 +26,10 @@ mod version;
 
 pub use behind::read_after;
 pub use error::{Kind, ScriptError};
-pub use laws::{refusals_are_unique, refused_texts_spell_nothing, texts_spell_one_script};
+pub use laws::{
+    refusals_are_unique, refusals_behind_are_unique, refused_texts_spell_nothing,
+    texts_spell_one_script,
+};
 pub use making::make;
 pub use reading::read;
 pub use script::Script;

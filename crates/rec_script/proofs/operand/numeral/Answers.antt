@@ -1,5 +1,5 @@
 -- A numeral is a word where nothing is behind it.
-use Rattle.std.proofs.Common.{◌≡◌, ◌<◌, length, ap, arith}
+use Rattle.std.proofs.Common.{◌<◌, length, ap, arith}
 use Rattle.std.proofs.lemmas.Grind.{common_steps}
 use Rattle.rec_script.proofs.Numerals.{longer_word, no_word}
 use Rattle.rec_script.proofs.operand.numeral.Goals as goal
