@@ -20,7 +20,7 @@ space_end : (word rest : List ℕ) → 32 ∷ word ≡ 10 ∷ rest → ⊥
 space_end word rest e = let same : 32 ≡ 10 = ap (λ (t : List ℕ). get_or t 0 0) e in cc
 
 -- numerals that this text has with an end behind them are numerals and an end that the other one has
-record HasEnded (bytes rest : List ℕ) : Type 0 where
+pub record HasEnded (bytes rest : List ℕ) : Type 0 where
   pub numbers : List ℕ
   pub fit : AreNumbers numbers
   pub text : bytes ≡ ended numbers rest

@@ -31,7 +31,7 @@ fit_of : (lines : List Line) → AreClean lines → AreFit lines
 fit_of lines are before line after e = (are.stand before line after e).fits
 
 -- one goes on where the other ends: its next line, and what is behind that
-record IsAhead (ls ms : List Line) (r s : List ℕ) : Type 0 where
+pub record IsAhead (ls ms : List Line) (r s : List ℕ) : Type 0 where
   pub line : Line
   pub more : List Line
   pub lines : ms ≡ ls ++ line ∷ more

@@ -24,7 +24,7 @@ use Rattle.rec_collector.proofs.Landing.{landed, landed_sizes}
 use Rattle.rec_collector.proofs.Running.{ended_sizes, midway, run_more, same_sizes, sizes_on}
 use Rattle.rec_collector.proofs.Sweeping.{same_machine, slot_due, sweeping_keeps, sweeps_more}
 
-some_next : (due : Option Op) (op : Op) → due ≡ Some op → IsSome due
+pub some_next : (due : Option Op) (op : Op) → due ≡ Some op → IsSome due
 some_next due op e = subst (λ (o : Option Op). IsSome o) (sym e) refl
 
 -- while something is due the machine is at work, and its next operation is the one that is due

@@ -92,7 +92,7 @@ work_keeps p word phase k e g at_work =
     none _ a = refl
 
 -- what a word may be where a machine is at work, and what it is given to
-may_work : (p : Private) (word : ℕ) (phase : Phase) → IsMachine p → p.phase ≡ phase → IsWork phase → IsGivenAt p word phase → MayWork (parts_of p) word phase
+pub may_work : (p : Private) (word : ℕ) (phase : Phase) → IsMachine p → p.phase ≡ phase → IsWork phase → IsGivenAt p word phase → MayWork (parts_of p) word phase
 unfolding IsGivenAt
 may_work p word (Releasing m) k e at_work g = let a : IsAt p (Releasing m) = now_at p (Releasing m) k e in (record { clearing = a.clearing; exchanged = a.exchanged; exchanges = a.exchanges; few = omega (arith, told_at p (Releasing m) k e, k.collections, k.epoch) }, g)
 may_work p word (Freeing m) k e at_work g = let a : IsAt p (Freeing m) = now_at p (Freeing m) k e in (record { clearing = a.clearing; exchanged = a.exchanged; exchanges = a.exchanges; few = omega (arith, told_at p (Freeing m) k e, k.collections, k.epoch) }, g)

@@ -27,7 +27,7 @@ use Rattle.rec_collector.specs.Outside.{AreOutside, IsOutside, HasSets}
 use Rattle.rec_release.proofs.Keeping.{each_zero}
 
 -- the member was one before, and so many references were taken off its counts
-record WasMember (number : ℕ) (u v : Slot) : Type 0 where
+pub record WasMember (number : ℕ) (u v : Slot) : Type 0 where
   pub set : u.set ≡ Some number
   pub colour : u.colour ≡ Orange
   pub by : ℕ
@@ -35,7 +35,7 @@ record WasMember (number : ℕ) (u v : Slot) : Type 0 where
   pub cyclic : v.cyclic ≡ u.cyclic - by
 
 -- A slot after a move: where it is an orange member it was one before; and it has no colour that it hadn't but Black, Purple or Green.
-record Moved (u v : Slot) : Type 0 where
+pub record Moved (u v : Slot) : Type 0 where
   pub member : (number : ℕ) → v.set ≡ Some number → v.colour ≡ Orange → WasMember number u v
   pub colours : (f : Colour → Bool) → f Black ≡ false → f Purple ≡ false → f Green ≡ false → f u.colour ≡ false → f v.colour ≡ false
 

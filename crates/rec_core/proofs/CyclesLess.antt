@@ -64,7 +64,7 @@ each_slot P s x v here there y =
     ]
 
 -- what is written in place of a slot stays in its set, isn't Orange anew, and where it is Orange and not released, its cyclic count stays exact
-record EasesSlot (u v : Slot) : Type 0 where
+pub record EasesSlot (u v : Slot) : Type 0 where
   pub set : v.set ≡ u.set
   pub orange : v.colour ≡ Orange → u.colour ≡ Orange
   pub exact : v.colour ≡ Orange → v.released ≡ false → StaysExact u v

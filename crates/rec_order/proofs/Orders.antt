@@ -58,7 +58,7 @@ use Rattle.std.specs.Option.{IfSome}
 
 -- A legal order of what was told so far, what its last moment shows of the world, what each scan has met, and which stamps and
 -- entries each mutator has.
-record Ordered (limits : Limits) (start : Moment) (lines : List (List Line)) (events : List Event) (w : Core) (n : Naming) (home : ℕ → ℕ) : Type 0 where
+pub record Ordered (limits : Limits) (start : Moment) (lines : List (List Line)) (events : List Event) (w : Core) (n : Naming) (home : ℕ → ℕ) : Type 0 where
   pub legal : IsLegalOrder limits start lines events
   pub stands : Stands w (after_all limits start events) n home
   pub meets : (t : ℕ) → IsMutator w.config t → Meets limits start events home n.next t (mutator w t).from (mutator w t).phase

@@ -120,7 +120,7 @@ tells_by s t line at.Parting work made undone is = absurd (omega (arith, ap leng
 tells_by s t line _ work made undone is = answers_by s t line work made is
 
 -- The step that told a line, and why it refused the command if it did.
-record IsRefusing (n : Naming) (w : Core) (moves : List Move) (i t : ℕ) (line : Line) : Type 0 where
+pub record IsRefusing (n : Naming) (w : Core) (moves : List Move) (i t : ℕ) (line : Line) : Type 0 where
   pub step : IsToldBy n w moves i t line
   pub why : IsRefusedBy (after_moves w step.earlier) t line.0 line.1
 

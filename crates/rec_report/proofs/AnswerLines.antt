@@ -61,7 +61,7 @@ times_before order p within =
     omega arith
 
 -- the mutators of an order are there, and their journals have the lines
-record HasTurn (journals : List (List Line)) (before t : ℕ) : Type 0 where
+pub record HasTurn (journals : List (List Line)) (before t : ℕ) : Type 0 where
   pub some : 0 < t
   pub there : t - 1 < length journals
   pub line : before < length (get_or journals (t - 1) [])

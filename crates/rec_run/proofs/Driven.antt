@@ -60,7 +60,7 @@ commands_are (c ∷ cs) (j ∷ js) long each =
     ∙ ap (λ (ls : List (List Cmd)). c ∷ ls) (commands_are cs js (omega (arith, long)) (λ i lt. each (suc i) (omega (arith, lt))))
 
 -- A heap that was started as a script's opening, with fresh mutators and empty journals: what its mutators did and what stopping left.
-record WasDriven (script : ScriptContents) (s : Started) (ms ms' : List MutatorView) (js js' : List Notes) (collected : List Beat) (world : Core) : Type 0 where
+pub record WasDriven (script : ScriptContents) (s : Started) (ms ms' : List MutatorView) (js js' : List Notes) (collected : List Beat) (world : Core) : Type 0 where
   pub opens : s.world ≡ opened (config_of script)
   pub config : IsConfig (config_of script)
   pub all : length ms ≡ length script.commands

@@ -73,7 +73,7 @@ stays_turned w kept =
     record { registers = keeps.registers; stands = λ heap number h. keeps_stands_by heap (sight w) (sight (turned w)) number keeps h; made = stays.made; freed = stays.freed }
 
 -- In the midst of a collection, all that it swept is what its sweep tells.
-record StaysAmid (before w : Core) : Type 0 where
+pub record StaysAmid (before w : Core) : Type 0 where
   pub stays : Stays before w
   pub sweeps : w.collector.freed + swept before ≡ before.collector.freed + swept w
 

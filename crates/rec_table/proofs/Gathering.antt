@@ -363,7 +363,7 @@ look_epoch : Op → ℕ
 look_epoch (ops.LookBox t e) = e
 look_epoch _ = 0
 
-abbrev IsLookOp : Op → Type 0
+abbrev pub IsLookOp : Op → Type 0
 IsLookOp (ops.LookBox t e) = Unit {0}
 IsLookOp _ = ⊥
 

@@ -93,7 +93,7 @@ claims_slot p slot machine k =
     (at.1, at.2, subst (λ n. n < p.slots) (sym k.comes) (behind_below p.slots p.from k.probed machine.first_slot))
 
 -- steps that found these words led from one record to another, and made no object
-record Walks (q : Private) (words : List ℕ) (r : Private) : Type 0 where
+pub record Walks (q : Private) (words : List ℕ) (r : Private) : Type 0 where
   pub told : told q (saw_all words) ≡ r
   pub learns : r ≡ fold took_of q words
   pub births : births_told q (saw_all words) ≡ 0

@@ -89,7 +89,7 @@ mutator_beats key run x le =
     sym (beats_both x key run (Move.Turns ∷ []) ∙ ap (λ b. beats_of x key run ++ (cond b (turn_at now (next_of now.collector)) [] ++ [])) (ne_eqb 0 x (λ e. omega (arith, e, le))) ∙ append-nil (beats_of x key run))
 
 -- What is known as the collector makes a turn.
-record Here (key : Core) (s : State (Option Contents) View) (h : Holds key s) (c : CollectorSeat) (p : Private) (op : Op) : Type 0 where
+pub record Here (key : Core) (s : State (Option Contents) View) (h : Holds key s) (c : CollectorSeat) (p : Private) (op : Op) : Type 0 where
   pub world : IsWorld (after_moves key h.run)
   pub is : (after_moves key h.run).collector ≡ p
   pub named : ◌≡◌ {A = Option Op} (next_of (after_moves key h.run).collector) (Some op)

@@ -16,7 +16,7 @@ no_roots_at Marking roots = Unit {0}
 no_roots_at _ roots = roots ≡ []
 
 -- what came of the lists since the trial began
-record RestOf (before : State) (p : Phase) (now_slots : List Slot) (now_zeros now_roots : List ℕ) (now_sets : List (List ℕ)) (now_free : List ℕ) : Type 0 where
+pub record RestOf (before : State) (p : Phase) (now_slots : List Slot) (now_zeros now_roots : List ℕ) (now_sets : List (List ℕ)) (now_free : List ℕ) : Type 0 where
   pub slots : length now_slots ≡ length before.slots
   pub zeros : now_zeros ≡ before.zeros
   pub no_roots : no_roots_at p now_roots
