@@ -7,7 +7,7 @@
 //! While an image is read, `Meeting` tells whether some registers can complete the objects so far.
 //! A heap that is restored from an image is settled and has that image again.
 //! A heap that begins anew is the one restored from its own image, with as many slots as asked: `renew` takes it from the world's rows.
-//! The layer above may use the clauses of `read`, `write`, `restore`, `renew` and the readers of `Image`, and the law in `laws`.
+//! The layer above may use the clauses of `read`, `write`, `restore`, `renew` and the readers of `Image`, and the laws in `laws`.
 //! The form of an image is this project's profile (`docs/PROFILE.md`).
 #![tactic(auto)]
 
@@ -27,7 +27,7 @@ mod writing;
 
 pub use error::{ImageError, RenewError};
 pub use image::{Image, restore};
-pub use laws::restored_heaps_have_their_image;
+pub use laws::{images_stop_at_one_line, restored_heaps_have_their_image};
 pub use reading::read;
 pub use renewing::renew;
 pub use writing::write;

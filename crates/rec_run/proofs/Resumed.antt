@@ -4,12 +4,14 @@ use Rattle.std.proofs.lemmas.Bool.{cases_lt}
 use Rattle.std.proofs.lemmas.List.{length-replicate}
 use Rattle.rec_collector.specs.Private.{plain}
 use Rattle.rec_model.specs.declared.command.Cmd.{Cmd}
-use Rattle.rec_script.specs.Behind.{AreMutators, with_all}
+use Rattle.rec_script.specs.Behind.{AreMutators, IsRefusedBehind, with_all}
 use Rattle.rec_script.specs.Script.{ScriptContents}
 use Rattle.rec_script.specs.declared.error.Kind.{Kind}
 use Rattle.rec_script.proofs.Behinds.{refused_none}
+use Rattle.rec_script.proofs.Uniqueness.{refused_behind_once}
 use Rattle.rec_script.proofs.Regrouping.{SameHeap, same_heap}
-use Rattle.rec_image.specs.Image.{ImageContents}
+use Rattle.rec_image.specs.Image.{ImageContents, StopsAt, feeds}
+use Rattle.rec_image.proofs.Uniqueness.{stops_once}
 use Rattle.rec_image.specs.Restored.{config_of as config_in}
 use Rattle.rec_play.specs.Numbers.{config_of, log_room}
 use Rattle.rec_run.specs.Resuming.{CutsAt, IsRefusedAt, IsResumable, IsResumedAs, IsUnresumed, numbers_of}
@@ -41,6 +43,28 @@ unresumed_none bytes line kind (inr (few, at)) (contents, given, told) = go at
         let behind : AreMutators (numbers_of other) (drop place bytes) =
         subst (λ (v : ImageContents). AreMutators (numbers_of v) (drop place bytes)) same (subst (λ n. AreMutators (numbers_of contents) (drop n bytes)) (sym one) (given, told.spelled)) in
         refused_none (numbers_of other) (drop place bytes) _ line kind refused behind
+
+-- and they are refused with one line and one kind
+pub unresumed_once : (bytes : List ℕ) (line other : ℕ) (kind wrong : Kind) → IsUnresumed bytes line kind → IsUnresumed bytes other wrong → (line ≡ other) × (kind ≡ wrong)
+unresumed_once bytes line other kind wrong (inl x) (inl y) = (x.whole ∙ sym y.whole, x.named ∙ sym y.named)
+unresumed_once bytes line other kind wrong (inl x) (inr y) = absurd (omega (arith, x.many, y.0))
+unresumed_once bytes line other kind wrong (inr x) (inl y) = absurd (omega (arith, y.many, x.0))
+unresumed_once bytes line other kind wrong (inr x) (inr y) = go x.1 y.1
+  where
+    go : IsRefusedAt bytes line kind → IsRefusedAt bytes other wrong → (line ≡ other) × (kind ≡ wrong)
+    go (IsRefusedAt.image place cut stops named) (IsRefusedAt.image at there stopped is) =
+        (stops_once (take place bytes) line other stops (subst (λ n. StopsAt (take n bytes) other) (cut_once bytes at place there cut) stopped), named ∙ sym is)
+    go (IsRefusedAt.image place cut stops named) (IsRefusedAt.mutators at contents there are refused) =
+        absurd (stops.no_text (contents, are.image, ap (λ n. take n bytes) (cut_once bytes place at cut there) ∙ sym are.told))
+    go (IsRefusedAt.mutators place contents cut are refused) (IsRefusedAt.image at there stopped is) =
+        absurd (stopped.no_text (contents, are.image, ap (λ n. take n bytes) (cut_once bytes at place there cut) ∙ sym are.told))
+    go (IsRefusedAt.mutators place contents cut are refused) (IsRefusedAt.mutators at others there these wronged) =
+        let one : at ≡ place = cut_once bytes at place there cut in
+        let same : others ≡ contents = are.only others these.image (these.told ∙ ap (λ n. take n bytes) one) in
+        let moved : IsRefusedBehind (numbers_of others) (drop place bytes) (feeds (take place bytes)) other wrong
+        = subst (λ n. IsRefusedBehind (numbers_of others) (drop n bytes) (feeds (take n bytes)) other wrong) one wronged in
+        refused_behind_once (numbers_of contents) (drop place bytes) (feeds (take place bytes)) line other kind wrong refused
+            (subst (λ (v : ImageContents). IsRefusedBehind (numbers_of v) (drop place bytes) (feeds (take place bytes)) other wrong) same moved)
 
 -- A script that goes on with an image has the image's numbers.
 pub numbers_same : (bytes : List ℕ) (contents : ImageContents) (script : ScriptContents) → IsResumedAs bytes contents script → config_in contents (log_room script) plain ≡ config_of script

@@ -19,6 +19,7 @@ mod auditing;
 mod driving;
 mod finish;
 mod keeping;
+mod laws;
 mod outcome;
 mod playing;
 mod resuming;
@@ -28,5 +29,6 @@ mod tracing;
 mod writing;
 
 pub use alone::carry_out_alone;
+pub use laws::refused_images_have_one_cause;
 pub use running::run;
 pub use status::Status;

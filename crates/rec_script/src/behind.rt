@@ -15,7 +15,8 @@ use crate::script::Script;
 use std::alloc::{AllocError, Global};
 
 /// The script of version 3 with these numbers, whose mutators the bytes spell; those that aren't given have no commands. The
-/// bytes follow this line, and lines are counted on from it.
+/// bytes follow this line, and lines are counted on from it. There are at most `MOST_BYTES` of them, since a line's number has 32 bits:
+/// who reads a longer source refuses it whole.
 pub fn read_after(
     alloc: Global,
     bytes: &[u8],
