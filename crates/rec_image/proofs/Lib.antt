@@ -18,3 +18,4 @@ pub mod Written
 pub mod Worlds
 pub mod Rowed
 pub mod Moving
+pub mod Uniqueness
