@@ -279,7 +279,7 @@ step_machine {p = p} m sized found (Step.give_box c) =
     crossing_machine m (own_box p m) (omega (arith, crosses.1), λ _. crosses.1) (omega arith) c
 
 -- a machine with an empty log is as it is opened
-pub opened_as : (number epoch slots fields : ℕ) {registers held : List (Option ℕ)} {log : Contents} (regs cap : ℕ) → registers ≡ held → log ≡ record { entries = []; snapshot = replicate regs None; capacity = cap; last = false }
+pub opened_as : (number epoch slots fields : ℕ) {registers held : List (Option ℕ)} {log : Contents} (regs cap : ℕ) → registers ≡ held → log ≡ record { entries = []; snapshot = replicate regs None; capacity = cap; last = false; still = false }
     → let p : Private = record { number = number; epoch = epoch; slots = slots; fields = fields; registers = registers; log = log; from = 0; phase = Idle; steps = 0; left = false; dates = false } in p ≡ opened number epoch slots fields held regs cap
 opened_as number epoch slots fields regs cap same empty i = record { number = number; epoch = epoch; slots = slots; fields = fields; registers = same i; log = empty i; from = 0; phase = Idle; steps = 0; left = false; dates = false }
 

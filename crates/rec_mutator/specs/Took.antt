@@ -137,7 +137,7 @@ last_of p = record p.log { snapshot = nulls_of p; last = true }
 
 -- a buffer for this mutator without entries, with a null snapshot
 abbrev pub spare : Private → Contents
-spare p = record { entries = []; snapshot = nulls_of p; capacity = p.log.capacity; last = false }
+spare p = record { entries = []; snapshot = nulls_of p; capacity = p.log.capacity; last = false; still = false }
 
 -- the own mailbox was taken, and the log is retired
 abbrev pub retiring : Private → Private
