@@ -182,6 +182,8 @@ step_does : (w : Core) (t word : ℕ) (op : Op) (q : Private) → Acts w t → (
 step_does w t word op q a found (Step.null reg d) = decided tt (a.own.logs t a.is) d
 step_does w t word op q a found (Step.copy dst src d) = decided tt (a.own.logs t a.is) d
 step_does w t word op q a found (Step.compare x y d) = decided tt (a.own.logs t a.is) d
+step_does w t word op q a found (Step.park d) = decided tt (a.own.logs t a.is) d
+step_does w t word op q a found (Step.unpark d) = decided tt (a.own.logs t a.is) d
 step_does w t word op q a found (Step.get_of_null dst src f names d) = decided tt (a.own.logs t a.is) d
 step_does w t word op q a found (Step.get dst src f slot names d) = decided tt (a.own.logs t a.is) d
 step_does w t word op q a found (Step.put_of_null src f val names d) = decided tt (a.own.logs t a.is) d

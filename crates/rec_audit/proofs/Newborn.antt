@@ -88,6 +88,8 @@ step_moves : {p q : Private} {word : ℕ} {b left : Contents} {op : Op} → (Tak
 step_moves spare (Step.null reg d) l = keeps_decides l d (λ cells e s some. some) (λ e. e)
 step_moves spare (Step.copy dst src d) l = keeps_decides l d (λ cells e s some. some) (λ e. e)
 step_moves spare (Step.compare x y d) l = keeps_decides l d (λ cells e s some. some) (λ e. e)
+step_moves spare (Step.park d) l = keeps_decides l d (λ cells e s some. some) (λ e. e)
+step_moves spare (Step.unpark d) l = keeps_decides l d (λ cells e s some. some) (λ e. e)
 step_moves spare (Step.get_of_null dst src f none d) l = keeps_decides l d (λ cells e s some. some) (λ e. e)
 step_moves spare (Step.get dst src f slot is d) l = keeps_decides l d (λ cells e s some. some) (λ e. e)
 step_moves spare (Step.put_of_null src f val none d) l = keeps_decides l d (λ cells e s some. some) (λ e. e)

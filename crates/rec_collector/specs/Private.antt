@@ -37,7 +37,7 @@ plain = record { steady = false; least_roots = 0 }
 
 -- a buffer without entries that has these registers as its snapshot
 abbrev pub retired : (registers : List (Option ℕ)) (capacity : ℕ) → Contents
-retired registers capacity = record { entries = []; snapshot = registers; capacity = capacity; last = false }
+retired registers capacity = record { entries = []; snapshot = registers; capacity = capacity; last = false; still = false }
 
 -- a buffer without entries, with a null snapshot of so many registers
 abbrev pub blank : (registers capacity : ℕ) → Contents

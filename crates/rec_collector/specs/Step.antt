@@ -114,7 +114,7 @@ pub data Step (p : Private) (word : ℕ) (box : Contents) (op : Option Op) (q : 
 -- a null snapshot; else what was there.
 pub data LeavesBox (p : Private) (word : ℕ) (box left : Contents) : Type 0 where
   empties : (t : ℕ) → p.phase ≡ Looking t → word ≡ crossing_word p.epoch Retired
-      → left ≡ record { entries = []; snapshot = replicate p.registers None; capacity = p.capacity; last = false } → LeavesBox p word box left
+      → left ≡ record { entries = []; snapshot = replicate p.registers None; capacity = p.capacity; last = false; still = false } → LeavesBox p word box left
   keeps : ((t : ℕ) → p.phase ≡ Looking t → word ≢ crossing_word p.epoch Retired) → left ≡ box → LeavesBox p word box left
 
 -- A whole step: what it leaves of the private record and answers, and what it leaves in the mailbox.

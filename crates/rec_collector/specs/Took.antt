@@ -22,7 +22,7 @@ moved p phase = record p { phase = phase; turns = p.turns + 1 }
 
 -- a buffer is emptied, and its snapshot made all null
 abbrev pub cleared : Contents → Contents
-cleared b = record b { entries = []; snapshot = replicate (length b.snapshot) None; last = false }
+cleared b = record b { entries = []; snapshot = replicate (length b.snapshot) None; last = false; still = false }
 
 -- the collection is complete: the older buffers are cleared and become spares, and the newer ones become the older
 abbrev pub ended : Private → Private

@@ -161,6 +161,8 @@ pub step_logs : {p q : Private} {word : ℕ} {box left : Contents} {op : Op} →
 step_logs some m (Step.null reg d) b = inl (plain_decides b d (λ cells e. refl) (λ e. e))
 step_logs some m (Step.copy dst src d) b = inl (plain_decides b d (λ cells e. refl) (λ e. e))
 step_logs some m (Step.compare x y d) b = inl (plain_decides b d (λ cells e. refl) (λ e. e))
+step_logs some m (Step.park d) b = inl (plain_decides b d (λ cells e. refl) (λ e. e))
+step_logs some m (Step.unpark d) b = inl (plain_decides b d (λ cells e. refl) (λ e. e))
 step_logs some m (Step.get_of_null dst src f none d) b = inl (plain_decides b d (λ cells e. refl) (λ e. e))
 step_logs {word = word} some m (Step.get dst src f slot is d) b = inl (plain_decides b d (load_leaves _ word) (λ e. e))
 step_logs some m (Step.put_of_null src f val none d) b = inl (plain_decides b d (λ cells e. refl) (λ e. e))

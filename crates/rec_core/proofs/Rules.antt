@@ -196,6 +196,8 @@ performed_kept {w = w} {t = t} {word = word} {op = op} {q = q} here m (Step.copy
     after_cross (IsKept true) w t _ word q op d.operation m.found
     (sets dst (register (mutator w t) src) refl m operands.0 (λ slot e. register_taken w m.kept t src slot e) (λ some. inl (has_register w t src (in_list w t m.kept m.is) (answers refl m d).held operands.1)) d)
 performed_kept {w = w} {t = t} {word = word} {op = op} {q = q} here m (Step.compare a b d) = after_cross (IsKept true) w t _ word q op d.operation m.found (unchanged refl m d)
+performed_kept {w = w} {t = t} {word = word} {op = op} {q = q} here m (Step.park d) = after_cross (IsKept true) w t _ word q op d.operation m.found (unchanged refl m d)
+performed_kept {w = w} {t = t} {word = word} {op = op} {q = q} here m (Step.unpark d) = after_cross (IsKept true) w t _ word q op d.operation m.found (unchanged refl m d)
 performed_kept {w = w} {t = t} {word = word} {op = op} {q = q} here m (Step.get_of_null dst src f names d) = after_cross (IsKept true) w t _ word q op d.operation m.found (unchanged refl m d)
 performed_kept {w = w} {t = t} {word = word} {op = op} {q = q} here m (Step.get dst src f slot names d) =
     let p : Private = mutator w t in

@@ -14,7 +14,7 @@ use Rattle.rec_model.specs.declared.answer.Answer.TheVariants as answers
 use Rattle.rec_model.specs.declared.command.Cmd.{Cmd}
 use Rattle.rec_model.specs.declared.command.Cmd.TheVariants as commands
 use Rattle.rec_model.specs.declared.told.Told.{Told}
-use Rattle.rec_model.proofs.Answered.{null_explained, copy_explained, same_explained, get_of_null, get_explained, put_of_null, put_refused, put_into_leaf, put_explained, birth_explained, birth_refused, value_of_null, value_explained, leave_explained, leave_refused}
+use Rattle.rec_model.proofs.Answered.{null_explained, copy_explained, same_explained, get_of_null, get_explained, put_of_null, put_refused, put_into_leaf, put_explained, birth_explained, birth_refused, value_of_null, value_explained, leave_explained, leave_refused, park_explained, unpark_explained}
 use Rattle.rec_log.specs.declared.entry.Entry.TheVariants as entries_
 use Rattle.rec_mutator.specs.Causes.{HasCause, is_refusal, gives_back}
 use Rattle.rec_mutator.specs.Private.{register as register_of}
@@ -237,6 +237,12 @@ says {w = w} {t = t} {word = word} {op = op} {q = q} stays m (Step.compare a b d
     (done refl tt d made (decides_here m d (saw_same w t q (registers_left d))
     (tells (subst (λ (e : Bool). IsExplained (sight w) t (commands.Same a b) (plain (yes_or_no e)) (sight w)) is_equal (same_explained (sight w) t a b m.kept.sound))
     refl refl (λ is. absurd (false≢true (sym made ∙ ap is_refusal is))) refl refl refl)))
+says {w = w} {t = t} {word = word} {op = op} {q = q} stays m (Step.park d) =
+    after_cross (Says w t q) w t _ word q op d.operation m.found
+    (done refl tt d refl (decides_here m d (saw_same w t q (registers_left d)) (tells (park_explained (sight w) t) refl refl (λ is. cc) refl refl refl)))
+says {w = w} {t = t} {word = word} {op = op} {q = q} stays m (Step.unpark d) =
+    after_cross (Says w t q) w t _ word q op d.operation m.found
+    (done refl tt d refl (decides_here m d (saw_same w t q (registers_left d)) (tells (unpark_explained (sight w) t) refl refl (λ is. cc) refl refl refl)))
 says {w = w} {t = t} {word = word} {op = op} {q = q} stays m (Step.get_of_null dst src f names d) =
     let there : register (sight w).registers t src ≡ None = own_register w t src ∙ names in
     after_cross (Says w t q) w t _ word q op d.operation m.found

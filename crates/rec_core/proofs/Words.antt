@@ -108,7 +108,7 @@ not_both _ between swaps = swaps
 spare_own : {dated : Bool} → (w : Core) (t : ℕ) → IsKept dated w → IsMutator w.config t → spare_of w.config ≡ spare (retiring (mutator w t))
 spare_own w t kept is =
     let own = (actor_of w t kept is).own in
-    let make : ℕ → ℕ → Contents = λ n capacity. record { entries = []; snapshot = replicate n None; capacity = capacity; last = false } in
+    let make : ℕ → ℕ → Contents = λ n capacity. record { entries = []; snapshot = replicate n None; capacity = capacity; last = false; still = false } in
     ap (λ n. make n w.config.log_entries) (sym own.registers) ∙ ap (make (length (mutator w t).registers)) (sym own.capacity)
 
 -- what a mutator learns as it takes its mailbox
@@ -124,7 +124,7 @@ learns_leaving p word is = ap (took_at p word) is
 -- the spare of one that leaves is the same
 nulled : (p : Private) → spare (retiring p) ≡ spare (letting_go p)
 nulled p =
-    let make : ℕ → Contents = λ n. record { entries = []; snapshot = replicate n None; capacity = p.log.capacity; last = false } in
+    let make : ℕ → Contents = λ n. record { entries = []; snapshot = replicate n None; capacity = p.log.capacity; last = false; still = false } in
     ap make (sym (length-replicate (length p.registers) None))
 
 -- A mutator may make its next step.

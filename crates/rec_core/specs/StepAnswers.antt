@@ -70,6 +70,8 @@ sight_told w slot t (commands.Get dst src f) told = sight_after_get w t dst (reg
 sight_told w slot t (commands.Put src f val) told = sight_after_put w f (register w.registers t src) (is_done told.answer) told.left
 sight_told w slot t (commands.Value reg) told = w
 sight_told w slot t (commands.Same a b) told = w
+sight_told w slot t commands.Park told = w
+sight_told w slot t commands.Unpark told = w
 sight_told w slot t commands.Leave told = if is_done told.answer then sight_without_registers w t else w
 
 -- the slot that a scan has come to, by phase

@@ -24,7 +24,7 @@ pub record IsCovered (s : State) (newer older : List Contents) : Type 0 where
 
 -- a buffer that names nothing
 abbrev pub blank : Contents
-blank = record { entries = []; snapshot = []; capacity = 0; last = false }
+blank = record { entries = []; snapshot = []; capacity = 0; last = false; still = false }
 
 -- there is an older buffer for each newer one, with as many registers
 pub record AreAlike (newer older : List Contents) : Type 0 where

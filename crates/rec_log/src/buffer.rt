@@ -11,6 +11,7 @@ pub struct Buffer {
     snapshot: Vec<Option<u16>>,
     capacity: u32,
     last: bool,
+    still: bool,
 }
 
 impl Model for Buffer {
@@ -28,13 +29,14 @@ impl Model for Buffer {
 impl Buffer {
     /// An empty buffer for `cap` entries, with a null snapshot of `regs` registers.
     pub fn open(alloc: Global, cap: u32, regs: u8) -> Result<Buffer, NoMemory>
-        ensures { IfOk result (λ buffer. buffer ≡ record { entries = []; snapshot = replicate regs None; capacity = cap; last = false }) }
+        ensures { IfOk result (λ buffer. buffer ≡ record { entries = []; snapshot = replicate regs None; capacity = cap; last = false; still = false }) }
     {
         Ok(Buffer {
             entries: Vec::with_capacity(alloc, cap as usize)?,
             snapshot: vec![in alloc; None; usize::from(regs)]?,
             capacity: cap,
             last: false,
+            still: false,
         })
     }
 
@@ -84,6 +86,30 @@ impl Buffer {
         self.last = true;
     }
 
+    /// Copies the snapshot of the buffer of the epoch before, and marks this one as still: in its epoch the mutator was parked and
+    /// logged nothing, so its registers were the same throughout. The entries stay; a spare has none.
+    pub fn retire_still(&mut self, older: &Buffer)
+        requires { length older.now.snapshot ≡ length self.old.snapshot }
+        ensures { self.new ≡ record self.old { snapshot = older.now.snapshot; still = true } }
+    {
+        self.snapshot.copy_from_slice(older.snapshot.as_slice());
+        self.still = true;
+    }
+
+    /// Makes the snapshot all null, so that the log goes on with its next entry. Entries and marks stay.
+    pub fn reopen(&mut self)
+        ensures { self.new ≡ record self.old { snapshot = replicate (length self.old.snapshot) None } }
+    {
+        self.snapshot.fill(None);
+    }
+
+    /// Whether the collector wrote it for a parked mutator that logged nothing in its epoch and kept its registers.
+    pub fn is_still(&self) -> bool
+        ensures { result ≡ self.now.still }
+    {
+        self.still
+    }
+
     /// Whether its mutator retired it as its last one.
     pub fn is_last(&self) -> bool
         ensures { result ≡ self.now.last }
@@ -91,13 +117,14 @@ impl Buffer {
         self.last
     }
 
-    /// Empties the entries, makes the snapshot all null, and takes the mark away. The capacity stays.
+    /// Empties the entries, makes the snapshot all null, and takes both marks away. The capacity stays.
     pub fn clear(&mut self)
-        ensures { self.new ≡ record self.old { entries = []; snapshot = replicate (length self.old.snapshot) None; last = false } }
+        ensures { self.new ≡ record self.old { entries = []; snapshot = replicate (length self.old.snapshot) None; last = false; still = false } }
     {
         self.entries.clear();
-        self.snapshot.fill(None);
+        self.reopen();
         self.last = false;
+        self.still = false;
     }
 
     /// What the registers named when the buffer was retired; all null before, and once it was cleared.

@@ -13,4 +13,6 @@ pub struct Contents {
     pub capacity: u32,
     /// Whether its mutator retired it as its last one, as it left.
     pub last: bool,
+    /// Whether the collector wrote it for a parked mutator that logged nothing in its epoch and kept its registers.
+    pub still: bool,
 }

@@ -237,3 +237,10 @@ leave_explained w t heap number by =
 -- one that doesn't leave yet
 pub leave_refused : (w : Sight) (t : ℕ) → IsExplained w t commands.Leave (plain answers.NotYet) w
 leave_refused w t heap number by = told_by w heap number t commands.Leave (plain answers.NotYet) (refused heap) w refl refl refl refl (λ is. cc) refl by
+
+-- a mutator that parks or goes on behind that: the heap stays
+pub park_explained : (w : Sight) (t : ℕ) → IsExplained w t commands.Park (plain answers.Done) w
+park_explained w t heap number by = told_by w heap number t commands.Park (plain answers.Done) (answered heap answers.Done 0) w refl refl refl refl (λ is. cc) refl by
+
+pub unpark_explained : (w : Sight) (t : ℕ) → IsExplained w t commands.Unpark (plain answers.Done) w
+unpark_explained w t heap number by = told_by w heap number t commands.Unpark (plain answers.Done) (answered heap answers.Done 0) w refl refl refl refl (λ is. cc) refl by

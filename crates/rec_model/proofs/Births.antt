@@ -40,6 +40,8 @@ births_at fields heap t (commands.Put src f val) made left = put_births heap f (
 births_at fields heap t (commands.Value reg) made left = omega arith
 births_at fields heap t (commands.Same a b) made left = omega arith
 births_at fields heap t commands.Leave made left = leave_births heap t made
+births_at fields heap t commands.Park made left = omega arith
+births_at fields heap t commands.Unpark made left = omega arith
 
 pub births : (fields : ℕ) (heap : Heap) (t : ℕ) (cmd : Cmd) (told : Told) → length (asked fields heap t cmd told).heap.objects ≡ length heap.objects + (if is_birth (cmd, told) then 1 else 0)
 births fields heap t cmd told = births_at fields heap t cmd (is_done told.answer) told.left

@@ -68,7 +68,7 @@ abbrev pub leave : Heap → (t : ℕ) → (made : Bool) → Asked
 leave heap t true = answered (without_registers heap t) answers.Done 0
 leave heap t false = refused heap
 
--- What asking gives. Every object has this many fields; `made` bears on New, Leaf and Leave, and on Put where its object is there;
+-- What asking gives. Parking and unparking leave the heap as it is. Every object has this many fields; `made` bears on New, Leaf and Leave, and on Put where its object is there;
 -- `left` is the word that a Put leaves.
 abbrev pub asks : (fields : ℕ) → Heap → (t : ℕ) → Cmd → (made : Bool) → (left : ℕ) → Asked
 asks fields heap t (commands.New reg label) made left = bear fields heap t reg label false made
@@ -80,6 +80,8 @@ asks fields heap t (commands.Put src f val) made left = put heap f (register hea
 asks fields heap t (commands.Value reg) made left = answered heap (value heap (register heap.registers t reg)) 0
 asks fields heap t (commands.Same a b) made left = answered heap (yes_or_no (same (register heap.registers t a) (register heap.registers t b))) 0
 asks fields heap t commands.Leave made left = leave heap t made
+asks fields heap t commands.Park made left = answered heap answers.Done 0
+asks fields heap t commands.Unpark made left = answered heap answers.Done 0
 
 -- the command that allocates: a leaf, or an object with fields
 abbrev pub allocation : (leaf : Bool) (reg label : ℕ) → Cmd

@@ -22,10 +22,15 @@ pub enum Cmd {
     Same { a: u8, b: u8 },
     /// Let every register be null, and ask for nothing more.
     Leave,
+    /// Let no collection wait for the mutator until it asks to unpark. No heap carries this out yet.
+    Park,
+    /// Go on behind `Park`. No heap carries this out yet.
+    Unpark,
 }
 
 impl Cmd {
-    /// Whether the registers and the field that it names are there, where there are so many.
+    /// Whether the registers and the field that it names are there, where there are so many. A heap carries out neither `Park` nor
+    /// `Unpark`, so nothing is there for these.
     #[inline(always)]
     pub fn has_operands(&self, registers: usize, fields: usize) -> bool
         ensures { IsTrue result ↔ HasOperands registers fields self.now }
@@ -48,6 +53,7 @@ impl Cmd {
                 && usize::from(b) < registers
                 && usize::from(field) < fields,
             Cmd::Leave => true,
+            Cmd::Park | Cmd::Unpark => false,
         }
     }
 }

@@ -74,6 +74,8 @@ first_next p (commands.Put src f val) = ap (write_op (bare_private p) (register 
 first_next p (commands.Value reg) = label_next p (register p reg)
 first_next p (commands.Same a b) = refl
 first_next p commands.Leave = refl
+first_next p commands.Park = refl
+first_next p commands.Unpark = refl
 
 begun_next : (p : Private) (work : Work) → begun_op (bare_private p) work ≡ bare_op (begun_op p work)
 begun_next p (works.Command cmd) = first_next p cmd
@@ -145,6 +147,8 @@ first_learnt p word (commands.Put src f val) =
 first_learnt p word (commands.Value reg) = label_learnt p reg word (register p reg)
 first_learnt p word (commands.Same a b) = refl
 first_learnt p word commands.Leave = leaving_learnt p (is_uncollected word)
+first_learnt p word commands.Park = refl
+first_learnt p word commands.Unpark = refl
 
 begun_learnt : (p : Private) (word : ℕ) (work : Work) → begun_by (bare_private p) (bare_in (cell_of (begun_op p work)) word) work ≡ bare_private (begun_by p word work)
 begun_learnt p word (works.Command cmd) = first_learnt p word cmd

@@ -34,6 +34,8 @@ pub parts_from : {p : Private} {word : ℕ} {box : Contents} {op : Op} {q : Priv
 parts_from (Step.null reg d) = decided d
 parts_from (Step.copy dst src d) = decided d
 parts_from (Step.compare a b d) = decided d
+parts_from (Step.park d) = decided d
+parts_from (Step.unpark d) = decided d
 parts_from (Step.get_of_null dst src f names d) = decided d
 parts_from (Step.get dst src f slot names d) = decided d
 parts_from (Step.put_of_null src f val names d) = decided d

@@ -83,6 +83,8 @@ first_step p (commands.Put src f val) none = omega arith
 first_step p (commands.Value reg) none = omega arith
 first_step p (commands.Same a b) none = omega arith
 first_step p commands.Leave none = omega arith
+first_step p commands.Park none = omega arith
+first_step p commands.Unpark none = omega arith
 
 -- an allocation has as many steps as slots, and two
 pub allocation_limit : (slots reg label : ℕ) (leaf : Bool) → limit_of slots (works.Command (allocation leaf reg label)) ≡ slots + 2
@@ -212,6 +214,8 @@ pub step_machine : {p : Private} {word : ℕ} {box : Contents} {op : Op} {q : Pr
 step_machine {p = p} m sized found (Step.null reg d) = decided_machine m (All-set IsTarget p.registers reg None tt m.registers) m.entries (length-set p.registers reg None) (first_step p (commands.Null reg) (at_phase p _ m d.phase).1) d
 step_machine {p = p} m sized found (Step.copy dst src d) = decided_machine m (All-set IsTarget p.registers dst (register p src) (register_target p src m) m.registers) m.entries (length-set p.registers dst _) (first_step p (commands.Copy dst src) (at_phase p _ m d.phase).1) d
 step_machine {p = p} m sized found (Step.compare a b d) = decided_machine m m.registers m.entries refl (first_step p (commands.Same a b) (at_phase p _ m d.phase).1) d
+step_machine {p = p} m sized found (Step.park d) = decided_machine m m.registers m.entries refl (first_step p commands.Park (at_phase p _ m d.phase).1) d
+step_machine {p = p} m sized found (Step.unpark d) = decided_machine m m.registers m.entries refl (first_step p commands.Unpark (at_phase p _ m d.phase).1) d
 step_machine {p = p} m sized found (Step.get_of_null dst src f names d) = decided_machine m m.registers m.entries refl (first_step p (commands.Get dst src f) (at_phase p _ m d.phase).1) d
 step_machine {p = p} {word = word} m sized found (Step.get dst src f slot names d) = decided_machine m (All-set IsTarget p.registers dst (target_of word) (word_target word) m.registers) m.entries (length-set p.registers dst _) (first_step p (commands.Get dst src f) (at_phase p _ m d.phase).1) d
 step_machine {p = p} m sized found (Step.put_of_null src f val names d) = decided_machine m m.registers m.entries refl (first_step p (commands.Put src f val) (at_phase p _ m d.phase).1) d
@@ -279,7 +283,7 @@ step_machine {p = p} m sized found (Step.give_box c) =
     crossing_machine m (own_box p m) (omega (arith, crosses.1), λ _. crosses.1) (omega arith) c
 
 -- a machine with an empty log is as it is opened
-pub opened_as : (number epoch slots fields : ℕ) {registers held : List (Option ℕ)} {log : Contents} (regs cap : ℕ) → registers ≡ held → log ≡ record { entries = []; snapshot = replicate regs None; capacity = cap; last = false }
+pub opened_as : (number epoch slots fields : ℕ) {registers held : List (Option ℕ)} {log : Contents} (regs cap : ℕ) → registers ≡ held → log ≡ record { entries = []; snapshot = replicate regs None; capacity = cap; last = false; still = false }
     → let p : Private = record { number = number; epoch = epoch; slots = slots; fields = fields; registers = registers; log = log; from = 0; phase = Idle; steps = 0; left = false; dates = false } in p ≡ opened number epoch slots fields held regs cap
 opened_as number epoch slots fields regs cap same empty i = record { number = number; epoch = epoch; slots = slots; fields = fields; registers = same i; log = empty i; from = 0; phase = Idle; steps = 0; left = false; dates = false }
 

@@ -62,6 +62,8 @@ unfolding is_polled is_polling
 poll_cause {word = word} (Step.null reg d) = decided word refl refl refl d
 poll_cause {word = word} (Step.copy dst src d) = decided word refl refl refl d
 poll_cause {word = word} (Step.compare a b d) = decided word refl refl refl d
+poll_cause {word = word} (Step.park d) = decided word refl refl refl d
+poll_cause {word = word} (Step.unpark d) = decided word refl refl refl d
 poll_cause {word = word} (Step.get_of_null dst src f names d) = decided word refl refl refl d
 poll_cause {word = word} (Step.get dst src f slot names d) = decided word refl refl refl d
 poll_cause {word = word} (Step.put_of_null src f val names d) = decided word refl refl refl d

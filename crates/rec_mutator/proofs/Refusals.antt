@@ -236,6 +236,10 @@ step_cause {p = p} {word = word} {q = q} cmd told kept work answer (Step.copy ds
 step_cause {p = p} {word = word} {q = q} cmd told kept work answer (Step.compare a b d) =
     decided word cmd told refl work answer d
     (plain_cause p q (commands.Same a b) word (yes_or_no (same (register p a) (register p b))) (compare_made (same (register p a) (register p b))) (λ e. e) (λ e. e.1) (not_scanned p _ d.phase (λ _ e. e)) (λ e. e) (λ e. e))
+step_cause {p = p} {word = word} {q = q} cmd told kept work answer (Step.park d) =
+    decided word cmd told refl work answer d (plain_cause p q commands.Park word answers.Done refl (λ e. e) (λ e. e.1) (not_scanned p _ d.phase (λ _ e. e)) (λ e. e) (λ e. e))
+step_cause {p = p} {word = word} {q = q} cmd told kept work answer (Step.unpark d) =
+    decided word cmd told refl work answer d (plain_cause p q commands.Unpark word answers.Done refl (λ e. e) (λ e. e.1) (not_scanned p _ d.phase (λ _ e. e)) (λ e. e) (λ e. e))
 step_cause {p = p} {word = word} {q = q} cmd told kept work answer (Step.get_of_null dst src f names d) =
     decided word cmd told refl work answer d (lacking_cause p q (commands.Get dst src f) word (stays d) names (λ e. e) (not_scanned p _ d.phase (λ _ e. e)) (λ e. e) (λ e. e))
 step_cause {p = p} {word = word} {q = q} cmd told kept work answer (Step.get dst src f slot names d) =

@@ -58,6 +58,8 @@ pub step_keeps : {p : Private} {word : ℕ} {box : Contents} {op : Op} {q : Priv
 step_keeps {p = p} sized (Step.null reg d) = decided_keeps (length-set p.registers reg _) refl d
 step_keeps {p = p} sized (Step.copy dst src d) = decided_keeps (length-set p.registers dst _) refl d
 step_keeps sized (Step.compare a b d) = decided_keeps refl refl d
+step_keeps sized (Step.park d) = decided_keeps refl refl d
+step_keeps sized (Step.unpark d) = decided_keeps refl refl d
 step_keeps sized (Step.get_of_null dst src f names d) = decided_keeps refl refl d
 step_keeps {p = p} sized (Step.get dst src f slot names d) = decided_keeps (length-set p.registers dst _) refl d
 step_keeps sized (Step.put_of_null src f val names d) = decided_keeps refl refl d
@@ -100,6 +102,8 @@ pub step_counts : {p : Private} {word : ℕ} {box : Contents} {op : Op} {q : Pri
 step_counts (Step.null reg d) = ap (λ (x : Private). x.steps) d.after
 step_counts (Step.copy dst src d) = ap (λ (x : Private). x.steps) d.after
 step_counts (Step.compare a b d) = ap (λ (x : Private). x.steps) d.after
+step_counts (Step.park d) = ap (λ (x : Private). x.steps) d.after
+step_counts (Step.unpark d) = ap (λ (x : Private). x.steps) d.after
 step_counts (Step.get_of_null dst src f names d) = ap (λ (x : Private). x.steps) d.after
 step_counts (Step.get dst src f slot names d) = ap (λ (x : Private). x.steps) d.after
 step_counts (Step.put_of_null src f val names d) = ap (λ (x : Private). x.steps) d.after
@@ -130,6 +134,8 @@ pub step_dates : {p : Private} {word : ℕ} {box : Contents} {op : Op} {q : Priv
 step_dates (Step.null reg d) = ap (λ (x : Private). x.dates) d.after
 step_dates (Step.copy dst src d) = ap (λ (x : Private). x.dates) d.after
 step_dates (Step.compare a b d) = ap (λ (x : Private). x.dates) d.after
+step_dates (Step.park d) = ap (λ (x : Private). x.dates) d.after
+step_dates (Step.unpark d) = ap (λ (x : Private). x.dates) d.after
 step_dates (Step.get_of_null dst src f names d) = ap (λ (x : Private). x.dates) d.after
 step_dates (Step.get dst src f slot names d) = ap (λ (x : Private). x.dates) d.after
 step_dates (Step.put_of_null src f val names d) = ap (λ (x : Private). x.dates) d.after
@@ -187,6 +193,8 @@ pub step_left : {p : Private} {word : ℕ} {box : Contents} {op : Op} {q : Priva
 step_left stays (Step.null reg d) = ap (λ (x : Private). x.left) d.after
 step_left stays (Step.copy dst src d) = ap (λ (x : Private). x.left) d.after
 step_left stays (Step.compare a b d) = ap (λ (x : Private). x.left) d.after
+step_left stays (Step.park d) = ap (λ (x : Private). x.left) d.after
+step_left stays (Step.unpark d) = ap (λ (x : Private). x.left) d.after
 step_left stays (Step.get_of_null dst src f names d) = ap (λ (x : Private). x.left) d.after
 step_left stays (Step.get dst src f slot names d) = ap (λ (x : Private). x.left) d.after
 step_left stays (Step.put_of_null src f val names d) = ap (λ (x : Private). x.left) d.after

@@ -131,6 +131,8 @@ command_step p word box (commands.Put src f val) is = put_step p word src f val 
 command_step p word box (commands.Value reg) is = value_step p word reg box (register p reg) refl is
 command_step p word box (commands.Same a b) is = Step.compare a b (record { phase = is; operation = refl; after = refl })
 command_step p word box commands.Leave is = leave_step p word box (mailbox_of word) refl is
+command_step p word box commands.Park is = Step.park (record { phase = is; operation = refl; after = refl })
+command_step p word box commands.Unpark is = Step.unpark (record { phase = is; operation = refl; after = refl })
 
 -- a poll that looked at the epoch word
 poll_step : (p : Private) (word : ℕ) (box : Contents) → p.phase ≡ Begun works.Poll → Step p word box (next_at p (Begun works.Poll)) (polled p word)
@@ -194,6 +196,8 @@ pub step_between : {p : Private} {word : ℕ} {box : Contents} {op : Op} {q : Pr
 step_between (Step.null reg d) = decided_between d
 step_between (Step.copy dst src d) = decided_between d
 step_between (Step.compare a b d) = decided_between d
+step_between (Step.park d) = decided_between d
+step_between (Step.unpark d) = decided_between d
 step_between (Step.get_of_null dst src f names d) = decided_between d
 step_between (Step.get dst src f slot names d) = decided_between d
 step_between (Step.put_of_null src f val names d) = decided_between d

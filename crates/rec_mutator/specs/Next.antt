@@ -47,6 +47,8 @@ first_op p (commands.Put src f val) = write_op p (register p src) (is_full p)
 first_op p (commands.Value reg) = label_op p (register p reg)
 first_op p (commands.Same a b) = own_word p
 first_op p commands.Leave = own_word p
+first_op p commands.Park = own_word p
+first_op p commands.Unpark = own_word p
 
 -- the first step of a work
 abbrev pub begun_op : Private → Work → Op

@@ -40,7 +40,7 @@ opened_by dates number epoch slots fields registers regs cap =
       slots = slots;
       fields = fields;
       registers = registers;
-      log = record { entries = []; snapshot = replicate regs None; capacity = cap; last = false };
+      log = record { entries = []; snapshot = replicate regs None; capacity = cap; last = false; still = false };
       from = 0;
       phase = Idle;
       steps = 0;

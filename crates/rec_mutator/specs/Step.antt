@@ -79,6 +79,8 @@ pub data Step (p : Private) (word : ℕ) (box : Contents) (op : Op) (q : Private
   null : (reg : ℕ) → DecidesAtOnce p op q (commands.Null reg) (ops.LoadCross p.number) (slice_set p.registers reg None) p.log.entries (plain answers.Done) → Step p word box op q
   copy : (dst src : ℕ) → DecidesAtOnce p op q (commands.Copy dst src) (ops.LoadCross p.number) (slice_set p.registers dst (register p src)) p.log.entries (plain answers.Done) → Step p word box op q
   compare : (a b : ℕ) → DecidesAtOnce p op q (commands.Same a b) (ops.LoadCross p.number) p.registers p.log.entries (plain (yes_or_no (same (register p a) (register p b)))) → Step p word box op q
+  park : DecidesAtOnce p op q commands.Park (ops.LoadCross p.number) p.registers p.log.entries (plain answers.Done) → Step p word box op q
+  unpark : DecidesAtOnce p op q commands.Unpark (ops.LoadCross p.number) p.registers p.log.entries (plain answers.Done) → Step p word box op q
   get_of_null : (dst src f : ℕ) → register p src ≡ None
       → DecidesAtOnce p op q (commands.Get dst src f) (ops.LoadCross p.number) p.registers p.log.entries (plain answers.NoObject) → Step p word box op q
   get : (dst src f slot : ℕ) → register p src ≡ Some slot

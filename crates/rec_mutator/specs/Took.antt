@@ -100,6 +100,8 @@ first_by p word (commands.Put src f val) = written_by p src f val word (register
 first_by p word (commands.Value reg) = answered p (commands.Value reg) (plain (label_by word (register p reg)))
 first_by p word (commands.Same a b) = answered p (commands.Same a b) (plain (yes_or_no (same (register p a) (register p b))))
 first_by p word commands.Leave = leaving_by p (is_uncollected word)
+first_by p word commands.Park = answered p commands.Park (plain answers.Done)
+first_by p word commands.Unpark = answered p commands.Unpark (plain answers.Done)
 
 -- a poll that finds its own epoch is done; else the mutator crosses
 abbrev pub polled : Private → (word : ℕ) → Private
@@ -137,7 +139,7 @@ last_of p = record p.log { snapshot = nulls_of p; last = true }
 
 -- a buffer for this mutator without entries, with a null snapshot
 abbrev pub spare : Private → Contents
-spare p = record { entries = []; snapshot = nulls_of p; capacity = p.log.capacity; last = false }
+spare p = record { entries = []; snapshot = nulls_of p; capacity = p.log.capacity; last = false; still = false }
 
 -- the own mailbox was taken, and the log is retired
 abbrev pub retiring : Private → Private

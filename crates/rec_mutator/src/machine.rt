@@ -380,7 +380,12 @@ impl Machine {
                     Op::LoadFreed
                 }
             }
-            Cmd::Null { .. } | Cmd::Copy { .. } | Cmd::Same { .. } | Cmd::Leave => self.own_word(),
+            Cmd::Null { .. }
+            | Cmd::Copy { .. }
+            | Cmd::Same { .. }
+            | Cmd::Leave
+            | Cmd::Park
+            | Cmd::Unpark => self.own_word(),
             Cmd::Get { src, field, .. } => match self.frame.read(src) {
                 Some(slot) => Op::LoadField(self.place_of(slot, field)),
                 None => self.own_word(),

@@ -73,6 +73,8 @@ module _ (limits : Limits) (start : Moment) (events : List Event) (w : Core) (n 
     meets_step (Step.null reg d) = decided d
     meets_step (Step.copy dst src d) = decided d
     meets_step (Step.compare x y d) = decided d
+    meets_step (Step.park d) = decided d
+    meets_step (Step.unpark d) = decided d
     meets_step (Step.get_of_null dst src f names d) = decided d
     meets_step (Step.get dst src f slot names d) = decided d
     meets_step (Step.put_of_null src f val names d) = decided d

@@ -127,6 +127,8 @@ pub seen_step : {p q : Private} {word : ℕ} {box left : Contents} {op : Op} →
 seen_step m (Step.null reg d) b = decided b d refl (λ e. e) (λ cells e. refl) (inr (reg, None, refl, λ slot e. cc))
 seen_step m (Step.copy dst src d) b = decided b d refl (λ e. e) (λ cells e. refl) (inr (dst, _, refl, λ slot e. Finds.had src e))
 seen_step m (Step.compare x y d) b = decided b d refl (λ e. e) (λ cells e. refl) (inl refl)
+seen_step m (Step.park d) b = decided b d refl (λ e. e) (λ cells e. refl) (inl refl)
+seen_step m (Step.unpark d) b = decided b d refl (λ e. e) (λ cells e. refl) (inl refl)
 seen_step m (Step.get_of_null dst src f none d) b = decided b d refl (λ e. e) (λ cells e. refl) (inl refl)
 seen_step {word = word} m (Step.get dst src f slot is d) b =
     let operands = (at_phase _ (at.Begun (works.Command (commands.Get dst src f))) m d.phase).0 in

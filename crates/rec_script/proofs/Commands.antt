@@ -3,7 +3,7 @@ use Rattle.std.proofs.Common.{◌≡◌, ℕ, suc, ◌+◌, ◌*◌, ◌≤◌, 
 use Rattle.std.specs.Prelude.{◌↔◌, IsTrue}
 use Rattle.std.specs.Fmt.{decimal}
 use Rattle.rec_model.specs.declared.command.Cmd.{Cmd}
-use Rattle.rec_model.specs.declared.command.Cmd.TheVariants.{New, Leaf, Null, Copy, Get, Put, Value, Same, Leave}
+use Rattle.rec_model.specs.declared.command.Cmd.TheVariants.{New, Leaf, Null, Copy, Get, Put, Value, Same, Leave, Park, Unpark}
 use Rattle.rec_script.specs.declared.error.Kind.{Kind}
 use Rattle.rec_script.specs.Script.{word_of, operands_of, limits_of, since, Allows, HasLeft, IsBadCommand}
 use Rattle.rec_script.specs.Operands.{AreMisread}
@@ -16,15 +16,15 @@ letters word = 256 * get_or word 0 0 + get_or word 1 0
 abbrev fourth : List ℕ → ℕ
 fourth word = get_or word 3 0
 
--- what a word chooses of nine things
-abbrev pub choose : {A : Type 0} → List ℕ → (new leaf null copy get put value same leave : A) → A
-choose word new leaf null copy get put value same leave =
-    cond (letters word == 28261) new (cond (letters word == 27749) (cond (fourth word == 102) leaf leave) (cond (letters word == 28277) null (cond (letters word == 25455) copy (cond (letters word == 26469) get (cond (letters word == 28789) put (cond (letters word == 30305) value same))))))
+-- what a word chooses of eleven things
+abbrev pub choose : {A : Type 0} → List ℕ → (new leaf null copy get put value same leave park unpark : A) → A
+choose word new leaf null copy get put value same leave park unpark =
+    cond (letters word == 28261) new (cond (letters word == 27749) (cond (fourth word == 102) leaf leave) (cond (letters word == 28277) null (cond (letters word == 25455) copy (cond (letters word == 26469) get (cond (letters word == 28789) put (cond (letters word == 30305) value (cond (letters word == 28769) park (cond (letters word == 30062) unpark same))))))))
 
 -- the limits of operands, by the word
 abbrev limits_by_word : (registers fields : ℕ) → List ℕ → List (ℕ × Kind)
 limits_by_word registers fields word =
-    choose word (limits_of registers fields (New 0 0)) (limits_of registers fields (Leaf 0 0)) (limits_of registers fields (Null 0)) (limits_of registers fields (Copy 0 0)) (limits_of registers fields (Get 0 0 0)) (limits_of registers fields (Put 0 0 0)) (limits_of registers fields (Value 0)) (limits_of registers fields (Same 0 0)) (limits_of registers fields Leave)
+    choose word (limits_of registers fields (New 0 0)) (limits_of registers fields (Leaf 0 0)) (limits_of registers fields (Null 0)) (limits_of registers fields (Copy 0 0)) (limits_of registers fields (Get 0 0 0)) (limits_of registers fields (Put 0 0 0)) (limits_of registers fields (Value 0)) (limits_of registers fields (Same 0 0)) (limits_of registers fields Leave) (limits_of registers fields Park) (limits_of registers fields Unpark)
 
 by_word : (registers fields : ℕ) (cmd : Cmd) → limits_by_word registers fields (word_of cmd) ≡ limits_of registers fields cmd
 by_word registers fields (New reg label) = refl
@@ -34,13 +34,13 @@ by_word registers fields _ = refl
 pub same_limits : (registers fields : ℕ) (a b : Cmd) → word_of a ≡ word_of b → limits_of registers fields a ≡ limits_of registers fields b
 same_limits registers fields a b e = sym (by_word registers fields a) ∙ ap (limits_by_word registers fields) e ∙ by_word registers fields b
 
-since_by_word : (cmd : Cmd) → choose (word_of cmd) 1 2 1 1 1 1 1 1 3 ≡ since cmd
+since_by_word : (cmd : Cmd) → choose (word_of cmd) 1 2 1 1 1 1 1 1 3 4 4 ≡ since cmd
 since_by_word (New reg label) = refl
 since_by_word _ = refl
 
 -- and a version has all of them or none
 pub same_allowed : (version : ℕ) (a b : Cmd) → word_of a ≡ word_of b → Allows version a → Allows version b
-same_allowed version a b e allowed = subst (λ (n : ℕ). n ≤ version) (sym (since_by_word a) ∙ ap (λ (w : List ℕ). choose w 1 2 1 1 1 1 1 1 3) e ∙ since_by_word b) allowed
+same_allowed version a b e allowed = subst (λ (n : ℕ). n ≤ version) (sym (since_by_word a) ∙ ap (λ (w : List ℕ). choose w 1 2 1 1 1 1 1 1 3 4 4) e ∙ since_by_word b) allowed
 
 -- there is a limit for each operand
 limits_length : (registers fields : ℕ) (cmd : Cmd) → length (limits_of registers fields cmd) ≡ length (map decimal (operands_of cmd))

@@ -9,7 +9,7 @@ use Rattle.std.proofs.lemmas.Fmt.{IsAscii-decimal}
 use Rattle.std.proofs.lemmas.Str.{IsUtf8-from_ascii}
 use Rattle.std.proofs.lemmas.List.Elements.{All-cons, All-weaker}
 use Rattle.rec_model.specs.declared.command.Cmd.{Cmd}
-use Rattle.rec_model.specs.declared.command.Cmd.TheVariants.{New, Leaf, Null, Copy, Get, Put, Value, Same, Leave}
+use Rattle.rec_model.specs.declared.command.Cmd.TheVariants.{New, Leaf, Null, Copy, Get, Put, Value, Same, Leave, Park, Unpark}
 use Rattle.rec_script.specs.declared.draft.Draft.{Draft}
 use Rattle.rec_script.specs.declared.draft.Draft.TheVariants.{Nothing, Header, Sized, Whole}
 use Rattle.rec_script.specs.Lines.{is_blank, in_front, cut, is_some_word, words}
@@ -86,6 +86,8 @@ plain_command registers fields (Put src field val) h is = ((omega arith, (omega 
 plain_command registers fields (Value reg) h is = ((omega arith, (omega arith, (omega arith, (omega arith, (omega arith, tt))))), (plain_decimal reg (omega (arith, h.registers_fit, is.0)), tt))
 plain_command registers fields (Same a b) h is = ((omega arith, (omega arith, (omega arith, (omega arith, tt)))), (plain_decimal a (omega (arith, h.registers_fit, is.0.0)), (plain_decimal b (omega (arith, h.registers_fit, is.0.1)), tt)))
 plain_command registers fields Leave h is = ((omega arith, (omega arith, (omega arith, (omega arith, (omega arith, tt))))), tt)
+plain_command registers fields Park h is = absurd is.0
+plain_command registers fields Unpark h is = absurd is.0
 
 plain_body : (version registers fields : ℕ) → AreSmall registers fields → (line : List (List ℕ)) → IsBodyLine version registers fields line → ArePlain line
 plain_body version registers fields h line (inl e) = subst ArePlain (sym e) plain_mutator

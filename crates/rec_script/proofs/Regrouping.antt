@@ -9,7 +9,7 @@ use Rattle.std.proofs.lemmas.List.{append-nil}
 use Rattle.std.proofs.lemmas.List.Elements.{All-head, All-tail}
 use Rattle.std.proofs.lemmas.Option.{none-some}
 use Rattle.rec_model.specs.declared.command.Cmd.{Cmd}
-use Rattle.rec_model.specs.declared.command.Cmd.TheVariants.{New, Leaf, Null, Copy, Get, Put, Value, Same, Leave}
+use Rattle.rec_model.specs.declared.command.Cmd.TheVariants.{New, Leaf, Null, Copy, Get, Put, Value, Same, Leave, Park, Unpark}
 use Rattle.rec_script.specs.Script.{ScriptContents, IsCommand, IsHeap, IsVersion, AreCommands, IsScript, header, heap_line, mutator_lines, command_line, word_of, HasLeft, LeavesLast, last_commands, spelled, IsShaped}
 use Rattle.rec_script.proofs.Commands.{letters, choose}
 use Rattle.rec_script.proofs.Leaving.{none_behind}
@@ -42,6 +42,8 @@ command_of line =
     (Value (number_at line 1))
     (Same (number_at line 1) (number_at line 2))
     Leave
+    Park
+    Unpark
 
 command_again : (registers fields : ℕ) (cmd : Cmd) → AreSmall registers fields → IsCommand registers fields cmd → command_of (command_line cmd) ≡ cmd
 command_again r f (New reg label) h is = ap (λ (n : ℕ). New n (digits_value 10 (decimal label))) (value reg (omega (arith, h.registers_fit, is.0))) ∙ ap (λ (n : ℕ). New reg n) (value label (omega (arith, is.1)))
@@ -59,6 +61,8 @@ command_again r f (Put src field val) h is =
 command_again r f (Value reg) h is = ap Value (value reg (omega (arith, h.registers_fit, is.0)))
 command_again r f (Same a b) h is = ap (λ (n : ℕ). Same n (digits_value 10 (decimal b))) (value a (omega (arith, h.registers_fit, is.0.0))) ∙ ap (λ (n : ℕ). Same a n) (value b (omega (arith, h.registers_fit, is.0.1)))
 command_again r f Leave h is = refl
+command_again r f Park h is = absurd is.0
+command_again r f Unpark h is = absurd is.0
 
 -- a line begins with the letters of `mutator`
 abbrev pub is_mutator : List (List ℕ) → Bool

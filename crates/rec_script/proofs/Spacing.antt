@@ -10,7 +10,7 @@ use Rattle.std.proofs.lemmas.Bool.Decides.{nat_tests}
 use Rattle.std.proofs.lemmas.Fmt.{decimal_digit, decimal_nonempty}
 use Rattle.std.proofs.lemmas.List.{drop_more}
 use Rattle.rec_model.specs.declared.command.Cmd.{Cmd}
-use Rattle.rec_model.specs.declared.command.Cmd.TheVariants.{New, Leaf, Null, Copy, Get, Put, Value, Same, Leave}
+use Rattle.rec_model.specs.declared.command.Cmd.TheVariants.{New, Leaf, Null, Copy, Get, Put, Value, Same, Leave, Park, Unpark}
 use Rattle.rec_script.specs.Lines.{is_end, is_blank, in_front, cut, without_cr, lines, is_some_word, words, is_counted, spaced}
 use Rattle.rec_script.specs.Script.{IsCommand, command_line}
 use Rattle.rec_script.specs.Drafts.{IsTaken}
@@ -141,6 +141,8 @@ command_words registers fields (Put src field val) h is = ((omega arith, (omega 
 command_words registers fields (Value reg) h is = ((omega arith, (omega arith, (omega arith, (omega arith, (omega arith, (omega arith, tt)))))), (numeral_word reg (omega (arith, h.registers_fit, is.0)), tt))
 command_words registers fields (Same a b) h is = ((omega arith, (omega arith, (omega arith, (omega arith, (omega arith, tt))))), (numeral_word a (omega (arith, h.registers_fit, is.0.0)), (numeral_word b (omega (arith, h.registers_fit, is.0.1)), tt)))
 command_words registers fields Leave h is = ((omega arith, (omega arith, (omega arith, (omega arith, (omega arith, (omega arith, tt)))))), tt)
+command_words registers fields Park h is = absurd is.0
+command_words registers fields Unpark h is = absurd is.0
 
 -- the line of a command counts
 counts : (cmd : Cmd) → cond (is_counted (command_line cmd)) (command_line cmd ∷ []) [] ≡ command_line cmd ∷ []

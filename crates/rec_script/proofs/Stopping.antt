@@ -7,7 +7,7 @@ use Rattle.std.specs.Str.{IsUtf8}
 use Rattle.std.proofs.lemmas.List.{map-append}
 use Rattle.std.proofs.lemmas.List.Elements.{All-head, All-tail, All-cons, All-append, All-map, filter-append}
 use Rattle.rec_model.specs.declared.command.Cmd.{Cmd}
-use Rattle.rec_model.specs.declared.command.Cmd.TheVariants.{New, Leaf, Null, Copy, Get, Put, Value, Same, Leave}
+use Rattle.rec_model.specs.declared.command.Cmd.TheVariants.{New, Leaf, Null, Copy, Get, Put, Value, Same, Leave, Park, Unpark}
 use Rattle.rec_script.specs.declared.error.Kind.{Kind}
 use Rattle.rec_script.specs.Lines.{words, is_counted, counted, AreUtf8}
 use Rattle.rec_script.specs.Script.{ScriptContents, IsCommand, Allows, AreCommands, IsScript, Continues, mutator_line, mutator_lines, command_line, word_of, operands_of, limits_of, HasLeft, LeavesLast, most_mutators, last_commands, spelled, IsShaped, IsWrong, AreWrong, IsBadCommand, Fits, IsFault}
@@ -73,6 +73,8 @@ right_operands r f (Put src field val) most-r most-f is = ((is.0.0, omega (arith
 right_operands r f (Value reg) most-r most-f is = ((is.0, omega (arith, is.0)), tt)
 right_operands r f (Same a b) most-r most-f is = ((is.0.0, omega (arith, is.0.0)), ((is.0.1, omega (arith, is.0.1)), tt))
 right_operands r f Leave most-r most-f is = tt
+right_operands r f Park most-r most-f is = tt
+right_operands r f Unpark most-r most-f is = tt
 
 -- ---- a script's text has no such line
 

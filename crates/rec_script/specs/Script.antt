@@ -6,7 +6,7 @@ use Rattle.std.specs.List.{flat_map, slice_get}
 use Rattle.std.specs.Str.{IsUtf8}
 use Rattle.rec_model.specs.declared.command.Cmd.{Cmd}
 use Rattle.rec_model.specs.declared.limits.TheConstants.{MOST_SLOTS, MOST_FIELDS, MOST_REGISTERS, MOST_MUTATORS, MOST_SCRIPT_MUTATORS, MOST_COMMANDS, MOST_BYTES}
-use Rattle.rec_model.specs.declared.command.Cmd.TheVariants.{New, Leaf, Null, Copy, Get, Put, Value, Same, Leave}
+use Rattle.rec_model.specs.declared.command.Cmd.TheVariants.{New, Leaf, Null, Copy, Get, Put, Value, Same, Leave, Park, Unpark}
 use Rattle.rec_model.specs.Operands.{HasOperands, HasLabel}
 use Rattle.rec_script.specs.declared.error.Kind.{Kind}
 use Rattle.rec_script.specs.declared.error.Kind.TheVariants.{TooLong, NotUtf8, NoHeader, BadHeap, NoMutator, BadCommand, TooManyMutators, TooManyCommands, BadNumber, Register, Field, BadImage}
@@ -24,7 +24,7 @@ pub record ScriptContents : Type 0 where
 abbrev pub IsCommand : (registers fields : ℕ) → Cmd → Type 0
 IsCommand registers fields cmd = HasOperands registers fields cmd × HasLabel cmd
 
--- the version that a command came with
+-- the version that a command came with; those of version 4 are in no version yet
 abbrev pub since : Cmd → ℕ
 since (New reg label) = 1
 since (Leaf reg label) = 2
@@ -35,6 +35,8 @@ since (Put src field val) = 1
 since (Value reg) = 1
 since (Same a b) = 1
 since Leave = 3
+since Park = 4
+since Unpark = 4
 
 -- a version has this command
 abbrev pub Allows : (version : ℕ) → Cmd → Type 0
@@ -104,6 +106,8 @@ word_of (Put src field val) = codes "put"
 word_of (Value reg) = codes "value"
 word_of (Same a b) = codes "same"
 word_of Leave = codes "leave"
+word_of Park = codes "park"
+word_of Unpark = codes "unpark"
 
 -- the numbers behind it, from left to right
 abbrev pub operands_of : Cmd → List ℕ
@@ -116,6 +120,8 @@ operands_of (Put src field val) = src ∷ field ∷ val ∷ []
 operands_of (Value reg) = reg ∷ []
 operands_of (Same a b) = a ∷ b ∷ []
 operands_of Leave = []
+operands_of Park = []
+operands_of Unpark = []
 
 -- the line of a command
 abbrev pub command_line : Cmd → List (List ℕ)
@@ -158,6 +164,8 @@ limits_of registers fields (Put src field val) = (registers, Register) ∷ (fiel
 limits_of registers fields (Value reg) = (registers, Register) ∷ []
 limits_of registers fields (Same a b) = (registers, Register) ∷ (registers, Register) ∷ []
 limits_of registers fields Leave = []
+limits_of registers fields Park = []
+limits_of registers fields Unpark = []
 
 -- a word is a numeral of this number: one in its one spelling, and at most 4,294,967,295
 abbrev pub IsNumeralOf : List ℕ → ℕ → Type 0

@@ -203,6 +203,7 @@ fn with_operands(
     count: usize,
     rest: &[u8],
 ) -> Result<Cmd, Kind>
+    requires known { since named ≤ 3 }
     requires few { count ≤ MOST_COMMANDS }
     requires registers { registers ≤ 64 }
     requires fields { fields ≤ 16 }
@@ -244,6 +245,8 @@ fn with_operands(
             no_operands(count, rest)?;
             Ok(Cmd::Leave)
         }
+        // They come with a version that isn't read yet.
+        Cmd::Park | Cmd::Unpark => unreachable!(),
     }
 }
 

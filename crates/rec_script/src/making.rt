@@ -143,6 +143,8 @@ fn push_command(text: &mut String, cmd: &Cmd) -> Result<(), NoMemory>
         Cmd::Value { reg } => push_one(text, "value", reg),
         Cmd::Same { a, b } => push_two(text, "same", a, u32::from(b)),
         Cmd::Leave => writeln!(text, "leave"),
+        Cmd::Park => writeln!(text, "park"),
+        Cmd::Unpark => writeln!(text, "unpark"),
     }
 }
 

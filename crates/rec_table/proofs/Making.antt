@@ -421,6 +421,8 @@ step_told : {p : Private} {word : â„•} {b : Contents} {op : Op} {q : Private} â†
 step_told (MutatorStep.null reg d) = decided_told d
 step_told (MutatorStep.copy dst src d) = decided_told d
 step_told (MutatorStep.compare a b d) = decided_told d
+step_told (MutatorStep.park d) = decided_told d
+step_told (MutatorStep.unpark d) = decided_told d
 step_told (MutatorStep.get_of_null dst src f names d) = decided_told d
 step_told (MutatorStep.get dst src f slot names d) = decided_told d
 step_told (MutatorStep.put_of_null src f val names d) = decided_told d

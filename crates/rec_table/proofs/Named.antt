@@ -106,6 +106,8 @@ keeps_asks fields heap t (commands.Get dst src f) made left = keeps_got heap t d
 keeps_asks fields heap t (commands.Put src f val) made left = keeps_put heap f (register heap.registers t val) made left (register heap.registers t src)
 keeps_asks fields heap t (commands.Value reg) made left = keeps_all heap heap refl
 keeps_asks fields heap t (commands.Same a b) made left = keeps_all heap heap refl
+keeps_asks fields heap t commands.Park made left = keeps_all heap heap refl
+keeps_asks fields heap t commands.Unpark made left = keeps_all heap heap refl
 keeps_asks fields heap t commands.Leave made left = keeps_leave heap t made
 
 keeps_event : (limits : Limits) (m : Moment) (e : Event) → KeepsLabels m.heap (after limits m e).heap

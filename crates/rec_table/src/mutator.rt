@@ -130,7 +130,7 @@ impl Mutator {
                 self.same(heap, a, b);
                 true
             }
-            Cmd::Leave => false,
+            Cmd::Leave | Cmd::Park | Cmd::Unpark => false,
         }
     }
 

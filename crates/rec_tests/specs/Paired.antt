@@ -14,4 +14,4 @@ pub record IsSetOfOne (s : State) : Type 0 where
 
 -- a log with one write: this word in the place of that one
 abbrev pub one_write : ℕ → ℕ → Contents
-one_write new old = record { entries = Put 0 new old ∷ []; snapshot = []; capacity = 1; last = false }
+one_write new old = record { entries = Put 0 new old ∷ []; snapshot = []; capacity = 1; last = false; still = false }

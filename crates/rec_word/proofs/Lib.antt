@@ -3,5 +3,6 @@ pub mod Bare
 pub mod FieldPlaces
 pub mod Given
 pub mod Headers
+pub mod Looks
 pub mod Packing
 pub mod Walks

@@ -3,6 +3,7 @@ pub mod Atom
 pub mod Bare
 pub mod Header
 pub mod Load
+pub mod Looked
 pub mod Mailbox
 pub mod Op
 pub mod Place

@@ -1,6 +1,8 @@
 ghost use Rattle.std.specs.Prelude.{◌≡◌};
 ghost use Rattle.rec_word.specs.Atom.{leaves};
 
+use crate::Looked;
+
 /// What an atomic operation does to the word that it finds. Each answers that word.
 #[derive(Clone, Copy, Debug, PartialEq, Eq)]
 pub enum Atom {
@@ -17,6 +19,12 @@ pub enum Atom {
     },
     /// Add so much; past the greatest word it goes on at 0.
     Add(u64),
+    /// Where a crossing word lets the collector take a mailbox or cross for a mutator, in the collection of this epoch, put there
+    /// what tells so.
+    Look {
+        /// The epoch of the collection.
+        epoch: u32,
+    },
 }
 
 impl Atom {
@@ -31,6 +39,7 @@ impl Atom {
             Atom::CompareExchange { expected, new } if found == expected => new,
             Atom::CompareExchange { .. } => found,
             Atom::Add(amount) => found.wrapping_add(amount),
+            Atom::Look { epoch } => Looked::at(epoch, found).leaves(found),
         }
     }
 }

@@ -1,10 +1,24 @@
 //! What follows from the definitions alone, as the contract of a function that does nothing.
 
-ghost use Rattle.std.specs.Prelude.{ℕ, ◌<◌, List};
+ghost use Rattle.std.specs.Prelude.{◌≡◌, ℕ, ◌+◌, ◌<◌, ◌≤◌, ◌^◌, Bool, List};
+ghost use Rattle.rec_word.specs.Looked.{LooksByTable};
+ghost use Rattle.rec_word.specs.Mailbox.{TellsParts};
 ghost use Rattle.rec_word.specs.Walk.{HasWalked};
+ghost use Rattle.rec_word.specs.declared.mailbox.Mailbox.{Mailbox as Place};
 
 /// A walk from the first member passes the places of the list's fields, each once and in order: so many of them as it takes
 /// steps, or all where it takes more.
 pub fn walk_is_whole()
     ensures { (fields : ℕ) (slots : List ℕ) (steps : ℕ) → 0 < fields → HasWalked fields slots steps }
+{}
+
+/// A crossing word tells its parts, for each epoch that a mutator may be in or leave into.
+pub fn crossing_words_tell()
+    ensures { (epoch : ℕ) (mailbox : Place) (held parked : Bool) → epoch ≤ 2 ^ 24 → TellsParts epoch mailbox held parked }
+{}
+
+/// What the collector's look finds and leaves: it takes what was retired; for a parked mutator of the epoch before it crosses, and
+/// takes the deposit if there is one; and any other word stays.
+pub fn looks_follow_the_table()
+    ensures { (before epoch : ℕ) → before + 1 ≡ epoch → epoch ≤ 2 ^ 24 → LooksByTable before epoch }
 {}

@@ -4,7 +4,9 @@
 //! A field word holds its target and the stamp of the log entry that put it there, so that no two stores leave one word.
 //! The rule that this crate keeps: unpacking a packed word gives its parts, and no other word has them.
 //! The layer above may use exactly that, that places are one to one, and of each operation: which of the five words it names,
-//! which of the four atoms it is there, which word that leaves, and whose mailbox it takes.
+//! which of the five atoms it is there, which word that leaves, and whose mailbox it takes. A crossing word has two bits for
+//! mutators that park (`crossing_words_tell`), and `Looked` is what the collector makes of it (`looks_follow_the_table`). No
+//! operation sets them yet.
 //! The machines of a collection exchange or load the fields of a set's members on walks (`Member`): a walk that begins at the first
 //! member passes exactly the places of all fields of all slots of its list, each once and in order, and then ends (`walk_is_whole`).
 //! What a machine learns on a walk is a `Load` of `specs/`.
@@ -15,6 +17,7 @@ mod atom;
 mod cell;
 mod header;
 mod laws;
+mod looked;
 mod mailbox;
 mod member;
 mod op;
@@ -26,8 +29,9 @@ mod word;
 pub use atom::Atom;
 pub use cell::Cell;
 pub use header::Header;
-pub use laws::walk_is_whole;
-pub use mailbox::{Mailbox, crossing};
+pub use laws::{crossing_words_tell, looks_follow_the_table, walk_is_whole};
+pub use looked::Looked;
+pub use mailbox::{Mailbox, crossing, crossing_of, is_held, named_epoch, past_part, says_parked};
 pub use member::Member;
 pub use op::Op;
 pub use places::place;

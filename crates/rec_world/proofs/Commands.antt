@@ -166,6 +166,8 @@ lacks_same p phase steps (commands.Get dst src f) = (λ x. x, λ x. x)
 lacks_same p phase steps (commands.Put src f val) = (λ x. x, λ x. x)
 lacks_same p phase steps (commands.Value reg) = (λ x. x, λ x. x)
 lacks_same p phase steps (commands.Same a b) = (λ x. x, λ x. x)
+lacks_same p phase steps commands.Park = (λ x. x, λ x. x)
+lacks_same p phase steps commands.Unpark = (λ x. x, λ x. x)
 lacks_same p phase steps commands.Leave = (λ x. x, λ x. x)
 
 enters_same : (p : Private) (phase : Phase) (steps : ℕ) (cmd : Cmd) → MakesEntry (record p { phase = phase; steps = steps }) cmd ↔ MakesEntry p cmd
@@ -177,6 +179,8 @@ enters_same p phase steps (commands.Get dst src f) = (λ x. x, λ x. x)
 enters_same p phase steps (commands.Put src f val) = (λ x. x, λ x. x)
 enters_same p phase steps (commands.Value reg) = (λ x. x, λ x. x)
 enters_same p phase steps (commands.Same a b) = (λ x. x, λ x. x)
+enters_same p phase steps commands.Park = (λ x. x, λ x. x)
+enters_same p phase steps commands.Unpark = (λ x. x, λ x. x)
 enters_same p phase steps commands.Leave = (λ x. x, λ x. x)
 
 -- What is said of a command that was told this: how it is explained, why it was refused, what it left, and that all else stays.

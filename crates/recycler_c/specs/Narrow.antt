@@ -17,6 +17,8 @@ is_narrow (commands.Put src f val) = byte src && byte f && byte val
 is_narrow (commands.Value reg) = byte reg
 is_narrow (commands.Same a b) = byte a && byte b
 is_narrow commands.Leave = true
+is_narrow commands.Park = true
+is_narrow commands.Unpark = true
 
 -- the command, where they do
 abbrev pub narrow : Cmd → Option Cmd

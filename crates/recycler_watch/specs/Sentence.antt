@@ -29,6 +29,8 @@ command_words (commands.Put src field val) = codes "put " ++ decimal src ++ code
 command_words (commands.Value reg) = codes "value " ++ decimal reg
 command_words (commands.Same a b) = codes "same " ++ decimal a ++ codes " " ++ decimal b
 command_words commands.Leave = codes "leave"
+command_words commands.Park = codes "park"
+command_words commands.Unpark = codes "unpark"
 
 -- an answer's word, without the numbers behind it
 abbrev pub answer_name : Answer → List ℕ

@@ -33,6 +33,8 @@ pub fn command_text(alloc: Global, cmd: Cmd) -> Result<String, NoMemory>
         Cmd::Value { reg } => with_one(alloc, "value", reg),
         Cmd::Same { a, b } => with_two(alloc, "same", a, u32::from(b)),
         Cmd::Leave => format!(in alloc; "leave"),
+        Cmd::Park => format!(in alloc; "park"),
+        Cmd::Unpark => format!(in alloc; "unpark"),
     }
 }
 

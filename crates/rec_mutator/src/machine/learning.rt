@@ -95,6 +95,8 @@ impl Machine {
             Cmd::Value { reg } => self.took_value(reg, word),
             Cmd::Same { a, b } => self.took_same(a, b),
             Cmd::Leave => self.took_leave(word),
+            // No work parks yet: its operands are never there.
+            Cmd::Park | Cmd::Unpark => unreachable!(),
         }
     }
 
