@@ -42,7 +42,7 @@ fn part<'a>(members: &'a [u16], starts: &[u16], number: usize) -> &'a [u16]
     requires in_range { number < length starts.now }
     ensures { result.now ≡ slice_index_or (parts_at starts.now members.now) number [] }
 {
-    let start = place_at(starts, number, members.len());
+    let start = starts[number] as usize;
     let end = place_at(starts, number + 1, members.len());
     between(members, start, end)
 }
