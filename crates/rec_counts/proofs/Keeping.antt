@@ -1,18 +1,18 @@
 -- What always holds still does after each change.
-use Rattle.std.proofs.Common.{◌≡◌, ◌≢◌, ℕ, suc, zero, ◌+◌, ◌-◌, ◌<◌, ◌≤◌, ◌^◌, Bool, true, false, eqb, ltb, Option, Some, None, List, [], ◌∷◌, ◌++◌, length, map, take, get_or, replicate, refl, arith, sym, ◌∙◌, ap, inl, inr}
+use Rattle.std.proofs.Common.{◌≡◌, ◌≢◌, ℕ, suc, zero, ◌+◌, ◌-◌, ◌<◌, ◌≤◌, Bool, true, false, eqb, ltb, Option, Some, None, List, [], ◌∷◌, ◌++◌, length, map, take, get_or, refl, arith, sym, ◌∙◌, ap, inl, inr}
 use Rattle.std.proofs.Math.ListN.{set}
 use Rattle.std.specs.List.{concat}
-use Rattle.std.proofs.lemmas.List.{length-set, length-map, length_push, get_or-set_same, get_or-set_other, set_past, get_or_past, get_or-take, take_all, take_more, length-take, get_or-replicate, length-replicate}
+use Rattle.std.proofs.lemmas.List.{length-set, length-map, length_push, get_or-set_same, get_or-set_other, set_past, get_or_past, get_or-take, take_all, take_more, length-take}
 use Rattle.std.proofs.lemmas.List.Folds.{concat-append}
 use Rattle.std.proofs.lemmas.Bool.Decides.{eqb_tells}
 use Rattle.std.proofs.lemmas.Bool.{cases_lt, lt-ltb, le-ltb, eqb-true, ne_eqb, false≢true}
 use Rattle.rec_counts.specs.declared.slot.Slot.{Slot}
-use Rattle.rec_counts.specs.Slot.{absent, fresh, is_in, unrooted, unrooted_if, unbuffered_if, out_of_set}
+use Rattle.rec_counts.specs.Slot.{absent, is_in, unrooted, unrooted_if, unbuffered_if, out_of_set}
 use Rattle.rec_counts.specs.Lists.{one, times, EachOnce}
 use Rattle.rec_counts.specs.Groups.{with_member, earlier_sets, last_set}
 use Rattle.rec_counts.specs.Kept.{Kept}
 use Rattle.rec_counts.specs.Counts.{State, slot_at, IsKept, IsLastSetNew, without_last_set}
-use Rattle.rec_counts.proofs.Times.{times-nil, times-append, times_at, times_push, times_part, times_parts, times-cons, one-le, one-same, in_range_once, once_none, room_once}
+use Rattle.rec_counts.proofs.Times.{times-nil, times-append, times_at, times_push, times_part, times_parts, times-cons, one-le, one-same, in_range_once, room_once}
 
 -- what a slot has, after a write that keeps it there
 pub field_kept : {A : Type 0} (f : Slot → A) (slots : List Slot) (x : ℕ) (v : Slot) → f v ≡ f (get_or slots x absent) → (y : ℕ) → f (get_or (set slots x v) y absent) ≡ f (get_or slots y absent)

@@ -1,5 +1,5 @@
 -- A slot that has one reference less goes where it is due.
-use Rattle.std.proofs.Common.{◌≡◌, ℕ, ◌*◌, ◌<◌, ◌||◌, Bool, true, false, eqb, List, [], ◌∷◌, ◌++◌, length, get_or, refl, arith, sym, ◌∙◌, ap}
+use Rattle.std.proofs.Common.{◌≡◌, ℕ, ◌<◌, ◌||◌, Bool, true, false, eqb, List, [], ◌∷◌, ◌++◌, length, get_or, refl, sym, ◌∙◌, ap}
 use Rattle.std.proofs.Math.ListN.{set}
 use Rattle.std.proofs.lemmas.List.{length-set}
 use Rattle.std.proofs.lemmas.Bool.{eqb-true}
@@ -9,7 +9,7 @@ use Rattle.rec_counts.specs.Slot.{absent, lessened, due_of, due_if}
 use Rattle.rec_counts.specs.Colour.{is_green}
 use Rattle.rec_counts.specs.Lists.{times}
 use Rattle.rec_counts.specs.Kept.{Kept, HasRoom}
-use Rattle.rec_counts.specs.Touched.{Touching, untouched}
+use Rattle.rec_counts.specs.Touched.{Touching}
 use Rattle.rec_counts.proofs.Keeping.{keep_slot, keep_push_root, relisted}
 use Rattle.rec_counts.proofs.Times.{once_push}
 

@@ -4,7 +4,7 @@ use Rattle.std.proofs.lemmas.Bool.{cases_lt}
 use Rattle.std.proofs.lemmas.List.{get_or_past, get_or-replicate, length-map, length-replicate, replicate-append-replicate}
 use Rattle.std.proofs.lemmas.List.Elements.{All-cons, All-head, All-nil, All-tail}
 use Rattle.rec_counts.specs.declared.slot.Slot.{Slot}
-use Rattle.rec_counts.specs.Counts.{State, counted, counted_slots, opened, slot_at}
+use Rattle.rec_counts.specs.Counts.{counted, counted_slots, opened, slot_at}
 use Rattle.rec_counts.specs.Kept.{Kept}
 use Rattle.rec_counts.specs.Lists.{one}
 use Rattle.rec_counts.specs.Slot.{absent, fresh, is_in}

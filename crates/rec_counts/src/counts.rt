@@ -233,6 +233,13 @@ impl Counts {
         self.sets.set(i as usize)
     }
 
+    /// The members of the last set, none where there is no set.
+    pub fn last_set(&self) -> &[u16]
+        ensures { result.now ≡ last_set self.now.sets }
+    {
+        self.sets.last()
+    }
+
     /// What always holds of the slots and the lists. It does nothing: its contract is the fact.
     pub fn rules(&self)
         ensures { IsKept self.now }

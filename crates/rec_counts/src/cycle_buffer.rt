@@ -1,7 +1,7 @@
 //! The sets that wait for their tests.
 ghost use Rattle.std.specs.Prelude.{IfOk, ◌≡◌, ℕ, ◌+◌, ◌-◌, ◌<◌, ◌≤◌, ◌^◌, [], ◌∷◌, ◌++◌, length, take, drop, slice_index_or};
 ghost use Rattle.std.specs.List.{concat};
-ghost use Rattle.rec_counts.specs.Groups.{IsRising, parts_at, earlier_sets, with_member};
+ghost use Rattle.rec_counts.specs.Groups.{IsRising, parts_at, earlier_sets, last_set, with_member};
 
 use crate::row::Row;
 use std::alloc::{AllocError as NoMemory, Global};
@@ -42,9 +42,22 @@ fn part<'a>(members: &'a [u16], starts: &[u16], number: usize) -> &'a [u16]
     requires in_range { number < length starts.now }
     ensures { result.now ≡ slice_index_or (parts_at starts.now members.now) number [] }
 {
-    let start = place_at(starts, number, members.len());
+    let start = starts[number] as usize;
     let end = place_at(starts, number + 1, members.len());
     between(members, start, end)
+}
+
+/// The last of the parts of `members` that begin at these places, none where there is none.
+fn last_part<'a>(members: &'a [u16], starts: &[u16]) -> &'a [u16]
+    requires { IsRising starts.now (length members.now) }
+    ensures { result.now ≡ last_set (parts_at starts.now members.now) }
+{
+    let many = starts.len();
+    if many == 0 {
+        return &[];
+    }
+    let start = place_at(starts, many - 1, members.len());
+    between(members, start, members.len())
 }
 
 /// The part of `members` from `start` up to `end`.
@@ -79,6 +92,13 @@ impl CycleBuffer {
         ensures { result.now ≡ slice_index_or self.now.sets number [] }
     {
         part(self.members.as_slice(), self.starts.as_slice(), number)
+    }
+
+    /// The members of the last set, none where there is no set.
+    pub fn last(&self) -> &[u16]
+        ensures { result.now ≡ last_set self.now.sets }
+    {
+        last_part(self.members.as_slice(), self.starts.as_slice())
     }
 
     /// Begins a set without members.

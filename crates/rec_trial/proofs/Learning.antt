@@ -18,7 +18,7 @@ pub data Learnt (s : State) : Phase → ℕ → State → Type 0 where
   finds_none : {code : ℕ} → ((x : ℕ) → code ≡ suc x → is_white (slot_at s x).colour ≡ false) → Learnt s Collecting code s
   joins : (x : ℕ) → x < length s.slots → 0 < length s.sets → is_white (slot_at s x).colour ≡ true → Learnt s Collecting (suc x) (joined_if true s x)
 
-some_set : (sets : List (List ℕ)) → 0 < length (last_set sets) → 0 < length sets
+pub some_set : (sets : List (List ℕ)) → 0 < length (last_set sets) → 0 < length sets
 some_set [] h = absurd (omega arith)
 some_set (xs ∷ sets) h = omega arith
 

@@ -30,3 +30,4 @@ pub mod Witnesses
 pub mod Seen
 pub mod Sends
 pub mod Postponed
+pub mod Staying

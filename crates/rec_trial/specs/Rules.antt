@@ -33,6 +33,11 @@ visible_if (Some x) s word = if is_green (slot_at s x).colour then 0 else word
 abbrev pub visible : State → (word : ℕ) → ℕ
 visible s word = visible_if (target_of word) s word
 
+-- what a trial sees of a target: a Green one is none
+abbrev pub seen_of : State → Option ℕ → Option ℕ
+seen_of s None = None
+seen_of s (Some x) = if is_green (slot_at s x).colour then None else Some x
+
 -- so does each of the words
 abbrev pub AllLeadToVisible : State → (words : List ℕ) → Type 0
 AllLeadToVisible s [] = Unit {0}

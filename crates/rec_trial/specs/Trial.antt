@@ -119,6 +119,10 @@ settled w = settled_in (moves_left w.machine.phase w) w
 abbrev pub pointed : Work → Work
 pointed w = record w { machine = record (w.machine) { slot = item_at (list_of w.machine.phase w.counts) w.machine.done 0 } }
 
+-- a field of the slot that the machine names is due
+abbrev pub IsHere : Phase → State → Machine → Type 0
+IsHere phase s m = (is_due_at phase m.done s ≡ true) × (m.slot ≡ item_at (list_of phase s) m.done 0)
+
 -- what each phase learns of a target
 abbrev pub learnt_at : Phase → State → Option ℕ → State
 learnt_at Idle s target = s

@@ -51,8 +51,5 @@ pub(crate) fn begin(counts: &mut Counts, slot: u16)
 pub(crate) fn last_members(counts: &Counts) -> &[u16]
     ensures { result.now ≡ last_set counts.now.sets }
 {
-    match counts.sets() {
-        0 => &[],
-        sets => counts.set(sets - 1),
-    }
+    counts.last_set()
 }

@@ -6,8 +6,8 @@ ghost use Rattle.rec_trial.specs.Moves.{has_rest};
 ghost use Rattle.rec_trial.specs.Loaded.{GoesOn, HasMoved, IsAtWork, Ran, Run, noted};
 ghost use Rattle.rec_trial.specs.Promised.{IsTrial, unloaded};
 ghost use Rattle.rec_trial.specs.declared.phase.Phase.TheVariants.{Collecting, Scanning};
-ghost use Rattle.rec_trial.specs.Rules.{CanCollect, CanMark, CanScan, IsReady, LeadsToUnreleased, RulesAt, visible};
-ghost use Rattle.rec_trial.specs.Trial.{IsPassed, NamesPlace, Work, advanced, begun_at, collect_moved, idle_of, is_due, is_due_at, learnt_at, list_of, moved_at, next_of, pointed, roots_moved, scan_moved, settled, started_of, took_of};
+ghost use Rattle.rec_trial.specs.Rules.{CanCollect, CanMark, CanScan, IsReady, LeadsToUnreleased, RulesAt, seen_of, visible};
+ghost use Rattle.rec_trial.specs.Trial.{IsHere, IsPassed, NamesPlace, Work, advanced, begun_at, collect_moved, idle_of, is_due, is_due_at, learnt_at, list_of, moved_at, next_of, pointed, roots_moved, scan_moved, settled, started_of, took_of};
 
 use crate::collecting::{begin, collect, last_members};
 use crate::loads::Loads;
@@ -268,8 +268,7 @@ impl Trial {
         counts.rules();
         let seen = seen_in(phase, counts, word);
         self.learn(phase, counts, seen);
-        self.advance();
-        self.settle(phase, counts);
+        self.go_to_next(phase, counts);
     }
 
     #[inline(always)]
@@ -287,17 +286,22 @@ impl Trial {
         }
     }
 
-    // On to the next field, or to the next slot of the list at work.
-    fn advance(&mut self)
-        requires { self.old.done < 2 ^ 16 }
-        ensures { self.new ≡ advanced self.old }
+    // On to the next load, or to the end. The next field of the same slot is due in any case: learning takes nothing off the list at work.
+    #[inline(always)]
+    fn go_to_next(&mut self, phase: Phase, counts: &mut Counts)
+        requires phase { phase ≡ self.old.phase }
+        requires small { self.old.done < 2 ^ 16 }
+        requires here { IsHere phase counts.old self.old }
+        requires goes_on { GoesOn (advanced self.old) counts.old }
+        ensures { record { machine = self.new; counts = counts.new } ≡ pointed (settled (record { machine = advanced self.old; counts = counts.old })) }
     {
         if self.field + 1 < self.fields {
             self.field += 1;
-        } else {
-            self.done += 1;
-            self.field = 0;
+            return;
         }
+        self.done += 1;
+        self.field = 0;
+        self.settle(phase, counts);
     }
 
     // Whether a field is to be loaded, or nothing is left to do.
@@ -592,18 +596,19 @@ fn seen_in(phase: Phase, counts: &Counts, word: u64) -> Option<u16>
     ensures learnt { learnt_at phase counts.now result ≡ learnt_at phase counts.now (target_of (visible counts.now word)) }
 {
     match phase {
-        Phase::Marking => target(see(counts, word)),
+        Phase::Marking => see(counts, target(word)),
         _ => target(word),
     }
 }
 
-// What a trial sees of a word.
-fn see(counts: &Counts, word: u64) -> u64
-    requires { LeadsToUnreleased counts.now word }
-    ensures { result ≡ visible counts.now word }
+// What a trial sees of a target: a Green one is none.
+#[inline(always)]
+fn see(counts: &Counts, target: Option<u16>) -> Option<u16>
+    requires { IfSome target (λ slot. slot < length counts.now.slots) }
+    ensures { result ≡ seen_of counts.now target }
 {
-    match target(word) {
-        Some(slot) if counts.colour(slot).is_green() => 0,
-        _ => word,
+    match target {
+        Some(slot) if counts.colour(slot).is_green() => None,
+        _ => target,
     }
 }

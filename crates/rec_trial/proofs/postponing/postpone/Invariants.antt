@@ -1,5 +1,5 @@
 -- The loops of `postpone`: the roots up to here had their turn.
-use Rattle.std.proofs.Common.{◌≡◌, length}
+use Rattle.std.proofs.Common.{◌≡◌}
 use Rattle.rec_trial.specs.Postponed.{rotated_in}
 use Rattle.rec_trial.proofs.Postponed.{IsPostponed}
 use Rattle.rec_trial.proofs.postponing.postpone.Given as goal

@@ -3,7 +3,7 @@ use Rattle.std.proofs.Common.{◌∙◌, sym, ap, refl}
 use Rattle.rec_counts.specs.Counts.{State}
 use Rattle.rec_trial.specs.Postponed.{returned}
 use Rattle.rec_trial.proofs.Conditions.{root_range, root_unlisted}
-use Rattle.rec_trial.proofs.Postponed.{root_out, rotated_none, rotated_some}
+use Rattle.rec_trial.proofs.Postponed.{root_out, rotated_some}
 use Rattle.rec_trial.proofs.postponing.rotate.Goals as goal
 
 pub put_back-requires-clause-in_range : goal.put_back-requires-clause-in_range
