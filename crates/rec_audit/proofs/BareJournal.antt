@@ -136,7 +136,7 @@ op_beside (ops.ClearField place) word ls bs a = go (word == 0) (bare word == 0) 
     go true true is its = beside_none ls bs a
     go true false is its = absurd (false≢true (sym its ∙ eq-eqb (bare word) 0 (ap bare (eqb-true word 0 is))))
     go false true is its = record { alike = subst (Alike (ls ++ l ∷ [])) (sym (append-nil bs)) (push_skip ls bs l refl (eqb-true (bare word) 0 its) a); clear = λ c. tt }
-    go false false is its = record { alike = push_out ls bs l b refl refl refl a; clear = λ c. (λ fault. out_free b refl fault.kind, tt) }
+    go false false is its = record { alike = push_out ls bs l b refl refl refl refl a; clear = λ c. (λ fault. out_free b refl fault.kind, tt) }
 op_beside (ops.FreeHeader slot) word ls bs a = plain_one ls bs (line_of kinds.Sweep (slot ∷ [])) refl refl refl a
 op_beside (ops.SwapField place new) word ls bs a = beside_none ls bs a
 op_beside (ops.LoadField place) word ls bs a = beside_none ls bs a
@@ -285,6 +285,10 @@ opening_alike heap = record {
   dead = λ word leads dead. absurd (false≢true dead);
   closing = λ word closes. absurd (false≢true closes);
   opened = λ b c opened. absurd (false≢true (sym (shut b c) ∙ opened));
+  put = λ g. refl;
+  replaced = λ g. refl;
+  out = λ g null. refl;
+  earlier = λ g. refl;
 }
   where
     shut : (l : Line) → Contains (opening_lines heap) l → opens l ≡ false

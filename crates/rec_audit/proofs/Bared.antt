@@ -1,28 +1,31 @@
 -- The lines that a run of dated words would have, and those of bare words, which a journal has: a path in these is one in those.
 use Rattle.std.proofs.Common.{◌≡◌, ◌⊎◌, inl, inr, ℕ, suc, zero, ◌-◌, ◌/◌, ◌==◌, ◌||◌, ◌&&◌, not, nat_lt, Bool, true, false, cond, Some, List, [], ◌∷◌, ◌++◌, map, filter, refl, sym, ap, subst, ◌∙◌, arith, append-nil}
-use Rattle.std.specs.List.{Contains, flat_map, list_any, range_with_len}
+use Rattle.std.specs.List.{Contains, flat_map, list_any, range_with_len, sum_by}
 use Rattle.std.proofs.Math.Bool.{or-false, or-true}
 use Rattle.std.proofs.lemmas.Bool.{eq-eqb, eqb-true, false≢true, or_cases}
 use Rattle.std.proofs.lemmas.List.Concat.{flat_map-append}
 use Rattle.std.proofs.lemmas.List.Elements.{Contains-append_cases, Contains-append_left, Contains-append_right}
+use Rattle.std.proofs.lemmas.List.Sums.{sum_by_push}
 use Rattle.rec_word.specs.Bare.{bare}
 use Rattle.rec_word.specs.Word.{target_bits}
 use Rattle.rec_model.specs.Reach.{is_in, IsReached}
 use Rattle.rec_model.proofs.Within.{all_reached}
 use Rattle.rec_audit.specs.Form.{heap_of, is_epoch, is_heap, last_that, number}
-use Rattle.rec_audit.specs.Graph.{HasReached, IsReachedAt, closes, has_target, is_born, is_dead, is_out, is_put, is_sweep, is_taken, named_by, opens, opens_from, roots, taken_by, target_in, targets, tells, this_block}
+use Rattle.rec_model.specs.Sums.{only_if}
+use Rattle.rec_audit.proofs.Balance.{puts, replaces, takes_out}
+use Rattle.rec_audit.specs.Graph.{HasReached, IsReachedAt, closes, earlier_blocks, has_target, is_born, is_dead, is_out, is_put, is_sweep, is_taken, named_by, opens, opens_from, roots, taken_by, target_in, targets, tells, this_block}
 use Rattle.rec_audit.specs.Graphs.{closing_in, named_in}
 use Rattle.rec_audit.specs.Lines.{Line}
 use Rattle.rec_audit.specs.declared.kind.Kind.TheVariants as kinds
-use Rattle.rec_audit.proofs.Grown.{any_closing, any_more, dead_epoch, dead_out, dead_same, heap_same, last_more, taken_same, this_more, this_new}
+use Rattle.rec_audit.proofs.Grown.{any_closing, any_more, dead_epoch, dead_out, dead_same, earlier_more, earlier_new, heap_same, last_more, taken_same, this_more, this_new}
 use Rattle.rec_audit.proofs.Rising.{both_of}
 use Rattle.rec_audit.proofs.RunReach.{LeadsTo, target_member}
 
 -- a bare word leads where the word does
-bits_same : (word : ℕ) → target_bits (bare word) ≡ target_bits word
+pub bits_same : (word : ℕ) → target_bits (bare word) ≡ target_bits word
 bits_same word = omega arith
 
-leads_same : (word : ℕ) → has_target (bare word) ≡ has_target word
+pub leads_same : (word : ℕ) → has_target (bare word) ≡ has_target word
 leads_same word = ap (λ n. nat_lt 0 n) (bits_same word)
 
 -- a word that leads somewhere isn't 0
@@ -37,6 +40,24 @@ pub record Opened (ls : List Line) (b : Line) : Type 0 where
   pub place : number 1 line ≡ number 1 b
   pub word : bare (number 2 line) ≡ number 2 b
 
+-- a weight of words by what they are without a date
+abbrev pub by_bare : (weight : ℕ → ℕ → ℕ) → (place word : ℕ) → ℕ
+by_bare weight place word = weight place (bare word)
+
+-- a line more, on either side
+one_more : (f h : Line → ℕ) (xs ys : List Line) (l b : Line) → sum_by f ys ≡ sum_by h xs → f b ≡ h l → sum_by f (ys ++ b ∷ []) ≡ sum_by h (xs ++ l ∷ [])
+one_more f h xs ys l b same both = omega (arith, same, both, sum_by_push f ys b, sum_by_push h xs l)
+
+-- what a line that puts nothing weighs, and one that takes nothing out
+put_none : (g : ℕ → ℕ → ℕ) (l : Line) → is_put l.kind ≡ false → puts g l ≡ 0
+put_none g l is = ap (λ b. only_if b (g (number 1 l) (number 2 l))) is
+
+replaced_none : (g : ℕ → ℕ → ℕ) (l : Line) → is_put l.kind ≡ false → replaces g l ≡ 0
+replaced_none g l is = ap (λ b. only_if b (g (number 1 l) (number 3 l))) is
+
+out_none : (g : ℕ → ℕ → ℕ) (l : Line) → is_out l.kind ≡ false → takes_out g l ≡ 0
+out_none g l is = ap (λ b. only_if b (g (number 0 l) (number 1 l))) is
+
 -- They tell the same heap, roots and slots; what is dead by those is dead by these; and each reference of these is one of those.
 pub record Alike (ls bs : List Line) : Type 0 where
   pub heap : heap_of bs ≡ heap_of ls
@@ -45,6 +66,11 @@ pub record Alike (ls bs : List Line) : Type 0 where
   pub dead : (word : ℕ) → has_target word ≡ true → is_dead ls word ≡ true → is_dead bs (bare word) ≡ true
   pub closing : (word : ℕ) → list_any (closes word) (this_block ls) ≡ true → list_any (closes (bare word)) (this_block bs) ≡ true
   pub opened : (b : Line) → Contains bs b → opens b ≡ true → Opened ls b
+  -- what they weigh by their bare words
+  pub put : (g : ℕ → ℕ → ℕ) → sum_by (puts g) bs ≡ sum_by (puts (by_bare g)) ls
+  pub replaced : (g : ℕ → ℕ → ℕ) → sum_by (replaces g) bs ≡ sum_by (replaces (by_bare g)) ls
+  pub out : (g : ℕ → ℕ → ℕ) → ((place : ℕ) → g place 0 ≡ 0) → sum_by (takes_out g) bs ≡ sum_by (takes_out (by_bare g)) ls
+  pub earlier : (g : ℕ → ℕ → ℕ) → sum_by (replaces g) (earlier_blocks bs) ≡ sum_by (replaces (by_bare g)) (earlier_blocks ls)
 
 -- ---- a line more
 
@@ -97,6 +123,15 @@ push_plain ls bs l put out none a = go (is_epoch l.kind) refl
       | inr last ↦ absurd (false≢true (sym shut ∙ (ap opens (only_line l b last) ∙ is)))
     ]
 
+    put_too : (g : ℕ → ℕ → ℕ) → sum_by (puts g) (bs ++ l ∷ []) ≡ sum_by (puts (by_bare g)) (ls ++ l ∷ [])
+    put_too g = one_more (puts g) (puts (by_bare g)) ls bs l l (a.put g) (put_none g l put ∙ sym (put_none (by_bare g) l put))
+
+    replaced_too : (g : ℕ → ℕ → ℕ) → sum_by (replaces g) (bs ++ l ∷ []) ≡ sum_by (replaces (by_bare g)) (ls ++ l ∷ [])
+    replaced_too g = one_more (replaces g) (replaces (by_bare g)) ls bs l l (a.replaced g) (replaced_none g l put ∙ sym (replaced_none (by_bare g) l put))
+
+    out_too : (g : ℕ → ℕ → ℕ) → ((place : ℕ) → g place 0 ≡ 0) → sum_by (takes_out g) (bs ++ l ∷ []) ≡ sum_by (takes_out (by_bare g)) (ls ++ l ∷ [])
+    out_too g null = one_more (takes_out g) (takes_out (by_bare g)) ls bs l l (a.out g null) (out_none g l out ∙ sym (out_none (by_bare g) l out))
+
     go : (epoch : Bool) → is_epoch l.kind ≡ epoch → Alike (ls ++ l ∷ []) (bs ++ l ∷ [])
     go true is = record {
       heap = heap_too;
@@ -105,6 +140,10 @@ push_plain ls bs l put out none a = go (is_epoch l.kind) refl
       dead = λ word leads d. both word (dead_cases word leads (or_cases (is_dead ls word) (list_any (λ v. v == word) (closing_in ls)) (sym (dead_epoch ls l word out is) ∙ d)));
       closing = λ word c. absurd (false≢true (sym (ap (list_any (closes word)) (this_new ls l is)) ∙ c));
       opened = opened_too;
+      put = put_too;
+      replaced = replaced_too;
+      out = out_too;
+      earlier = λ g. ap (sum_by (replaces g)) (earlier_new bs l is) ∙ a.replaced g ∙ sym (ap (sum_by (replaces (by_bare g))) (earlier_new ls l is));
     }
       where
         dead_cases : (word : ℕ) → has_target word ≡ true → (is_dead ls word ≡ true) ⊎ (list_any (λ v. v == word) (closing_in ls) ≡ true) → (is_dead bs (bare word) ≡ true) ⊎ (list_any (closes (bare word)) (this_block bs) ≡ true)
@@ -123,6 +162,10 @@ push_plain ls bs l put out none a = go (is_epoch l.kind) refl
           let before : list_any (closes word) (this_block ls) ≡ true = sym (more_closing ls l word is ∙ (ap (λ b. list_any (closes word) (this_block ls) || b) (no_closing word) ∙ or-false (list_any (closes word) (this_block ls)))) ∙ c in
           more_closing bs l (bare word) is ∙ or_left (list_any (closes (bare word)) (this_block bs)) (closes (bare word) l) (a.closing word before);
       opened = opened_too;
+      put = put_too;
+      replaced = replaced_too;
+      out = out_too;
+      earlier = λ g. ap (sum_by (replaces g)) (earlier_more bs l is) ∙ a.earlier g ∙ sym (ap (sum_by (replaces (by_bare g))) (earlier_more ls l is));
     }
 
 -- a line that puts a word, and the one with the bare words
@@ -145,6 +188,10 @@ push_put ls bs l b is its place new old a = record {
           word = sym new;
         })
   ];
+  put = λ g. one_more (puts g) (puts (by_bare g)) ls bs l b (a.put g) (ap (λ k. only_if (is_put k) (g (number 1 b) (number 2 b))) its ∙ (λ i. g (place i) (new i)) ∙ sym (ap (λ k. only_if (is_put k) (g (number 1 l) (bare (number 2 l)))) is));
+  replaced = λ g. one_more (replaces g) (replaces (by_bare g)) ls bs l b (a.replaced g) (ap (λ k. only_if (is_put k) (g (number 1 b) (number 3 b))) its ∙ (λ i. g (place i) (old i)) ∙ sym (ap (λ k. only_if (is_put k) (g (number 1 l) (bare (number 3 l)))) is));
+  out = λ g null. one_more (takes_out g) (takes_out (by_bare g)) ls bs l b (a.out g null) (out_none g b (ap is_out its) ∙ sym (out_none (by_bare g) l (ap is_out is)));
+  earlier = λ g. ap (sum_by (replaces g)) (earlier_more bs b (ap is_epoch its)) ∙ a.earlier g ∙ sym (ap (sum_by (replaces (by_bare g))) (earlier_more ls l (ap is_epoch is)));
 }
   where
     either : (word : ℕ) → (list_any (closes word) (this_block ls) ≡ true) ⊎ (closes word l ≡ true) → (list_any (closes (bare word)) (this_block bs) || closes (bare word) b) ≡ true
@@ -161,8 +208,8 @@ out_dead ls bs l word is a leads d = elim (or_cases (is_dead ls word) (number 1 
 ]
 
 -- a line that takes a word out, and the one with the bare word
-pub push_out : (ls bs : List Line) (l b : Line) → l.kind ≡ kinds.Out → b.kind ≡ kinds.Out → number 1 b ≡ bare (number 1 l) → Alike ls bs → Alike (ls ++ l ∷ []) (bs ++ b ∷ [])
-push_out ls bs l b is its word_is a = record {
+pub push_out : (ls bs : List Line) (l b : Line) → l.kind ≡ kinds.Out → b.kind ≡ kinds.Out → number 0 b ≡ number 0 l → number 1 b ≡ bare (number 1 l) → Alike ls bs → Alike (ls ++ l ∷ []) (bs ++ b ∷ [])
+push_out ls bs l b is its place_is word_is a = record {
   heap = heap_same bs b (ap is_heap its) ∙ (a.heap ∙ sym (heap_same ls l (ap is_heap is)));
   roots_named = more_named bs b (ap is_epoch its) ∙ (ap (λ ns. ns ++ named_of b) a.roots_named ∙ (ap (λ ns. named_in ls ++ ns) (ap (λ k. named_by k b.numbers) its ∙ sym (ap (λ k. named_by k l.numbers) is)) ∙ sym (more_named ls l (ap is_epoch is))));
   taken = λ slot. taken_same bs b slot (ap is_born its) (ap is_sweep its) ∙ (a.taken slot ∙ sym (taken_same ls l slot (ap is_born is) (ap is_sweep is)));
@@ -175,6 +222,10 @@ push_out ls bs l b is its word_is a = record {
     | inl here ↦ more_opened ls l x (a.opened x here o)
     | inr last ↦ absurd (false≢true (sym (ap (λ k. is_put k && has_target (number 2 b)) its) ∙ (ap opens (only_line b x last) ∙ o)))
   ];
+  put = λ g. one_more (puts g) (puts (by_bare g)) ls bs l b (a.put g) (put_none g b (ap is_put its) ∙ sym (put_none (by_bare g) l (ap is_put is)));
+  replaced = λ g. one_more (replaces g) (replaces (by_bare g)) ls bs l b (a.replaced g) (replaced_none g b (ap is_put its) ∙ sym (replaced_none (by_bare g) l (ap is_put is)));
+  out = λ g null. one_more (takes_out g) (takes_out (by_bare g)) ls bs l b (a.out g null) (ap (λ k. only_if (is_out k) (g (number 0 b) (number 1 b))) its ∙ (λ i. g (place_is i) (word_is i)) ∙ sym (ap (λ k. only_if (is_out k) (g (number 0 l) (bare (number 1 l)))) is));
+  earlier = λ g. ap (sum_by (replaces g)) (earlier_more bs b (ap is_epoch its)) ∙ a.earlier g ∙ sym (ap (sum_by (replaces (by_bare g))) (earlier_more ls l (ap is_epoch is)));
 }
   where
     out_closing : (xs : List Line) (y : Line) (word : ℕ) → y.kind ≡ kinds.Out → list_any (closes word) (this_block (xs ++ y ∷ [])) ≡ true → list_any (closes word) (this_block xs) ≡ true
@@ -192,11 +243,15 @@ push_skip ls bs l is none a = record {
   ];
   closing = λ word c. a.closing word (sym (more_closing ls l word (ap is_epoch is) ∙ (ap (λ k. list_any (closes word) (this_block ls) || (is_put k && (number 3 l == word))) is ∙ or-false (list_any (closes word) (this_block ls)))) ∙ c);
   opened = λ x c o. more_opened ls l x (a.opened x c o);
+  put = λ g. omega (arith, a.put g, sum_by_push (puts (by_bare g)) ls l, put_none (by_bare g) l (ap is_put is));
+  replaced = λ g. omega (arith, a.replaced g, sum_by_push (replaces (by_bare g)) ls l, replaced_none (by_bare g) l (ap is_put is));
+  out = λ g null. omega (arith, a.out g null, sum_by_push (takes_out (by_bare g)) ls l, ap (λ k. only_if (is_out k) (g (number 0 l) (bare (number 1 l)))) is, ap (g (number 0 l)) none, null (number 0 l));
+  earlier = λ g. a.earlier g ∙ sym (ap (sum_by (replaces (by_bare g))) (earlier_more ls l (ap is_epoch is)));
 }
 
 -- ---- what is reached
 
-target_there : (d f : Line → Bool) (ls : List Line) (l : Line) → Contains ls l → f l ≡ true → d l ≡ true → is_in (target_in l) (map target_in (filter d (filter f ls))) ≡ true
+pub target_there : (d f : Line → Bool) (ls : List Line) (l : Line) → Contains ls l → f l ≡ true → d l ≡ true → is_in (target_in l) (map target_in (filter d (filter f ls))) ≡ true
 target_there d f [] l c first second = absurd (let below = c.1 in omega arith)
 target_there d f (x ∷ ls) l (zero, below, there) first second =
     let fx : f x ≡ true = ap f there ∙ first in
@@ -216,7 +271,7 @@ target_there d f (x ∷ ls) l (suc k, below, there) first second = later (f x) (
         ∙ (ap (λ b. is_in (target_in l) (map target_in (cond b (x ∷ filter d (filter f ls)) (filter d (filter f ls))))) dx
         ∙ or_right (target_in x == target_in l) (is_in (target_in l) (map target_in (filter d (filter f ls)))) rest)
 
-roots_same : (ls bs : List Line) → Alike ls bs → roots bs ≡ roots ls
+pub roots_same : (ls bs : List Line) → Alike ls bs → roots bs ≡ roots ls
 roots_same ls bs a =
     let named = a.roots_named in
     let heap = a.heap in

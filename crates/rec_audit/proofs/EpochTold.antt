@@ -213,7 +213,7 @@ born_in epoch node e (entries.Born s l ∷ es) some = elim (cases_eq (s + 1) nod
       (slot, leaf, Contains-append_right (entries.Born s l ∷ []) es (entries.Born slot leaf) c, is)
 ]
 
-birth_stands : (w : Core) (d : Dated) → IsKept true w → Contains (births_of w) d → d.epoch ≡ applied_in w → (slot : ℕ) × (leaf : Bool) × StandsIn (last_batch w.collector) (entries.Born slot leaf) × (slot + 1 ≡ d.node)
+pub birth_stands : (w : Core) (d : Dated) → IsKept true w → Contains (births_of w) d → d.epoch ≡ applied_in w → (slot : ℕ) × (leaf : Bool) × StandsIn (last_batch w.collector) (entries.Born slot leaf) × (slot + 1 ≡ d.node)
 birth_stands w d kept c at =
     let h : Dated → ℕ = is_at d.epoch d.node in
     let sums : sum_by h (births_of w) ≡ sum_by (share h tells_births (applied_in w)) (last_batch w.collector)
@@ -250,7 +250,7 @@ named_in epoch node e (Some x ∷ xs) some = elim (cases_eq (x + 1) node) [
       (named_in epoch node e xs (omega (arith, some, sum_by-cons (is_at epoch node) (dated e (x + 1)) (dated_names e xs), other_node epoch node e (x + 1) false other)))
 ]
 
-name_stands : (w : Core) (d : Dated) → IsKept true w → Contains (snapshots_of w) d → d.epoch ≡ applied_in w
+pub name_stands : (w : Core) (d : Dated) → IsKept true w → Contains (snapshots_of w) d → d.epoch ≡ applied_in w
     → (i : ℕ) × (i < length (last_batch w.collector)) × (is_in d.node (map register_number (buffer_at (last_batch w.collector) i).snapshot) ≡ true)
 name_stands w d kept c at =
     let h : Dated → ℕ = is_at d.epoch d.node in
@@ -266,7 +266,7 @@ name_stands w d kept c at =
 -- ---- the lines of the batch, with bare words
 
 -- a snapshot of the buffers has its line
-snapshot_from : (t : ℕ) (bs : List Buffer) (i : ℕ) → i < length bs → (n : ℕ) × Contains (flat_map part (enumerate_from t bs)) (snap_line n (buffer_at bs i).snapshot)
+pub snapshot_from : (t : ℕ) (bs : List Buffer) (i : ℕ) → i < length bs → (n : ℕ) × Contains (flat_map part (enumerate_from t bs)) (snap_line n (buffer_at bs i).snapshot)
 snapshot_from t [] i below = absurd (omega arith)
 snapshot_from t (b ∷ bs) zero below =
     (t, Contains-append_left (part_lines t b) (flat_map part (enumerate_from (t + 1) bs)) (snap_line t b.snapshot) (Contains-append_right (map (entry_line t) b.entries) (snap_line t b.snapshot ∷ []) (snap_line t b.snapshot) (0, omega arith, refl)))

@@ -33,7 +33,7 @@ use Rattle.rec_audit.specs.Graphs.{AreReferences, IsGraphOf, IsPutLine, IsBornLi
 pub last_more : (test : Line → Bool) (lines : List Line) (line : Line) → last_that test (lines ++ line ∷ []) ≡ cond (test line) (Some line) (last_that test lines)
 last_more test lines line = ap (find test) (reverse-append lines (line ∷ []))
 
-last_same : (test : Line → Bool) (lines : List Line) (line : Line) → test line ≡ false → last_that test (lines ++ line ∷ []) ≡ last_that test lines
+pub last_same : (test : Line → Bool) (lines : List Line) (line : Line) → test line ≡ false → last_that test (lines ++ line ∷ []) ≡ last_that test lines
 last_same test lines line other = last_more test lines line ∙ ap (λ b. cond b (Some line) (last_that test lines)) other
 
 pub last_new : (test : Line → Bool) (lines : List Line) (line : Line) → test line ≡ true → last_that test (lines ++ line ∷ []) ≡ Some line
@@ -67,13 +67,13 @@ this_new (x ∷ xs) line is =
     ap (λ b. cond b (this_block (xs ++ line ∷ [])) (x ∷ (xs ++ line ∷ []))) (ap (λ b. is_epoch x.kind || b) (any_more (λ (l : Line). is_epoch l.kind) xs line ∙ ap (λ b. epochs xs || b) is ∙ or-true (epochs xs)) ∙ or-true (is_epoch x.kind))
     ∙ this_new xs line is
 
-earlier_more : (lines : List Line) (line : Line) → is_epoch line.kind ≡ false → earlier_blocks (lines ++ line ∷ []) ≡ earlier_blocks lines
+pub earlier_more : (lines : List Line) (line : Line) → is_epoch line.kind ≡ false → earlier_blocks (lines ++ line ∷ []) ≡ earlier_blocks lines
 earlier_more [] line other = refl
 earlier_more (x ∷ xs) line other =
     ap (λ b. cond b (x ∷ earlier_blocks (xs ++ line ∷ [])) []) (any_more (λ (l : Line). is_epoch l.kind) xs line ∙ ap (λ b. epochs xs || b) other ∙ or-false (epochs xs))
     ∙ ap (λ t. cond (epochs xs) (x ∷ t) []) (earlier_more xs line other)
 
-earlier_new : (lines : List Line) (line : Line) → is_epoch line.kind ≡ true → earlier_blocks (lines ++ line ∷ []) ≡ lines
+pub earlier_new : (lines : List Line) (line : Line) → is_epoch line.kind ≡ true → earlier_blocks (lines ++ line ∷ []) ≡ lines
 earlier_new [] line is = refl
 earlier_new (x ∷ xs) line is =
     ap (λ b. cond b (x ∷ earlier_blocks (xs ++ line ∷ [])) []) (any_more (λ (l : Line). is_epoch l.kind) xs line ∙ ap (λ b. epochs xs || b) is ∙ or-true (epochs xs))

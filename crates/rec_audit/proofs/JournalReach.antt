@@ -51,7 +51,7 @@ leads_on w place word (inr (inr gone)) target early from = absurd (let below = g
 
 -- ---- births and snapshots
 
-birth_weighs : (g : Dated → ℕ) (epoch : ℕ) (es : List Entry) (slot : ℕ) (leaf : Bool) → Contains es (entries.Born slot leaf) → g (dated_birth epoch (slot + 1) leaf) ≤ sum_by g (births_in epoch es)
+pub birth_weighs : (g : Dated → ℕ) (epoch : ℕ) (es : List Entry) (slot : ℕ) (leaf : Bool) → Contains es (entries.Born slot leaf) → g (dated_birth epoch (slot + 1) leaf) ≤ sum_by g (births_in epoch es)
 birth_weighs g epoch [] slot leaf c = absurd (let below = c.1 in omega arith)
 birth_weighs g epoch (entries.Put p n o ∷ es) slot leaf (zero, below, there) = absurd (cc)
 birth_weighs g epoch (entries.Put p n o ∷ es) slot leaf (suc k, below, there) = birth_weighs g epoch es slot leaf (k, omega arith, there)
@@ -72,7 +72,7 @@ names_weigh g epoch (None ∷ xs) (suc r) slot is = names_weigh g epoch xs r slo
 names_weigh g epoch (Some x ∷ xs) zero slot is = (let same : x ≡ slot = cc in omega (arith, ap (λ n. g (dated epoch (n + 1))) same, sum_by-cons g (dated epoch (x + 1)) (dated_names epoch xs)))
 names_weigh g epoch (Some x ∷ xs) (suc r) slot is = omega (arith, sum_by-cons g (dated epoch (x + 1)) (dated_names epoch xs), names_weigh g epoch xs r slot is)
 
-zip_weighs : {X Y : Type 0} (f : X × Y → ℕ) (xs : List X) (ys : List Y) (i : ℕ) (d : X) (e : Y) → i < length xs → i < length ys → f (slice_index_or xs i d, slice_index_or ys i e) ≤ sum_by f (zip xs ys)
+pub zip_weighs : {X Y : Type 0} (f : X × Y → ℕ) (xs : List X) (ys : List Y) (i : ℕ) (d : X) (e : Y) → i < length xs → i < length ys → f (slice_index_or xs i d, slice_index_or ys i e) ≤ sum_by f (zip xs ys)
 zip_weighs f [] ys i d e there here = absurd (omega arith)
 zip_weighs f (x ∷ xs) [] i d e there here = absurd (omega arith)
 zip_weighs f (x ∷ xs) (y ∷ ys) zero d e there here = omega (arith, sum_by-cons f (x, y) (zip xs ys))

@@ -26,11 +26,9 @@ applied_in w = applied_at w.epoch w.collector.phase
 
 -- ---- logs and mailboxes are of later epochs, or spares
 
-pub log_spare : (w : Core) (t : ℕ) → IsKept true w → IsMutator w.config t → (applied_in w < epoch_at (mutator w t)) ⊎ ((mutator w t).log ≡ spare_of w.config)
-log_spare w t kept is = elim (cases_Bool (has_let_go (mutator w t))) [
-  | inl gone ↦ inr ((actor_of w t kept is).let_go gone).log
-  | inr held ↦ inl (later (has_register w t 0 (in_list w t kept is) held first))
-]
+-- a mutator that holds its registers is in a later epoch, or crosses into one
+pub held_later : (w : Core) (t : ℕ) → IsKept true w → IsMutator w.config t → has_let_go (mutator w t) ≡ false → applied_in w < epoch_at (mutator w t)
+held_later w t kept is held = later (has_register w t 0 (in_list w t kept is) held first)
   where
     first : 0 < length (mutator w t).registers
     first = (let many : length (mutator w t).registers ≡ w.config.registers = (actor_of w t kept is).own.registers in let some : 1 ≤ w.config.registers = kept.config.some_registers in omega arith)
@@ -43,6 +41,12 @@ log_spare w t kept is = elim (cases_Bool (has_let_go (mutator w t))) [
       where
         wrong : (e n a r : ℕ) → e ≤ a → (d : Dated) → is_at e n d ≤ is_wrong_register a r d
         wrong e n a r early d = grind (arith, nat_tests)
+
+pub log_spare : (w : Core) (t : ℕ) → IsKept true w → IsMutator w.config t → (applied_in w < epoch_at (mutator w t)) ⊎ ((mutator w t).log ≡ spare_of w.config)
+log_spare w t kept is = elim (cases_Bool (has_let_go (mutator w t))) [
+  | inl gone ↦ inr ((actor_of w t kept is).let_go gone).log
+  | inr held ↦ inl (held_later w t kept is held)
+]
 
 pub log_later : (w : Core) (t : ℕ) → IsKept true w → IsMutator w.config t → (applied_in w < epoch_at (mutator w t)) ⊎ ((mutator w t).log.entries ≡ [])
 log_later w t kept is = elim (log_spare w t kept is) [ inl later ↦ inl later | inr spare ↦ inr (ap (λ (b : Contents). b.entries) spare) ]

@@ -2,8 +2,14 @@
 pub mod Written
 pub mod Texts
 pub mod Edits
-mod EpochTold
+pub mod EpochTold
 pub mod Held
+pub mod Balance
+pub mod BalanceTurns
+pub mod Untold
+pub mod Covering
+pub mod Covered
+mod ReachAnswers
 pub mod Grown
 pub mod Pruning
 pub mod Marking

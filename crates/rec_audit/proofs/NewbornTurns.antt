@@ -40,7 +40,7 @@ module _ {dated : Bool} (w : Core) (op : Op) (kept : IsKept dated w) where
     told : (b : Batch) (leaf : Bool) → batch ≡ Some b → StandsIn b.newer (entries.Born slot leaf) → IsTold batch slot
 
   -- a mailbox stays, or its buffer is gathered
-  box_after : (t : ℕ) → IsMutator w.config t → (box v t ≡ box w t) ⊎ ((c.phase ≡ Looking t) × (found ≡ crossing_word c.epoch Retired))
+  pub box_after : (t : ℕ) → IsMutator w.config t → (box v t ≡ box w t) ⊎ ((c.phase ≡ Looking t) × (found ≡ crossing_word c.epoch Retired))
   box_after t is = elim (cases_eq t (looked_at c.phase)) [
     | inr apart ↦ inl (get_or-set_other w.boxes (looked_at c.phase - 1) (t - 1) (left_by c found its_box c.phase) (blank 0 0) (λ e. apart (omega (arith, e, is.0, (looked_is w c.phase kept refl).0))))
     | inl same ↦

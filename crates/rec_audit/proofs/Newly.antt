@@ -29,7 +29,7 @@ entry_weighs g (entries.Put p n o ∷ es) place new old (suc k, below, there) = 
 entry_weighs g (entries.Born slot leaf ∷ es) place new old (zero, below, there) = absurd (cc)
 entry_weighs g (entries.Born slot leaf ∷ es) place new old (suc k, below, there) = entry_weighs g es place new old (k, omega arith, there)
 
-row_weighs : (g : Write → ℕ) (row : List Contents) (place new old : ℕ) → StandsIn row (entries.Put place new old) → g (record { place = place; new = new; old = old }) ≤ sum_by (wrote g) row
+pub row_weighs : (g : Write → ℕ) (row : List Contents) (place new old : ℕ) → StandsIn row (entries.Put place new old) → g (record { place = place; new = new; old = old }) ≤ sum_by (wrote g) row
 row_weighs g row place new old (i, below, c) = omega (arith, entry_weighs g (buffer_at row i).entries place new old c, get_or-le-sum_by (wrote g) row i (blank 0 0) below)
 
 -- so does one in the collector's newer buffers

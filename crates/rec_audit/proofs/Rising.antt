@@ -33,7 +33,7 @@ abbrev pub Rises : ℕ → List Line → ℕ → Type 0
 Rises k [] m = k ≤ m
 Rises k (line ∷ lines) m = (n : ℕ) × (k ≤ n) × (opens line ≡ true → (k ≤ number_of (number 2 line)) × (number_of (number 2 line) < n)) × Rises n lines m
 
-rises_le : (k m : ℕ) (lines : List Line) → Rises k lines m → k ≤ m
+pub rises_le : (k m : ℕ) (lines : List Line) → Rises k lines m → k ≤ m
 rises_le k m [] r = r
 rises_le k m (line ∷ lines) r = let up : k ≤ r.0 = r.1 in omega (arith, rises_le r.0 m lines r.3)
 
@@ -49,7 +49,7 @@ rises_both k n m [] ys a b = lower k n m ys a b
     lower k n m (y ∷ ys) up r = let more : n ≤ r.0 = r.1 in (r.0, omega (arith, up, more), λ e. (omega (arith, up, (r.2 e).0), (r.2 e).1), r.3)
 rises_both k n m (x ∷ xs) ys a b = (a.0, a.1, a.2, rises_both a.0 n m xs ys a.3 b)
 
-rises_split : (k m : ℕ) (before after : List Line) → Rises k (before ++ after) m → (n : ℕ) × Rises k before n × Rises n after m
+pub rises_split : (k m : ℕ) (before after : List Line) → Rises k (before ++ after) m → (n : ℕ) × Rises k before n × Rises n after m
 rises_split k m [] after r = (k, omega arith, r)
 rises_split k m (x ∷ before) after r = let more = rises_split r.0 m before after r.3 in (more.0, (r.0, r.1, r.2, more.1), more.2)
 

@@ -47,10 +47,10 @@ use Rattle.rec_audit.proofs.Sets.{answered}
 pub first_explained : (config : Config) → IsConfig config → Explains (heap_by true config) (opened config)
 first_explained config is = record { bare = heap_bare config is; kept = opened_kept config is }
 
-whole_run : (config : Config) (moves : List Move) → IsConfig config → AllFit (opened config) moves → Goes (opening_lines (heap_for config)) (flat_map lines_of (shown_over (heap_by true config) moves)) (after_moves (heap_by true config) moves)
+pub whole_run : (config : Config) (moves : List Move) → IsConfig config → AllFit (opened config) moves → Goes (opening_lines (heap_for config)) (flat_map lines_of (shown_over (heap_by true config) moves)) (after_moves (heap_by true config) moves)
 whole_run config moves is fit = moves_go (opening_lines (heap_for config)) (heap_by true config) moves (opened_kept config is) (moves_explained (heap_by true config) (opened config) moves (first_explained config is) fit).0 (opening_tells config is)
 
-beside_run : (config : Config) (moves : List Move) → IsConfig config → AllFit (opened config) moves
+pub beside_run : (config : Config) (moves : List Move) → IsConfig config → AllFit (opened config) moves
     → Beside (opening_lines (heap_for config)) (flat_map lines_of (shown_over (heap_by true config) moves)) (opening_lines (heap_for config)) (flat_map lines_of (shown_over (opened config) moves))
 beside_run config moves is fit = moves_beside (heap_by true config) (opened config) moves (opening_lines (heap_for config)) (opening_lines (heap_for config)) (first_explained config is) fit (opening_alike (heap_for config))
 

@@ -43,12 +43,12 @@ use Rattle.rec_audit.proofs.RunTurns.{behind_batch, late_shut, turned_tells}
 -- ---- lines that tell nothing of the graph
 
 -- a set that is given up, or the end of a collection
-abbrev is_quiet : Kind → Bool
+abbrev pub is_quiet : Kind → Bool
 is_quiet kinds.Free = true
 is_quiet kinds.End = true
 is_quiet _ = false
 
-quiet_late : (k : Kind) → is_quiet k ≡ true → is_late k ≡ true
+pub quiet_late : (k : Kind) → is_quiet k ≡ true → is_late k ≡ true
 quiet_late kinds.Free is = refl
 quiet_late kinds.End is = refl
 quiet_late _ is = absurd (false≢true is)
@@ -157,11 +157,11 @@ completed_kept : (completed : Option ℕ) → Each is_kept (completed_lines comp
 completed_kept None = tt
 completed_kept (Some epoch) = (refl, tt)
 
-completed_quiet : (completed : Option ℕ) → Each is_quiet (completed_lines completed)
+pub completed_quiet : (completed : Option ℕ) → Each is_quiet (completed_lines completed)
 completed_quiet None = tt
 completed_quiet (Some epoch) = (refl, tt)
 
-passed_quiet : (passed : Option (List ℕ)) → Each is_quiet (passed_lines passed)
+pub passed_quiet : (passed : Option (List ℕ)) → Each is_quiet (passed_lines passed)
 passed_quiet None = tt
 passed_quiet (Some members) = (refl, tt)
 

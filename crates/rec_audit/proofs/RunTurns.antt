@@ -62,7 +62,7 @@ tried_late epoch (Releasing m) = omega arith
 tried_late epoch (Freeing m) = omega arith
 tried_late epoch phase = omega arith
 
-tried_near : (epoch : ℕ) (phase : Phase) → tried_at epoch phase ≤ applied_at epoch phase + 1
+pub tried_near : (epoch : ℕ) (phase : Phase) → tried_at epoch phase ≤ applied_at epoch phase + 1
 tried_near epoch Idle = omega arith
 tried_near epoch (Looking t) = omega arith
 tried_near epoch (Swapping t) = omega arith
@@ -136,7 +136,7 @@ raises lines u place word kept block some = elim (replaced_when u place word kep
 
 -- ---- lines of an operation
 
-ops_late : (op : Op) (word : ℕ) → Each is_late (op_lines op word)
+pub ops_late : (op : Op) (word : ℕ) → Each is_late (op_lines op word)
 ops_late (ops.ClearField place) word = go (word == 0)
   where
     go : (b : Bool) → Each is_late (cond b [] (line_of kinds.Out (place ∷ word ∷ []) ∷ []))
@@ -172,7 +172,7 @@ op_out lines w (ops.ClearField x) place word some (suc k, below, there) = absurd
 op_out lines w _ place word some c = absurd (let below = c.1 in omega arith)
 
 -- headers stay, but for one that is freed
-headers_stay : (w : Core) (op : Op) (slots fields mutators : ℕ) → NamesWord slots fields mutators op → ((x : ℕ) → op ≡ ops.FreeHeader x → ⊥) → (turned_by w op (cell (cells_of w) op)).headers ≡ w.headers
+pub headers_stay : (w : Core) (op : Op) (slots fields mutators : ℕ) → NamesWord slots fields mutators op → ((x : ℕ) → op ≡ ops.FreeHeader x → ⊥) → (turned_by w op (cell (cells_of w) op)).headers ≡ w.headers
 headers_stay w (ops.FreeHeader x) slots fields mutators names other = absurd (other x refl)
 headers_stay w (ops.StoreEpoch e) slots fields mutators names other = refl
 headers_stay w (ops.LookBox t e) slots fields mutators names other = refl

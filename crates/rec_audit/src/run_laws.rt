@@ -14,7 +14,7 @@ ghost use Rattle.rec_audit.specs.Graph.{IsReachedAt};
 ghost use Rattle.rec_audit.specs.Journal.{batch_lines, journal, op_lines, sets_passed};
 ghost use Rattle.rec_audit.specs.Lines.{Line, text_of};
 ghost use Rattle.rec_audit.specs.Keeping.{Keep, behind_steps, first_place};
-ghost use Rattle.rec_audit.specs.Runs.{IsReachedIn, TellEpoch, heap_for, place_of};
+ghost use Rattle.rec_audit.specs.Runs.{IsReachedIn, ReachesAsRun, TellEpoch, heap_for, place_of};
 ghost use Rattle.rec_audit.specs.Verdicts.{HasReachFault, HasStampFault, IsVerdict};
 ghost use Rattle.rec_audit.specs.declared.verdict.Verdict.TheVariants.{Yes};
 ghost use Rattle.rec_model.specs.declared.limits.TheConstants.{MOST_BYTES};
@@ -48,13 +48,17 @@ pub fn sets_of_runs_are_unreached()
         → Shows (opened config) shown end → journal (heap_for config) shown ≡ before ++ line ∷ after → ¬ HasReachFault before line }
 {}
 
-/// What is on a path from a root in such a journal, where the collector's step gives a set up, is in the reach of the run's epoch there,
-/// or is a free slot.
+/// Where the collector's step gives a set up, the journal reaches what the run does: what is on a path from a root there is in the reach of
+/// the run's epoch, or is a free slot; and each slot in that reach, and each free one, is on a path from a root there.
 pub fn reach_of_journals_is_of_runs()
-    ensures { (config : Config) (moves : List Move) (step : Shown) (members : List ℕ) (slot : ℕ) → IsConfig config → AllFit (opened config) moves
+    ensures within { (config : Config) (moves : List Move) (step : Shown) (members : List ℕ) (slot : ℕ) → IsConfig config → AllFit (opened config) moves
         → turn_shown (after_moves (opened config) moves) ≡ step ∷ [] → step.passed ≡ Some members
         → IsReachedAt (journal (heap_for config) (shown_over (opened config) moves) ++ (batch_lines step.batch ++ op_lines step.op step.word)) slot
         → Behind (turned (after_moves (opened config) moves)) (λ v. IsReachedIn v slot) }
+    ensures same { (config : Config) (moves : List Move) (step : Shown) (members : List ℕ) → IsConfig config → AllFit (opened config) moves
+        → turn_shown (after_moves (opened config) moves) ≡ step ∷ [] → step.passed ≡ Some members
+        → Behind (turned (after_moves (opened config) moves))
+        (λ v. ReachesAsRun v (journal (heap_for config) (shown_over (opened config) moves) ++ (batch_lines step.batch ++ op_lines step.op step.word))) }
 {}
 
 /// The block that a step begins tells all of its epoch that the heap's buffers have right behind that step: every write, every birth, and
