@@ -11,6 +11,7 @@ use Rattle.rec_audit.specs.declared.known.Known.{Known}
 use Rattle.rec_audit.specs.Walks.{IsClosedTo, Reaches}
 use Rattle.rec_audit.specs.Known.{IsKnownOf}
 use Rattle.rec_audit.proofs.Grown.{member_any}
+use Rattle.rec_audit.proofs.Marking.{or_left, or_right}
 
 -- ---- fronts of lists
 
@@ -39,12 +40,6 @@ none_member p xs n none there = at (p n) refl
     at true e = absurd (false≢true (sym none ∙ member_any p xs n there e))
     at false e = e
 
-either : (a b : Bool) → a ≡ true → (a || b) ≡ true
-either a b is = ap (λ c. c || b) is
-
-pub other : (a b : Bool) → b ≡ true → (a || b) ≡ true
-other a b is = ap (λ c. a || c) is ∙ or-true a
-
 -- ---- it is begun
 
 -- ---- a slot is swept
@@ -69,17 +64,17 @@ known_back rs more children walk k l slot order same wider only roots-are apart-
     }
   where
     there_still : (n : ℕ) → is_in n k.back.order.items ≡ true → is_in n l.back.order.items ≡ true
-    there_still n there = (reached n).1 (root n (has n ∙ either (is_in n k.back.order.items) (is_in n (slot ∷ [])) there))
+    there_still n there = (reached n).1 (root n (has n ∙ or_left (is_in n k.back.order.items) (is_in n (slot ∷ [])) there))
 
     at : (n : ℕ) → (is_in n rs ≡ true) ⊎ ((slot == n) ≡ true) → (is_in n k.roots.order.items || is_in n l.back.order.items) ≡ true
     at n (inl before) =
         elim (or_cases (is_in n k.roots.order.items) (is_in n k.back.order.items) (is.each n before)) [
-          | inl first ↦ either (is_in n k.roots.order.items) (is_in n l.back.order.items) first
-          | inr later ↦ other (is_in n k.roots.order.items) (is_in n l.back.order.items) (there_still n later)
+          | inl first ↦ or_left (is_in n k.roots.order.items) (is_in n l.back.order.items) first
+          | inr later ↦ or_right (is_in n k.roots.order.items) (is_in n l.back.order.items) (there_still n later)
         ]
     at n (inr now) =
-        other (is_in n k.roots.order.items) (is_in n l.back.order.items)
-        ((reached n).1 (root n (has n ∙ other (is_in n k.back.order.items) (is_in n (slot ∷ [])) (ap (λ b. b || false) now))))
+        or_right (is_in n k.roots.order.items) (is_in n l.back.order.items)
+        ((reached n).1 (root n (has n ∙ or_right (is_in n k.back.order.items) (is_in n (slot ∷ [])) (ap (λ b. b || false) now))))
 
 -- ---- somebody asks
 

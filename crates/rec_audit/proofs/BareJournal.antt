@@ -37,6 +37,7 @@ use Rattle.rec_audit.specs.declared.form.Heap.{Heap}
 use Rattle.rec_audit.specs.declared.kind.Kind.TheVariants as kinds
 use Rattle.rec_audit.proofs.Bared.{Alike, has_reached_less, push_out, push_plain, push_put, push_skip}
 use Rattle.rec_audit.proofs.RunClean.{Clear, clear_both}
+use Rattle.rec_audit.proofs.Runs.{passed_same}
 
 -- ---- lines side by side
 
@@ -185,10 +186,6 @@ batch_is op q =
     ap (λ row. batch_with row (applied_of op (bare_private q))) (newer_bare q q.phase)
     ∙ (ap (batch_with (bare_buffers (applied_newer q))) (epoch_bare op q) ∙ with_bare (applied_newer q) (applied_of op q))
 
-pub passed_is : (q : Private) (phase : Phase) → passed_in (bare_private q) phase ≡ passed_in q phase
-passed_is q (Freeing m) = refl
-passed_is q _ = refl
-
 completed_is : (q : Private) (phase : Phase) → completed_in (bare_private q) phase ≡ completed_in q phase
 completed_is q Idle = refl
 completed_is q _ = refl
@@ -198,7 +195,7 @@ step_beside op word q ls bs a =
     let x : Option Batch = batch_of op q in
     let told : Shown = record { op = op; word = bare_in (cell_of op) word; batch = option_map bare_batch x; passed = passed_of q; completed = completed_of q } in
     let same : told ≡ shown_of op (bare_in (cell_of op) word) (bare_private q)
-    = (λ i. record { op = op; word = bare_in (cell_of op) word; batch = sym (batch_is op q) i; passed = sym (passed_is q q.phase) i; completed = sym (completed_is q q.phase) i }) in
+    = (λ i. record { op = op; word = bare_in (cell_of op) word; batch = sym (batch_is op q) i; passed = sym (passed_same q q.phase) i; completed = sym (completed_is q q.phase) i }) in
     let xs : List Line = batch_lines x in
     let ys : List Line = batch_lines (option_map bare_batch x) in
     let first : Beside ls xs bs ys = batch_beside x ls bs a in

@@ -20,6 +20,7 @@ use Rattle.rec_audit.specs.declared.kind.Kind.TheVariants as kinds
 use Rattle.rec_audit.proofs.Grown.{any_closing, any_more, dead_epoch, dead_out, dead_same, earlier_more, earlier_new, heap_same, last_more, taken_same, this_more, this_new}
 use Rattle.rec_audit.proofs.Rising.{both_of}
 use Rattle.rec_audit.proofs.RunReach.{LeadsTo, target_member}
+use Rattle.rec_audit.proofs.Marking.{or_left, or_right}
 
 -- a bare word leads where the word does
 pub bits_same : (word : ℕ) → target_bits (bare word) ≡ target_bits word
@@ -90,12 +91,6 @@ more_opened ls l b o = record { line = o.line; listed = Contains-append_left ls 
 only_line : (l b : Line) → Contains (l ∷ []) b → l ≡ b
 only_line l b (zero, below, there) = there
 only_line l b (suc k, below, there) = absurd (omega arith)
-
-or_left : (a b : Bool) → a ≡ true → (a || b) ≡ true
-or_left a b is = ap (λ x. x || b) is
-
-or_right : (a b : Bool) → b ≡ true → (a || b) ≡ true
-or_right a b is = ap (λ x. a || x) is ∙ or-true a
 
 -- the same line, which tells no word
 pub push_plain : (ls bs : List Line) (l : Line) → is_put l.kind ≡ false → is_out l.kind ≡ false → is_heap l.kind ≡ false → Alike ls bs → Alike (ls ++ l ∷ []) (bs ++ l ∷ [])

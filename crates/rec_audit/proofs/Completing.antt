@@ -12,7 +12,8 @@ use Rattle.rec_audit.specs.declared.form.Form.{Form}
 use Rattle.rec_audit.specs.Lines.{Line, AreNumbers}
 use Rattle.rec_audit.specs.Form.{IsInForm, MayStand, Stand, form_of, heap_in, heap_of, is_heap, is_numbering, leads_to, next_block, number_behind, stage_behind}
 use Rattle.rec_audit.proofs.Knowing.{heap_more, next_more, split_push, stage_more}
-use Rattle.rec_audit.proofs.Telling.{line_of}
+use Rattle.rec_audit.proofs.Forming.{stand_more}
+use Rattle.rec_audit.specs.Journal.{line_of}
 
 -- ---- lines, from the first on
 
@@ -28,13 +29,6 @@ stand_front lines line stand before l after e = stand before l (after ++ line �
 
 stand_last : (lines : List Line) (line : Line) → Stand (lines ++ line ∷ []) → MayStand (form_of lines) line
 stand_last lines line stand = stand lines line [] refl
-
-stand_more : (lines : List Line) (l : Line) → Stand lines → MayStand (form_of lines) l → Stand (lines ++ l ∷ [])
-stand_more lines l stand stands before line after e = at (split_push lines before after l line e)
-  where
-    at : ((lines ≡ before) × (l ≡ line)) ⊎ ((rest : List Line) × (lines ≡ before ++ line ∷ rest)) → MayStand (form_of before) line
-    at (inl same) = subst (λ (x : Line). MayStand (form_of before) x) same.1 (subst (λ (ls : List Line). MayStand (form_of ls) l) same.0 stands)
-    at (inr more) = stand before line more.0 more.1
 
 -- ---- what holds where lines stand so
 

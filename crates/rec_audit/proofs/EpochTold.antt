@@ -44,7 +44,7 @@ use Rattle.rec_core.specs.declared.config.Config.{Config}
 use Rattle.rec_core.proofs.BareSeen.{turned_behind}
 use Rattle.rec_core.proofs.Batches.{none_of}
 use Rattle.rec_core.proofs.Dated.{Explains, moves_explained}
-use Rattle.rec_core.proofs.Lasting.{wrote}
+use Rattle.rec_audit.proofs.Lasting.{wrote}
 use Rattle.rec_core.proofs.Runs.{given_is, move_kept, rule_of}
 use Rattle.rec_core.proofs.Sums.{box_share, buffers_sum, log_share, share, zip_sum-none}
 use Rattle.rec_core.proofs.Turns.{now_at}
@@ -62,6 +62,8 @@ use Rattle.rec_audit.proofs.Placing.{Placed, step_placed}
 use Rattle.rec_audit.proofs.RunAnswers.{first_explained}
 use Rattle.rec_audit.proofs.RunTurns.{IsBatchOf, step_batch}
 use Rattle.rec_audit.proofs.Runs.{begun}
+use Rattle.rec_audit.proofs.Marking.{or_left, or_right}
+use Rattle.rec_core.proofs.Turning.{parts_of_turn}
 
 -- an element weighs no more than all
 weighs_in : {X : Type 0} (g : X → ℕ) (xs : List X) (x : X) → Contains xs x → g x ≤ sum_by g xs
@@ -234,12 +236,6 @@ names_blank : (h : Dated → ℕ) (e registers : ℕ) → sum_by h (dated_names 
 names_blank h e zero = refl
 names_blank h e (suc registers) = names_blank h e registers
 
-or_left : (a b : Bool) → a ≡ true → (a || b) ≡ true
-or_left a b is = ap (λ x. x || b) is
-
-or_right : (a b : Bool) → b ≡ true → (a || b) ≡ true
-or_right a b is = ap (λ x. a || x) is ∙ or-true a
-
 named_in : (epoch node e : ℕ) (xs : List (Option ℕ)) → 0 < sum_by (is_at epoch node) (dated_names e xs) → is_in node (map register_number xs) ≡ true
 named_in epoch node e [] some = absurd (omega arith)
 named_in epoch node e (None ∷ xs) some = or_right (0 == node) (is_in node (map register_number xs)) (named_in epoch node e xs some)
@@ -317,11 +313,7 @@ tells_last w epoch newer kept at last = record {
 -- ---- a turn
 
 module _ (w : Core) (op : Op) (kept : IsKept true w) (named : ◌≡◌ {A = Option Op} (next_of w.collector) (Some op)) (still : IsKept true (turned_by w op (cell (cells_of w) op))) where
-  abbrev q : Private
-  q = step_of w.collector (cell (cells_of w) op) (box w (looked_at w.collector.phase))
-
-  abbrev v : Core
-  v = turned_by w op (cell (cells_of w) op)
+  open (parts_of_turn w op) use {q, v}
 
   s : Step w.collector (cell (cells_of w) op) (box w (looked_at w.collector.phase)) (Some op) q (turn_of w.collector (cell (cells_of w) op))
   s = rule_of w op kept named

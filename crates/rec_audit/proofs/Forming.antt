@@ -49,7 +49,7 @@ walk_join f g h (x ∷ xs) ys a b =
     let rest : Walk (behind f x) (xs ++ ys) h = walk_join (behind f x) g h xs ys (record { fits = a.fits.1; ends = a.ends }) b in
     record { fits = (a.fits.0, rest.fits); ends = rest.ends }
 
-stand_more : (lines : List Line) (l : Line) → Stand lines → MayStand (form_of lines) l → Stand (lines ++ l ∷ [])
+pub stand_more : (lines : List Line) (l : Line) → Stand lines → MayStand (form_of lines) l → Stand (lines ++ l ∷ [])
 stand_more lines l stand stands = λ before line more e. at before line more (split_push lines before more l line e)
   where
     at : (before : List Line) (line : Line) (more : List Line) → ((lines ≡ before) × (l ≡ line)) ⊎ ((rest : List Line) × (lines ≡ before ++ line ∷ rest)) → MayStand (form_of before) line

@@ -491,7 +491,7 @@ filter_below p q n same = on (range_with_len 0 n) (λ k d lt. subst (λ (m : ℕ
         ap (λ b. cond b (x ∷ filter p xs) (filter p xs)) (same x (All-head (λ k. k < n) x xs all))
         ∙ ap (λ t. cond (q x) (x ∷ t) t) (on xs (All-tail (λ k. k < n) x xs all))
 
-abbrev to : Edge → ℕ
+abbrev pub to : Edge → ℕ
 to e = e.to
 
 -- where references lead, by the lines that open them and by themselves

@@ -17,7 +17,7 @@ use Rattle.rec_model.proofs.Reaching.{root_in_reach, target_in_reach}
 use Rattle.rec_audit.specs.Logged.{works_in}
 use Rattle.rec_core.specs.Pending.{writes_of}
 use Rattle.rec_audit.proofs.Journalled.{StandsIn, applied_in, box_later, log_later}
-use Rattle.rec_core.proofs.Lasting.{Lasts, closes}
+use Rattle.rec_audit.proofs.Lasting.{Lasts, closes}
 use Rattle.rec_audit.proofs.Newborn.{IsUntold, none_in}
 use Rattle.rec_core.proofs.Sums.{box_share, buffers_sum, log_share, share}
 

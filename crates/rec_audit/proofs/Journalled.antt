@@ -14,7 +14,7 @@ use Rattle.rec_core.specs.Pending.{writes_of}
 use Rattle.rec_core.proofs.Actors.{crossed_here, epoch_here, epoch_next, idle_here}
 use Rattle.rec_core.proofs.Batches.{none_of}
 use Rattle.rec_core.proofs.Crossings.{due_gathers}
-use Rattle.rec_core.proofs.Lasting.{closes, closes_parts, some_weighs, wrote, wrote_in_box, writes_sum}
+use Rattle.rec_audit.proofs.Lasting.{closes, closes_parts, some_weighs, wrote, wrote_in_box, writes_sum}
 use Rattle.rec_core.proofs.Moves.{has_register}
 use Rattle.rec_core.proofs.Steps.{actor_of, in_list, stand_of}
 use Rattle.rec_core.proofs.Sums.{zip_sum-none}

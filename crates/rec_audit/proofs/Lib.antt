@@ -1,4 +1,10 @@
 -- The modules of the proofs.
+pub mod ByStamps
+pub mod Lasting
+pub mod Loads
+pub mod StampDates
+pub mod StampedLate
+pub mod StampedLoads
 pub mod Written
 pub mod Texts
 pub mod Edits

@@ -173,11 +173,12 @@ follow_none dead old start m upto marking =
       closed = λ closed p s there leads. closed p s there leads;
     }
 
-either : (a b : Bool) → a ≡ true → (a || b) ≡ true
-either a b is = ap (λ c. c || b) is
+-- a test or another one holds
+pub or_left : (a b : Bool) → a ≡ true → (a || b) ≡ true
+or_left a b is = ap (λ c. c || b) is
 
-other : (a b : Bool) → b ≡ true → (a || b) ≡ true
-other a b is = ap (λ c. a || c) is ∙ or-true a
+pub or_right : (a b : Bool) → b ≡ true → (a || b) ≡ true
+or_right a b is = ap (λ c. a || c) is ∙ or-true a
 
 get_in : (xs : List ℕ) (i : ℕ) → i < length xs → is_in (get_or xs i 0) xs ≡ true
 get_in xs i within = list_any_at (λ m. m == get_or xs i 0) xs i 0 within (eq-eqb (get_or xs i 0) (get_or xs i 0) refl)
@@ -191,7 +192,7 @@ follow_more dead old now new start m n o i slot within is follows pruned more =
       longer = omega (arith, follows.longer, more.longer);
       front = sym (take-take (length m.order.items) (length n.order.items) o.order.items follows.longer) ∙ ap (take (length m.order.items)) more.front ∙ follows.front;
       pruned = pruned;
-      kept = λ s there. more.has s ∙ either (is_in s n.order.items) (is_in s (live_in dead old slot)) (follows.kept s there);
+      kept = λ s there. more.has s ∙ or_left (is_in s n.order.items) (is_in s (live_in dead old slot)) (follows.kept s there);
       sound = λ s there.
           elim (or_cases (is_in s n.order.items) (is_in s (live_in dead old slot)) (sym (more.has s) ∙ there)) [
             | inl old ↦ follows.sound s old
@@ -210,9 +211,9 @@ follow_more dead old now new start m n o i slot within is follows pruned more =
     front = take_more o.order.items i 0 (omega (arith, more.longer)) ∙ ap (λ (t : List ℕ). t ++ get_or o.order.items i 0 ∷ []) same ∙ ap (λ (k : ℕ). take i n.order.items ++ k ∷ []) here
 
     from : IsClosedTo start m.order.items (live_in dead old) → (p s : ℕ) → (is_in p (take i n.order.items) ≡ true) ⊎ (is_in p (slot ∷ []) ≡ true) → is_in s (live_in dead old p) ≡ true → (is_in s n.order.items || is_in s (live_in dead old slot)) ≡ true
-    from closed p s (inl before) leads = either (is_in s n.order.items) (is_in s (live_in dead old slot)) (follows.closed closed p s before leads)
+    from closed p s (inl before) leads = or_left (is_in s n.order.items) (is_in s (live_in dead old slot)) (follows.closed closed p s before leads)
     from closed p s (inr new) leads =
-        other (is_in s n.order.items) (is_in s (live_in dead old slot))
+        or_right (is_in s n.order.items) (is_in s (live_in dead old slot))
         (elim (is_in-cons p slot [] new) [ inl same ↦ ap (λ (k : ℕ). is_in s (live_in dead old k)) same ∙ leads | inr none ↦ absurd (false≢true none) ])
 
 -- behind all of them, what is marked is what is reached

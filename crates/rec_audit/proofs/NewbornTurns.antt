@@ -18,21 +18,11 @@ use Rattle.rec_audit.proofs.Journalled.{StandsIn}
 use Rattle.rec_audit.proofs.Newborn.{IsUntold, none_in}
 use Rattle.rec_core.proofs.Runs.{looked_is}
 use Rattle.rec_core.proofs.Turns.{now_at}
+use Rattle.rec_core.proofs.Turning.{parts_of_turn}
 
 module _ {dated : Bool} (w : Core) (op : Op) (kept : IsKept dated w) where
   open w use {collector as c}
-
-  abbrev found : ℕ
-  found = cell (cells_of w) op
-
-  abbrev its_box : Contents
-  its_box = box w (looked_at c.phase)
-
-  abbrev q : collectors.Private
-  q = collectors_took.step_of c found its_box
-
-  abbrev v : Core
-  v = turned_by w op found
+  open (parts_of_turn w op) use {found, its_box, q, v}
 
   -- a birth of the batch that this turn applied, or one that is still to be told
   pub data IsTold (batch : Option Batch) (slot : ℕ) : Type 0 where

@@ -11,7 +11,7 @@ use Rattle.rec_model.specs.References.{IsInReach}
 use Rattle.rec_model.proofs.Naming.{dead_out_of_reach}
 use Rattle.rec_core.specs.Pending.{writes_of}
 use Rattle.rec_audit.proofs.Journalled.{StandsIn, applied_in}
-use Rattle.rec_core.proofs.Lasting.{Lasts, closes, wrote, writes_sum}
+use Rattle.rec_audit.proofs.Lasting.{Lasts, closes, wrote, writes_sum}
 
 -- an entry's write weighs no more than all
 entry_weighs : (g : Write → ℕ) (es : List Entry) (place new old : ℕ) → Contains es (entries.Put place new old) → g (record { place = place; new = new; old = old }) ≤ sum_by g (writes_in es)

@@ -25,7 +25,7 @@ use Rattle.rec_core.specs.Moves.{turned_at}
 use Rattle.rec_core.proofs.BareSeen.{turned_behind}
 use Rattle.rec_core.proofs.Dated.{Explains, moves_explained}
 use Rattle.rec_core.proofs.Opened.{heap_bare, opened_kept}
-use Rattle.rec_audit.proofs.BareJournal.{Beside, moves_beside, opening_alike, passed_is, shown_bare, work_beside}
+use Rattle.rec_audit.proofs.BareJournal.{Beside, moves_beside, opening_alike, shown_bare, work_beside}
 use Rattle.rec_audit.proofs.Bared.{Alike, reached_less}
 use Rattle.rec_audit.proofs.RunClean.{Clear, Goes, behind_is, clear_both, clear_plain, clear_split, is_kept, moves_go, opening_tells}
 use Rattle.rec_audit.specs.Graph.{IsReachedAt}
@@ -38,7 +38,7 @@ use Rattle.rec_audit.specs.Keeping.{Place, behind_steps, first_place}
 use Rattle.rec_audit.proofs.Rising.{from_epoch, journal_rises, no_stamp_fault}
 use Rattle.rec_audit.proofs.RunGraph.{Tells}
 use Rattle.rec_audit.proofs.RunReach.{shown_reach}
-use Rattle.rec_audit.proofs.Runs.{are_numbers, run_keeps}
+use Rattle.rec_audit.proofs.Runs.{are_numbers, run_keeps, passed_same}
 use Rattle.rec_audit.proofs.RunTurns.{turned_tells}
 use Rattle.rec_audit.proofs.Sets.{answered}
 
@@ -87,7 +87,7 @@ reach_at u ls bs step members slot kept tells alike shown passed reached = go (n
         let both : step ∷ [] ≡ its ∷ [] = sym shown ∙ bare_is in
         let same : step ≡ its = cc in
         let beside = work_beside op word x.collector ls bs alike in
-        let passes : passed_of x.collector ≡ Some members = sym (passed_is x.collector x.collector.phase) ∙ (ap (λ (y : Shown). y.passed) (sym same) ∙ passed) in
+        let passes : passed_of x.collector ≡ Some members = sym (passed_same x.collector x.collector.phase) ∙ (ap (λ (y : Shown). y.passed) (sym same) ∙ passed) in
         let from : IsReachedAt (bs ++ (batch_lines its.batch ++ op_lines its.op its.word)) slot = subst (λ (y : Shown). IsReachedAt (bs ++ (batch_lines y.batch ++ op_lines y.op y.word)) slot) same reached in
         (x, ap bare_core (sym is) ∙ turned_behind u (bare_core u) (record { bare = refl; kept = kept }), shown_reach (ls ++ (batch_lines (batch_of op x.collector) ++ op_lines op word)) x members still told passes slot (reached_less _ _ beside slot from))
 

@@ -13,7 +13,7 @@ use Rattle.rec_audit.specs.Logged.{last_batch, works_in}
 use Rattle.rec_core.specs.Moves.{Fits, Move, after_move, stepped}
 use Rattle.rec_core.specs.Pending.{applied_at}
 use Rattle.rec_audit.proofs.Journalled.{StandsIn, applied_in}
-use Rattle.rec_core.proofs.Lasting.{Keeps, Lasts, lasts_on, move_keeps}
+use Rattle.rec_audit.proofs.Lasting.{Keeps, Lasts, lasts_on, move_keeps}
 use Rattle.rec_audit.proofs.Newborn.{IsUntold, stepped_taken, stepped_untold}
 use Rattle.rec_audit.proofs.NewbornTurns.{begun_untold, offering_untold}
 use Rattle.rec_core.proofs.Reach.{steps_keep_taken}

@@ -28,7 +28,7 @@ use Rattle.rec_core.specs.Pending.{applied_at, pending}
 use Rattle.rec_core.proofs.Freed.{shown_is_gone, shown_is_taken}
 use Rattle.rec_audit.proofs.JournalReach.{batch_root, free_word, leads_on, replaced_home, snapshot_root, untold_root, worked_epoch}
 use Rattle.rec_audit.proofs.Journalled.{StandsIn, applied_in, replaced_when}
-use Rattle.rec_core.proofs.Lasting.{Lasts, closes}
+use Rattle.rec_audit.proofs.Lasting.{Lasts, closes}
 use Rattle.rec_audit.proofs.Newly.{newer_weighs}
 use Rattle.rec_audit.specs.Form.{heap_of, number}
 use Rattle.rec_audit.specs.Graph.{HasReached, IsReachedAt, has_target, held, is_dead, is_put, is_taken, named_by, opens, opens_from, roots, target_in, targets, this_block}

@@ -32,7 +32,7 @@ use Rattle.rec_core.specs.Moves.{looked_at, turned_by}
 use Rattle.rec_core.specs.Pending.{applied_at, writes_of}
 use Rattle.rec_core.proofs.Freed.{frees_while_sweeping}
 use Rattle.rec_audit.proofs.Journalled.{StandsIn, applied_in, replaced_when}
-use Rattle.rec_core.proofs.Lasting.{Lasts, closes, lasts_on, op_keeps}
+use Rattle.rec_audit.proofs.Lasting.{Lasts, closes, lasts_on, op_keeps}
 use Rattle.rec_audit.proofs.Newborn.{IsUntold, none_in}
 use Rattle.rec_audit.proofs.NewbornTurns.{IsTold, turned_taken, turned_told}
 use Rattle.rec_audit.proofs.Newly.{home_taken, put_lasts}
@@ -50,6 +50,7 @@ use Rattle.rec_audit.proofs.Grown.{dead_out, taken_same, taken_sweep}
 use Rattle.rec_audit.proofs.Placing.{HasBegun, Placed, is_unswept, step_placed, step_unswept, worked_in}
 use Rattle.rec_audit.proofs.RunGraph.{HasBlock, Status, Tells}
 use Rattle.rec_audit.proofs.Runs.{begun}
+use Rattle.rec_core.proofs.Turning.{parts_of_turn}
 
 -- ---- epochs
 
@@ -206,14 +207,7 @@ behind_batch lines (Some b) = lines ++ batch_lines (Some b)
 
 module _ (lines : List Line) (w : Core) (op : Op) (kept : IsKept true w) (named : ◌≡◌ {A = Option Op} (next_of w.collector) (Some op)) (still : IsKept true (turned_by w op (cell (cells_of w) op)))
     (names : NamesWord (length w.collector.counts.slots) w.collector.fields (length w.collector.newer) op) (tells : Tells lines w) where
-  abbrev word : ℕ
-  word = cell (cells_of w) op
-
-  abbrev q : Private
-  q = step_of w.collector (cell (cells_of w) op) (box w (looked_at w.collector.phase))
-
-  abbrev v : Core
-  v = turned_by w op (cell (cells_of w) op)
+  open (parts_of_turn w op) use {found as word, q, v}
 
   s : Step w.collector (cell (cells_of w) op) (box w (looked_at w.collector.phase)) (Some op) q (turn_of w.collector (cell (cells_of w) op))
   s = rule_of w op kept named

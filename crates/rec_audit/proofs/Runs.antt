@@ -56,6 +56,7 @@ use Rattle.rec_audit.specs.declared.form.Heap.{Heap}
 use Rattle.rec_core.proofs.Turns.{now_at}
 use Rattle.rec_audit.proofs.Rising.{AreStamped, AreStampedEntries, IsStampedBatch, IsStampedEntry, IsStampedIn, stamp_number}
 use Rattle.rec_audit.proofs.Placing.{HasBegun, Placed, step_placed, worked_in}
+use Rattle.rec_audit.proofs.ByStamps.{bare_stamp}
 
 -- ---- the order
 
@@ -175,10 +176,6 @@ batch_keeps w q word b op turn kept own = go
     go (Step.sweep due swept u phase sweeping is which next g) = tt
     go (Step.end_sweep swept closing is e) = tt
 
--- the stamp of a bare word is that of the word
-stamp_bare : (word : ℕ) → stamp_of (bare word) ≡ stamp_of word
-stamp_bare word = sym (ap stamp_of (let whole : word ≡ 2 ^ 64 * (word / 2 ^ 64) + word % 2 ^ 64 = omega arith in whole) ∙ stamp_of_dated true (word / 2 ^ 64) (word % 2 ^ 64))
-
 -- a write with bare words is one with words
 record BareWrite (es : List Entry) (place new old : ℕ) : Type 0 where
   dated_new : ℕ
@@ -208,7 +205,7 @@ stamps_there v kept stamped k below place new old c =
     let buffer : of_core.IsBufferOf true v.config (v.epoch - 1) (get_or v.collector.newer k (blank 0 0)) = subst (λ n. of_core.IsBufferOf true v.config (v.epoch - 1) (get_or v.collector.newer n (blank 0 0))) at (kept.collector.newer (k + 1) is) in
     let made : epoch_of its.dated_new ≡ v.epoch - 1 = subst (of_core.IsMadeIn (v.epoch - 1)) its.listed.2 (buffer.made its.listed.0 (entries.Put place its.dated_new its.dated_old) its.listed.1) in
     let dated : epoch_of its.dated_new ≡ (stamp_of its.dated_new).epoch = stamp_is v place its.dated_new its.dated_old stamped (k, below, its.listed) in
-    ap (λ n. (stamp_of n).epoch) (sym its.same) ∙ (ap (λ (x : Stamp). x.epoch) (stamp_bare its.dated_new) ∙ (sym dated ∙ (made ∙ ap (λ n. n - 1) (sym kept.collector.epoch))))
+    ap (λ n. (stamp_of n).epoch) (sym its.same) ∙ (ap (λ (x : Stamp). x.epoch) (bare_stamp its.dated_new) ∙ (sym dated ∙ (made ∙ ap (λ n. n - 1) (sym kept.collector.epoch))))
 
 -- the words of a batch have the stamps of its epoch
 stamped_buffer : (w : Core) (t epoch : ℕ) (b : Contents) → IsKept false w → IsMutator w.config t → IsOwnBuffer w.config t b → of_core.IsBufferOf false w.config epoch b
@@ -282,7 +279,7 @@ op_keeps w q (ops.ClearField place) kept own named names = λ some. (
 op_keeps w q (ops.FreeHeader slot) kept own named names = (frees_works w.collector w.collector.phase slot named, subst (λ n. slot < n) kept.collector.slots names)
 op_keeps w q _ kept own named names = tt
 
-passed_same : (q : Private) (phase : Phase) → passed_in (bare_private q) phase ≡ passed_in q phase
+pub passed_same : (q : Private) (phase : Phase) → passed_in (bare_private q) phase ≡ passed_in q phase
 passed_same q (Freeing m) = refl
 passed_same q _ = refl
 

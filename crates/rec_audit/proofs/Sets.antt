@@ -24,7 +24,7 @@ use Rattle.rec_audit.proofs.Forming.{in_form, part}
 abbrev frees : Line → ℕ
 frees line = cond (is_free line.kind) 1 0
 
-abbrev sets : List Line → ℕ
+abbrev pub sets : List Line → ℕ
 sets lines = count_by (λ line. is_free line.kind) lines
 
 sets_append : (xs ys : List Line) → sets (xs ++ ys) ≡ sets xs + sets ys

@@ -8,7 +8,7 @@ use Rattle.rec_log.specs.declared.entry.Entry.TheVariants as entries
 use Rattle.rec_core.specs.Core.{heap_by}
 use Rattle.rec_core.specs.Pending.{writes_of}
 use Rattle.rec_audit.proofs.Journalled.{StandsIn}
-use Rattle.rec_core.proofs.Lasting.{begun_less, op_less, step_less}
+use Rattle.rec_audit.proofs.Lasting.{begun_less, op_less, step_less}
 use Rattle.rec_audit.proofs.Newly.{newer_weighs}
 use Rattle.rec_core.specs.Objects.{first_object}
 use Rattle.rec_core.proofs.Opened.{first_labels, first_objects}

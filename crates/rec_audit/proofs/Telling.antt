@@ -23,10 +23,7 @@ use Rattle.rec_audit.specs.declared.verdict.Rule.TheVariants.{Long, Form as Form
 use Rattle.rec_audit.specs.Checkers.{Knows}
 use Rattle.rec_audit.proofs.Grown.{told_heap}
 use Rattle.rec_audit.proofs.Knowing.{clean_more, form_more, title_before}
-
--- the line with a kind and numbers
-abbrev pub line_of : Kind → List ℕ → Line
-line_of kind numbers = record { kind = kind; numbers = numbers }
+use Rattle.rec_audit.specs.Journal.{line_of}
 
 -- its numbers are those of its kind
 pub numbers_of : (form : Form) (kind other : Kind) (numbers : List ℕ) → kind ≡ other → MayStand form (line_of kind numbers) → HasNumbers form other numbers

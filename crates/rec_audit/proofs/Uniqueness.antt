@@ -15,6 +15,7 @@ use Rattle.rec_audit.specs.Verdicts.IsVerdict.{yes, long, no as first_fault}
 use Rattle.rec_audit.specs.declared.kind.Kind.TheVariants.{Free}
 use Rattle.rec_audit.proofs.Texts.{same_line}
 use Rattle.rec_audit.proofs.Telling.{longer}
+use Rattle.rec_audit.proofs.Sets.{sets}
 
 -- ---- one text, and lists of lines at its front
 
@@ -31,11 +32,11 @@ fit_of : (lines : List Line) → AreClean lines → AreFit lines
 fit_of lines are before line after e = (are.stand before line after e).fits
 
 -- one goes on where the other ends: its next line, and what is behind that
-pub record IsAhead (ls ms : List Line) (r s : List ℕ) : Type 0 where
-  pub line : Line
-  pub more : List Line
-  pub lines : ms ≡ ls ++ line ∷ more
-  pub text : r ≡ text_of_line line ++ (text_of more ++ s)
+record IsAhead (ls ms : List Line) (r s : List ℕ) : Type 0 where
+  line : Line
+  more : List Line
+  lines : ms ≡ ls ++ line ∷ more
+  text : r ≡ text_of_line line ++ (text_of more ++ s)
 
 -- they are the same, or one goes on where the other ends
 compared : (ls ms : List Line) (r s : List ℕ) → AreFit ls → AreFit ms → text_of ls ++ r ≡ text_of ms ++ s → ((ls ≡ ms) × (r ≡ s)) ⊎ (IsAhead ls ms r s ⊎ IsAhead ms ls s r)
@@ -132,14 +133,11 @@ one_place ls ms r s a b left right e fault other = at (compared ls ms r s (fit_o
     at (inr (inl ahead)) = absurd (ahead_no_fault ls ms r s a ahead right fault)
     at (inr (inr ahead)) = absurd (ahead_no_fault ms ls s r b ahead left other)
 
-abbrev sets_in : List Line → ℕ
-sets_in lines = count_by (λ line. is_free line.kind) lines
-
 whole_text : (lines : List Line) (bytes : List ℕ) → bytes ≡ text_of lines → text_of lines ++ [] ≡ bytes
 whole_text lines bytes is = append-nil (text_of lines) ∙ sym is
 
 pub one_verdict : (bytes : List ℕ) (a b : Verdict) → IsVerdict bytes a → IsVerdict bytes b → a ≡ b
-one_verdict bytes a b (yes ls few text clean whole) (yes ms short other right end) = ap (λ (l : List Line). Yes (sets_in l)) (one_count ls ms clean right (whole_text ls bytes text ∙ sym (whole_text ms bytes other)))
+one_verdict bytes a b (yes ls few text clean whole) (yes ms short other right end) = ap (λ (l : List Line). Yes (sets l)) (one_count ls ms clean right (whole_text ls bytes text ∙ sym (whole_text ms bytes other)))
 one_verdict bytes a b (yes ls few text clean whole) (long many) = absurd (omega arith)
 one_verdict bytes a b (yes ls few text clean whole) (first_fault ms rest rule short other right fault) = absurd (yes_or_fault ls ms rest rule clean whole right (whole_text ls bytes text ∙ other) fault)
 one_verdict bytes a b (long many) (yes ms short other right end) = absurd (omega arith)

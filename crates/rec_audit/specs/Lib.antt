@@ -1,4 +1,5 @@
 -- The modules of the definitions.
+pub mod ByStamps
 pub mod Lines
 pub mod Form
 pub mod Graph

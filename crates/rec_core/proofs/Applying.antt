@@ -199,7 +199,7 @@ module _ (w : Core) (t : ℕ) (kept : IsKeptBy true (stand_at w.collector.left O
   older_of = buffer_there w.config (w.epoch - 2) c.older (kept.collector.machine.both ∙ many) (λ t is. subst (λ e. IsBufferOf true w.config e (collectors.buffer_at c.older (t - 1))) older_is (kept.collector.older t is))
 
   -- what is added by the accounts is what the newer buffers add
-  pub added_is : (x : ℕ) → added (pending w) (x + 1) ≡ targets.added x c.newer
+  added_is : (x : ℕ) → added (pending w) (x + 1) ≡ targets.added x c.newer
   added_is x =
       let e : ℕ = w.epoch - 1 in
       let next : applied_at w.epoch c.phase + 1 ≡ e = omega (arith, applied_is, some_epochs) in

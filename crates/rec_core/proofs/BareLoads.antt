@@ -14,13 +14,14 @@ use Rattle.rec_collector.specs.Touched.{IsOrangeIn}
 use Rattle.rec_collector.proofs.Bare as collecting
 use Rattle.rec_core.specs.Bare.{bare_core}
 use Rattle.rec_core.specs.Freed.{Passes}
-use Rattle.rec_core.specs.Loads.{BeginsPreparing, IsPreparing, IsSameTrial, Loaded, fields_loaded, load_of, loaded_by, loaded_in, loaded_over}
+use Rattle.rec_core.specs.Loads.{BeginsPreparing, IsSameTrial, Loaded, fields_loaded, load_of, loaded_by, loaded_in, loaded_over}
 use Rattle.rec_core.proofs.Bare.{move_bare}
 use Rattle.rec_core.proofs.CutOff.{passes_behind}
 use Rattle.rec_core.proofs.Dated.{Explains, moves_explained}
 use Rattle.rec_core.proofs.Outside.{run_outside, run_passed, run_places}
 use Rattle.rec_core.proofs.Runs.{move_kept}
 use Rattle.rec_core.proofs.Trials.{no_trial}
+use Rattle.rec_collector.specs.Given.{IsPreparingIn}
 
 -- what was loaded, without dates
 abbrev load_bare : Loaded → Loaded
@@ -127,5 +128,5 @@ of_bare n t kept are = record {
 pub of_own_run : (v w : Core) → Explains v w → BeginsPreparing w → AreOfRun w.config.fields (turned w)
 of_own_run v w e = subst (λ (u : Core). BeginsPreparing u → AreOfRun u.config.fields (turned u)) e.bare (λ begins.
     let same : turned (bare_core v) ≡ bare_core (turned v) = move_bare v Move.Turns e.kept tt in
-    let began : BeginsPreparing v = (begins.0, subst (λ (u : Core). IsPreparing u.collector.phase) same begins.1) in
+    let began : BeginsPreparing v = (begins.0, subst (λ (u : Core). IsPreparingIn u.collector.phase) same begins.1) in
     subst (AreOfRun v.config.fields) (sym same) (of_bare v.config.fields (turned v) (move_kept v Move.Turns e.kept tt) (of_dated v e.kept began)))

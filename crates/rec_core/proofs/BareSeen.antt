@@ -1,8 +1,8 @@
 -- What is seen of a heap of bare words is what is seen of the heap of dated words, but for the words.
-use Rattle.std.proofs.Common.{◌≡◌, ℕ, ◌+◌, ◌-◌, ◌*◌, List, [], ◌∷◌, Option, drop, map, take, refl, sym, ap, subst, ◌∙◌}
+use Rattle.std.proofs.Common.{◌≡◌, ℕ, ◌+◌, ◌-◌, ◌*◌, if◌then◌else◌, count_by, List, [], ◌∷◌, Option, drop, map, take, refl, sym, ap, subst, ◌∙◌, arith}
 use Rattle.std.proofs.lemmas.List.{drop-map, take-map}
 use Rattle.rec_word.specs.Bare.{bare}
-use Rattle.rec_word.specs.Word.{target_of}
+use Rattle.rec_word.specs.Word.{is_slot, target_of}
 use Rattle.rec_word.proofs.Bare.{target_of_bare}
 use Rattle.rec_model.specs.Heap.{roots}
 use Rattle.rec_model.specs.Reach.{named, IsReached}
@@ -17,6 +17,7 @@ use Rattle.rec_core.specs.Reach.{KeepsReached}
 use Rattle.rec_core.specs.Swept.{IsSweep, SweepsNothing}
 use Rattle.rec_core.proofs.Bare.{move_bare}
 use Rattle.rec_core.proofs.Dated.{Explains}
+use Rattle.std.proofs.lemmas.List.Sums.{sum_by-cons}
 
 registers_same : (ps : List Private) → map (λ (p : Private). p.registers) (map mutators.bare_private ps) ≡ map (λ (p : Private). p.registers) ps
 registers_same [] = refl
@@ -67,3 +68,16 @@ sweep_bare w v (IsSweep.frees slot named there taken unreached odd headers freed
 -- a turn of the heap is the bare one of the heap behind it
 pub turned_behind : (v w : Core) → Explains v w → bare_core (turned v) ≡ turned w
 turned_behind v w e = sym (move_bare v Move.Turns e.kept tt) ∙ ap turned e.bare
+
+-- as many bare words lead to a slot as words
+pub words_alike : (slot : ℕ) (words : List ℕ) → count_by (λ word. is_slot slot (target_of word)) (map bare words) ≡ count_by (λ word. is_slot slot (target_of word)) words
+words_alike slot [] = refl
+words_alike slot (word ∷ words) =
+    let weight : Option ℕ → ℕ = λ t. if is_slot slot t then 1 else 0 in
+    omega (
+      arith,
+      sum_by-cons (λ x. weight (target_of x)) (bare word) (map bare words),
+      sum_by-cons (λ x. weight (target_of x)) word words,
+      ap weight (target_of_bare word),
+      words_alike slot words,
+    )

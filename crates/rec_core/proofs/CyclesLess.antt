@@ -64,10 +64,10 @@ each_slot P s x v here there y =
     ]
 
 -- what is written in place of a slot stays in its set, isn't Orange anew, and where it is Orange and not released, its cyclic count stays exact
-pub record EasesSlot (u v : Slot) : Type 0 where
-  pub set : v.set ≡ u.set
-  pub orange : v.colour ≡ Orange → u.colour ≡ Orange
-  pub exact : v.colour ≡ Orange → v.released ≡ false → StaysExact u v
+record EasesSlot (u v : Slot) : Type 0 where
+  set : v.set ≡ u.set
+  orange : v.colour ≡ Orange → u.colour ≡ Orange
+  exact : v.colour ≡ Orange → v.released ≡ false → StaysExact u v
 
 less_slot : (s : State) (x : ℕ) (v : Slot) → EasesSlot (slot_at s x) v → TestsLess s (with_slot s x v)
 less_slot s x v e = record {

@@ -48,7 +48,7 @@ sets_test_given_up : (w : Pending) (s : State) → SetsTest w s → SetsTest w (
 sets_test_given_up w s = sets_test_less w s (given_up s) (less_given_up s)
 
 -- so many places weigh the same, whatever words stand there
-abbrev pub HasSamePlaces : (xs ys : List ℕ) → Type 0
+abbrev HasSamePlaces : (xs ys : List ℕ) → Type 0
 HasSamePlaces xs ys = (weight : ℕ → ℕ) → sum_at (λ p (word : ℕ). weight p) ys ≡ sum_at (λ p (word : ℕ). weight p) xs
 
 -- the tests of the same sets, of words at the same places

@@ -83,7 +83,7 @@ early_none_late epoch weight p (x ∷ xs) m few all =
     omega (arith, first, rest)
 
 -- How often they name a node: as often as what they were made of leads to its slot.
-one_is : (b : Bool) → one b ≡ (if b then 1 else 0)
+pub one_is : (b : Bool) → one b ≡ (if b then 1 else 0)
 one_is true = refl
 one_is false = refl
 

@@ -20,10 +20,11 @@ use Rattle.rec_trial.specs.declared.phase.Phase as trial_phases
 use Rattle.rec_trial.specs.declared.phase.Phase.TheVariants as trial_at
 use Rattle.rec_collector.specs.Next.{is_spent, next_at, next_of}
 use Rattle.rec_collector.specs.Shown.{begun_at, passed_in, passed_of}
-use Rattle.rec_core.specs.Freed.{IsFreeingSet, TestsSets, Passes, IsProvenGarbage, IsGone, AreGone, IsForgotten}
+use Rattle.rec_core.specs.Freed.{TestsSets, Passes, IsProvenGarbage, IsGone, AreGone, IsForgotten}
 use Rattle.rec_core.proofs.CyclesTest.{IsJudged, set_is_tested}
 use Rattle.rec_core.proofs.Steps.{slot_there}
 use Rattle.rec_core.proofs.Turns.{cycles_in, now_at}
+use Rattle.rec_collector.specs.Given.{IsFreeingIn}
 
 -- A set that passes both tests.
 passes_with : (w : Core) (number : ℕ) → IsKept true w → SetsTest (pending w) w.collector.counts → IsApart w.collector.counts → Passes w number → IsProvenGarbage w number
@@ -67,7 +68,7 @@ given_up_are_gone w kept = record {
   members = members_released w.collector.phase refl;
 }
   where
-    members_released : (phase : Phase) → w.collector.phase ≡ phase → IsFreeingSet phase → (slot : ℕ) → 0 < times slot w.collector.counts.work → (slot_at w.collector.counts slot).released ≡ true
+    members_released : (phase : Phase) → w.collector.phase ≡ phase → IsFreeingIn phase → (slot : ℕ) → 0 < times slot w.collector.counts.work → (slot_at w.collector.counts slot).released ≡ true
     members_released (Freeing m) here is slot some = (now_at w (Freeing m) kept here).clearing.freeing.released slot some
     members_released _ here is slot some = absurd is
 
@@ -146,21 +147,21 @@ shown_is_gone w members slot kept passed member = go w.collector.phase refl pass
     gone : AreGone w
     gone = given_up_are_gone w kept
 
-    given_up : IsFreeingSet w.collector.phase → w.collector.counts.work ≡ members → IsGone w slot
+    given_up : IsFreeingIn w.collector.phase → w.collector.counts.work ≡ members → IsGone w slot
     given_up freeing same =
         let there : 0 < times slot w.collector.counts.work = subst (λ xs. 0 < times slot xs) (sym same) member in
         gone.released slot (omega (arith, in_range_once (length w.collector.counts.slots) w.collector.counts.work slot kept.collector.machine.counts.work_once there, kept.collector.slots)) (gone.members freeing slot there)
 
-    first : (freeing : IsFreeingSet w.collector.phase) (b : Bool) → ◌≡◌ {A = Option (List ℕ)} (if b then Some w.collector.counts.work else None) (Some members) → IsGone w slot
+    first : (freeing : IsFreeingIn w.collector.phase) (b : Bool) → ◌≡◌ {A = Option (List ℕ)} (if b then Some w.collector.counts.work else None) (Some members) → IsGone w slot
     first freeing true is = given_up freeing (cc)
     first freeing false is = absurd (cc)
 
-    at : (freeing : IsFreeingSet w.collector.phase) (a : Option Member) → begun_at w.collector.counts.work a ≡ Some members → IsGone w slot
+    at : (freeing : IsFreeingIn w.collector.phase) (a : Option Member) → begun_at w.collector.counts.work a ≡ Some members → IsGone w slot
     at freeing None is = absurd (cc)
     at freeing (Some a) is = first freeing (a.index + a.field == 0) is
 
     go : (phase : Phase) → w.collector.phase ≡ phase → passed_in w.collector phase ≡ Some members → IsGone w slot
-    go (Freeing m) e is = at (subst IsFreeingSet (sym e) tt) m.at is
+    go (Freeing m) e is = at (subst IsFreeingIn (sym e) tt) m.at is
     go _ e is = absurd (cc)
 
 -- its members are slots of the heap, and there are some
@@ -198,7 +199,7 @@ shown_is_taken w members slot kept passed member = elim (cases_lt 0 (slice_index
     gone : AreGone w
     gone = given_up_are_gone w kept
 
-    freed : (freeing : IsFreeingSet w.collector.phase) → w.collector.counts.work ≡ members → slice_index_or w.headers slot 0 ≤ 0 → 0 < slice_index_or w.headers slot 0
+    freed : (freeing : IsFreeingIn w.collector.phase) → w.collector.counts.work ≡ members → slice_index_or w.headers slot 0 ≤ 0 → 0 < slice_index_or w.headers slot 0
     freed freeing same none =
         let there : 0 < times slot w.collector.counts.work = subst (λ xs. 0 < times slot xs) (sym same) member in
         let below : slot < w.config.slots = omega (arith, in_range_once (length w.collector.counts.slots) w.collector.counts.work slot kept.collector.machine.counts.work_once there, kept.collector.slots) in
@@ -207,16 +208,16 @@ shown_is_taken w members slot kept passed member = elim (cases_lt 0 (slice_index
         let released : (pending w).released (slot + 1) ≡ true = ap (λ (v : Slot). v.released) (slot_there w kept slot below) ∙ gone.members freeing slot there in
         absurd (false≢true (sym (kept.accounted.apart (slot + 1) (omega arith) free) ∙ released))
 
-    first : (freeing : IsFreeingSet w.collector.phase) (b : Bool) → ◌≡◌ {A = Option (List ℕ)} (if b then Some w.collector.counts.work else None) (Some members) → slice_index_or w.headers slot 0 ≤ 0 → 0 < slice_index_or w.headers slot 0
+    first : (freeing : IsFreeingIn w.collector.phase) (b : Bool) → ◌≡◌ {A = Option (List ℕ)} (if b then Some w.collector.counts.work else None) (Some members) → slice_index_or w.headers slot 0 ≤ 0 → 0 < slice_index_or w.headers slot 0
     first freeing true is none = freed freeing (cc) none
     first freeing false is none = absurd (cc)
 
-    begun : (freeing : IsFreeingSet w.collector.phase) (a : Option Member) → begun_at w.collector.counts.work a ≡ Some members → slice_index_or w.headers slot 0 ≤ 0 → 0 < slice_index_or w.headers slot 0
+    begun : (freeing : IsFreeingIn w.collector.phase) (a : Option Member) → begun_at w.collector.counts.work a ≡ Some members → slice_index_or w.headers slot 0 ≤ 0 → 0 < slice_index_or w.headers slot 0
     begun freeing None is none = absurd (cc)
     begun freeing (Some a) is none = first freeing (a.index + a.field == 0) is none
 
     go : (phase : Phase) → w.collector.phase ≡ phase → passed_in w.collector phase ≡ Some members → slice_index_or w.headers slot 0 ≤ 0 → 0 < slice_index_or w.headers slot 0
-    go (Freeing m) e is none = begun (subst IsFreeingSet (sym e) tt) m.at is none
+    go (Freeing m) e is none = begun (subst IsFreeingIn (sym e) tt) m.at is none
     go _ e is none = absurd (cc)
 
 -- a header is freed by a sweep alone

@@ -468,7 +468,7 @@ module _ (u : Core) (t : ℕ) (kept : IsKeptBy true (stand_at u.collector.left (
       }
 
   -- every mailbox is home where nobody follows
-  pub home_kept : HaveLeft u.collector.left t → IsKeptBy true (stand_at u.collector.left Opening) u
+  home_kept : HaveLeft u.collector.left t → IsKeptBy true (stand_at u.collector.left Opening) u
   home_kept gone =
       let many : length u.collector.newer ≡ u.config.mutators = kept.collector.mutators in
       record {

@@ -351,6 +351,11 @@ lands_here w phase kept is on =
       emptied = k.emptied;
     }
 
+-- A preparation that begins keeps what it doesn't concern.
+pub prep_others : (v : Parts) → KeepsOthers v.counts (prep_started v).counts
+unfolding preps.started_of
+prep_others v = next_set_others v.counts 0
+
 module _ (w : Core) (crossing words : List ℕ) (q : collectors.Private) (machine : collector_kept.IsMachine q) where
   abbrev landed : Core
   landed = record w { crossing = crossing; words = words; collector = q }
@@ -467,9 +472,6 @@ module _ (w : Core) (crossing words : List ℕ) (q : collectors.Private) (machin
       go (PreparesOn.more some g) = goes_on its (Preparing u.machine) (landed_in its (Preparing u.machine) refl refl l) (record { way = refl; still = refl; applied = refl; older = refl; stands = λ s. refl; held = λ v. tt; between = tt; some = tt }) seen g.after
       go (PreparesOn.sweeps_next none some g) = goes_on its Opening (landed_in its Opening refl refl l) (record { way = refl; still = refl; applied = refl; older = refl; stands = λ s. refl; held = λ v. tt; between = tt; some = tt }) (waits none) g.after
       go (PreparesOn.completes none free e) = completes its l (waits none) e.after
-
-  prep_others : (v : Parts) → KeepsOthers v.counts (prep_started v).counts
-  prep_others v = subst (λ (x : preps.Work). KeepsOthers v.counts x.counts) (sym (started_is (new_prep v.fields) v.counts)) (next_set_others v.counts 0)
 
   pub prep_lands : (v : Parts) → HasLanded w crossing words (still v) → HasLanded w crossing words (still (record v { counts = (prep_started v).counts }))
   prep_lands v l =

@@ -10,7 +10,6 @@ pub mod BareRuns
 pub mod BareSeen
 pub mod Batches
 pub mod Begun
-pub mod ByStamps
 pub mod Common
 pub mod Counts
 pub mod Crossings
@@ -30,9 +29,7 @@ pub mod Freeing
 pub mod Gathering
 pub mod Landed
 pub mod Landings
-pub mod Lasting
 pub mod Leaving
-pub mod Loads
 pub mod Moves
 pub mod Offering
 pub mod Opened
@@ -44,7 +41,6 @@ pub mod Places
 pub mod Preparing
 pub mod Reach
 pub mod Releasing
-pub mod Row
 pub mod Rules
 pub mod Runs
 pub mod Scans
@@ -52,11 +48,6 @@ pub mod Seated
 pub mod SetTests
 pub mod Shapes
 pub mod Showing
-pub mod Shows
-pub mod StampedLate
-pub mod StampedLoads
-pub mod StampDates
-pub mod Step
 pub mod Steps
 pub mod Sums
 pub mod Sweeping

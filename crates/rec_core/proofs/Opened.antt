@@ -18,7 +18,7 @@ use Rattle.rec_core.proofs.OpenedFrom.{one_of, opened_from_kept}
 use Rattle.rec_core.proofs.Seated.{registers_held}
 use Rattle.rec_core.specs.Bare.{bare_core}
 use Rattle.rec_core.specs.Core.{heap_by, holding_by}
-use Rattle.rec_core.specs.Objects.{AreObjects, HaveLabels, IsOneOf, early_words, first_object, first_registers, node_at, rows_of}
+use Rattle.rec_core.specs.Objects.{AreObjects, HaveLabels, IsOneOf, first_object, first_registers, node_at, rows_of}
 
 -- ---- the same row, so many times
 

@@ -22,12 +22,12 @@ use Rattle.rec_collector.specs.Private as collectors
 use Rattle.rec_collector.proofs.Following.{none_released}
 use Rattle.rec_collector.proofs.Opening.{opened_keeps}
 use Rattle.rec_collector.proofs.Rows.{length-rows, row_width}
-use Rattle.rec_core.proofs.Common.{Config, Contents, Core, Dated, Filed, Handshake, HasCollector, HasLearnt, IsActor, IsBufferOf, IsConfig, IsHeader, IsKept, IsMachine, IsMadeIn, IsMutator, IsOwn, IsReached, IsTarget, Private, Slot, Spare, beginning_uncounted, births_in, buffers, code, crossing_word, dated, dated_all, dated_names, dated_registers, fresh, has_left, is_green, is_late_snapshot, is_node, is_slot, is_wrong_register, names, nobody, one, one_if_same, only_if, pending, spare_of, stand_at, sum_at, sum_by-flat_map, sum_by-map, sum_by_same, times-nil, writes_in, sight, Sight, IsSound}
+use Rattle.rec_core.proofs.Common.{Config, Contents, Core, Dated, Filed, Handshake, HasCollector, HasLearnt, IsActor, IsBufferOf, IsConfig, IsHeader, IsKept, IsMachine, IsMadeIn, IsMutator, IsOwn, IsReached, IsTarget, Private, Slot, Spare, beginning_uncounted, births_in, buffers, code, crossing_word, dated, dated_all, dated_names, dated_registers, fresh, has_left, is_green, is_late_snapshot, is_node, is_slot, is_wrong_register, names, nobody, one_if_same, only_if, pending, spare_of, stand_at, sum_at, sum_by-flat_map, sum_by-map, sum_by_same, times-nil, writes_in, sight, Sight, IsSound}
 use Rattle.rec_core.proofs.Actors.{spare_buffer}
 use Rattle.rec_core.proofs.Batches.{same_name}
 use Rattle.rec_core.proofs.CyclesWait.{sets_wait_none}
-use Rattle.rec_core.proofs.EarlyWords.{early_names, early_none_late, one_if_slot}
-use Rattle.rec_core.proofs.OpenedFromSeen.{all_targets, below_targets, below_taken, few_fields, free_past, header_at, headers_many, label_fits, seen_sound, taken_below}
+use Rattle.rec_core.proofs.EarlyWords.{early_names, early_none_late, one_if_slot, one_is}
+use Rattle.rec_core.proofs.OpenedFromSeen.{all_targets, below_targets, below_taken, few_fields, free_past, header_at, headers_many, label_fits, seen_sound, taken_below, few_objects}
 use Rattle.rec_core.proofs.Seated.{All-rows, holding_at, holding_sum, length-holding, registers_held, rows_sum}
 use Rattle.rec_core.proofs.Sums.{buffers_sum, log_share, names_all, share}
 use Rattle.rec_core.proofs.Turns.{AddsNothing, births_nothing, snapshots_nothing, spare_boxes, spare_row, writes_nothing}
@@ -59,11 +59,6 @@ none_held n x (Some m ∷ xs) past all =
     let other : one_if_slot x (Some m) ≡ 0 = ap (λ (b : Bool). if b then 1 else 0) (ne_eqb x m (λ e. omega (arith, e, below, past))) in
     omega (arith, other, sum_by-cons (one_if_slot x) (Some m) xs, none_held n x xs past (All-tail (IsOneOf n) (Some m) xs all))
 
--- a name of a slot counts once
-one_is : (b : Bool) → one b ≡ (if b then 1 else 0)
-one_is true = refl
-one_is false = refl
-
 module _ (config : Config) (o : Objects) (is : IsConfig config) (are : AreObjects config o) (labels : HaveLabels o.nodes) where
   abbrev w : Core
   w = heap_from_by true config o
@@ -82,9 +77,6 @@ module _ (config : Config) (o : Objects) (is : IsConfig config) (are : AreObject
 
   some_epoch : 1 ≤ config.first_epoch
   some_epoch = is.some_epoch
-
-  few_objects : many ≤ 65535
-  few_objects = omega (arith, are.few, is.few_slots)
 
   -- each object is counted
   holders_some : (n : ℕ) → IsReached (named_of o.registers) (λ m. named_of (fields_at config.fields o.fields m)) n → 0 < holders o n
@@ -127,7 +119,7 @@ module _ (config : Config) (o : Objects) (is : IsConfig config) (are : AreObject
         last_slot = omega (arith, is.few_slots);
         capacity = omega (arith, is.few_log_entries);
         entries = omega arith;
-        registers = All-rows IsTarget config.registers config.mutators o.registers (below_targets many few_objects o.registers are.held) (t - 1) (place_there t there);
+        registers = All-rows IsTarget config.registers config.mutators o.registers (below_targets many (few_objects config o is are labels) o.registers are.held) (t - 1) (place_there t there);
         snapshot = length-replicate config.registers None ∙ sym (row_long t there);
         from = omega (arith, is.some_slots);
         now = refl;

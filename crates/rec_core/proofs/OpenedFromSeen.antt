@@ -37,7 +37,7 @@ rows_same (rs ∷ rss) =
         (λ i. first i ∷ rest i)
 
 -- an object's header
-abbrev header_of : ℕ × Bool → ℕ
+abbrev pub header_of : ℕ × Bool → ℕ
 header_of node = header_word node.1 node.0
 
 pub header_at : (nodes : List (ℕ × Bool)) (rest : List ℕ) (s : ℕ) → s < length nodes → slice_index_or (map header_of nodes ++ rest) s 0 ≡ header_of (slice_index_or nodes s (0, false))
@@ -78,13 +78,13 @@ module _ (config : Config) (o : Objects) (is : IsConfig config) (are : AreObject
   abbrev nulls : List ℕ
   nulls = replicate ((config.slots - many) * width) 0
 
-  few : many ≤ 65535
-  few = omega (arith, are.few, is.few_slots)
+  pub few_objects : many ≤ 65535
+  few_objects = omega (arith, are.few, is.few_slots)
 
   -- how many fields there are
-  pub fields_many : many * width ≤ 2 ^ 42
+  fields_many : many * width ≤ 2 ^ 42
   fields_many =
-      let most : many * width ≤ 65535 * 16 = mul-le-mul few is.few_fields in
+      let most : many * width ≤ 65535 * 16 = mul-le-mul few_objects is.few_fields in
       omega (arith, most)
 
   length_fields : length early ≡ many * width
@@ -94,7 +94,7 @@ module _ (config : Config) (o : Objects) (is : IsConfig config) (are : AreObject
   few_fields = omega (arith, are.fields, fields_many)
 
   pub all_targets : All IsTarget o.fields
-  all_targets = below_targets many few o.fields are.targets
+  all_targets = below_targets many few_objects o.fields are.targets
 
   pub headers_many : length w.headers ≡ config.slots
   headers_many = omega (arith, are.few, length-append (map header_of o.nodes) (replicate (config.slots - many) 0), length-map o.nodes header_of, length-replicate {A = ℕ} (config.slots - many) 0)
@@ -136,7 +136,7 @@ module _ (config : Config) (o : Objects) (is : IsConfig config) (are : AreObject
       ∙ ap (λ p. early_words p (take k (drop (s * width) o.fields))) from
 
   -- and of a free one
-  pub nulls_past : (s : ℕ) → many ≤ s → s < config.slots → words_of (sight w) s ≡ replicate width 0
+  nulls_past : (s : ℕ) → many ≤ s → s < config.slots → words_of (sight w) s ≡ replicate width 0
   nulls_past s past there =
       let behind : many * width ≤ s * width = mul-le-mul_right width past in
       let next : (s + 1) * width ≤ config.slots * width = mul-le-mul_right width (omega (arith, there)) in
@@ -166,13 +166,13 @@ module _ (config : Config) (o : Objects) (is : IsConfig config) (are : AreObject
       length-take-le (suc n) (x ∷ xs) = omega (arith, length-take-le n xs)
 
   pub targets_at : (s : ℕ) → s < many → map target_of (words_of (sight w) s) ≡ fields_at width o.fields s
-  targets_at s below = ap (map target_of) (words_at s below) ∙ early_targets (s * width) (fields_at width o.fields s) (own_few s below) (below_targets many few (fields_at width o.fields s) (own_targets s))
+  targets_at s below = ap (map target_of) (words_at s below) ∙ early_targets (s * width) (fields_at width o.fields s) (own_few s below) (below_targets many few_objects (fields_at width o.fields s) (own_targets s))
 
   -- what registers name
   pub registers_are : (sight w).registers ≡ rows_of config.registers config.mutators o.registers
   registers_are = registers_held false config 1 (rows_of config.registers config.mutators o.registers)
 
-  pub roots_are : roots (sight w).registers ≡ named o.registers
+  roots_are : roots (sight w).registers ≡ named o.registers
   roots_are = ap roots registers_are ∙ roots-rows config.registers config.mutators o.registers are.registers
 
   -- Names are those of taken slots.
@@ -204,13 +204,13 @@ module _ (config : Config) (o : Objects) (is : IsConfig config) (are : AreObject
   slot_reached s below = object_reached s (are.reached s below)
 
   -- how many fields and registers hold a slot
-  pub held_by_fields : (s : ℕ) → fields_holding w s ≡ count_by (is_slot s) o.fields
+  held_by_fields : (s : ℕ) → fields_holding w s ≡ count_by (is_slot s) o.fields
   held_by_fields s = early_holding s 0 o.fields ((config.slots - many) * width) few_fields all_targets
 
-  pub held_by_registers : (s : ℕ) → registers_holding w s ≡ count_by (is_slot s) o.registers
+  held_by_registers : (s : ℕ) → registers_holding w s ≡ count_by (is_slot s) o.registers
   held_by_registers s = ap (sum_by (count_by (is_slot s))) registers_are ∙ rows_sum (λ x. if is_slot s x then 1 else 0) config.registers config.mutators o.registers are.registers
 
-  pub count_at : (s : ℕ) → s < many → (slot_at w.collector.counts s).count ≡ holders o s
+  count_at : (s : ℕ) → s < many → (slot_at w.collector.counts s).count ≡ holders o s
   count_at s below =
       let counts : length (counts_of o) ≡ many = length-map-range_with_len (holders o) 0 many in
       ap (λ v. v.count) (counted_at config.slots (counts_of o) s absent (omega (arith, below, counts))) ∙ get_or-map-range_with_len (holders o) 0 many s s 0 below (omega arith)
@@ -242,6 +242,6 @@ module _ (config : Config) (o : Objects) (is : IsConfig config) (are : AreObject
     fields = λ s from.
         let below : s < many = taken_below s (reached_is_taken (sight w) seen_sound s from) in
         ap (λ (x : Object). x.fields) (heap_object s below)
-        ∙ early_are (s * width) (fields_at width o.fields s) (own_few s below) (below_targets many few (fields_at width o.fields s) (own_targets s))
+        ∙ early_are (s * width) (fields_at width o.fields s) (own_few s below) (below_targets many few_objects (fields_at width o.fields s) (own_targets s))
         ∙ ap (map (field_of (λ n. n))) (sym (words_at s below));
   }

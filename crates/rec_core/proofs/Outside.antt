@@ -15,38 +15,30 @@ use Rattle.rec_sigma.specs.Prepare as preps
 use Rattle.rec_sigma.proofs.Cyclics.{seen-nil}
 use Rattle.rec_sigma.proofs.Runs.{Came, came_first, came_on, started_is}
 use Rattle.rec_trial.specs.Trial as trials
-use Rattle.rec_collector.specs.Given.{IsGiven}
+use Rattle.rec_collector.specs.Given.{IsGiven, IsPreparingIn, IsTryingIn}
 use Rattle.rec_collector.specs.Next.{next_of, next_at, is_spent}
 use Rattle.rec_collector.specs.Outside.{HasSets, IsOutside}
 use Rattle.rec_collector.specs.Private as collectors
 use Rattle.rec_collector.specs.Touched.{IsOrangeIn, named_by, tried_at, WasUntouched}
 use Rattle.rec_collector.proofs.Touched.{begins_on, has_on, loads_on, LoadsOn, outside_later, untouched, untouched_on, untouched_same}
 use Rattle.rec_core.specs.Freed.{Passes}
-use Rattle.rec_core.specs.Loads.{BeginsPreparing, fields_loaded, IsPreparing, IsTrying, load_of, Loaded, loaded_by, loaded_in, loaded_over, named_by_op, named_in, named_over, tried_in}
+use Rattle.rec_core.specs.Loads.{BeginsPreparing, fields_loaded, load_of, Loaded, loaded_by, loaded_in, loaded_over, named_by_op, named_in, named_over, tried_in}
 use Rattle.rec_core.specs.Run.{Step, steps_of}
 use Rattle.rec_core.proofs.CyclesTest.{none_of}
 use Rattle.rec_core.proofs.Landed.{HasLanded}
 use Rattle.rec_core.proofs.Trials.{BeginsNoTrial, tried_of}
 use Rattle.rec_core.proofs.Preparing.{loads_due}
 use Rattle.rec_core.proofs.Runs.{given_is, move_kept, move_stays, moves_kept}
-use Rattle.rec_core.proofs.Turning.{turn_case}
+use Rattle.rec_core.proofs.Turning.{turn_case, parts_of_turn}
 use Rattle.std.proofs.lemmas.List.Sums.{sum_by-cons}
-use Rattle.rec_core.proofs.Common.{place_of, places_of, Op, Contents, State, slot_at, one, times, is_in, Slot, one-same, set_there, Member, members_of, Load, place_loaded, PreparedTo, loaded_at, places_left, seen, sets_begun, prep_started, new_prep, parts_of, step_of, Phase, Idle, Releasing, Freeing, Trying, Preparing, Sweeping, still, cell, Core, cells_of, box, IsKept, AllFit, Fits, Move, after_move, after_moves, looked_at, turned, turned_at, turned_by, Config, visible}
+use Rattle.rec_core.proofs.Common.{place_of, places_of, Op, State, slot_at, one, times, is_in, Slot, one-same, set_there, Member, members_of, Load, place_loaded, PreparedTo, loaded_at, places_left, seen, sets_begun, prep_started, new_prep, parts_of, step_of, Phase, Idle, Releasing, Freeing, Trying, Preparing, Sweeping, still, cell, Core, cells_of, box, IsKept, AllFit, Fits, Move, after_move, after_moves, looked_at, turned, turned_at, turned_by, Config, visible}
 use Rattle.rec_core.proofs.Trying.{loads_child, trying_lands}
 use Rattle.rec_core.proofs.Turns.{now_at}
 
 -- a turn with an operation, up to the next trial
 module _ (w : Core) (op : Op) (kept : IsKept true w) (later : IsKept true (turned_by w op (cell (cells_of w) op))) (named : ◌≡◌ {A = Option Op} (next_of w.collector) (Some op)) where
   open w use {collector as c}
-
-  abbrev found : ℕ
-  found = cell (cells_of w) op
-
-  abbrev v : Core
-  v = turned_by w op found
-
-  abbrev its_box : Contents
-  its_box = box w (looked_at c.phase)
+  open (parts_of_turn w op) use {found, its_box, v}
 
   its_given : IsGiven c found
   its_given = given_is w op kept named
@@ -237,11 +229,11 @@ renewed fields b s at p = record {
 }
 
 -- the machine that is at work
-trying_in : (phase : Phase) → IsTrying phase → (m : trials.Machine) × (phase ≡ Trying m)
+trying_in : (phase : Phase) → IsTryingIn phase → (m : trials.Machine) × (phase ≡ Trying m)
 trying_in (Trying m) is = (m, refl)
 trying_in _ is = absurd is
 
-preparing_in : (phase : Phase) → IsPreparing phase → (m : preps.Machine) × (phase ≡ Preparing m)
+preparing_in : (phase : Phase) → IsPreparingIn phase → (m : preps.Machine) × (phase ≡ Preparing m)
 preparing_in (Preparing m) is = (m, refl)
 preparing_in _ is = absurd is
 

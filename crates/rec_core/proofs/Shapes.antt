@@ -2,8 +2,24 @@
 use Rattle.std.proofs.Common.{◌≡◌, ◌≢◌, ℕ, ◌+◌, ◌-◌, slice_set, sym, ap, subst, ◌∙◌, add-zero}
 use Rattle.std.proofs.lemmas.Bool.{eq-eqb, ne_eqb}
 use Rattle.std.proofs.lemmas.List.{set-get_or}
-use Rattle.rec_core.proofs.Common.{crossing_word, Retired, WithMutator, Op, Contents, Private, blank, cell, Core, cells_of, box, with_mutator, performed}
+use Rattle.rec_core.proofs.Common.{crossing_word, Retired, WithMutator, Op, Contents, Private, LeavesBox, Cells, blank, cell, with_cell, Core, cells_of, box, with_mutator, performed}
 use Rattle.rec_word.specs.declared.op.Op.TheVariants as ops
+use Rattle.rec_word.specs.Op.{written}
+use Rattle.rec_mutator.specs.Step.{TakesBox}
+
+-- an operation that leaves the words
+abbrev pub LeavesWords : (word : ℕ) → Op → Type 0
+LeavesWords word op = (cells : Cells) → cell cells op ≡ word → (with_cell cells op (written op word)).words ≡ cells.words
+
+-- a load leaves the words
+pub load_leaves : (place word : ℕ) → LeavesWords word (ops.LoadField place)
+load_leaves place word cells e = ap (slice_set cells.words place) (sym e) ∙ set-get_or cells.words place 0
+
+-- the mailbox of a mutator that doesn't take it
+pub box_stays : {p : Private} {box left : Contents} → LeavesBox p box left → (TakesBox p.phase → ⊥) → left ≡ box
+box_stays (LeavesBox.retires phase is) other = absurd (other (subst TakesBox (sym phase) tt))
+box_stays (LeavesBox.lets_go phase is) other = absurd (other (subst TakesBox (sym phase) tt))
+box_stays (LeavesBox.keeps phase is) other = is
 
 -- the mailbox as it was
 pub same_boxes : (w : Core) (t : ℕ) → slice_set w.boxes (t - 1) (box w t) ≡ w.boxes

@@ -173,7 +173,7 @@ told_spent w kept idle last =
     ∙ ap (λ (b : Bool). told_at w (if b then None else Some (ops.StoreEpoch (c.epoch + 1)))) (eq-eqb (c.epoch + 1) (2 ^ 24) (ap (λ n. n + 1) kept.collector.epoch ∙ last))
 
 -- no birth is counted
-turned_made : (w : Core) → (turned w).made ≡ w.made
+pub turned_made : (w : Core) → (turned w).made ≡ w.made
 turned_made w = go (next_of w.collector)
   where
     go : (x : Option Op) → (turned_at w x).made ≡ w.made

@@ -2,7 +2,7 @@
 use Rattle.std.proofs.Common.{◌≡◌, ℕ, ◌+◌, ◌-◌, ◌*◌, ◌%◌, ◌^◌, ◌<◌, ◌≤◌, ◌==◌, Bool, true, List, Option, None, Some, length, slice_index_or, slice_set, refl, sym, ap, subst, ◌∙◌, arith}
 use Rattle.std.proofs.lemmas.Bool.{eq-eqb, ne_eqb, cond-true, cond-false}
 use Rattle.std.proofs.lemmas.List.{set-get_or}
-use Rattle.rec_core.proofs.Common.{crossing_word, Retired, Spare, WithCollector, place_of, Op, Contents, At, Member, with_freed, with_released, parts_of, ClearsOn, TriesOn, PreparesOn, IsNext, Phase, Idle, Looking, Returning, Releasing, Freeing, Trying, Preparing, Opening, Sweeping, Closing, Turn, cell, IsMutator, Core, cells_of, box, crossing_of, one_if_sweeping, IsKept, looked_at, left_by, collected, turned, turned_at, turned_by, visible}
+use Rattle.rec_core.proofs.Common.{crossing_word, Retired, Spare, WithCollector, place_of, Op, Contents, At, Member, with_freed, with_released, parts_of, ClearsOn, TriesOn, PreparesOn, IsNext, Phase, Idle, Looking, Returning, Releasing, Freeing, Trying, Preparing, Opening, Sweeping, Closing, Turn, cell, IsMutator, Core, cells_of, box, crossing_of, one_if_sweeping, IsKept, looked_at, left_by, step_of, collected, turned, turned_at, turned_by, visible}
 use Rattle.rec_word.specs.Op.{written}
 use Rattle.rec_word.specs.declared.op.Op.TheVariants as ops
 use Rattle.rec_release.specs.CycleFree.{next_of as freeing_next, op_at as freeing_op_at}
@@ -26,6 +26,21 @@ use Rattle.rec_core.proofs.Trying.{loads_child, trying_kept}
 use Rattle.rec_core.proofs.TurnCases.{Awaits, giving_back, requesting}
 use Rattle.rec_core.proofs.Turns.{now_at}
 use Rattle.rec_core.proofs.Shapes.{same_boxes}
+
+-- What a turn with this operation finds, and what it leaves.
+pub record TurnParts : Type 0 where
+  pub found : ℕ
+  pub its_box : Contents
+  pub q : collectors.Private
+  pub v : Core
+
+abbrev pub parts_of_turn : Core → Op → TurnParts
+parts_of_turn w op = record {
+  found = cell (cells_of w) op;
+  its_box = box w (looked_at w.collector.phase);
+  q = step_of w.collector (cell (cells_of w) op) (box w (looked_at w.collector.phase));
+  v = turned_by w op (cell (cells_of w) op);
+}
 
 -- one operation in two options
 pub some_op : (x y : Op) → ◌≡◌ {A = Option Op} (Some x) (Some y) → x ≡ y

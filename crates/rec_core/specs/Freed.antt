@@ -12,17 +12,13 @@ use Rattle.rec_collector.specs.declared.phase.Phase.TheVariants.{Releasing, Free
 use Rattle.rec_core.specs.Core.{Core}
 use Rattle.rec_core.specs.Cycles.{is_member_of}
 use Rattle.rec_core.specs.Pending.{pending}
+use Rattle.rec_collector.specs.Given.{IsFreeingIn}
 
 -- the sets of the last collection are tested
 abbrev pub TestsSets : Phase → Type 0
 TestsSets (Releasing release) = Unit {0}
 TestsSets (Freeing freeing) = Unit {0}
 TestsSets _ = ⊥
-
--- a set is freed
-abbrev pub IsFreeingSet : Phase → Type 0
-IsFreeingSet (Freeing freeing) = Unit {0}
-IsFreeingSet _ = ⊥
 
 -- The set of this number passes the Delta test and the Sigma test: each member is Orange, and the members' outside counts sum to
 -- zero.
@@ -48,7 +44,7 @@ pub record IsGone (w : Core) (slot : ℕ) : Type 0 where
 -- So it is from when it is given up until it is freed, and a member of the set that is freed is given up.
 pub record AreGone (w : Core) : Type 0 where
   pub released : (slot : ℕ) → slot < w.config.slots → (slot_at w.collector.counts slot).released ≡ true → IsGone w slot
-  pub members : IsFreeingSet w.collector.phase → (slot : ℕ) → 0 < times slot w.collector.counts.work → (slot_at w.collector.counts slot).released ≡ true
+  pub members : IsFreeingIn w.collector.phase → (slot : ℕ) → 0 < times slot w.collector.counts.work → (slot_at w.collector.counts slot).released ≡ true
 
 -- No register, no field of any slot and nothing that is pending names the slot, and it stands in no list of the collector but the
 -- free list.

@@ -1,6 +1,5 @@
 -- The modules of the definitions.
 pub mod Bare
-pub mod ByStamps
 pub mod Cells
 pub mod Config
 pub mod Core
@@ -21,7 +20,6 @@ pub mod RunAnswers
 pub mod Scans
 pub mod Settled
 pub mod Shown
-pub mod Step
 pub mod StepAnswers
 pub mod Swept
 pub mod Turn

@@ -8,13 +8,12 @@ use Rattle.rec_model.specs.Sets.{Cleared}
 use Rattle.rec_word.specs.Load.{Load}
 use Rattle.rec_collector.specs.Next.{next_of}
 use Rattle.rec_collector.specs.Touched.{named_by, tried_at}
-use Rattle.rec_collector.specs.declared.phase.Phase.{Phase}
-use Rattle.rec_collector.specs.declared.phase.Phase.TheVariants.{Trying, Preparing}
 use Rattle.rec_core.specs.Cells.{cell}
 use Rattle.rec_core.specs.Core.{Core, cells_of}
 use Rattle.rec_core.specs.Moves.{Move, turned}
 use Rattle.rec_core.specs.Pending.{writes_of}
 use Rattle.rec_core.specs.Run.{Step, over, steps_of}
+use Rattle.rec_collector.specs.Given.{IsPreparingIn, IsTryingIn}
 
 -- a word that the collector loaded from a field, and the epoch that was requested then
 pub record Loaded : Type 0 where
@@ -81,18 +80,9 @@ named_in w _ x = 0
 abbrev pub named_over : Core → List Move → (x : ℕ) → ℕ
 named_over w ms x = sum_by (λ (s : Step). named_in s.before s.move x) (steps_of w ms)
 
--- a trial is at work, and a preparation is
-abbrev pub IsTrying : Phase → Type 0
-IsTrying (Trying trial) = Unit {0}
-IsTrying _ = ⊥
-
-abbrev pub IsPreparing : Phase → Type 0
-IsPreparing (Preparing prep) = Unit {0}
-IsPreparing _ = ⊥
-
 -- with the turn that comes next a trial is over, and the preparation of its sets begins
 abbrev pub BeginsPreparing : Core → Type 0
-BeginsPreparing w = IsTrying w.collector.phase × IsPreparing (turned w).collector.phase
+BeginsPreparing w = IsTryingIn w.collector.phase × IsPreparingIn (turned w).collector.phase
 
 -- what was loaded, as the load of a slot's field
 abbrev pub load_of : (fields : ℕ) → Loaded → Load

@@ -1,7 +1,7 @@
 //! What holds of every run, each law as the contract of a function that does nothing.
 
-ghost use Rattle.std.specs.Prelude.{◌≡◌, ◌⊎◌, ℕ, ◌+◌, ◌<◌, ◌≤◌, Bool, List, Some, IfSome, false, true, map, slice_index_or};
-ghost use Rattle.std.specs.List.{concat, Contains};
+ghost use Rattle.std.specs.Prelude.{◌≡◌, ℕ, ◌+◌, ◌<◌, ◌≤◌, Bool, List, Some, IfSome, false, true, map, slice_index_or};
+ghost use Rattle.std.specs.List.{concat};
 ghost use Rattle.rec_model.specs.Asking.{allocation};
 ghost use Rattle.rec_model.specs.Heap.{Heap};
 ghost use Rattle.rec_model.specs.References.{count_formula};
@@ -20,7 +20,6 @@ ghost use Rattle.rec_collector.specs.Touched.{IsOrangeIn, WasUntouched};
 ghost use Rattle.rec_collector.specs.Zeros.{AreTheZeros};
 ghost use Rattle.rec_sigma.specs.Prepared.{seen};
 ghost use Rattle.rec_core.specs.Bare.{bare_core, Behind};
-ghost use Rattle.rec_core.specs.ByStamps.{by_stamps, cleared_by_stamp, load_by_stamp};
 ghost use Rattle.rec_core.specs.Config.{IsConfig, IsMutator};
 ghost use Rattle.rec_core.specs.Core.{Core, sight, mutator, heap_by, opened, heap_from_by, opened_from};
 ghost use Rattle.rec_word.specs.declared.op.Op.TheVariants.{FreeHeader};
@@ -29,7 +28,7 @@ ghost use Rattle.rec_word.specs.Place.{places_of};
 ghost use Rattle.rec_core.specs.CutOff.{IsClear, IsCutOff};
 ghost use Rattle.rec_core.specs.Freed.{AreGone, IsForgotten, IsGone, IsProvenGarbage, Passes, TestsSets};
 ghost use Rattle.rec_core.specs.Kept.{IsKept};
-ghost use Rattle.rec_core.specs.Loads.{BeginsPreparing, cleared_over, fields_loaded, IsReferenceStill, IsSameTrial, Loaded, loaded_over, named_over};
+ghost use Rattle.rec_core.specs.Loads.{BeginsPreparing, fields_loaded, IsSameTrial, Loaded, loaded_over, named_over};
 ghost use Rattle.rec_core.specs.Preconditions.{MayStep, MayTurn};
 ghost use Rattle.rec_core.specs.Moves.{Move, AllFit, Fits, after_move, after_moves, IsRun, EndsRun, RunsFrom, stepped, turned};
 ghost use Rattle.rec_core.specs.Objects.{AreObjects, HaveLabels, Objects};
@@ -61,26 +60,6 @@ pub fn runs_go_on()
 pub fn dated_runs_stand_beside()
     ensures opens { (config : Config) (moves : List Move) → IsConfig config → AllFit (opened config) moves → AllFit (heap_by true config) moves × ((bare_core (after_moves (heap_by true config) moves) ≡ after_moves (opened config) moves) × IsKept true (after_moves (heap_by true config) moves)) }
     ensures opens_from { (config : Config) (o : Objects) (moves : List Move) → IsConfig config → AreObjects config o → HaveLabels o.nodes → AllFit (opened_from config o) moves → AllFit (heap_from_by true config o) moves × ((bare_core (after_moves (heap_from_by true config o) moves) ≡ after_moves (opened_from config o) moves) × IsKept true (after_moves (heap_from_by true config o) moves)) }
-{}
-
-/// Stamps are dates. Take a run, and the run of dated words beside it. What the dated heap has to account for is what the heap itself has,
-/// where each word in a field or in a buffer is dated by its own stamp. So the date of each such word is the epoch that its stamp tells.
-pub fn stamps_are_dates()
-    ensures opens { (config : Config) (moves : List Move) → IsConfig config → AllFit (opened config) moves → pending (after_moves (heap_by true config) moves) ≡ pending (by_stamps (after_moves (opened config) moves)) }
-    ensures opens_from { (config : Config) (o : Objects) (moves : List Move) → IsConfig config → AreObjects config o → HaveLabels o.nodes → AllFit (opened_from config o) moves → pending (after_moves (heap_from_by true config o) moves) ≡ pending (by_stamps (after_moves (opened_from config o) moves)) }
-{}
-
-/// A heap counts late, by the epochs that its own stamps tell, in every state of every run of it with its collector. The true count of
-/// every slot is the count formula of its node at the epoch of the last batch. A set that passes both tests is garbage: no member is in the
-/// reach of that epoch. What was given up, as the members of the set that a watch is shown, is in the reach of no epoch from that one on.
-/// No register, no field of a slot that isn't given up and nothing that is pending names it. And no register, no field of any slot and
-/// nothing that is pending names a slot whose header is set to 0.
-pub fn stamped_heaps_count_late()
-    ensures counts { (w : Core) (slot : ℕ) → IsConfig w.config → EndsRun w → slot < w.config.slots → (slot_at w.collector.counts slot).count ≡ count_formula (pending (by_stamps w)) (pending (by_stamps w)).applied (slot + 1) }
-    ensures passed { (w : Core) (number : ℕ) → IsConfig w.config → EndsRun w → TestsSets w.collector.phase → Passes w number → IsProvenGarbage (by_stamps w) number }
-    ensures gone { (w : Core) → IsConfig w.config → EndsRun w → AreGone (by_stamps w) }
-    ensures forgotten { (w : Core) (slot : ℕ) → IsConfig w.config → EndsRun w → collector_next w.collector ≡ Some (FreeHeader slot) → IsForgotten (by_stamps w) slot }
-    ensures shown { (w : Core) (members : List ℕ) (slot : ℕ) → IsConfig w.config → EndsRun w → passed_of w.collector ≡ Some members → 0 < times slot members → IsGone (by_stamps w) slot }
 {}
 
 /// Whatever heap of dated words keeps this, its true counts are the count formula. A set of it that passes both tests is garbage, as is
@@ -149,23 +128,6 @@ pub fn true_counts_are_the_formula()
 /// found taken. Full comes where that word was even and its last step found the same, and Busy tells both where that is not so.
 pub fn failed_allocations_probed_every_slot()
     ensures { (w : Core) (moves : List Move) (t reg label : ℕ) (leaf : Bool) (told : Told) → IsConfig w.config → EndsRun w → IsMutator w.config t → (mutator w t).phase ≡ Begun (works.Command (allocation leaf reg label)) → AllFit w moves → BeginsNone t moves → is_busy (mutator (after_moves w moves) t) ≡ true → answer_of (mutator (stepped (after_moves w moves) t) t) ≡ Some (makes.Answered told) → FailsByProbes w t (header_word leaf label) moves (after_moves w moves) told.answer }
-{}
-
-/// What the collector loads from fields stays what it is, whether marking, blackening, collecting or preparation loads it, until the
-/// sets that the trial found are tested. Take any moves of mutators and collector over which no other trial begins. Each word that they
-/// loaded was put in the epoch requested then, or before. At their end it stands in its field, or a write of that epoch or of a later
-/// one replaced it there, or the collector took it out. The epochs are those of the heap of dated words behind, and the same moves lead
-/// that one to the heap behind the heap that they lead to.
-pub fn loaded_words_stay_references()
-    ensures { (w : Core) → IsConfig w.config → EndsRun w → Behind w (λ v. (moves : List Move) → AllFit w moves → (bare_core (after_moves v moves) ≡ after_moves w moves) × ((l : Loaded) → IsSameTrial v (after_moves v moves) → Contains (loaded_over v moves) l → IsReferenceStill (after_moves v moves) (cleared_over v moves) l)) }
-{}
-
-/// What the collector loads from fields stays what it is, by the epochs that the heap's own stamps tell. Take any moves of mutators and
-/// collector, in any state of any run, over which no other trial begins. Each word that they loaded was put in the epoch requested then,
-/// or before. At their end it stands in its field, or a write of that epoch or of a later one replaced it there, or the collector took it
-/// out.
-pub fn stamped_words_stay_references()
-    ensures { (w : Core) (moves : List Move) (l : Loaded) → IsConfig w.config → EndsRun w → AllFit w moves → IsSameTrial w (after_moves w moves) → Contains (loaded_over w moves) l → IsReferenceStill (by_stamps (after_moves w moves)) (map cleared_by_stamp (cleared_over w moves)) (load_by_stamp l) }
 {}
 
 /// A member of a prepared set that is Orange still was touched by nothing since. Take any moves of mutators and collector over which no

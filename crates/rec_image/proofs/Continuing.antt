@@ -87,7 +87,7 @@ walk_due : (objects : List Node) → (meeting objects).due ≤ max (length objec
 walk_due objects = subst (λ (k : ℕ). (meeting objects).due ≤ max k (meeting objects).met) (let e : 0 + length (map names objects) ≡ length objects = omega (arith, length-map objects names) in e) (walks_due unmet 0 (map names objects) (omega arith))
 
 -- the registers that complete it
-abbrev pub completing : ImageContents → List (List (Option ℕ))
+abbrev completing : ImageContents → List (List (Option ℕ))
 completing v = all_registers (v.mutators - length v.held) v.registers (naming v.held).met (max (naming v.held).met (least (meeting v.objects) (length v.objects)) - (naming v.held).met)
 
 completed : (v : ImageContents) → CanClose v → IsImage (with_more v [] (completing v))
@@ -132,7 +132,7 @@ walks_within slots width m j (node ∷ objects) h are =
     (All-tail (IsNode slots width) node objects are)
 
 -- the objects that complete it
-abbrev pub missing : ImageContents → List Node
+abbrev missing : ImageContents → List Node
 missing v = replicate (max (meeting v.objects).met (meeting v.objects).due - length v.objects) (null_node v.fields)
 
 can_close : (v : ImageContents) → IsOpen v → CanClose (with_more v (missing v) [])

@@ -27,7 +27,7 @@ abbrev pub highest_all : (m : ℕ) → List (List ℕ) → ℕ
 highest_all m [] = m
 highest_all m (names ∷ more) = highest_all (highest m names) more
 
-abbrev pub flat : List (List ℕ) → List ℕ
+abbrev flat : List (List ℕ) → List ℕ
 flat cs = flat_map (λ (c : List ℕ). c) cs
 
 -- ---- growing lists

@@ -29,7 +29,7 @@ use Rattle.rec_image.specs.Standing as images
 use Rattle.rec_image.proofs.Carrying.{at_place, here, later, member, place_at}
 use Rattle.rec_image.proofs.Restoring.{all_named, are_objects, below_reached, have_labels, nodes_many, reached_below, restored_by}
 use Rattle.rec_image.proofs.Returning.{image_again}
-use Rattle.rec_image.proofs.Worlds.{few_listed, header, is_image, two_maps}
+use Rattle.rec_image.proofs.Worlds.{few_listed, header, is_image, two_maps, same_map}
 
 -- ---- numbers of numbers
 maps_one : (f g h : ℕ → ℕ) (xs : List (Option ℕ)) → ((n : ℕ) → is_in n (named xs) ≡ true → f (g n) ≡ h n) → map (option_map f) (map (option_map g) xs) ≡ map (option_map h) xs
@@ -39,11 +39,6 @@ maps_one f g h (Some n ∷ xs) each =
     let first : f (g n) ≡ h n = each n (is_in-head n (named xs)) in
     let rest : map (option_map f) (map (option_map g) xs) ≡ map (option_map h) xs = maps_one f g h xs (λ m there. each m (is_in-tail m n (named xs) there)) in
     (λ i. Some (first i) ∷ rest i)
-
-same_map : (xs : List (Option ℕ)) → map (option_map (λ (n : ℕ). n)) xs ≡ xs
-same_map [] = refl
-same_map (None ∷ xs) = ap (λ (ys : List (Option ℕ)). None ∷ ys) (same_map xs)
-same_map (Some n ∷ xs) = ap (λ (ys : List (Option ℕ)). Some n ∷ ys) (same_map xs)
 
 rows_one : (f g h : ℕ → ℕ) (rss : List (List (Option ℕ))) → ((n : ℕ) → is_in n (roots rss) ≡ true → f (g n) ≡ h n) → map (map (option_map f)) (map (map (option_map g)) rss) ≡ map (map (option_map h)) rss
 rows_one f g h [] each = refl
@@ -154,10 +149,10 @@ module _ (w : Core) (list : List ℕ) (slots : ℕ) (world : IsWorld w) (numbers
   many : length v.objects ≡ length list
   many = length-map list (node_of (sight w) list)
 
-  pub fits : IsImage v
+  fits : IsImage v
   fits = in_slots_image (image_of w list) slots (is_image w list world numbers few) some (omega (arith, many, room))
 
-  pub config_is : IsConfig (config_of v log policy)
+  config_is : IsConfig (config_of v log policy)
   config_is = record {
     some_slots = some.0;
     few_slots = some.1;
@@ -226,7 +221,7 @@ module _ (w : Core) (list : List ℕ) (slots : ℕ) (world : IsWorld w) (numbers
       let own = subst (λ (node : Node). IsHeaderOf node.leaf node.label (get_or new.headers s 0)) (node_at s within) (by.header s taken) in
       record { leaf = own.leaf ∙ was.leaf; label = omega (arith, own.label, was.label, head.some) }
 
-  pub moved_for : (u : ImageContents) → StandsFor u (sight w) → StandsFor u (sight new)
+  moved_for : (u : ImageContents) → StandsFor u (sight w) → StandsFor u (sight new)
   moved_for u (number, st) = (
     λ s. number (get_or list s 0),
     record {
@@ -335,7 +330,7 @@ module _ (w : Core) (list : List ℕ) (slots : ℕ) (world : IsWorld w) (numbers
           ∙ ap (λ (k : ℕ). map (field_of numbered) (words_of (sight new) k)) (slot_numbered s within);
     }
 
-  pub moved : (h : Heap) → Represents h (sight w) → (same : Heap) × AgreeButWords h same × Represents same (sight new)
+  moved : (h : Heap) → Represents h (sight w) → (same : Heap) × AgreeButWords h same × Represents same (sight new)
   moved h (number, st) = (again h number st, agree h number st, (λ s. number (get_or list s 0), stands_again h number st))
 
 -- ---- what the heap that is restored from the image is beside the world

@@ -28,6 +28,7 @@ use Rattle.rec_image.specs.Drafts as drafts
 use Rattle.rec_image.specs.Image.{AreRegisters, ImageContents, IsImage, IsNode, Node, children, nothing}
 use Rattle.rec_image.specs.Restored.{config_of, fields_in, mark_of, objects_in, restored}
 use Rattle.rec_image.specs.Standing.{StandsBy, StandsFor}
+use Rattle.rec_image.proofs.Worlds.{same_map, two_maps}
 
 -- ---- what stands one behind the other
 
@@ -100,7 +101,7 @@ module _ (v : ImageContents) (image : IsImage v) where
     | inr rest ↦ omega (arith, in_range n m (from + 1) rest)
   ]
 
-  pub range_in : (n m from : ℕ) → from ≤ n → n < from + m → is_in n (range_with_len from m) ≡ true
+  range_in : (n m from : ℕ) → from ≤ n → n < from + m → is_in n (range_with_len from m) ≡ true
   range_in n zero from low high = absurd (omega (arith, low, high))
   range_in n (suc m) from low high = elim (cases_lt from n) [
     | inl more ↦ is_in-tail n from (range_with_len (from + 1) m) (range_in n m (from + 1) (omega arith) (omega (arith, high)))
@@ -165,17 +166,6 @@ module _ (v : ImageContents) (image : IsImage v) where
   have_labels = All-map (λ (x : ℕ × Bool). x.0 < 2 ^ 32) mark_of v.objects (All-from_get_or (λ (node : Node). node.label < 2 ^ 32) v.objects nothing (λ i there. (All-get_or (IsNode v.slots v.fields) v.objects i nothing there image.objects).label))
 
   -- ---- the image stands for the heap that is opened from them
-  two_maps : (words : List ℕ) → map (λ w. option_map (λ n. n) (target_of w)) words ≡ map (option_map (λ n. n)) (map target_of words)
-  two_maps [] = refl
-  two_maps (w ∷ words) = ap (λ (xs : List (Option ℕ)). option_map (λ n. n) (target_of w) ∷ xs) (two_maps words)
-
-  row_same : (rs : List (Option ℕ)) → map (option_map (λ (n : ℕ). n)) rs ≡ rs
-  row_same [] = refl
-  row_same (x ∷ xs) =
-      let first : option_map (λ n. n) x ≡ x = option_map_id x in
-      let rest : map (option_map (λ n. n)) xs ≡ xs = row_same xs in
-      (λ i. first i ∷ rest i)
-
   pub restored_by : (log_entries : ℕ) (policy : Policy) → IsConfig (config_of v log_entries policy) → StandsBy v (sight (restored v log_entries policy)) (λ s. s)
   restored_by log_entries policy is =
       let config : Config = config_of v log_entries policy in
@@ -189,7 +179,7 @@ module _ (v : ImageContents) (image : IsImage v) where
         registers = sym (ap (λ n. rows_of v.registers n o.registers) (sym image.mutators) ∙ rows_again v.slots v.registers v.held image.registers) ∙ by.registers;
         fields = λ s from.
             let there : s < length v.objects = below s (reached_is_taken (sight (restored v log_entries policy)) (seen.seen_sound config o is are have_labels) s from) in
-            sym (two_maps (words_of (sight (restored v log_entries policy)) s) ∙ row_same (map target_of (words_of (sight (restored v log_entries policy)) s)) ∙ seen.targets_at config o is are have_labels s (omega (arith, there, nodes_many)) ∙ fields_own s there);
+            sym (two_maps (λ n. n) (words_of (sight (restored v log_entries policy)) s) ∙ same_map (map target_of (words_of (sight (restored v log_entries policy)) s)) ∙ seen.targets_at config o is are have_labels s (omega (arith, there, nodes_many)) ∙ fields_own s there);
       }
 
   pub restored_stands : (log_entries : ℕ) (policy : Policy) → IsConfig (config_of v log_entries policy) → StandsFor v (sight (restored v log_entries policy))

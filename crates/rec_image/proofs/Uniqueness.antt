@@ -72,8 +72,8 @@ not_further bytes front line other x y m is =
     let mid : m.mid ≡ has.next ++ (line_feed ++ has.after) = is ∙ has.parts in
     let (v, t, image, told) = y.continued in
     x.not_with has.next (has.after ++ y.behind) has.one
-        (m.less ∙ ap (λ l. l ++ y.behind) mid ∙ append_assoc has.next (line_feed ++ has.after) y.behind ∙ ap (λ l. has.next ++ l) (append_assoc line_feed has.after y.behind))
-        (v, has.after ++ t, image, told ∙ ap (λ l. l ++ t) (m.more ∙ ap (λ l. x.before ++ l) mid) ∙ groups x.before has.next line_feed has.after t)
+    (m.less ∙ ap (λ l. l ++ y.behind) mid ∙ append_assoc has.next (line_feed ++ has.after) y.behind ∙ ap (λ l. has.next ++ l) (append_assoc line_feed has.after y.behind))
+    (v, has.after ++ t, image, told ∙ ap (λ l. l ++ t) (m.more ∙ ap (λ l. x.before ++ l) mid) ∙ groups x.before has.next line_feed has.after t)
 
 not_after : (bytes : List ℕ) (line other : ℕ) (x : StopsAt bytes line) (y : StopsAt bytes other) → GoesOn x.before y.before x.behind y.behind → line ≡ other
 not_after bytes line other x y m = elim (whole_rest x.before m.mid (subst AreWhole m.more y.whole)) [

@@ -40,6 +40,12 @@ pub two_maps : (f : ℕ → ℕ) (words : List ℕ) → map (λ w. option_map f 
 two_maps f [] = refl
 two_maps f (w ∷ words) = ap (λ (xs : List (Option ℕ)). option_map f (target_of w) ∷ xs) (two_maps f words)
 
+-- and under no new numbering it stays
+pub same_map : (xs : List (Option ℕ)) → map (option_map (λ (n : ℕ). n)) xs ≡ xs
+same_map [] = refl
+same_map (None ∷ xs) = ap (λ (ys : List (Option ℕ)). None ∷ ys) (same_map xs)
+same_map (Some n ∷ xs) = ap (λ (ys : List (Option ℕ)). Some n ∷ ys) (same_map xs)
+
 no_targets : (f : ℕ → ℕ) (n : ℕ) → map (λ w. option_map f (target_of w)) (replicate n 0) ≡ replicate n None
 no_targets f zero = refl
 no_targets f (suc n) = ap (λ (xs : List (Option ℕ)). None ∷ xs) (no_targets f n)
@@ -51,7 +57,7 @@ module _ (w : Core) (slots : List ℕ) (world : IsWorld w) (numbers : NumbersSlo
       let below : slot < length w.headers = reached_below (sight w) (length w.headers) (names_sound (sight w) world.shaped.sound) slot reached in
       All-get_or (λ h. 0 < h → IsTakenHeader h) w.headers slot 0 below world.shaped.labels (reached_is_taken (sight w) world.shaped.sound slot reached)
 
-  pub width : (slot : ℕ) → is_in slot slots ≡ true → length (words_of (sight w) slot) ≡ w.config.fields
+  width : (slot : ℕ) → is_in slot slots ≡ true → length (words_of (sight w) slot) ≡ w.config.fields
   width slot there =
       let reached : Reaches (sight w) slot = (lists_reached (roots (sight w).registers) (targets_of (sight w)) slots numbers slot).1 there in
       let below : slot < length w.headers = reached_below (sight w) (length w.headers) (names_sound (sight w) world.shaped.sound) slot reached in
@@ -102,7 +108,7 @@ module _ (w : Core) (slots : List ℕ) (world : IsWorld w) (numbers : NumbersSlo
     numbered = subst (λ (n : ℕ). Rattle.rec_model.specs.Numbering.IsNumbering (roots (held_of (sight w) slots)) (children (map (node_of (sight w) slots) slots)) (range_with_len 0 n)) (sym (length-map slots (node_of (sight w) slots))) (numbered (sight w) slots numbers);
   }
 
-  pub stands : IsSettled w → StandsFor (image_of w slots) (sight w)
+  stands : IsSettled w → StandsFor (image_of w slots) (sight w)
   stands settled = (
     place_in slots,
     record {

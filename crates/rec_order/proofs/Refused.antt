@@ -120,9 +120,9 @@ tells_by s t line at.Parting work made undone is = absurd (omega (arith, ap leng
 tells_by s t line _ work made undone is = answers_by s t line work made is
 
 -- The step that told a line, and why it refused the command if it did.
-pub record IsRefusing (n : Naming) (w : Core) (moves : List Move) (i t : ℕ) (line : Line) : Type 0 where
-  pub step : IsToldBy n w moves i t line
-  pub why : IsRefusedBy (after_moves w step.earlier) t line.0 line.1
+record IsRefusing (n : Naming) (w : Core) (moves : List Move) (i t : ℕ) (line : Line) : Type 0 where
+  step : IsToldBy n w moves i t line
+  why : IsRefusedBy (after_moves w step.earlier) t line.0 line.1
 
 -- the move that told it is a step of the mutator
 told_first : (n : Naming) (w : Core) (m : Move) (later : List Move) (t : ℕ) (line : Line) → IsKept false w → AllFit w (m ∷ later) → is_done line.1.answer ≡ false → events_in n w m ≡ Event.Answers t line ∷ []

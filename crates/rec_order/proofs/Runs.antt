@@ -42,6 +42,7 @@ use Rattle.rec_order.specs.Events.{events_in, events_of}
 use Rattle.rec_order.proofs.Stamps.{IsSilent, leaving_parts, going_silent, holding_silent, stayed_silent, crossed_silent, parting_silent}
 use Rattle.rec_order.proofs.Stands.{NamesOn, born_taken}
 use Rattle.rec_order.proofs.Steps.{same_names, step_names}
+use Rattle.rec_core.proofs.Turn.{turned_made}
 
 -- the naming after two lists
 names_both : (n : Naming) (w : Core) (ms ns : List Move) → named_after_all n w (ms ++ ns) ≡ named_after_all (named_after_all n w ms) (after_moves w ms) ns
@@ -63,10 +64,6 @@ named_next n (ops.ClaimHeader slot label) found = go (found == 0)
     go true = refl
     go false = omega arith
 named_next n _ found = omega arith
-
--- a turn of the collector counts no birth
-pub turned_made : (w : Core) → (turned w).made ≡ w.made
-turned_made w = turn_case w (λ o v. v.made ≡ w.made) (λ none. refl) (λ op named. refl)
 
 -- a move counts as many births as it names
 move_made : (n : Naming) (w : Core) (m : Move) → (named_after n w m).next + w.made ≡ n.next + (after_move w m).made

@@ -1,14 +1,16 @@
 -- What was lost stays forgotten over the moves of a run, until it is freed; and where collections end among them.
-use Rattle.std.proofs.Common.{◌≡◌, inl, inr, ℕ, true, false, List, [], ◌∷◌, ◌++◌, refl, sym, ◌∙◌}
+use Rattle.std.proofs.Common.{◌≡◌, inl, inr, ℕ, true, false, List, [], ◌∷◌, ◌++◌, refl, sym, ◌∙◌, ◌+◌}
 use Rattle.std.proofs.lemmas.Bool.{cases_Bool, false≢true}
-use Rattle.rec_core.proofs.Common.{Core, IsKept, AllFit, Fits, Move, after_move, after_moves}
+use Rattle.rec_core.proofs.Common.{Core, IsKept, AllFit, Fits, Move, after_move, after_moves, sight}
 use Rattle.rec_model.specs.Reach.{is_in}
-use Rattle.rec_model.proofs.Members.{is_in-cases, is_in-left, is_in-right}
-use Rattle.rec_core.proofs.Runs.{move_kept}
+use Rattle.rec_model.proofs.Members.{is_in-cases, is_in-left, is_in-right, not_in-left}
+use Rattle.rec_core.proofs.Runs.{move_kept, moves_kept}
 use Rattle.rec_prompt.specs.Prompt.{freed_in, freed_over}
 use Rattle.rec_prompt.proofs.Forgets.{Forgets}
 use Rattle.rec_prompt.proofs.Steps.{begun_forgets, step_forgets}
 use Rattle.rec_prompt.proofs.Turns.{turn_forgets}
+use Rattle.rec_prompt.specs.Lost.{IsLost}
+use Rattle.rec_prompt.proofs.Begun.{starts_forgetting}
 
 -- the same slots, told in another way
 same_lost : (late : ℕ) (first : Core) (lost also : ℕ → Type 0) (v : Core) → ((slot : ℕ) → lost slot → also slot) → ((slot : ℕ) → also slot → lost slot) → Forgets late first lost v → Forgets late first also v
@@ -49,22 +51,28 @@ in_neither slot xs ys a b = elim (cases_Bool (is_in slot (xs ++ ys))) [
   | inr not_there ↦ not_there
 ]
 
-not_first : (slot : ℕ) (xs ys : List ℕ) → is_in slot (xs ++ ys) ≡ false → is_in slot xs ≡ false
-not_first slot xs ys none = elim (cases_Bool (is_in slot xs)) [
-  | inl there ↦ absurd (false≢true (sym none ∙ is_in-left slot xs ys there))
-  | inr not_there ↦ not_there
-]
-
 not_second : (slot : ℕ) (xs ys : List ℕ) → is_in slot (xs ++ ys) ≡ false → is_in slot ys ≡ false
 not_second slot xs ys none = elim (cases_Bool (is_in slot ys)) [
   | inl there ↦ absurd (false≢true (sym none ∙ is_in-right slot xs ys there))
   | inr not_there ↦ not_there
 ]
 
-pub moves_forget : (late : ℕ) (first : Core) (lost : ℕ → Type 0) (v : Core) (ms : List Move) → IsKept true v → AllFit v ms → Forgets late first lost v → Forgets late first (λ slot. lost slot × (is_in slot (freed_over v ms) ≡ false)) (after_moves v ms)
+moves_forget : (late : ℕ) (first : Core) (lost : ℕ → Type 0) (v : Core) (ms : List Move) → IsKept true v → AllFit v ms → Forgets late first lost v → Forgets late first (λ slot. lost slot × (is_in slot (freed_over v ms) ≡ false)) (after_moves v ms)
 moves_forget late first lost v [] kept fit f = same_lost late first lost _ v (λ slot gone. (gone, refl)) (λ slot gone. gone.0) f
 moves_forget late first lost v (m ∷ ms) kept fit f =
     let one : List ℕ = freed_in v m in
     let rest : List ℕ = freed_over (after_move v m) ms in
-    same_lost late first _ (λ slot. lost slot × (is_in slot (one ++ rest) ≡ false)) (after_moves v (m ∷ ms)) (λ slot gone. (gone.0.0, in_neither slot one rest gone.0.1 gone.1)) (λ slot gone. ((gone.0, not_first slot one rest gone.1), not_second slot one rest gone.1))
+    same_lost late first _ (λ slot. lost slot × (is_in slot (one ++ rest) ≡ false)) (after_moves v (m ∷ ms)) (λ slot gone. (gone.0.0, in_neither slot one rest gone.0.1 gone.1)) (λ slot gone. ((gone.0, not_in-left slot one rest gone.1), not_second slot one rest gone.1))
     (moves_forget late first (λ slot. lost slot × (is_in slot (freed_in v m) ≡ false)) (after_move v m) ms (move_kept v m kept fit.0) fit.1 (move_forgets late first lost v m kept fit.0 f))
+
+-- What was lost in a state and isn't freed by the end of the moves.
+abbrev pub lost_over : Core → List Move → ℕ → Type 0
+lost_over v ms slot = IsLost (sight v) slot × (is_in slot (freed_over v ms) ≡ false)
+
+-- A heap keeps what it keeps over moves, and has forgotten what was lost before them.
+pub record HasForgotten (v : Core) (ms : List Move) : Type 0 where
+  pub f : Forgets (v.epoch + 1) v (lost_over v ms) (after_moves v ms)
+  pub kept_then : IsKept true (after_moves v ms)
+
+pub forgotten : (v : Core) (ms : List Move) → IsKept true v → AllFit v ms → HasForgotten v ms
+forgotten v ms kept fit = record { f = moves_forget (v.epoch + 1) v (IsLost (sight v)) v ms kept fit (starts_forgetting v kept); kept_then = moves_kept v ms kept fit }

@@ -25,38 +25,28 @@ use Rattle.rec_prompt.proofs.Begun.{starts_forgetting}
 use Rattle.rec_prompt.proofs.Chains.{none_lost}
 use Rattle.rec_prompt.proofs.Counts.{led_to}
 use Rattle.rec_prompt.proofs.Forgets.{counted, Forgets}
-use Rattle.rec_prompt.proofs.Moves.{moves_forget}
+use Rattle.rec_prompt.proofs.Moves.{forgotten, lost_over}
+use Rattle.rec_collector.proofs.Landing.{under_way_most}
 
 -- Of a heap of dated words: between two collections, two epochs on.
 module _ (v : Core) (ms : List Move) (slot : ℕ) (kept : IsKept true v) (fit : AllFit v ms) (idle : (after_moves v ms).collector.phase ≡ Idle) (past : v.epoch + 2 ≤ counted (after_moves v ms)) (gone : IsLost (sight v) slot) (none : IsBehindNoCycle (sight v) slot) where
-  abbrev u : Core
-  u = after_moves v ms
+  open (forgotten v ms kept fit) use {f, kept_then}
 
-  -- what was lost and wasn't freed
-  abbrev lost : ℕ → Type 0
-  lost x = IsLost (sight v) x × (is_in x (freed_over v ms) ≡ false)
-
-  f : Forgets (v.epoch + 1) v lost u
-  f = moves_forget (v.epoch + 1) v (IsLost (sight v)) v ms kept fit (starts_forgetting v kept)
-
-  kept_then : IsKept true u
-  kept_then = moves_kept v ms kept fit
-
-  led : (x : ℕ) → lost x → (y : ℕ) × lost y × Leads (sight v) y x
+  led : (x : ℕ) → lost_over v ms x → (y : ℕ) × lost_over v ms y × Leads (sight v) y x
   led x is =
-      let (place, leads) = led_to (v.epoch + 1) v lost u kept_then idle f (omega (arith, past)) x is in
+      let (place, leads) = led_to (v.epoch + 1) v (lost_over v ms) (after_moves v ms) kept_then idle f (omega (arith, past)) x is in
       let fields : ℕ = v.config.fields in
-      let same : u.config.fields ≡ fields = ap (λ k. k.fields) (config_after v ms) in
+      let same : (after_moves v ms).config.fields ≡ fields = ap (λ k. k.fields) (config_after v ms) in
       let here : place_of (place / fields) (place % fields) fields ≡ place = ap (λ k. k + place % fields) (mul_comm (place / fields) fields) ∙ div-add-mod place fields in (
         place / fields,
-        subst (λ n. lost (place / n)) same (f.fields place x leads is),
+        subst (λ n. lost_over v ms (place / n)) same (f.fields place x leads is),
         (place % fields, mod-lt place kept.config.some_fields, ap (λ n. target_of (slice_index_or v.words n 0)) here ∙ f.still place x leads is),
       )
 
-  pub is_freed : is_in slot (freed_over v ms) ≡ true
+  is_freed : is_in slot (freed_over v ms) ≡ true
   is_freed = elim (cases_Bool (is_in slot (freed_over v ms))) [
     | inl freed ↦ freed
-    | inr unfreed ↦ absurd (none_lost (sight v) lost v.config.slots (λ x is. taken_slot v kept x is.0.taken) led slot none (gone, unfreed))
+    | inr unfreed ↦ absurd (none_lost (sight v) (lost_over v ms) v.config.slots (λ x is. taken_slot v kept x is.0.taken) led slot none (gone, unfreed))
   ]
 
 -- ---- the heap itself
@@ -127,10 +117,6 @@ comes_between w (m ∷ ms) collections config run fit less enough =
       ]
     ]
 
-under_most : (phase : Phase) → under_way phase ≤ 1
-under_most Idle = omega arith
-under_most _ = omega arith
-
 -- from a state, over moves that come to one where so many collections are complete
 freed_by_then : (w : Core) (ms : List Move) (slot more : ℕ) → IsConfig w.config → EndsRun w → AllFit w ms → under_way w.collector.phase + 2 ≤ more → w.collector.collections + more ≤ (after_moves w ms).collector.collections → IsLost (sight w) slot → IsBehindNoCycle (sight w) slot
     → is_in slot (freed_over w ms) ≡ true
@@ -156,4 +142,4 @@ pub freed_idle : (w : Core) (ms : List Move) (slot : ℕ) → IsConfig w.config 
 freed_idle w ms slot config run idle fit complete gone none = freed_by_then w ms slot 2 config run fit (omega (arith, ap under_way idle)) complete gone none
 
 pub freed_under_way : (w : Core) (ms : List Move) (slot : ℕ) → IsConfig w.config → EndsRun w → AllFit w ms → Complete 3 w ms → IsLost (sight w) slot → IsBehindNoCycle (sight w) slot → IsFreed w ms slot
-freed_under_way w ms slot config run fit complete gone none = freed_by_then w ms slot 3 config run fit (omega (arith, under_most w.collector.phase)) complete gone none
+freed_under_way w ms slot config run fit complete gone none = freed_by_then w ms slot 3 config run fit (omega (arith, under_way_most w.collector.phase)) complete gone none

@@ -16,10 +16,7 @@ use Rattle.rec_mutator.specs.declared.phase.Phase.TheVariants as at
 use Rattle.rec_mutator.specs.declared.work.Work.TheVariants as works
 use Rattle.rec_mutator.proofs.Refusals.{at_phase}
 use Rattle.rec_core.proofs.Actors.{epoch_here, epoch_next}
-
--- an operation that leaves the words
-abbrev pub LeavesWords : (word : ℕ) → Op → Type 0
-LeavesWords word op = (cells : Cells) → cell cells op ≡ word → (with_cell cells op (written op word)).words ≡ cells.words
+use Rattle.rec_core.proofs.Shapes.{LeavesWords, load_leaves, box_stays}
 
 -- a slot that a register names, or that the operation finds in a field of such a one
 pub data Finds (p : Private) (op : Op) (word slot : ℕ) : Type 0 where
@@ -78,12 +75,6 @@ pub data Sees (p : Private) (word : ℕ) (box : Contents) (op : Op) (q : Private
   puts : Puts p word box op q left → Sees p word box op q left
   retires : Retires p word box op q left → Sees p word box op q left
 
--- the mailbox of a mutator that doesn't take it
-box_stays : {p : Private} {box left : Contents} → LeavesBox p box left → (TakesBox p.phase → ⊥) → left ≡ box
-box_stays (LeavesBox.retires phase is) other = absurd (other (subst TakesBox (sym phase) tt))
-box_stays (LeavesBox.lets_go phase is) other = absurd (other (subst TakesBox (sym phase) tt))
-box_stays (LeavesBox.keeps phase is) other = is
-
 -- the epoch of a mutator that holds no mailbox before and after
 epoch_stays : (p q : Private) {phase : phases.Phase} → p.phase ≡ phase → gives_back phase ≡ false → gives_back q.phase ≡ false → q.epoch ≡ p.epoch → epoch_at q ≡ epoch_at p
 epoch_stays p q is here next same = epoch_here q next ∙ same ∙ sym (epoch_here p (ap gives_back is ∙ here))
@@ -112,10 +103,6 @@ module _ {p q : Private} {word : ℕ} {box left : Contents} {op : Op} (leaves : 
     words = subst (LeavesWords word) (sym g.operation) words;
     registers = inl (ap (λ (x : Private). x.registers) g.after);
   })
-
--- a load leaves the words
-load_leaves : (place word : ℕ) → LeavesWords word (ops.LoadField place)
-load_leaves place word cells e = ap (slice_set cells.words place) (sym e) ∙ set-get_or cells.words place 0
 
 -- what the mailbox is left with
 gives : {p : Private} {box left : Contents} → TakesBox p.phase → LeavesBox p box left → (left.entries ≡ p.log.entries) × ((left.snapshot ≡ p.registers) ⊎ (left.snapshot ≡ nulls_of p))

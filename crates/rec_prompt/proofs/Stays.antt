@@ -14,7 +14,7 @@ use Rattle.rec_model.proofs.Seen.{field_target}
 use Rattle.rec_model.proofs.Within.{all_reached}
 use Rattle.rec_collector.specs.Kept.{under_way}
 use Rattle.rec_core.specs.Bare.{bare_core}
-use Rattle.rec_core.proofs.BareSeen.{reached_too}
+use Rattle.rec_core.proofs.BareSeen.{reached_too, words_alike}
 use Rattle.rec_core.proofs.Dated.{Explains, end_explained, moves_explained}
 use Rattle.rec_core.proofs.Moves.{home_of}
 use Rattle.rec_core.proofs.Runs.{config_after, moves_kept}
@@ -23,7 +23,7 @@ use Rattle.rec_prompt.specs.Prompt.{freed_over, IsLeft}
 use Rattle.rec_prompt.proofs.Begun.{starts_forgetting}
 use Rattle.rec_prompt.proofs.Counts.{counted_fields}
 use Rattle.rec_prompt.proofs.Forgets.{counted, Forgets, node_leads}
-use Rattle.rec_prompt.proofs.Moves.{moves_forget}
+use Rattle.rec_prompt.proofs.Moves.{forgotten, lost_over}
 use Rattle.rec_prompt.proofs.Prompt.{freed_behind, leads_bare, lost_behind}
 
 -- what registers name, a register names
@@ -44,51 +44,41 @@ root_of slot (p ∷ ps) there = elim (is_in-cases slot (named p.registers) (root
 
 -- Of a heap of dated words, over any moves.
 module _ (v : Core) (ms : List Move) (kept : IsKept true v) (fit : AllFit v ms) where
-  abbrev u : Core
-  u = after_moves v ms
-
-  abbrev lost : ℕ → Type 0
-  lost x = IsLost (sight v) x × (is_in x (freed_over v ms) ≡ false)
-
-  f : Forgets (v.epoch + 1) v lost u
-  f = moves_forget (v.epoch + 1) v (IsLost (sight v)) v ms kept fit (starts_forgetting v kept)
-
-  kept_then : IsKept true u
-  kept_then = moves_kept v ms kept fit
+  open (forgotten v ms kept fit) use {f, kept_then}
 
   -- what leads to it
-  pub still_led : (from slot : ℕ) → lost slot → Leads (sight u) from slot → lost from × Leads (sight v) from slot
+  still_led : (from slot : ℕ) → lost_over v ms slot → Leads (sight (after_moves v ms)) from slot → lost_over v ms from × Leads (sight v) from slot
   still_led from slot gone (field, within, leads) =
-      let same : u.config ≡ v.config = config_after v ms in
-      let here : place_of from field u.config.fields / u.config.fields + 1 ≡ from + 1 = home_of from field u.config.fields within in
-      let source : place_of from field u.config.fields / u.config.fields ≡ from = omega (arith, here) in (
-        subst lost source (f.fields (place_of from field u.config.fields) slot leads gone),
-        (field, subst (λ k. field < k.fields) same within, subst (λ k. target_of (slice_index_or v.words (place_of from field k.fields) 0) ≡ Some slot) same (f.still (place_of from field u.config.fields) slot leads gone)),
+      let same : (after_moves v ms).config ≡ v.config = config_after v ms in
+      let here : place_of from field (after_moves v ms).config.fields / (after_moves v ms).config.fields + 1 ≡ from + 1 = home_of from field (after_moves v ms).config.fields within in
+      let source : place_of from field (after_moves v ms).config.fields / (after_moves v ms).config.fields ≡ from = omega (arith, here) in (
+        subst (lost_over v ms) source (f.fields (place_of from field (after_moves v ms).config.fields) slot leads gone),
+        (field, subst (λ k. field < k.fields) same within, subst (λ k. target_of (slice_index_or v.words (place_of from field k.fields) 0) ≡ Some slot) same (f.still (place_of from field (after_moves v ms).config.fields) slot leads gone)),
       )
 
   -- no register reaches it
-  still_unreached : (slot : ℕ) → Reaches (sight u) slot → lost slot → ⊥
-  still_unreached slot from = all_reached (λ x. lost x → ⊥) (roots (sight u).registers) (targets_of (sight u)) at_root at_target slot from
+  still_unreached : (slot : ℕ) → Reaches (sight (after_moves v ms)) slot → lost_over v ms slot → ⊥
+  still_unreached slot from = all_reached (λ x. lost_over v ms x → ⊥) (roots (sight (after_moves v ms)).registers) (targets_of (sight (after_moves v ms))) at_root at_target slot from
     where
-      at_root : (x : ℕ) → is_in x (roots (sight u).registers) ≡ true → lost x → ⊥
+      at_root : (x : ℕ) → is_in x (roots (sight (after_moves v ms)).registers) ≡ true → lost_over v ms x → ⊥
       at_root x there gone =
-          let (i, r, below, names) = root_of x u.mutators there in
-          let many : length u.mutators ≡ u.config.mutators = kept_then.mutators.many in
+          let (i, r, below, names) = root_of x (after_moves v ms).mutators there in
+          let many : length (after_moves v ms).mutators ≡ (after_moves v ms).config.mutators = kept_then.mutators.many in
           let at : i + 1 - 1 ≡ i = omega arith in
-          f.registers (i + 1) r x (omega arith, omega (arith, below, many)) (ap (λ n. register (slice_index_or u.mutators n nobody) r) at ∙ names) gone
+          f.registers (i + 1) r x (omega arith, omega (arith, below, many)) (ap (λ n. register (slice_index_or (after_moves v ms).mutators n nobody) r) at ∙ names) gone
 
-      at_target : (m n : ℕ) → Reaches (sight u) m → (lost m → ⊥) → is_in n (targets_of (sight u) m) ≡ true → lost n → ⊥
+      at_target : (m n : ℕ) → Reaches (sight (after_moves v ms)) m → (lost_over v ms m → ⊥) → is_in n (targets_of (sight (after_moves v ms)) m) ≡ true → lost_over v ms n → ⊥
       at_target m n _ apart there gone =
-          let (field, within, inside, node) = field_target (sight u) m n there in
-          apart (still_led m n gone (field, within, node_leads (slice_index_or u.words (place_of m field u.config.fields) 0) n node)).0
+          let (field, within, inside, node) = field_target (sight (after_moves v ms)) m n there in
+          apart (still_led m n gone (field, within, node_leads (slice_index_or (after_moves v ms).words (place_of m field (after_moves v ms).config.fields) 0) n node)).0
 
-  pub still_lost : (slot : ℕ) → lost slot → IsLost (sight u) slot
+  still_lost : (slot : ℕ) → lost_over v ms slot → IsLost (sight (after_moves v ms)) slot
   still_lost slot gone = record { taken = f.taken slot gone; unreached = λ from. still_unreached slot from gone }
 
-  pub still_counted : u.collector.phase ≡ Idle → v.epoch + 2 ≤ u.epoch → (slot : ℕ) → lost slot → (slot_at u.collector.counts slot).count ≡ fields_to (sight u) slot
+  still_counted : (after_moves v ms).collector.phase ≡ Idle → v.epoch + 2 ≤ (after_moves v ms).epoch → (slot : ℕ) → lost_over v ms slot → (slot_at (after_moves v ms).collector.counts slot).count ≡ fields_to (sight (after_moves v ms)) slot
   still_counted idle past slot gone =
-      let begun : counted u + under_way u.collector.phase ≡ u.epoch = kept_then.collector.begun in
-      counted_fields (v.epoch + 1) v lost u kept_then idle f (omega (arith, past, begun, ap under_way idle)) slot gone
+      let begun : counted (after_moves v ms) + under_way (after_moves v ms).collector.phase ≡ (after_moves v ms).epoch = kept_then.collector.begun in
+      counted_fields (v.epoch + 1) v (lost_over v ms) (after_moves v ms) kept_then idle f (omega (arith, past, begun, ap under_way idle)) slot gone
 
 -- ---- the heap itself
 
@@ -97,18 +87,6 @@ leads_behind : (v : Core) (from to : ℕ) → Leads (sight (bare_core v)) from t
 leads_behind v from to (field, within, leads) =
     let word : ℕ = slice_index_or v.words (place_of from field v.config.fields) 0 in
     (field, within, sym (ap target_of (get_or-map bare v.words (place_of from field v.config.fields) 0) ∙ target_of_bare word) ∙ leads)
-
-words_alike : (slot : ℕ) (words : List ℕ) → count_by (λ word. is_slot slot (target_of word)) (map bare words) ≡ count_by (λ word. is_slot slot (target_of word)) words
-words_alike slot [] = refl
-words_alike slot (word ∷ words) =
-    let weight : Option ℕ → ℕ = λ t. if is_slot slot t then 1 else 0 in
-    omega (
-      arith,
-      sum_by-cons (λ x. weight (target_of x)) (bare word) (map bare words),
-      sum_by-cons (λ x. weight (target_of x)) word words,
-      ap weight (target_of_bare word),
-      words_alike slot words,
-    )
 
 lost_bare : (v : Core) (slot : ℕ) → IsLost (sight v) slot → IsLost (sight (bare_core v)) slot
 lost_bare v slot gone = record { taken = gone.taken; unreached = λ from. gone.unreached (reached_too v slot from) }

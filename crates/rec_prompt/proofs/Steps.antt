@@ -18,7 +18,8 @@ use Rattle.rec_core.proofs.Sums.{births_more, births_same, writes_more, writes_s
 use Rattle.rec_core.specs.declared.config.Config.{Config}
 use Rattle.std.proofs.lemmas.Option.{same_Some}
 use Rattle.rec_prompt.proofs.Forgets.{counted, Forgets, IsClean, node_leads, null_at, set_or, spare_clean}
-use Rattle.rec_prompt.proofs.Sees.{Bears, Finds, Keeps, LeavesWords, Puts, Retires, Sees, seen_step}
+use Rattle.rec_prompt.proofs.Sees.{Bears, Finds, Keeps, Puts, Retires, Sees, seen_step}
+use Rattle.rec_core.proofs.Shapes.{LeavesWords}
 
 -- a clean buffer whose entries and snapshot are these
 clean_as : (slot : ℕ) (a b : Contents) → b.entries ≡ a.entries → ((r : ℕ) → slice_index_or b.snapshot r None ≡ Some slot → ⊥) → IsClean slot a → IsClean slot b

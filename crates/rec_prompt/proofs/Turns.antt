@@ -243,7 +243,7 @@ module _ (late : ℕ) (first : Core) (lost : ℕ → Type 0) (v : Core) (op : Op
       go false e = refl
       go true e = absurd (op_frees v u op (place / v.config.fields) refl e (leads_from_taken u after place slot there))
 
-  pub op_forgets : Forgets late first left u
+  op_forgets : Forgets late first left u
   op_forgets =
       let rows = clean (rule_of v op kept named) in
       record {

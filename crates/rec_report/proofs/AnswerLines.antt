@@ -61,10 +61,10 @@ times_before order p within =
     omega arith
 
 -- the mutators of an order are there, and their journals have the lines
-pub record HasTurn (journals : List (List Line)) (before t : ℕ) : Type 0 where
-  pub some : 0 < t
-  pub there : t - 1 < length journals
-  pub line : before < length (get_or journals (t - 1) [])
+record HasTurn (journals : List (List Line)) (before t : ℕ) : Type 0 where
+  some : 0 < t
+  there : t - 1 < length journals
+  line : before < length (get_or journals (t - 1) [])
 
 has_turn : (journals : List (List Line)) (order : List ℕ) (p : ℕ) → IsOrderOf journals order → p < length order → HasTurn journals (times (get_or order p 0) (take p order)) (get_or order p 0)
 has_turn journals order p names within =

@@ -73,9 +73,9 @@ stays_turned w kept =
     record { registers = keeps.registers; stands = λ heap number h. keeps_stands_by heap (sight w) (sight (turned w)) number keeps h; made = stays.made; freed = stays.freed }
 
 -- In the midst of a collection, all that it swept is what its sweep tells.
-pub record StaysAmid (before w : Core) : Type 0 where
-  pub stays : Stays before w
-  pub sweeps : w.collector.freed + swept before ≡ before.collector.freed + swept w
+record StaysAmid (before w : Core) : Type 0 where
+  stays : Stays before w
+  sweeps : w.collector.freed + swept before ≡ before.collector.freed + swept w
 
 stays_amid : (first : ℕ) (before w : Core) → IsKept false before → AreQuiet first before → IsAmid before w → StaysAmid before w
 stays_amid first before w kept quiet (IsAmid.here _ is) = subst (StaysAmid before) (sym is) (record { stays = stays_same before; sweeps = refl })

@@ -4,9 +4,9 @@ use Rattle.std.proofs.lemmas.Bool.{cases_eq}
 use Rattle.rec_table.proofs.Common.{Core, mutator, Move, AllFit, Fits, after_move, after_moves, Private, IsKept, move_kept, move_stays, other_gives, own_gives, beats_in, beats_of, births_told, told, Beat}
 use Rattle.rec_core.specs.Run.{by_actor, maker}
 use Rattle.rec_core.specs.declared.config.Config.{Config}
-use Rattle.rec_order.proofs.Runs.{turned_made}
 use Rattle.rec_table.proofs.Beats.{told_in}
 use Rattle.rec_table.proofs.Making.{births_both}
+use Rattle.rec_core.proofs.Turn.{turned_made}
 
 -- the births in such lists of the first so many mutators, added up
 abbrev pub all_births : Core → (ℕ → List Beat) → ℕ → ℕ

@@ -14,7 +14,7 @@ use Rattle.rec_core.specs.declared.config.Config.{Config}
 use Rattle.rec_table.specs.Ends.{IsRunOf}
 use Rattle.rec_table.proofs.Ends.{same_boxes}
 use Rattle.rec_core.proofs.Actors.{idle_here}
-use Rattle.rec_core.proofs.Row.{cells_row}
+use Rattle.rec_world.proofs.Row.{cells_row}
 use Rattle.rec_table.proofs.Seats.{all_home}
 use Rattle.rec_table.proofs.Steps.{places_after, slots_after}
 

@@ -28,7 +28,7 @@ use Rattle.rec_collector.proofs.Landing.{batch_phase, worked_phase}
 use Rattle.atomic_table.specs.Seated.{TableId}
 use Rattle.rec_table.proofs.Common.{written, Op, Contents, with_parts, Core, cells_of, box, IsWorld, world_kept, collector_within, CollectorView, collector_view, collector_now, looked_at, left_by, gathered, gathered_all, looked, index_of, Operates, IsReturnOp, TurnedBy, LookedBy, Looks, GlancedBy, ReturnedBy, records, collecting_of, collecting_more, boxes_at, boxes_out, NotLooking, Beat, Saw, Took, CollectorSeat, View, Collects}
 use Rattle.rec_table.proofs.Collects.{gathered_both, leaves_spare}
-use Rattle.rec_core.proofs.Row.{row_within}
+use Rattle.rec_world.proofs.Row.{row_within}
 use Rattle.rec_core.proofs.Trying.{loads_child}
 use Rattle.rec_core.proofs.Turning.{some_op}
 use Rattle.rec_table.specs.Operations.{Kind as OperationKind}
@@ -363,7 +363,7 @@ look_epoch : Op → ℕ
 look_epoch (ops.LookBox t e) = e
 look_epoch _ = 0
 
-abbrev pub IsLookOp : Op → Type 0
+abbrev IsLookOp : Op → Type 0
 IsLookOp (ops.LookBox t e) = Unit {0}
 IsLookOp _ = ⊥
 

@@ -161,7 +161,7 @@ module _ (w : Core) (n : Naming) (now last : Heap) (kept : IsKept false w) (stan
   names_in Move.Offers = refl
 
 -- the heap stands for the world before each move
-abbrev pub StandsAlong : (limits : Limits) (w : Core) (n : Naming) (m : Moment) (ms : List Move) → Type 0
+abbrev StandsAlong : (limits : Limits) (w : Core) (n : Naming) (m : Moment) (ms : List Move) → Type 0
 StandsAlong limits w n m ms = (q r : List Move) → q ++ r ≡ ms → StandsBy (after_all limits m (events_of n w q)).heap (sight (after_moves w q)) (named_after_all n w q).number
 
 names_all : (limits : Limits) (w : Core) (n : Naming) (m : Moment) (ms : List Move) → IsKept false w → AllFit w ms → StandsAlong limits w n m ms

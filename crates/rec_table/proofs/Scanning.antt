@@ -93,10 +93,10 @@ claims_slot p slot machine k =
     (at.1, at.2, subst (λ n. n < p.slots) (sym k.comes) (behind_below p.slots p.from k.probed machine.first_slot))
 
 -- steps that found these words led from one record to another, and made no object
-pub record Walks (q : Private) (words : List ℕ) (r : Private) : Type 0 where
-  pub told : told q (saw_all words) ≡ r
-  pub learns : r ≡ fold took_of q words
-  pub births : births_told q (saw_all words) ≡ 0
+record Walks (q : Private) (words : List ℕ) (r : Private) : Type 0 where
+  told : told q (saw_all words) ≡ r
+  learns : r ≡ fold took_of q words
+  births : births_told q (saw_all words) ≡ 0
 
 module _ (p : Private) (reg label : ℕ) (leaf : Bool) (before from : ℕ) (scans : p.phase ≡ at.Scanning reg label leaf before from) where
   came_to : (slot : ℕ) → skipped_to p slot ≡ record p { phase = if slot == p.slots then at.Scanned reg label leaf before else at.Scanning reg label leaf before slot; steps = p.steps + (slot - from) }
@@ -130,22 +130,22 @@ module _ (p : Private) (reg label : ℕ) (leaf : Bool) (before from : ℕ) (scan
       }
 
   -- all words that were passed
-  pub walked : (words : List ℕ) (slot : ℕ) → from < p.slots → from + length words ≡ slot → slot ≤ p.slots → All (λ word. 0 < word) words → Walks p words (skipped_to p slot)
+  walked : (words : List ℕ) (slot : ℕ) → from < p.slots → from + length words ≡ slot → slot ≤ p.slots → All (λ word. 0 < word) words → Walks p words (skipped_to p slot)
   walked words slot first every le taken =
       subst (λ (y : Private × ℕ). Walks y.0 words (skipped_to p y.1)) (λ k. (skipped_none p reg label leaf before from scans first k, every k)) (walks words from (omega arith) (omega (arith, every, le)) taken)
 
   -- what the machine is as the scan goes on
-  pub skipped_names : (slot : ℕ) → NamesSlots p → NamesSlots (skipped_to p slot)
+  skipped_names : (slot : ℕ) → NamesSlots p → NamesSlots (skipped_to p slot)
   skipped_names slot names = subst NamesSlots (sym (came_to slot)) names
 
-  pub skipped_steps : (slot : ℕ) → (skipped_to p slot).steps ≡ p.steps + (slot - from)
+  skipped_steps : (slot : ℕ) → (skipped_to p slot).steps ≡ p.steps + (slot - from)
   skipped_steps slot = ap (λ (q : Private). q.steps) (came_to slot)
 
   goes_on : (b : Bool) (slot number : ℕ) (hand : Contents) (phase : phases.Phase) → phase ≡ (if b then at.Scanned reg label leaf before else at.Scanning reg label leaf before slot) → IsBetween phase × (hands_at hand number phase ≡ [])
   goes_on true slot number hand phase is = (subst IsBetween (sym is) tt, ap (hands_at hand number) is)
   goes_on false slot number hand phase is = (subst IsBetween (sym is) tt, ap (hands_at hand number) is)
 
-  pub skipped_rests : (slot : ℕ) (t : Seated) → IsBetween (skipped_to p slot).phase × (hands t (skipped_to p slot) ≡ [])
+  skipped_rests : (slot : ℕ) (t : Seated) → IsBetween (skipped_to p slot).phase × (hands t (skipped_to p slot) ≡ [])
   skipped_rests slot t = goes_on (slot == p.slots) slot (skipped_to p slot).number t.hand (skipped_to p slot).phase (ap (λ (q : Private). q.phase) (came_to slot))
 
 pub passed_none : (from : ℕ) (me : Me (Option Contents) View) → me ≡ (Mutates (seated_of me.0), []) → Passed (seated_of me.0) from (from + 0) me

@@ -30,7 +30,7 @@ use Rattle.rec_table.specs.Homes.{homes_of}
 use Rattle.rec_table.specs.Rule.{Fits}
 pub use Rattle.rec_table.specs.Straight.{IsPlainOp}
 use Rattle.rec_table.specs.declared.start.Start.{Start}
-use Rattle.rec_core.proofs.Row.{row_read, row_write}
+use Rattle.rec_world.proofs.Row.{row_read, row_write}
 use Rattle.rec_table.proofs.Beats.{beats_both, world_after, mutator_after, step_same}
 
 -- the state in which the step is made

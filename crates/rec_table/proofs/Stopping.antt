@@ -42,7 +42,7 @@ module _ (s : Started) (c : CollectorSeat) (hs : List MutatorView) (ms : List Pr
         h.idle k nobody (omega (arith, lt, many)),
       )
 
-  pub left : Ends s.world c ws xs ms g r
+  left : Ends s.world c ws xs ms g r
   left = ends s.world c ws xs ms g r h.world h.collector h.none many its_machine
 
   -- the births of all lists are those of the run

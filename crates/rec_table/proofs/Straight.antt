@@ -17,7 +17,7 @@ use Rattle.rec_mutator.specs.declared.work.Work.{Work}
 use Rattle.rec_mutator.specs.declared.work.Work.TheVariants as works
 use Rattle.rec_mutator.proofs.Around.{behind_near}
 use Rattle.rec_mutator.proofs.Steps.{TakesNone, here_same}
-use Rattle.rec_mutator.proofs.Straight.{scanning, scans_is}
+use Rattle.rec_mutator.proofs.Straight.{begun_machine, scanning, scans_is}
 use Rattle.rec_table.specs.Rule.{MayBegin}
 use Rattle.rec_table.specs.Straight.{Bears, Carried, CarriesIf, IsPlainOp, Polled, Stands, record_of}
 use Rattle.rec_table.specs.declared.start.Start.{Start}
@@ -86,6 +86,26 @@ owns z z' key o m me h view own seat is names same between =
         same = subst (λ (y : Private × Private). KeepsSizes y.0 y.1) (λ k. (opened k, machine k)) same;
         between = subst (λ (q : Private). IsBetween q.phase) machine between;
       };
+    }
+
+-- With a work that may begin it begins so.
+pub record Begins (key : Core) (o m : Private) (me : Me (Option Contents) View) (h : MutatorView) (work : Work) (from : ℕ) : Type 0 where
+  pub owned : Owns key o m me h
+  pub may : MayBegin m work
+  pub low : from < m.slots
+  pub begun : IsMachine (begun_of m work from)
+  pub goes : MayGo (record_of key me) (Some (record { work = work; from = from }))
+
+pub begins : (key : Core) (o m : Private) (me : Me (Option Contents) View) (h : MutatorView) (work : Work) (from : ℕ) → Owns key o m me h → MayBegin (mutator_now h) work → from ≡ m.from → IsMachine m → Begins key o m me h work from
+begins key o m me h work from owned may is machine =
+    let its : MayBegin m work = subst (λ (p : Private). MayBegin p work) (owned.now ∙ sym owned.machine) may in
+    let low : from < m.slots = subst (λ n. n < m.slots) (sym is) machine.from in
+    record {
+      owned = owned;
+      may = its;
+      low = low;
+      begun = begun_machine m work from machine its.2 its.1 low;
+      goes = subst (λ (p : Private). MayGo p (Some (record { work = work; from = from }))) owned.machine (its.0, its.1, its.2, its.3, low);
     }
 
 -- who has an answer isn't busy

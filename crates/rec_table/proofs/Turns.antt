@@ -32,7 +32,7 @@ use Rattle.rec_core.proofs.Turns.{its_spare}
 use Rattle.rec_core.proofs.Shapes.{same_boxes}
 use Rattle.rec_table.specs.Homes.{homes_of}
 use Rattle.rec_table.specs.Rule.{Fits}
-use Rattle.rec_core.proofs.Row.{row_read, row_write}
+use Rattle.rec_world.proofs.Row.{row_read, row_write}
 use Rattle.rec_core.proofs.BareRuns.{turned_sweeps}
 use Rattle.rec_core.specs.Swept.{IsSweep, SweepsNothing}
 use Rattle.rec_core.specs.Kept.{IsHeader}
@@ -89,15 +89,15 @@ mutator_beats key run x le =
     sym (beats_both x key run (Move.Turns ∷ []) ∙ ap (λ b. beats_of x key run ++ (cond b (turn_at now (next_of now.collector)) [] ++ [])) (ne_eqb 0 x (λ e. omega (arith, e, le))) ∙ append-nil (beats_of x key run))
 
 -- What is known as the collector makes a turn.
-pub record Here (key : Core) (s : State (Option Contents) View) (h : Holds key s) (c : CollectorSeat) (p : Private) (op : Op) : Type 0 where
-  pub world : IsWorld (after_moves key h.run)
-  pub is : (after_moves key h.run).collector ≡ p
-  pub named : ◌≡◌ {A = Option Op} (next_of (after_moves key h.run).collector) (Some op)
-  pub found : get_or s.words (index_of (length key.words) (length key.headers) op) 0 ≡ cell (cells_of (after_moves key h.run)) op
-  pub words : (x : ℕ) → x ≡ written op (get_or s.words (index_of (length key.words) (length key.headers) op) 0)
+record Here (key : Core) (s : State (Option Contents) View) (h : Holds key s) (c : CollectorSeat) (p : Private) (op : Op) : Type 0 where
+  world : IsWorld (after_moves key h.run)
+  is : (after_moves key h.run).collector ≡ p
+  named : ◌≡◌ {A = Option Op} (next_of (after_moves key h.run).collector) (Some op)
+  found : get_or s.words (index_of (length key.words) (length key.headers) op) 0 ≡ cell (cells_of (after_moves key h.run)) op
+  words : (x : ℕ) → x ≡ written op (get_or s.words (index_of (length key.words) (length key.headers) op) 0)
       → set s.words (index_of (length key.words) (length key.headers) op) x ≡ row (cells_of (turned_at (after_moves key h.run) (Some op)))
-  pub may : MayTurn (after_moves key h.run) op
-  pub beats : (b : Beat) → b ≡ looked (after_moves key h.run) (cell (cells_of (after_moves key h.run)) op) (after_moves key h.run).collector.phase
+  may : MayTurn (after_moves key h.run) op
+  beats : (b : Beat) → b ≡ looked (after_moves key h.run) (cell (cells_of (after_moves key h.run)) op) (after_moves key h.run).collector.phase
       → c.log ++ b ∷ [] ≡ beats_of 0 key (h.run ++ Move.Turns ∷ [])
 
 here_at : (key : Core) (s : State (Option Contents) View) (h : Holds key s) (id : ℕ) (c : CollectorSeat) (p : Private) (op : Op)

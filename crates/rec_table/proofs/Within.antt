@@ -5,7 +5,7 @@ use Rattle.rec_word.specs.declared.op.Op.TheVariants as ops
 use Rattle.rec_mutator.specs.Next.{next_of}
 use Rattle.rec_mutator.specs.Step.{NamesSlots, NamesWord}
 use Rattle.rec_mutator.proofs.Words.{names_word}
-use Rattle.rec_core.proofs.Row.{row_within}
+use Rattle.rec_world.proofs.Row.{row_within}
 
 record Sized (key : Core) (t : ℕ) (p : Private) : Type 0 where
   number : p.number ≡ t

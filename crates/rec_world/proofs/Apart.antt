@@ -3,7 +3,7 @@ use Rattle.std.proofs.Common.{◌≡◌, ℕ, ◌*◌, ◌<◌, List, [], ◌∷
 use Rattle.std.specs.Option.{IsSome}
 use Rattle.rec_world.proofs.Common.{Contents, Cells, Core, cells_of, held, IsWorld}
 use Rattle.rec_core.specs.Row.{cells_of_row}
-use Rattle.rec_core.proofs.Row.{cells_row}
+use Rattle.rec_world.proofs.Row.{cells_row}
 use Rattle.rec_world.specs.Parts.{AreParts}
 use Rattle.rec_world.specs.declared.parts.Parts.{Parts}
 use Rattle.rec_world.proofs.Mailboxes.{held_some}
@@ -24,7 +24,7 @@ home_some (b ∷ boxes) (suc j) there = home_some boxes j (omega (arith, there))
 
 module _ (w : Core) (parts : Parts) (world : IsWorld w) (are : AreParts w parts) where
   -- the row holds the shared words
-  pub words_are : cells_of_row (parts.config.slots * parts.config.fields) parts.config.slots parts.row.items ≡ cells_of w
+  words_are : cells_of_row (parts.config.slots * parts.config.fields) parts.config.slots parts.row.items ≡ cells_of w
   words_are =
       let slots : parts.config.slots ≡ length w.headers = ap (λ config. config.slots) are.config ∙ sym world.shaped.headers in
       let places : parts.config.slots * parts.config.fields ≡ length w.words =

@@ -9,7 +9,7 @@ use Rattle.rec_word.specs.declared.cell.Cell.TheVariants.{Field, Header, Epoch, 
 use Rattle.rec_word.specs.declared.op.Op.{Op}
 use Rattle.rec_core.specs.Cells.{with_word}
 use Rattle.rec_core.specs.Row.{row, index_of, cells_of_row}
-use Rattle.rec_core.proofs.Row.{in_row, left_at, slots_are}
+use Rattle.rec_world.proofs.Row.{in_row, left_at, slots_are}
 use Rattle.rec_world.specs.Indexed.{cells, Finds, IsLaidOut, IsNoHeader}
 use Rattle.rec_world.specs.declared.memory.Memory.TheInside.{Inside}
 

@@ -15,6 +15,9 @@ pub mod Numbers
 pub mod OneStep
 pub mod OpenedObjects
 pub mod Openings
+pub mod Row
+pub mod Shows
 pub mod Skipping
+pub mod Step
 pub mod Turnings
 pub mod Sends

@@ -12,7 +12,7 @@ use Rattle.rec_core.specs.declared.config.Config.{Config}
 use Rattle.rec_core.proofs.BareRuns.{end_kept}
 use Rattle.rec_core.proofs.OpenedFrom.{one_of}
 use Rattle.rec_core.proofs.OpenedFromSeen.{headers_many, words_many}
-use Rattle.rec_core.proofs.Row.{cells_row}
+use Rattle.rec_world.proofs.Row.{cells_row}
 use Rattle.rec_core.proofs.Runs.{run_opened_from}
 use Rattle.rec_world.proofs.Calls.{shaped_of}
 use Rattle.rec_world.proofs.Common.{Cells, Contents, Core, IsConfig, IsWorld, Private, cells_of, held, is_busy, spare_of}

@@ -11,6 +11,8 @@ use Rattle.rec_core.specs.Objects.{HaveLabels, IsOneOf, early_word, early_words,
 use Rattle.rec_core.specs.Core.{holding_mutator, holding_mutators}
 use Rattle.rec_core.specs.Row.{row}
 use Rattle.rec_core.specs.declared.config.Config.{Config}
+use Rattle.rec_core.proofs.EarlyWords.{one_if_slot}
+use Rattle.rec_core.proofs.OpenedFromSeen.{header_of}
 
 -- one word more
 early-push : (p : ℕ) (xs : List (Option ℕ)) (x : Option ℕ) → early_words p (xs ++ x ∷ []) ≡ early_words p xs ++ early_word (p + length xs) x ∷ []
@@ -25,10 +27,6 @@ words_more old xs i there =
     append_assoc old (early_words 0 (take i xs)) (early_word i (get_or xs i None) ∷ [])
     ∙ ap (λ ws. old ++ ws) (sym (ap (early_words 0) (take_more xs i None there) ∙ early-push 0 (take i xs) (get_or xs i None) ∙ ap (λ q. early_words 0 (take i xs) ++ early_word q (get_or xs i None) ∷ []) at))
 
--- one header more
-abbrev pub header_of : ℕ × Bool → ℕ
-header_of node = header_word node.1 node.0
-
 map-push : (nodes : List (ℕ × Bool)) (node : ℕ × Bool) → map header_of (nodes ++ node ∷ []) ≡ map header_of nodes ++ header_of node ∷ []
 map-push [] node = refl
 map-push (first ∷ nodes) node = ap (λ hs. header_of first ∷ hs) (map-push nodes node)
@@ -42,16 +40,12 @@ headers_more old nodes i d there =
 pub labels_more : (nodes : List (ℕ × Bool)) (i : ℕ) (d : ℕ × Bool) → i < length nodes → HaveLabels (take i nodes) → (get_or nodes i d).0 < 2 ^ 32 → HaveLabels (take (i + 1) nodes)
 labels_more nodes i d there all fits = subst HaveLabels (sym (take_more nodes i d there)) (All-push (λ node. node.0 < 2 ^ 32) (take i nodes) (get_or nodes i d) all fits)
 
--- one name more
-abbrev one_if : (n : ℕ) → Option ℕ → ℕ
-one_if n x = if is_slot n x then 1 else 0
-
-pub held_more : (n : ℕ) (names : List (Option ℕ)) (i : ℕ) → i < length names → count_by (is_slot n) (take (i + 1) names) ≡ count_by (is_slot n) (take i names) + one_if n (get_or names i None)
+pub held_more : (n : ℕ) (names : List (Option ℕ)) (i : ℕ) → i < length names → count_by (is_slot n) (take (i + 1) names) ≡ count_by (is_slot n) (take i names) + one_if_slot n (get_or names i None)
 held_more n names i there = omega (
   arith,
   ap (count_by (is_slot n)) (take_more names i None there),
-  sum_by-append (one_if n) (take i names) (get_or names i None ∷ []),
-  sum_by-cons (one_if n) (get_or names i None) [],
+  sum_by-append (one_if_slot n) (take i names) (get_or names i None ∷ []),
+  sum_by-cons (one_if_slot n) (get_or names i None) [],
 )
 
 -- there is room for it

@@ -19,7 +19,7 @@ use Rattle.rec_world.proofs.Calls.{box_read, home_again}
 use Rattle.rec_world.proofs.Mailboxes.{collector_leaves, collector_stays, gathered_stays}
 
 -- the mailbox that the collector looks at, by phase, if it looks at one
-abbrev pub looks_for : Phase → Option ℕ
+abbrev looks_for : Phase → Option ℕ
 looks_for (Looking t) = Some t
 looks_for _ = None
 

@@ -7,6 +7,7 @@ pub mod Numbering
 pub mod OpenError
 pub mod Order
 pub mod Parts
+pub mod Step
 pub mod Stepping
 pub mod World
 pub use Rattle.rec_core.specs.RunAnswers

@@ -41,10 +41,10 @@ pub use parts::Parts;
 pub use rec_collector::{Policy, Sets, Turn};
 pub use rec_core::{
     Config, Part, answers_are_explained, conditions_are_met, failed_allocations_probed_every_slot,
-    freed_slots_are_forgotten, loaded_words_stay_references, nothing_reached_is_freed,
-    orange_members_stay_untouched, outside_counts_are_of_the_run, runs_begin_with_an_opening,
-    runs_go_on, runs_keep, sets_that_pass_are_garbage, true_counts_are_the_formula,
-    turns_keep_their_promises, zeros_are_exact,
+    freed_slots_are_forgotten, nothing_reached_is_freed, orange_members_stay_untouched,
+    outside_counts_are_of_the_run, runs_begin_with_an_opening, runs_go_on, runs_keep,
+    sets_that_pass_are_garbage, true_counts_are_the_formula, turns_keep_their_promises,
+    zeros_are_exact,
 };
 pub use rec_model::{Cmd, Told};
 pub use rec_mutator::{Made, Work};

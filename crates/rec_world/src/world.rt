@@ -11,7 +11,7 @@ ghost use Rattle.rec_collector.specs.declared.turn.Turn as turns;
 ghost use Rattle.rec_core.specs.Config.{IsConfig, IsMutator, IsValid, IsWork, HasLabel};
 ghost use Rattle.rec_core.specs.Core.{Core, sight, mutator, opened, opened_mutator};
 ghost use Rattle.rec_core.specs.Moves.{begun, stepped, offering, EndsRun};
-ghost use Rattle.rec_core.specs.Step.{IsStep};
+ghost use Rattle.rec_world.specs.Step.{IsStep};
 ghost use Rattle.rec_core.specs.Turn.{IsTurn, step_seen};
 ghost use Rattle.rec_world.specs.OpenError.{IsRefused};
 ghost use Rattle.rec_world.specs.Parts.{AreParts, MakeWorld};

@@ -33,7 +33,7 @@ use Rattle.rec_core.specs.Worked.{IsWorked, StepsTo}
 use Rattle.rec_core.specs.declared.config.Config.{Config}
 use Rattle.rec_core.proofs.Bare.{box_bare, mutator_bare}
 use Rattle.rec_core.proofs.BareRuns.{bared, explained, rule_of}
-use Rattle.rec_core.proofs.BareSeen.{reached_bare, reached_too, registers_bare, turned_behind}
+use Rattle.rec_core.proofs.BareSeen.{reached_bare, reached_too, registers_bare, turned_behind, words_alike}
 use Rattle.rec_core.proofs.Dated.{Explains, move_explained}
 use Rattle.rec_core.proofs.Runs as dated_runs
 use Rattle.rec_core.proofs.Runs.{move_stays}
@@ -199,25 +199,12 @@ rests_polled first r u w t quiet is stays worked same h =
 
 -- ---- a settled heap
 
-settled_words : (x : ℕ) (words : List ℕ) → count_by (λ word. is_slot x (target_of word)) (map bare words) ≡ count_by (λ word. is_slot x (target_of word)) words
-settled_words x [] = refl
-settled_words x (word ∷ words) =
-    let names : Option ℕ → ℕ = λ t. if is_slot x t then 1 else 0 in
-    let leads : names (target_of (bare word)) ≡ names (target_of word) = ap names (target_of_bare word) in
-    omega (
-      arith,
-      leads,
-      settled_words x words,
-      sum_by-cons (λ w. if is_slot x (target_of w) then 1 else 0) (bare word) (map bare words),
-      sum_by-cons (λ w. if is_slot x (target_of w) then 1 else 0) word words,
-    )
-
 settled_bare : (v : Core) → IsSettled v → IsSettled (bare_core v)
 settled_bare v s = record {
   collected = λ slot. (λ taken. reached_bare v slot ((s.collected slot).0 taken), λ from. (s.collected slot).1 (reached_too v slot from));
   counted = λ slot taken.
       let registers : registers_holding (bare_core v) slot ≡ registers_holding v slot = ap (sum_by (count_by (is_slot slot))) (registers_bare v) in
-      omega (arith, s.counted slot taken, settled_words slot v.words, registers);
+      omega (arith, s.counted slot taken, words_alike slot v.words, registers);
 }
 
 -- Where no collection is under way and the rounds are over, the heap is settled.

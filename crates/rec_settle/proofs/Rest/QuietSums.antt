@@ -36,7 +36,7 @@ abbrev pub IsSilent : (since epoch : ℕ) → Contents → Type 0
 IsSilent since epoch b = (b.entries ≡ []) ⊎ ((epoch < since) × All (IsMadeIn epoch) b.entries)
 
 -- what its entries add and take from this epoch on
-abbrev pub left_by : (since node epoch : ℕ) → List Entry → ℕ
+abbrev left_by : (since node epoch : ℕ) → List Entry → ℕ
 left_by since node epoch es =
     sum_by (puts_after since node) (writes_in es) + sum_by (replaces_from since node) (writes_in es) + sum_by (is_from since node) (births_in epoch es)
 

@@ -17,6 +17,7 @@ use Rattle.rec_core.proofs.Landed.{HasLanded}
 use Rattle.rec_settle.proofs.Rest.SettlingBetween.{unheld_swept}
 use Rattle.rec_core.proofs.Sweeping.{swept_below, due_released}
 use Rattle.rec_core.proofs.Turns.{now_at}
+use Rattle.rec_core.proofs.Landings.{prep_others}
 
 -- what releases nothing anew, and nothing less
 pub within_same : (w : Core) (words : List ℕ) (s t : State) → ((x : ℕ) → (slot_at t x).released ≡ (slot_at s x).released) → AreWithinReach w words s → AreWithinReach w words t
@@ -30,11 +31,6 @@ within_begun {w} {crossing} {words} {v} l ready within =
     let offered = where_keeps v.offers v.counts in
     let keeps = started_keeps v.fields (with_offers v).counts wide (where_ready v.offers v.counts ready) in
     within_same w words v.counts (started_of v.fields (with_offers v).counts).counts (λ x. keeps.released x ∙ offered.rest.released x) within
-
--- a preparation that begins
-prep_others : (v : Parts) → KeepsOthers v.counts (prep_started v).counts
-unfolding preps.started_of
-prep_others v = next_set_others v.counts 0
 
 -- whatever follows a preparation,
 pub within_prepares : {w : Core} {words : List ℕ} {u : Parts} {v : preps.Work} {q : Private} {turn : Turn} → AreWithinReach w words v.counts → PreparesOn w.collector u v q turn → ComesTo Round.Second w words q

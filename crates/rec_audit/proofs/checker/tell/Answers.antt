@@ -8,8 +8,9 @@ use Rattle.rec_audit.specs.declared.form.Form.{Form}
 use Rattle.rec_audit.specs.Lines.{Line}
 use Rattle.rec_audit.specs.Graphs.{slots_of}
 use Rattle.rec_audit.proofs.Grown.{IsQuiet, quiet_line, graph_quiet}
-use Rattle.rec_audit.proofs.Telling.{numbers_of, heap_kept, heap_told, told_behind, source_within, some_fields, line_of}
+use Rattle.rec_audit.proofs.Telling.{numbers_of, heap_kept, heap_told, told_behind, source_within, some_fields}
 use Rattle.rec_audit.proofs.checker.tell.Goals as goal
+use Rattle.rec_audit.specs.Journal.{line_of}
 
 pub bounds-numbers-0 : goal.bounds-numbers-0
 bounds-numbers-0 c = let n = numbers_of c.args.form c.args.kind Heap c.args.numbers.now c.in-Heap.is c.requires.stands in omega (arith, n.five)

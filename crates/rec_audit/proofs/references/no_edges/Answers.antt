@@ -3,9 +3,7 @@ use Rattle.std.proofs.Common.{◌≡◌, ℕ, List, [], ◌∷◌, ◌++◌, map
 use Rattle.std.proofs.lemmas.List.{map_push, replicate_more}
 use Rattle.rec_audit.specs.declared.references.Edge.{Edge}
 use Rattle.rec_audit.proofs.references.no_edges.Goals as goal
-
-abbrev inside : List (Vec Edge Global) → List (List Edge)
-inside vs = map (λ v. v.items) vs
+use Rattle.rec_audit.proofs.Pruning.{inside}
 
 pub loop-slot-init : goal.loop-slot-init
 loop-slot-init c = ap inside c.in_ok-edges.ensures.items

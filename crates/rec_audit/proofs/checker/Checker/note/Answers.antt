@@ -1,8 +1,9 @@
 -- The contract of `note`: what a line tells is kept.
 use Rattle.std.proofs.Common.{◌+◌, ℕ, sym, ap, ◌∙◌, arith}
 use Rattle.rec_audit.specs.declared.form.Form.{Form}
-use Rattle.rec_audit.proofs.Telling.{few_sets, knows_more, line_of}
+use Rattle.rec_audit.proofs.Telling.{few_sets, knows_more}
 use Rattle.rec_audit.proofs.checker.Checker.note.Goals as goal
+use Rattle.rec_audit.specs.Journal.{line_of}
 
 pub overflow_add-self : goal.overflow_add-self
 overflow_add-self c = omega (arith, c.requires.few, c.sets_in.ensures, few_sets c.args.kind)

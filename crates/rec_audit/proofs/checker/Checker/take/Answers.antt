@@ -4,8 +4,9 @@ use Rattle.std.proofs.lemmas.Bool.{false≢true}
 use Rattle.std.proofs.lemmas.Result.{IfOk-from_err}
 use Rattle.rec_audit.specs.Lines.{Line, text_of_line}
 use Rattle.rec_audit.specs.Form.{MayStand}
-use Rattle.rec_audit.proofs.Telling.{fault_of, goes_on, knows_still, line_of, longer, none_goes, none_stands}
+use Rattle.rec_audit.proofs.Telling.{fault_of, goes_on, knows_still, longer, none_goes, none_stands}
 use Rattle.rec_audit.proofs.checker.Checker.take.Goals as goal
+use Rattle.rec_audit.specs.Journal.{line_of}
 
 pub returns-in_default-clause-fault : goal.returns-in_default-clause-fault
 returns-in_default-clause-fault c = λ lines knows. none_goes lines c.args.bytes.now c.requires.some (rw c.in_default.is at c.in_ok-kind.ensures).none

@@ -9,8 +9,9 @@ use Rattle.rec_audit.specs.declared.reach.Marks.{Marks}
 use Rattle.rec_audit.specs.States.{IsMarking}
 use Rattle.rec_audit.specs.Walks.{live_in}
 use Rattle.rec_audit.proofs.Grown.{any_member}
-use Rattle.rec_audit.proofs.Asked.{any_alike, closed_apart, in_back, in_more, known_asked, other, root_found}
+use Rattle.rec_audit.proofs.Asked.{any_alike, closed_apart, in_back, in_more, known_asked, root_found}
 use Rattle.rec_audit.proofs.known.Known.finds_root.Goals as goal
+use Rattle.rec_audit.proofs.Marking.{or_right}
 
 -- behind so many slots, one is a root
 any_is : (roots : Marks) → IsMarking roots → (start : ℕ) (slice order : List ℕ) (b : Bool) → slice ≡ order → b ≡ list_any (λ slot. get_or roots.marked.items slot false) (take (length slice - start) (drop start slice)) → b ≡ list_any (λ n. is_in n roots.order.items) (drop start order)
@@ -68,4 +69,4 @@ returns-clause-found c = λ found roots children turned is.
 pub returns-clause-apart : goal.returns-clause-apart
 returns-clause-apart c = λ none slot there.
     in_more slot (length c.mark_each.new.self.order.items) c.mark_each.new.self.order.items c.follow.new.self.order.items c.in_ok-follow.ensures.front
-    (c.in_ok-mark_each.ensures.has slot ∙ other (is_in slot c.args.self.now.apart.order.items) (is_in slot c.args.slots.now) there)
+    (c.in_ok-mark_each.ensures.has slot ∙ or_right (is_in slot c.args.self.now.apart.order.items) (is_in slot c.args.slots.now) there)

@@ -5,12 +5,10 @@ use Rattle.rec_audit.specs.declared.references.Edge.{Edge}
 use Rattle.rec_audit.specs.States.{MarksMore}
 use Rattle.rec_audit.proofs.Marking.{more_none, more_both}
 use Rattle.rec_audit.proofs.reach.Marks.mark_targets.Goals as goal
+use Rattle.rec_audit.proofs.Grown.{to}
 
 abbrev none : Edge
 none = record { to = 0; word = 0 }
-
-abbrev to : Edge → ℕ
-to e = e.to
 
 pub loop-edge-init : goal.loop-edge-init
 loop-edge-init c = more_none c.args.self.now c.requires.marking

@@ -5,16 +5,14 @@ use Rattle.std.proofs.lemmas.Bool.Decides.{nat_tests}
 use Rattle.rec_audit.specs.Graph.{has_target}
 use Rattle.rec_audit.specs.States.{back_edge, edge_of, edges_of, into_of, with_edge}
 use Rattle.rec_audit.proofs.references.References.put.Goals as goal
-
-has : (n : ℕ) → (n ≡ 0 → ⊥) → nat_lt 0 n ≡ true
-has n some = grind (arith, nat_tests)
+use Rattle.rec_audit.proofs.Telling.{some_target}
 
 pub push_at-requires-2 : goal.push_at-requires-2
 push_at-requires-2 c = omega (arith, c.requires.target, c.if-target-eq0.false)
 
 pub returns : goal.returns
 returns c =
-    let target : has_target c.args.new ≡ true = has (c.args.new % 65536) c.if-target-eq0.false in
+    let target : has_target c.args.new ≡ true = some_target (c.args.new % 65536) c.if-target-eq0.false in
     record {
       opened = λ w. c.in_ok-add_word.ensures w ∙ ap (λ b. contains nat_eq c.args.self.now.opened w || (b && (c.args.new == w))) (sym target);
       dead = refl;

@@ -12,30 +12,20 @@ use Rattle.rec_table.proofs.Common.{Private, IsBetween, IsFound, IsMachine, IsTo
 use Rattle.rec_table.proofs.Making.{begun_work, counted, keeps_on}
 use Rattle.rec_mutator.specs.Took.{IsRequested}
 use Rattle.atomic_table.specs.Table.{Me}
-use Rattle.rec_table.proofs.Straight.{Owns, path_once, polled_once, polled_path, kept_by, learns_first, none_born, opened_on, owns, seen_on}
+use Rattle.rec_table.proofs.Straight.{Owns, path_once, polled_once, polled_path, kept_by, learns_first, none_born, opened_on, owns, seen_on, Begins, begins}
 use Rattle.rec_table.proofs.actor.Actor.poll.Goals as goal
 use Rattle.rec_table.proofs.actor.Actor.poll.Goals.{After-from-from}
 
 abbrev key : (c : After-from-from) → Core
 key c = c.args.board.now.table.shared.key.value
 
-owned : (c : After-from-from) → Owns (key c) c.self.inside.opened.value c.self.inside.machine c.self.inside.seat.me c.args.self.now
-owned c = owns c.args.board.now.table.shared.table_id c.self.inside.seat.table_id (key c) c.self.inside.opened.value c.self.inside.machine c.self.inside.seat.me c.args.self.now c.self.view_is c.requires.own c.self.invariant.0 c.self.invariant.1 c.self.invariant.2 c.self.invariant.3 c.self.invariant.4
-
 abbrev work : (c : After-from-from) → Work
 work c = works.Poll
 
-may : (c : After-from-from) → MayBegin c.self.inside.machine (work c)
-may c = subst (λ (p : Private). MayBegin p (work c)) ((owned c).now ∙ sym (owned c).machine) c.requires.may
-
-low : (c : After-from-from) → c.from-from.result < c.self.inside.machine.slots
-low c = subst (λ n. n < c.self.inside.machine.slots) (sym c.from-from.ensures.from) c.from-from.ensures.kept.from
-
-begun : (c : After-from-from) → IsMachine (begun_of c.self.inside.machine (work c) c.from-from.result)
-begun c = begun_machine c.self.inside.machine (work c) c.from-from.result c.from-from.ensures.kept (may c).2 (may c).1 (low c)
-
-goes : (c : After-from-from) → MayGo (record_of (key c) c.self.inside.seat.me) (Some (record { work = work c; from = c.from-from.result }))
-goes c = subst (λ (p : Private). MayGo p (Some (record { work = work c; from = c.from-from.result }))) (owned c).machine ((may c).0, (may c).1, (may c).2, (may c).3, low c)
+starts : (c : After-from-from) → Begins (key c) c.self.inside.opened.value c.self.inside.machine c.self.inside.seat.me c.args.self.now (work c) c.from-from.result
+starts c = begins (key c) c.self.inside.opened.value c.self.inside.machine c.self.inside.seat.me c.args.self.now (work c) c.from-from.result
+    (owns c.args.board.now.table.shared.table_id c.self.inside.seat.table_id (key c) c.self.inside.opened.value c.self.inside.machine c.self.inside.seat.me c.args.self.now c.self.view_is c.requires.own c.self.invariant.0 c.self.invariant.1 c.self.invariant.2 c.self.invariant.3 c.self.invariant.4)
+    c.requires.may c.from-from.ensures.from c.from-from.ensures.kept
 
 -- the operation is the one that comes next
 next : (p : Private) (from : ℕ) → ops.LoadEpoch ≡ next_of (begun_of p works.Poll from)
@@ -50,46 +40,46 @@ asked p from word found = found
 pub perform-requested-requires-clause-stands : goal.perform-requested-requires-clause-stands
 perform-requested-requires-clause-stands c =
     let a : After-from-from = (goal.at.perform-requested-requires-clause-stands c).After-from-from in
-    (owned a).stands
+    (starts a).owned.stands
 
 pub perform-requested-requires-clause-may : goal.perform-requested-requires-clause-may
 perform-requested-requires-clause-may c =
     let a : After-from-from = (goal.at.perform-requested-requires-clause-may c).After-from-from in
-    goes a
+    (starts a).goes
 
 pub perform-requested-requires-clause-machine : goal.perform-requested-requires-clause-machine
 perform-requested-requires-clause-machine c =
     let a : After-from-from = (goal.at.perform-requested-requires-clause-machine c).After-from-from in
-    subst (λ (p : Private). IsMachine (begun_of p (work a) a.from-from.result)) (owned a).machine (begun a)
+    subst (λ (p : Private). IsMachine (begun_of p (work a) a.from-from.result)) (starts a).owned.machine (starts a).begun
 
 pub perform-requested-requires-clause-op : goal.perform-requested-requires-clause-op
 perform-requested-requires-clause-op c =
     let a : After-from-from = (goal.at.perform-requested-requires-clause-op c).After-from-from in
     next c.self.inside.machine c.from-from.result
-    ∙ ap (λ (p : Private). next_of (begun_of p (work a) c.from-from.result)) (owned a).machine
+    ∙ ap (λ (p : Private). next_of (begun_of p (work a) c.from-from.result)) (starts a).owned.machine
 
 pub stayed-requires-clause-idle : goal.stayed-requires-clause-idle
-stayed-requires-clause-idle c = let a : After-from-from = (goal.at.stayed-requires-clause-idle c).After-from-from in (may a).0
+stayed-requires-clause-idle c = let a : After-from-from = (goal.at.stayed-requires-clause-idle c).After-from-from in (starts a).may.0
 
 pub stayed-requires-clause-stays : goal.stayed-requires-clause-stays
-stayed-requires-clause-stays c = let a : After-from-from = (goal.at.stayed-requires-clause-stays c).After-from-from in (may a).1
+stayed-requires-clause-stays c = let a : After-from-from = (goal.at.stayed-requires-clause-stays c).After-from-from in (starts a).may.1
 
 pub summoned-requires-clause-idle : goal.summoned-requires-clause-idle
-summoned-requires-clause-idle c = let a : After-from-from = (goal.at.summoned-requires-clause-idle c).After-from-from in (may a).0
+summoned-requires-clause-idle c = let a : After-from-from = (goal.at.summoned-requires-clause-idle c).After-from-from in (starts a).may.0
 
 pub summoned-requires-clause-stays : goal.summoned-requires-clause-stays
-summoned-requires-clause-stays c = let a : After-from-from = (goal.at.summoned-requires-clause-stays c).After-from-from in (may a).1
+summoned-requires-clause-stays c = let a : After-from-from = (goal.at.summoned-requires-clause-stays c).After-from-from in (starts a).may.1
 
 pub summoned-requires-clause-found : goal.summoned-requires-clause-found
 summoned-requires-clause-found c =
     let a : After-from-from = (goal.at.summoned-requires-clause-found c).After-from-from in
-    subst (λ (p : Private). IsRequested p c.perform-requested.result) (sym (owned a).machine) (asked (record_of (key a) c.self.inside.seat.me) c.from-from.result c.perform-requested.result c.perform-requested.ensures.found)
+    subst (λ (p : Private). IsRequested p c.perform-requested.result) (sym (starts a).owned.machine) (asked (record_of (key a) c.self.inside.seat.me) c.from-from.result c.perform-requested.result c.perform-requested.ensures.found)
 
 pub invariant_of-self : goal.invariant_of-self
 invariant_of-self c =
     let a : After-from-from = (goal.at.invariant_of-self c).After-from-from in
     let s = c.self.inside in
-    let o = owned a in
+    let o = (starts a).owned in
     let start : Start = record { work = work a; from = c.from-from.result } in
     kept_by (key a) s.opened.value c.stayed.new.self c.perform-requested.new.seat.me s.births
     (opened_on (key a) s.opened.value s.seat.me c.perform-requested.new.seat.me (beats (Some start) c.perform-requested.result) o.opened c.perform-requested.ensures.me)
@@ -103,11 +93,11 @@ pub returns-then-requested-from : goal.returns-then-requested-from
 returns-then-requested-from c =
     let a : After-from-from = (goal.at.returns-then-requested-from c).After-from-from in
     let s = c.self.inside in
-    let o = owned a in
+    let o = (starts a).owned in
     let start : Start = record { work = works.Poll; from = c.from-from.result } in
     let same = o.machine ∙ sym o.now in
     polled_once c.args.self.now _ c.from-from.result c.perform-requested.result c.requires.may
-    (subst (λ (p : Private). c.from-from.result < p.slots) same (low a)) (subst (λ (p : Private). IsBetween p.phase) same c.self.invariant.4) (subst (λ (p : Private). IsMachine (begun_of p works.Poll c.from-from.result)) same (begun a))
+    (subst (λ (p : Private). c.from-from.result < p.slots) same (starts a).low) (subst (λ (p : Private). IsBetween p.phase) same c.self.invariant.4) (subst (λ (p : Private). IsMachine (begun_of p works.Poll c.from-from.result)) same (starts a).begun)
     (seen_on s.seat.table_id c.perform-requested.new.seat.table_id s.opened.value s.seat.me c.perform-requested.new.seat.me c.args.self.now (beats (Some start) c.perform-requested.result) c.perform-requested.ensures.seat.0 c.self.view_is c.perform-requested.ensures.me)
     (ap answer_of (sym (invariant_of-self c).1) ∙ c.stayed.ensures.answer)
 
@@ -116,7 +106,7 @@ pub invariant_of-self-2 : goal.invariant_of-self-2
 invariant_of-self-2 c =
     let a : After-from-from = (goal.at.invariant_of-self-2 c).After-from-from in
     let s = c.self.inside in
-    let o = owned a in
+    let o = (starts a).owned in
     let start : Start = record { work = works.Poll; from = c.from-from.result } in
     kept_by (key a) s.opened.value c.summoned.new.self c.perform-requested.new.seat.me s.births
     (opened_on (key a) s.opened.value s.seat.me c.perform-requested.new.seat.me (beats (Some start) c.perform-requested.result) o.opened c.perform-requested.ensures.me)
@@ -134,9 +124,9 @@ goes_on a me' word at learns =
     let s = a.self.inside in
     let p : Private = record_of (key a) s.seat.me in
     let start : Start = record { work = works.Poll; from = a.from-from.result } in
-    let opened = opened_on (key a) s.opened.value s.seat.me me' (beats (Some start) word) (owned a).opened at in
+    let opened = opened_on (key a) s.opened.value s.seat.me me' (beats (Some start) word) (starts a).owned.opened at in
     let is = ap (λ (q : Private). told q (seated_of me'.0).log) opened ∙ learns in
-    let c = counted p (Some start) word (goes a) (owned a).stands.between in
+    let c = counted p (Some start) word (starts a).goes (starts a).owned.stands.between in
     (ap work_of is ∙ c.work ∙ begun_work p works.Poll a.from-from.result, subst (λ (q : Private). IsTold q.phase) (sym is) c.told)
 
 pub cross-requires-clause-work : goal.cross-requires-clause-work
@@ -149,7 +139,7 @@ pub returns : goal.returns
 returns c =
     let a : After-from-from = (goal.at.returns c).After-from-from in
     let s = c.self.inside in
-    let o = owned a in
+    let o = (starts a).owned in
     let h : MutatorView = c.args.self.now in
     let now : Private = mutator_now h in
     let start : Start = record { work = works.Poll; from = c.from-from.result } in
@@ -158,7 +148,7 @@ returns c =
     let grows : v ≡ record h { log = h.log ++ beats (Some start) c.perform-requested.result }
     = seen_on s.seat.table_id c.perform-requested.new.seat.table_id s.opened.value s.seat.me c.perform-requested.new.seat.me h (beats (Some start) c.perform-requested.result) c.perform-requested.ensures.seat.0 c.self.view_is c.perform-requested.ensures.me in
     let once = path_once h v works.Poll c.from-from.result c.perform-requested.result c.requires.may
-    (subst (λ (p : Private). c.from-from.result < p.slots) same (low a)) (subst (λ (p : Private). IsBetween p.phase) same c.self.invariant.4) (subst (λ (p : Private). IsMachine (begun_of p works.Poll c.from-from.result)) same (begun a)) grows in
+    (subst (λ (p : Private). c.from-from.result < p.slots) same (starts a).low) (subst (λ (p : Private). IsBetween p.phase) same c.self.invariant.4) (subst (λ (p : Private). IsMachine (begun_of p works.Poll c.from-from.result)) same (starts a).begun) grows in
     polled_path h c.cross.new.self c.from-from.result c.cross.result (c.cross.ensures.path start now h.log refl once.0) (c.cross.ensures.grows h.log once.1)
     (c.cross.ensures.is ∙ (λ k. record (grows k) { log = c.cross.new.self.log })) c.cross.ensures.answer
     (keeps_on now (mutator_now v) (mutator_now c.cross.new.self) once.3 c.cross.ensures.same)

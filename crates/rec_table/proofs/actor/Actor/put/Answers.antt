@@ -18,36 +18,26 @@ use Rattle.rec_table.specs.Rule.{MayBegin}
 use Rattle.rec_table.specs.Straight.{record_of}
 use Rattle.rec_table.specs.declared.start.Start.{Start}
 use Rattle.rec_table.proofs.Common.{Private, IsBetween, IsMachine, Contents, Core, is_full, register, answer_of, is_busy, begun_of, took_of, mutator_now, Saw, beats, MayGo, learnt, View}
-use Rattle.rec_table.proofs.Straight.{Owns, answered_idle, carried_once, carried_twice, kept_by, learns_first, learns_second, none_born, opened_on, owns, seen_on}
+use Rattle.rec_table.proofs.Straight.{Owns, answered_idle, carried_once, carried_twice, kept_by, learns_first, learns_second, none_born, opened_on, owns, seen_on, Begins, begins}
 use Rattle.rec_table.proofs.actor.Actor.put.Goals as goal
 use Rattle.rec_table.proofs.actor.Actor.put.Goals.{After-from-from}
 
 abbrev key : (c : After-from-from) → Core
 key c = c.args.board.now.table.shared.key.value
 
-owned : (c : After-from-from) → Owns (key c) c.self.inside.opened.value c.self.inside.machine c.self.inside.seat.me c.args.self.now
-owned c = owns c.args.board.now.table.shared.table_id c.self.inside.seat.table_id (key c) c.self.inside.opened.value c.self.inside.machine c.self.inside.seat.me c.args.self.now c.self.view_is c.requires.own c.self.invariant.0 c.self.invariant.1 c.self.invariant.2 c.self.invariant.3 c.self.invariant.4
-
 abbrev work : (c : After-from-from) → Work
 work c = works.Command (commands.Put c.args.src c.args.field c.args.val)
 
-may : (c : After-from-from) → MayBegin c.self.inside.machine (work c)
-may c = subst (λ (p : Private). MayBegin p (work c)) ((owned c).now ∙ sym (owned c).machine) c.requires.may
-
-low : (c : After-from-from) → c.from-from.result < c.self.inside.machine.slots
-low c = subst (λ n. n < c.self.inside.machine.slots) (sym c.from-from.ensures.from) c.from-from.ensures.kept.from
-
-begun : (c : After-from-from) → IsMachine (begun_of c.self.inside.machine (work c) c.from-from.result)
-begun c = begun_machine c.self.inside.machine (work c) c.from-from.result c.from-from.ensures.kept (may c).2 (may c).1 (low c)
-
-goes : (c : After-from-from) → MayGo (record_of (key c) c.self.inside.seat.me) (Some (record { work = work c; from = c.from-from.result }))
-goes c = subst (λ (p : Private). MayGo p (Some (record { work = work c; from = c.from-from.result }))) (owned c).machine ((may c).0, (may c).1, (may c).2, (may c).3, low c)
+starts : (c : After-from-from) → Begins (key c) c.self.inside.opened.value c.self.inside.machine c.self.inside.seat.me c.args.self.now (work c) c.from-from.result
+starts c = begins (key c) c.self.inside.opened.value c.self.inside.machine c.self.inside.seat.me c.args.self.now (work c) c.from-from.result
+    (owns c.args.board.now.table.shared.table_id c.self.inside.seat.table_id (key c) c.self.inside.opened.value c.self.inside.machine c.self.inside.seat.me c.args.self.now c.self.view_is c.requires.own c.self.invariant.0 c.self.invariant.1 c.self.invariant.2 c.self.invariant.3 c.self.invariant.4)
+    c.requires.may c.from-from.ensures.from c.from-from.ensures.kept
 
 object : (c : After-from-from) → register c.self.inside.machine c.args.src ≡ Some c.in-Some.slot
 object c = sym c.register.ensures ∙ c.in-Some.is
 
 room : (c : After-from-from) → is_full c.self.inside.machine ≡ false
-room c = ap is_full ((owned c).machine ∙ sym (owned c).now) ∙ c.requires.room
+room c = ap is_full ((starts c).owned.machine ∙ sym (starts c).owned.now) ∙ c.requires.room
 
 -- a write that has looked at its object
 abbrev storing : (p : Private) (src f val slot : ℕ) → Private
@@ -66,23 +56,23 @@ second p src f val slot place left stands leads = λ i. ops.SwapField (stands i)
 pub perform-header-requires-clause-stands : goal.perform-header-requires-clause-stands
 perform-header-requires-clause-stands c =
     let a : After-from-from = (goal.at.perform-header-requires-clause-stands c).After-from-from in
-    (owned a).stands
+    (starts a).owned.stands
 
 pub perform-header-requires-clause-may : goal.perform-header-requires-clause-may
 perform-header-requires-clause-may c =
     let a : After-from-from = (goal.at.perform-header-requires-clause-may c).After-from-from in
-    goes a
+    (starts a).goes
 
 pub perform-header-requires-clause-machine : goal.perform-header-requires-clause-machine
 perform-header-requires-clause-machine c =
     let a : After-from-from = (goal.at.perform-header-requires-clause-machine c).After-from-from in
-    subst (λ (p : Private). IsMachine (begun_of p (work a) a.from-from.result)) (owned a).machine (begun a)
+    subst (λ (p : Private). IsMachine (begun_of p (work a) a.from-from.result)) (starts a).owned.machine (starts a).begun
 
 -- the first operation, of the record that the list makes up
 first : (a : After-from-from) → ops.LoadHeader a.in-Some.slot ≡ next_of (begun_of (record_of (key a) a.self.inside.seat.me) (work a) a.from-from.result)
 first a =
     next a.self.inside.machine a.args.src a.args.field a.args.val a.in-Some.slot a.from-from.result (object a) (room a)
-    ∙ ap (λ (p : Private). next_of (begun_of p (work a) a.from-from.result)) (owned a).machine
+    ∙ ap (λ (p : Private). next_of (begun_of p (work a) a.from-from.result)) (starts a).owned.machine
 
 pub perform-header-requires-clause-op : goal.perform-header-requires-clause-op
 perform-header-requires-clause-op c = first (goal.at.perform-header-requires-clause-op c).After-from-from
@@ -93,24 +83,24 @@ mid : (a : After-from-from) (me' : Me (Option Contents) View) (header : ℕ) →
 mid a me' header no_leaf learns =
     let m : Private = a.self.inside.machine in
     sym (looked_is m a.args.src a.args.field a.args.val a.in-Some.slot header (object a) (room a) no_leaf)
-    ∙ learns_first (record_of (key a) a.self.inside.seat.me) m (took_of (begun_of m (work a) m.from) header) (work a) a.from-from.result header (owned a).machine a.from-from.ensures.from refl
+    ∙ learns_first (record_of (key a) a.self.inside.seat.me) m (took_of (begun_of m (work a) m.from) header) (work a) a.from-from.result header (starts a).owned.machine a.from-from.ensures.from refl
     ∙ sym learns
 
 begun_here : (a : After-from-from) → IsMachine (begun_of a.self.inside.machine (work a) a.self.inside.machine.from)
-begun_here a = subst (λ n. IsMachine (begun_of a.self.inside.machine (work a) n)) a.from-from.ensures.from (begun a)
+begun_here a = subst (λ n. IsMachine (begun_of a.self.inside.machine (work a) n)) a.from-from.ensures.from (starts a).begun
 
 mid_machine : (a : After-from-from) (me' : Me (Option Contents) View) (header : ℕ) → IsTakenHeader header × (is_leaf header ≡ false) → record_of (key a) me' ≡ learnt (begun_of (record_of (key a) a.self.inside.seat.me) (work a) a.from-from.result) (Saw header) → IsMachine (record_of (key a) me')
 mid_machine a me' header found learns =
     subst IsMachine (mid a me' header found.1 learns) (looked_machine a.self.inside.machine a.args.src a.args.field a.args.val a.in-Some.slot header (begun_here a) (object a) (room a) found)
 
 pub barred-requires-clause-idle : goal.barred-requires-clause-idle
-barred-requires-clause-idle c = let a : After-from-from = (goal.at.barred-requires-clause-idle c).After-from-from in (may a).0
+barred-requires-clause-idle c = let a : After-from-from = (goal.at.barred-requires-clause-idle c).After-from-from in (starts a).may.0
 
 pub barred-requires-clause-stays : goal.barred-requires-clause-stays
-barred-requires-clause-stays c = let a : After-from-from = (goal.at.barred-requires-clause-stays c).After-from-from in (may a).1
+barred-requires-clause-stays c = let a : After-from-from = (goal.at.barred-requires-clause-stays c).After-from-from in (starts a).may.1
 
 pub barred-requires-clause-valid : goal.barred-requires-clause-valid
-barred-requires-clause-valid c = let a : After-from-from = (goal.at.barred-requires-clause-valid c).After-from-from in (may a).2
+barred-requires-clause-valid c = let a : After-from-from = (goal.at.barred-requires-clause-valid c).After-from-from in (starts a).may.2
 
 pub barred-requires-clause-object : goal.barred-requires-clause-object
 barred-requires-clause-object c = let a : After-from-from = (goal.at.barred-requires-clause-object c).After-from-from in object a
@@ -119,13 +109,13 @@ pub barred-requires-clause-room : goal.barred-requires-clause-room
 barred-requires-clause-room c = let a : After-from-from = (goal.at.barred-requires-clause-room c).After-from-from in room a
 
 pub wrote-requires-clause-idle : goal.wrote-requires-clause-idle
-wrote-requires-clause-idle c = let a : After-from-from = (goal.at.wrote-requires-clause-idle c).After-from-from in (may a).0
+wrote-requires-clause-idle c = let a : After-from-from = (goal.at.wrote-requires-clause-idle c).After-from-from in (starts a).may.0
 
 pub wrote-requires-clause-stays : goal.wrote-requires-clause-stays
-wrote-requires-clause-stays c = let a : After-from-from = (goal.at.wrote-requires-clause-stays c).After-from-from in (may a).1
+wrote-requires-clause-stays c = let a : After-from-from = (goal.at.wrote-requires-clause-stays c).After-from-from in (starts a).may.1
 
 pub wrote-requires-clause-valid : goal.wrote-requires-clause-valid
-wrote-requires-clause-valid c = let a : After-from-from = (goal.at.wrote-requires-clause-valid c).After-from-from in (may a).2
+wrote-requires-clause-valid c = let a : After-from-from = (goal.at.wrote-requires-clause-valid c).After-from-from in (starts a).may.2
 
 pub wrote-requires-clause-object : goal.wrote-requires-clause-object
 wrote-requires-clause-object c = let a : After-from-from = (goal.at.wrote-requires-clause-object c).After-from-from in object a
@@ -138,7 +128,7 @@ pub invariant_of-self : goal.invariant_of-self
 invariant_of-self c =
     let a : After-from-from = (goal.at.invariant_of-self c).After-from-from in
     let s = c.self.inside in
-    let o = owned a in
+    let o = (starts a).owned in
     let start : Start = record { work = work a; from = c.from-from.result } in
     kept_by (key a) s.opened.value c.barred.new.self c.perform-header.new.seat.me s.births
     (opened_on (key a) s.opened.value s.seat.me c.perform-header.new.seat.me (beats (Some start) c.perform-header.result) o.opened c.perform-header.ensures.me)
@@ -150,12 +140,12 @@ pub returns-then-unpack : goal.returns-then-unpack
 returns-then-unpack c =
     let a : After-from-from = (goal.at.returns-then-unpack c).After-from-from in
     let s = c.self.inside in
-    let o = owned a in
+    let o = (starts a).owned in
     let start : Start = record { work = work a; from = c.from-from.result } in
     let same = o.machine ∙ sym o.now in
     let grows = seen_on s.seat.table_id c.perform-header.new.seat.table_id s.opened.value s.seat.me c.perform-header.new.seat.me c.args.self.now (beats (Some start) c.perform-header.result) c.perform-header.ensures.seat.0 c.self.view_is c.perform-header.ensures.me in
     let carried = carried_once c.args.self.now _ (commands.Put c.args.src c.args.field c.args.val) c.from-from.result c.perform-header.result (plain answers.NoField) c.requires.may
-    (subst (λ (p : Private). c.from-from.result < p.slots) same (low a)) (subst (λ (p : Private). IsBetween p.phase) same c.self.invariant.4) (subst (λ (p : Private). IsMachine (begun_of p (work a) c.from-from.result)) same (begun a))
+    (subst (λ (p : Private). c.from-from.result < p.slots) same (starts a).low) (subst (λ (p : Private). IsBetween p.phase) same c.self.invariant.4) (subst (λ (p : Private). IsMachine (begun_of p (work a) c.from-from.result)) same (starts a).begun)
     grows
     (ap answer_of (sym (invariant_of-self c).1) ∙ c.barred.ensures.answer) in
     record { told = plain answers.NoField; answers = refl; carried = carried }
@@ -181,7 +171,7 @@ pub invariant_of-self-2 : goal.invariant_of-self-2
 invariant_of-self-2 c =
     let a : After-from-from = (goal.at.invariant_of-self-2 c).After-from-from in
     let s = c.self.inside in
-    let o = owned a in
+    let o = (starts a).owned in
     let start : Start = record { work = work a; from = c.from-from.result } in
     let no_leaf = sym c.unpack.ensures.leaf ∙ c.if-unpack.false in
     let behind = mid a c.perform-header.new.seat.me c.perform-header.result no_leaf c.perform-header.ensures.learns in
@@ -199,7 +189,7 @@ pub returns : goal.returns
 returns c =
     let a : After-from-from = (goal.at.returns c).After-from-from in
     let s = c.self.inside in
-    let o = owned a in
+    let o = (starts a).owned in
     let start : Start = record { work = work a; from = c.from-from.result } in
     let no_leaf = sym c.unpack.ensures.leaf ∙ c.if-unpack.false in
     let same = o.machine ∙ sym o.now in
@@ -210,7 +200,7 @@ returns c =
     let grows = seen_on c.perform-header.new.seat.table_id c.perform-word.new.seat.table_id s.opened.value c.perform-header.new.seat.me c.perform-word.new.seat.me _ (beats None c.perform-word.result) c.perform-word.ensures.seat.0 one c.perform-word.ensures.me in
     let told : Told = record { answer = answers.Done; saw = c.perform-word.result; left = c.word_for-left.result } in
     let carried = carried_twice c.args.self.now _ (commands.Put c.args.src c.args.field c.args.val) c.from-from.result c.perform-header.result c.perform-word.result (learnt (begun_of now (work a) c.from-from.result) (Saw c.perform-header.result)) told c.requires.may
-    (subst (λ (p : Private). c.from-from.result < p.slots) same (low a)) (subst (λ (p : Private). IsBetween p.phase) same c.self.invariant.4) (subst (λ (p : Private). IsMachine (begun_of p (work a) c.from-from.result)) same (begun a))
+    (subst (λ (p : Private). c.from-from.result < p.slots) same (starts a).low) (subst (λ (p : Private). IsBetween p.phase) same c.self.invariant.4) (subst (λ (p : Private). IsMachine (begun_of p (work a) c.from-from.result)) same (starts a).begun)
     refl
     (subst IsMachine learns (mid_machine a c.perform-header.new.seat.me c.perform-header.result (c.perform-header.ensures.found, no_leaf) c.perform-header.ensures.learns))
     (ap is_busy (sym learns ∙ sym (mid a c.perform-header.new.seat.me c.perform-header.result no_leaf c.perform-header.ensures.learns)))

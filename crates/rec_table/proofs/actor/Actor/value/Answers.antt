@@ -12,30 +12,20 @@ use Rattle.rec_table.specs.Rule.{MayBegin}
 use Rattle.rec_table.specs.Straight.{record_of}
 use Rattle.rec_table.specs.declared.start.Start.{Start}
 use Rattle.rec_table.proofs.Common.{Private, IsBetween, IsMachine, Core, register, answer_of, begun_of, beats, MayGo}
-use Rattle.rec_table.proofs.Straight.{Owns, carried_once, kept_by, learns_first, none_born, opened_on, owns, seen_on}
+use Rattle.rec_table.proofs.Straight.{Owns, carried_once, kept_by, learns_first, none_born, opened_on, owns, seen_on, Begins, begins}
 use Rattle.rec_table.proofs.actor.Actor.value.Goals as goal
 use Rattle.rec_table.proofs.actor.Actor.value.Goals.{After-from-from}
 
 abbrev key : (c : After-from-from) → Core
 key c = c.args.board.now.table.shared.key.value
 
-owned : (c : After-from-from) → Owns (key c) c.self.inside.opened.value c.self.inside.machine c.self.inside.seat.me c.args.self.now
-owned c = owns c.args.board.now.table.shared.table_id c.self.inside.seat.table_id (key c) c.self.inside.opened.value c.self.inside.machine c.self.inside.seat.me c.args.self.now c.self.view_is c.requires.own c.self.invariant.0 c.self.invariant.1 c.self.invariant.2 c.self.invariant.3 c.self.invariant.4
-
 abbrev work : (c : After-from-from) → Work
 work c = works.Command (commands.Value c.args.reg)
 
-may : (c : After-from-from) → MayBegin c.self.inside.machine (work c)
-may c = subst (λ (p : Private). MayBegin p (work c)) ((owned c).now ∙ sym (owned c).machine) c.requires.may
-
-low : (c : After-from-from) → c.from-from.result < c.self.inside.machine.slots
-low c = subst (λ n. n < c.self.inside.machine.slots) (sym c.from-from.ensures.from) c.from-from.ensures.kept.from
-
-begun : (c : After-from-from) → IsMachine (begun_of c.self.inside.machine (work c) c.from-from.result)
-begun c = begun_machine c.self.inside.machine (work c) c.from-from.result c.from-from.ensures.kept (may c).2 (may c).1 (low c)
-
-goes : (c : After-from-from) → MayGo (record_of (key c) c.self.inside.seat.me) (Some (record { work = work c; from = c.from-from.result }))
-goes c = subst (λ (p : Private). MayGo p (Some (record { work = work c; from = c.from-from.result }))) (owned c).machine ((may c).0, (may c).1, (may c).2, (may c).3, low c)
+starts : (c : After-from-from) → Begins (key c) c.self.inside.opened.value c.self.inside.machine c.self.inside.seat.me c.args.self.now (work c) c.from-from.result
+starts c = begins (key c) c.self.inside.opened.value c.self.inside.machine c.self.inside.seat.me c.args.self.now (work c) c.from-from.result
+    (owns c.args.board.now.table.shared.table_id c.self.inside.seat.table_id (key c) c.self.inside.opened.value c.self.inside.machine c.self.inside.seat.me c.args.self.now c.self.view_is c.requires.own c.self.invariant.0 c.self.invariant.1 c.self.invariant.2 c.self.invariant.3 c.self.invariant.4)
+    c.requires.may c.from-from.ensures.from c.from-from.ensures.kept
 
 object : (c : After-from-from) → register c.self.inside.machine c.args.reg ≡ Some c.in-Some.slot
 object c = sym c.register.ensures ∙ c.in-Some.is
@@ -48,32 +38,32 @@ next p reg slot from object = sym (ap (label_op p) object)
 pub perform-header-requires-clause-stands : goal.perform-header-requires-clause-stands
 perform-header-requires-clause-stands c =
     let a : After-from-from = (goal.at.perform-header-requires-clause-stands c).After-from-from in
-    (owned a).stands
+    (starts a).owned.stands
 
 pub perform-header-requires-clause-may : goal.perform-header-requires-clause-may
 perform-header-requires-clause-may c =
     let a : After-from-from = (goal.at.perform-header-requires-clause-may c).After-from-from in
-    goes a
+    (starts a).goes
 
 pub perform-header-requires-clause-machine : goal.perform-header-requires-clause-machine
 perform-header-requires-clause-machine c =
     let a : After-from-from = (goal.at.perform-header-requires-clause-machine c).After-from-from in
-    subst (λ (p : Private). IsMachine (begun_of p (work a) a.from-from.result)) (owned a).machine (begun a)
+    subst (λ (p : Private). IsMachine (begun_of p (work a) a.from-from.result)) (starts a).owned.machine (starts a).begun
 
 pub perform-header-requires-clause-op : goal.perform-header-requires-clause-op
 perform-header-requires-clause-op c =
     let a : After-from-from = (goal.at.perform-header-requires-clause-op c).After-from-from in
     next c.self.inside.machine c.args.reg c.in-Some.slot c.from-from.result (object a)
-    ∙ ap (λ (p : Private). next_of (begun_of p (work a) c.from-from.result)) (owned a).machine
+    ∙ ap (λ (p : Private). next_of (begun_of p (work a) c.from-from.result)) (starts a).owned.machine
 
 pub labelled-requires-clause-idle : goal.labelled-requires-clause-idle
-labelled-requires-clause-idle c = let a : After-from-from = (goal.at.labelled-requires-clause-idle c).After-from-from in (may a).0
+labelled-requires-clause-idle c = let a : After-from-from = (goal.at.labelled-requires-clause-idle c).After-from-from in (starts a).may.0
 
 pub labelled-requires-clause-stays : goal.labelled-requires-clause-stays
-labelled-requires-clause-stays c = let a : After-from-from = (goal.at.labelled-requires-clause-stays c).After-from-from in (may a).1
+labelled-requires-clause-stays c = let a : After-from-from = (goal.at.labelled-requires-clause-stays c).After-from-from in (starts a).may.1
 
 pub labelled-requires-clause-valid : goal.labelled-requires-clause-valid
-labelled-requires-clause-valid c = let a : After-from-from = (goal.at.labelled-requires-clause-valid c).After-from-from in (may a).2
+labelled-requires-clause-valid c = let a : After-from-from = (goal.at.labelled-requires-clause-valid c).After-from-from in (starts a).may.2
 
 pub labelled-requires-clause-object : goal.labelled-requires-clause-object
 labelled-requires-clause-object c = let a : After-from-from = (goal.at.labelled-requires-clause-object c).After-from-from in object a
@@ -82,7 +72,7 @@ pub invariant_of-self : goal.invariant_of-self
 invariant_of-self c =
     let a : After-from-from = (goal.at.invariant_of-self c).After-from-from in
     let s = c.self.inside in
-    let o = owned a in
+    let o = (starts a).owned in
     let start : Start = record { work = work a; from = c.from-from.result } in
     kept_by (key a) s.opened.value c.labelled.new.self c.perform-header.new.seat.me s.births
     (opened_on (key a) s.opened.value s.seat.me c.perform-header.new.seat.me (beats (Some start) c.perform-header.result) o.opened c.perform-header.ensures.me)
@@ -96,13 +86,13 @@ pub returns : goal.returns
 returns c =
     let a : After-from-from = (goal.at.returns c).After-from-from in
     let s = c.self.inside in
-    let o = owned a in
+    let o = (starts a).owned in
     let start : Start = record { work = work a; from = c.from-from.result } in
     let same = o.machine ∙ sym o.now in
     let grows = seen_on s.seat.table_id c.perform-header.new.seat.table_id s.opened.value s.seat.me c.perform-header.new.seat.me c.args.self.now (beats (Some start) c.perform-header.result) c.perform-header.ensures.seat.0 c.self.view_is c.perform-header.ensures.me in
     let told : Told = plain c.labelled.result in
     let carried = carried_once c.args.self.now _ (commands.Value c.args.reg) c.from-from.result c.perform-header.result told c.requires.may
-    (subst (λ (p : Private). c.from-from.result < p.slots) same (low a)) (subst (λ (p : Private). IsBetween p.phase) same c.self.invariant.4) (subst (λ (p : Private). IsMachine (begun_of p (work a) c.from-from.result)) same (begun a))
+    (subst (λ (p : Private). c.from-from.result < p.slots) same (starts a).low) (subst (λ (p : Private). IsBetween p.phase) same c.self.invariant.4) (subst (λ (p : Private). IsMachine (begun_of p (work a) c.from-from.result)) same (starts a).begun)
     grows
     (ap answer_of (sym (invariant_of-self c).1) ∙ c.labelled.ensures.answer) in
     record { told = told; answers = refl; carried = carried }

@@ -1,7 +1,7 @@
 -- The row is what it holds, laid out.
 use Rattle.std.proofs.Common.{sym, ap, ◌∙◌}
 use Rattle.rec_core.specs.Row.{row}
-use Rattle.rec_core.proofs.Row.{row_cells}
+use Rattle.rec_world.proofs.Row.{row_cells}
 use Rattle.rec_world.proofs.Indexed.{long}
 use Rattle.rec_world.proofs.memory.Memory.into_row.Goals as goal
 

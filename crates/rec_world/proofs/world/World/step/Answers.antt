@@ -4,8 +4,8 @@ use Rattle.std.specs.Option.{is_some}
 use Rattle.rec_world.proofs.Common.{next_of, is_busy, answer_of, cell, births_of, Core, cells_of, mutator, Move, stepped, core, held, IsWorld}
 use Rattle.rec_mutator.specs.declared.made.Made.{Made}
 use Rattle.rec_core.specs.Preconditions.{MayStep}
-use Rattle.rec_core.specs.Step.{IsStep}
-use Rattle.rec_core.proofs.Step.{step_is_one}
+use Rattle.rec_world.specs.Step.{IsStep}
+use Rattle.rec_world.proofs.Step.{step_is_one}
 use Rattle.rec_core.proofs.Words.{may_step}
 use Rattle.rec_world.proofs.Calls.{Ready, ready, mutator_read, home_again, machine_left, moved_world, made_small, births_few}
 use Rattle.rec_world.proofs.OneStep.{makes_step, made_step_is}

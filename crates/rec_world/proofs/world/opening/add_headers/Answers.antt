@@ -2,9 +2,10 @@
 use Rattle.std.proofs.Common.{ℕ, Bool, List, map, ◌++◌, ◌∷◌, [], sym, ap, subst, ◌∙◌, ◌≤◌, ◌^◌, arith, false}
 use Rattle.std.proofs.lemmas.List.{append-nil, take_all}
 use Rattle.rec_word.specs.Header.{label_bits}
-use Rattle.rec_world.proofs.Openings.{header_of, headers_more, labels_more}
+use Rattle.rec_world.proofs.Openings.{headers_more, labels_more}
 use Rattle.rec_core.specs.Objects.{HaveLabels}
 use Rattle.rec_world.proofs.world.opening.add_headers.Goals as goal
+use Rattle.rec_core.proofs.OpenedFromSeen.{header_of}
 
 pub loop-node-preserved : goal.loop-node-preserved
 loop-node-preserved c =

@@ -7,8 +7,9 @@ use Rattle.rec_word.specs.declared.mailbox.Mailbox.TheVariants.{Spare}
 use Rattle.rec_core.specs.Objects.{early_words}
 use Rattle.rec_core.proofs.EarlyWords.{length-early}
 use Rattle.rec_world.proofs.Indexed.{filled_up}
-use Rattle.rec_world.proofs.Openings.{header_of, row_made}
+use Rattle.rec_world.proofs.Openings.{row_made}
 use Rattle.rec_world.proofs.world.opening.open_row.Goals as goal
+use Rattle.rec_core.proofs.OpenedFromSeen.{header_of}
 
 pub returns-clause-row : goal.returns-clause-row
 returns-clause-row c =

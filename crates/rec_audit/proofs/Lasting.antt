@@ -7,7 +7,7 @@ use Rattle.std.proofs.lemmas.List.{set-get_or, get_or-set_other}
 use Rattle.std.proofs.lemmas.List.Elements.{Contains-append_left, Contains-append_right, Contains-get_or}
 use Rattle.std.proofs.lemmas.List.Sums.{sum_by-cons, sum_by-set}
 use Rattle.rec_mutator.specs.Step.{TakesBox}
-use Rattle.rec_core.proofs.Common.{has_left, noted, requested, crossing_word, Retired, place_of, Op, only_if, epoch_of, Write, Cleared, Contents, Private, is_busy, IsMachine, word_for, IsStore, probe_of, next_of, Step, Decides, GoesOn, LeavesBox, HasRoom, begun_of, left_of, took_of, whole_made, Parts, with_parts, Begun, cleared, Phase, Idle, Looking, Swapping, Returning, Turn, Cells, cell, with_cell, IsMutator, Core, cells_of, mutator, box, nobody, crossing_of, IsBufferOf, IsHandshake, IsKept, Handshake, stand_at, Fits, Move, after_move, begun_from, found_by, left_by, looked_at, offering, stepped, turned, turned_by, older_at, writes_in, writes_of, Config, header_word, stamp_of}
+use Rattle.rec_core.proofs.Common.{has_left, noted, requested, crossing_word, Retired, place_of, Op, only_if, epoch_of, Write, Cleared, Contents, Private, is_busy, IsMachine, word_for, IsStore, probe_of, next_of, Step, Decides, GoesOn, LeavesBox, HasRoom, begun_of, left_of, took_of, whole_made, Parts, with_parts, Begun, cleared, Phase, Idle, Looking, Swapping, Returning, Turn, Cells, cell, with_cell, IsMutator, Core, cells_of, mutator, box, nobody, crossing_of, IsBufferOf, IsHandshake, IsKept, Handshake, stand_at, Fits, Move, after_move, begun_from, found_by, left_by, looked_at, offering, stepped, turned, turned_by, older_at, writes_in, writes_of, header_word, stamp_of}
 use Rattle.rec_word.specs.Op.{written}
 use Rattle.rec_word.specs.declared.op.Op.TheVariants as ops
 use Rattle.rec_model.specs.declared.command.Cmd.{Cmd}
@@ -32,13 +32,14 @@ use Rattle.rec_word.specs.declared.stamps.Stamp.{Stamp}
 use Rattle.rec_mutator.proofs.LogStamps.{word_stamp}
 use Rattle.rec_core.proofs.Rules.{epoch_of_put}
 use Rattle.rec_core.proofs.Runs.{rule_of}
-use Rattle.rec_core.proofs.Turning.{turn_case}
+use Rattle.rec_core.proofs.Turning.{turn_case, parts_of_turn}
 use Rattle.rec_core.proofs.Actors.{busy_stays}
 use Rattle.rec_core.proofs.Steps.{actor_of, in_list}
 use Rattle.rec_core.proofs.Sums.{zip_sum-first_same, zip_sum-set, zip_sum-set_second, buffers_sum, writes_more, writes_same}
 use Rattle.rec_core.proofs.Turns.{now_at}
-use Rattle.rec_core.proofs.Shapes.{same_boxes}
+use Rattle.rec_core.proofs.Shapes.{same_boxes, LeavesWords, load_leaves, box_stays}
 use Rattle.rec_mutator.proofs.Refusals.{at_phase}
+use Rattle.rec_core.specs.declared.config.Config.{Config}
 
 -- what the writes in a buffer weigh
 abbrev pub wrote : (Write → ℕ) → Contents → ℕ
@@ -131,15 +132,6 @@ pub record IsPut (op : Op) (word : ℕ) (p q : Private) (box left : Contents) : 
   pub settled : p.phase ≢ at.Giving
   pub more : (g : Write → ℕ) → wrote g q.log + wrote g left ≡ wrote g p.log + wrote g box + g (record { place = place; new = new; old = word })
 
-box_stays : {p : Private} {box left : Contents} → LeavesBox p box left → (TakesBox p.phase → ⊥) → left ≡ box
-box_stays (LeavesBox.retires phase is) other = absurd (other (subst TakesBox (sym phase) tt))
-box_stays (LeavesBox.lets_go phase is) other = absurd (other (subst TakesBox (sym phase) tt))
-box_stays (LeavesBox.keeps phase is) other = is
-
--- an operation that leaves the words
-abbrev LeavesWords : (word : ℕ) → Op → Type 0
-LeavesWords word op = (cells : Cells) → cell cells op ≡ word → (with_cell cells op (written op word)).words ≡ cells.words
-
 module _ {p q : Private} {word : ℕ} {box left : Contents} {op : Op} (leaves : LeavesBox p box left) where
   plain_as : (its_op : Op) → op ≡ its_op → LeavesWords word its_op → (TakesBox p.phase → ⊥) → ((g : Write → ℕ) → wrote g q.log ≡ wrote g p.log) → IsPlain op word p q box left
   plain_as its_op is words other same = record {
@@ -152,10 +144,6 @@ module _ {p q : Private} {word : ℕ} {box left : Contents} {op : Op} (leaves : 
 
   plain_goes : {phase next : phases.Phase} {its_op : Op} → GoesOn p op q phase its_op next → LeavesWords word its_op → (TakesBox phase → ⊥) → IsPlain op word p q box left
   plain_goes {its_op = its_op} d words other = plain_as its_op d.operation words (λ e. other (subst TakesBox d.phase e)) (λ g. ap (λ (x : Private). wrote g x.log) d.after)
-
--- a load leaves the words
-load_leaves : (place word : ℕ) → LeavesWords word (ops.LoadField place)
-load_leaves place word cells e = ap (slice_set cells.words place) (sym e) ∙ set-get_or cells.words place 0
 
 pub step_logs : {p q : Private} {word : ℕ} {box left : Contents} {op : Op} → p.dates ≡ true → IsMachine p → Step p word box op q → LeavesBox p box left → IsPlain op word p q box left ⊎ IsPut op word p q box left
 step_logs some m (Step.null reg d) b = inl (plain_decides b d (λ cells e. refl) (λ e. e))
@@ -365,18 +353,7 @@ op_goes w v _ epoch place slots fields mutators is names = absurd names
 -- a turn of the collector
 module _ (w : Core) (op : Op) (kept : IsKept true w) (named : ◌≡◌ {A = Option Op} (collectors_next.next_of w.collector) (Some op)) where
   open w use {collector as c}
-
-  abbrev found : ℕ
-  found = cell (cells_of w) op
-
-  abbrev its_box : Contents
-  its_box = box w (looked_at c.phase)
-
-  abbrev q : collectors.Private
-  q = collectors_took.step_of c found its_box
-
-  abbrev v : Core
-  v = turned_by w op found
+  open (parts_of_turn w op) use {found, its_box, q, v}
 
   -- where nothing is gathered the mailboxes stay
   boxes_stay : {phase : Phase} → c.phase ≡ phase → left_by c found its_box phase ≡ its_box → v.boxes ≡ w.boxes

@@ -9,14 +9,14 @@ use Rattle.rec_word.specs.declared.op.Op.TheVariants as ops
 use Rattle.rec_collector.specs.Next.{next_of}
 use Rattle.rec_collector.proofs.Bare as collecting
 use Rattle.rec_core.specs.Bare.{bare_core}
-use Rattle.rec_core.specs.ByStamps.{by_stamp, by_stamps, cleared_by_stamp, load_by_stamp}
+use Rattle.rec_audit.specs.ByStamps.{by_stamp, by_stamps, cleared_by_stamp, load_by_stamp}
 use Rattle.rec_core.specs.Loads.{IsKnown, IsReferenceStill, IsSameTrial, Loaded, cleared_by, cleared_in, cleared_over, loaded_by, loaded_in, loaded_over}
 use Rattle.rec_core.proofs.Bare.{move_bare}
-use Rattle.rec_core.proofs.ByStamps.{dated_again, pending_again}
+use Rattle.rec_audit.proofs.ByStamps.{dated_again, pending_again}
 use Rattle.rec_core.proofs.Dated.{Explains, moves_explained}
-use Rattle.rec_core.proofs.Loads.{all_known}
+use Rattle.rec_audit.proofs.Loads.{all_known}
 use Rattle.rec_core.proofs.Runs.{move_kept}
-use Rattle.rec_core.proofs.StampDates.{AreDatedSo, move_dated, moves_dated}
+use Rattle.rec_audit.proofs.StampDates.{AreDatedSo, move_dated, moves_dated}
 use Rattle.rec_core.proofs.Trials.{no_trial}
 
 -- a word in a field

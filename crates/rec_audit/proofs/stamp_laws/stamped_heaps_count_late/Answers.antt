@@ -1,7 +1,7 @@
 -- What the heap of dated words keeps is told by the stamps of the heap itself.
-use Rattle.rec_core.proofs.StampDates.{end_dated}
-use Rattle.rec_core.proofs.StampedLate.{counted_by_stamps, forgotten_by_stamps, garbage_by_stamps, gone_by_stamps, shown_by_stamps}
-use Rattle.rec_core.proofs.laws.stamped_heaps_count_late.Goals as goal
+use Rattle.rec_audit.proofs.StampDates.{end_dated}
+use Rattle.rec_audit.proofs.StampedLate.{counted_by_stamps, forgotten_by_stamps, garbage_by_stamps, gone_by_stamps, shown_by_stamps}
+use Rattle.rec_audit.proofs.stamp_laws.stamped_heaps_count_late.Goals as goal
 
 pub returns-clause-counts : goal.returns-clause-counts
 returns-clause-counts c = λ w slot config run. let (v, e, all) = end_dated w config run in counted_by_stamps v w e all slot

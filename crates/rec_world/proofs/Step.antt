@@ -1,7 +1,7 @@
 -- A step of a mutator that works is one, in a heap that keeps what every heap keeps.
 use Rattle.std.proofs.Common.{◌≡◌, ℕ, true, refl, Bool}
 use Rattle.rec_core.proofs.Common.{is_busy, answer_of, IsMutator, Core, mutator, IsKept, Move, stepped, EndsRun}
-use Rattle.rec_core.specs.Step.{IsStep}
+use Rattle.rec_world.specs.Step.{IsStep}
 use Rattle.rec_core.proofs.BareRuns.{move_kept}
 use Rattle.rec_core.proofs.Runs.{run_more}
 use Rattle.rec_core.proofs.Showing.{step_shown}

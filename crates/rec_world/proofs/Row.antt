@@ -141,7 +141,7 @@ headers_long c (Header slot) x = length-set c.headers slot x
 headers_long c _ x = refl
 
 module _ (f s : ℕ) (r : List ℕ) (long : f + s + 2 ≤ length r) where
-  pub places_are : length (cells_of_row f s r).words ≡ f
+  places_are : length (cells_of_row f s r).words ≡ f
   places_are = length-take-le f r (omega (arith, long))
 
   pub slots_are : length (cells_of_row f s r).headers ≡ s

@@ -4,26 +4,27 @@ use Rattle.std.specs.List.{All, sum_by}
 use Rattle.std.proofs.lemmas.Bool.{cases_eq, cases_lt, cond-false, eq-eqb, eqb-true, ne_eqb}
 use Rattle.std.proofs.lemmas.List.{get_or-set_other, get_or-set_same, get_or_past, length-set, set-get_or}
 use Rattle.std.proofs.lemmas.List.Elements.{All-head, All-tail}
-use Rattle.rec_core.proofs.Common.{AllFit, Config, Core, Fits, IsConfig, IsKept, IsMutator, IsStart, IsTarget, Move, Op, Private, Write, after_move, after_moves, cell, cells_of, epoch_of, is_busy, mutator, stamp_of, stepped, turned, turned_by, whole_made, with_cell, writes_of}
+use Rattle.rec_core.proofs.Common.{AllFit, Core, Fits, IsConfig, IsKept, IsMutator, IsStart, IsTarget, Move, Op, Private, Write, after_move, after_moves, cell, cells_of, epoch_of, is_busy, mutator, stamp_of, stepped, turned, turned_by, whole_made, with_cell, writes_of}
 use Rattle.rec_word.specs.Op.{written}
 use Rattle.rec_word.specs.declared.op.Op.TheVariants as ops
 use Rattle.rec_word.specs.declared.stamps.Stamp.{Stamp}
 use Rattle.rec_word.proofs.Packing.{stamp_of-packed}
 use Rattle.rec_collector.specs.Step as collectors_step
 use Rattle.rec_collector.proofs.Always.{names_word}
-use Rattle.rec_core.specs.ByStamps.{stamp_epoch}
+use Rattle.rec_audit.specs.ByStamps.{stamp_epoch}
 use Rattle.rec_core.specs.Core.{box, heap_from_by}
 use Rattle.rec_core.specs.Moves.{EndsRun, found_by}
 use Rattle.rec_core.specs.Objects.{AreObjects, HaveLabels, Objects, early_stamp, early_word, early_words}
 use Rattle.rec_core.proofs.BareOpened.{heap_from_bare}
 use Rattle.rec_core.proofs.Dated.{Explains, moves_explained}
 use Rattle.rec_core.proofs.EarlyWords.{early_epoch, early_is}
-use Rattle.rec_core.proofs.Lasting.{begun_less, op_less, step_logs, step_sums}
+use Rattle.rec_audit.proofs.Lasting.{begun_less, op_less, step_logs, step_sums}
 use Rattle.rec_core.proofs.OpenedFrom.{opened_from_kept, pending_begins}
 use Rattle.rec_core.proofs.OpenedFromSeen.{all_targets, few_fields}
 use Rattle.rec_core.proofs.Runs.{config_after, move_kept}
 use Rattle.rec_core.proofs.Steps.{actor_of}
 use Rattle.rec_core.proofs.Turning.{turn_case}
+use Rattle.rec_core.specs.declared.config.Config.{Config}
 
 -- the date of the word is the epoch that its stamp tells
 abbrev pub IsDatedSo : (word : ℕ) → Type 0

@@ -13,7 +13,7 @@ use Rattle.rec_collector.specs.Next as collectors_next
 use Rattle.rec_collector.specs.Touched.{tried_at}
 use Rattle.rec_core.specs.Loads.{cleared_in, cleared_over, IsKnown, IsReferenceStill, Loaded, loaded_by, loaded_in, loaded_over, tried_in}
 use Rattle.rec_core.proofs.Runs.{move_kept}
-use Rattle.rec_core.proofs.Lasting.{Lasts, known_lasts, lasts_on, move_keeps, Keeps}
+use Rattle.rec_audit.proofs.Lasting.{Lasts, known_lasts, lasts_on, move_keeps, Keeps}
 use Rattle.rec_core.proofs.Trials.{BeginsNoTrial}
 
 -- more may have been taken out

@@ -11,13 +11,13 @@ use Rattle.rec_mutator.specs.Bare as mutators
 use Rattle.rec_mutator.specs.Causes.{gives_back}
 use Rattle.rec_mutator.proofs.BareKept.{said_bare}
 use Rattle.rec_core.specs.Bare.{bare_core}
-use Rattle.rec_core.specs.ByStamps.{by_stamp, by_stamps, mutator_by_stamps, stamp_epoch}
-use Rattle.rec_core.proofs.Lasting.{wrote, wrote_in_box, writes_sum}
-use Rattle.rec_core.proofs.StampDates.{AreDatedSo, IsDatedSo, misdated, misdates, none_dated}
+use Rattle.rec_audit.specs.ByStamps.{by_stamp, by_stamps, mutator_by_stamps, stamp_epoch}
+use Rattle.rec_audit.proofs.Lasting.{wrote, wrote_in_box, writes_sum}
+use Rattle.rec_audit.proofs.StampDates.{AreDatedSo, IsDatedSo, misdated, misdates, none_dated}
 
 -- ---- words and buffers
 
-bare_stamp : (word : ℕ) → stamp_of (bare word) ≡ stamp_of word
+pub bare_stamp : (word : ℕ) → stamp_of (bare word) ≡ stamp_of word
 bare_stamp word = λ i. record { writer = writer i; epoch = its_epoch i; index = index i }
   where
     writer : (word % 2 ^ 64 / 2 ^ 40) % 2 ^ 6 ≡ (word / 2 ^ 40) % 2 ^ 6

@@ -9,14 +9,14 @@ use Rattle.rec_collector.specs.Next.{next_of}
 use Rattle.rec_collector.specs.Shown.{passed_of}
 use Rattle.rec_collector.proofs.Bare as collecting
 use Rattle.rec_core.specs.Bare.{bare_core}
-use Rattle.rec_core.specs.ByStamps.{by_stamps}
+use Rattle.rec_audit.specs.ByStamps.{by_stamps}
 use Rattle.rec_core.specs.Freed.{AreGone, IsForgotten, IsGone, IsProvenGarbage, Passes, TestsSets}
-use Rattle.rec_core.proofs.ByStamps.{pending_again}
+use Rattle.rec_audit.proofs.ByStamps.{pending_again}
 use Rattle.rec_core.proofs.CutOff.{passed_bare, passes_behind}
 use Rattle.rec_core.proofs.Dated.{Explains}
 use Rattle.rec_core.proofs.Freed.{freed_is_forgotten, given_up_are_gone, passed_are_garbage, shown_is_gone}
 use Rattle.rec_core.proofs.Reach.{counted_so}
-use Rattle.rec_core.proofs.StampDates.{AreDatedSo}
+use Rattle.rec_audit.proofs.StampDates.{AreDatedSo}
 
 -- ---- the same accounts
 
