@@ -20,7 +20,7 @@ use Rattle.rec_collector.specs.Shown.{Batch}
 use Rattle.rec_collector.specs.Step.{NamesWord}
 use Rattle.rec_core.specs.Pending.{epoch_at, is_parting, writes_of}
 use Rattle.rec_core.proofs.Actors.{busy_stays}
-use Rattle.rec_core.proofs.Lasting.{step_logs, step_sums, wrote}
+use Rattle.rec_audit.proofs.Lasting.{step_logs, step_sums, wrote}
 use Rattle.rec_core.proofs.Steps.{actor_of}
 use Rattle.rec_audit.specs.Form.{number}
 use Rattle.rec_audit.specs.Graph.{has_target, is_out, is_put}

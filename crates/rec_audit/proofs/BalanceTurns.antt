@@ -18,7 +18,7 @@ use Rattle.rec_collector.proofs.ShownSteps.{shown_as_made}
 use Rattle.rec_core.specs.Kept as of_core
 use Rattle.rec_core.specs.Loads.{tried_in}
 use Rattle.rec_core.specs.Pending.{older_at, writes_of}
-use Rattle.rec_core.proofs.Lasting.{op_keeps, op_less, wrote}
+use Rattle.rec_audit.proofs.Lasting.{op_keeps, op_less, wrote}
 use Rattle.rec_core.proofs.Runs.{given_is, rule_of}
 use Rattle.rec_audit.specs.Form.{number}
 use Rattle.rec_audit.specs.Graph.{has_target, is_out, is_put}

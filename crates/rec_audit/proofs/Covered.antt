@@ -21,7 +21,7 @@ use Rattle.rec_model.proofs.Members.{is_in-cons}
 use Rattle.rec_model.proofs.Reaching.{all_in_reach}
 use Rattle.rec_core.specs.Loads.{Loaded}
 use Rattle.rec_core.specs.Pending.{births_of, older_at, snapshots_of, writes_of}
-use Rattle.rec_core.proofs.Lasting.{Lasts, closes, some_weighs, wrote}
+use Rattle.rec_audit.proofs.Lasting.{Lasts, closes, some_weighs, wrote}
 use Rattle.rec_core.proofs.Sums.{box_share, buffers_sum, log_share, share}
 use Rattle.rec_audit.specs.Form.{heap_of, is_epoch, number}
 use Rattle.rec_audit.specs.Graph.{IsReachedAt, closes as closes_line, earlier_blocks, has_target, held, is_dead, is_out, is_put, is_taken, named_by, opens, opens_from, roots, takes, target_in, targets, this_block}

@@ -21,7 +21,7 @@ use Rattle.rec_core.specs.Pending.{writes_of}
 use Rattle.rec_core.specs.Shown.{shown_behind, shown_in, shown_over, turn_shown}
 use Rattle.rec_core.specs.Turn.{seen_at}
 use Rattle.rec_core.specs.declared.config.Config.{Config}
-use Rattle.rec_core.proofs.Lasting.{begun_less}
+use Rattle.rec_audit.proofs.Lasting.{begun_less}
 use Rattle.rec_core.proofs.Opened.{first_labels, first_objects, words_opened}
 use Rattle.rec_core.proofs.OpenedFrom.{pending_begins}
 use Rattle.rec_core.proofs.Runs.{move_kept}

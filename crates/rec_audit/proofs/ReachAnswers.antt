@@ -39,7 +39,8 @@ use Rattle.rec_audit.specs.Logged.{works_in}
 use Rattle.rec_audit.specs.Runs.{ReachesAsRun, heap_for}
 use Rattle.rec_audit.proofs.Balance.{puts}
 use Rattle.rec_audit.proofs.BalanceTurns.{turned_balance}
-use Rattle.rec_audit.proofs.BareJournal.{passed_is, shown_bare, work_beside}
+use Rattle.rec_audit.proofs.BareJournal.{shown_bare, work_beside}
+use Rattle.rec_audit.proofs.Runs.{passed_same}
 use Rattle.rec_audit.proofs.Bared.{Alike, reached_less}
 use Rattle.rec_audit.proofs.Covered.{covered_all, marks}
 use Rattle.rec_audit.proofs.Covering.{Covers, moves_cover, opening_covers}
@@ -163,7 +164,7 @@ reaches_at u ls bs step members kept tells covers alike once shown passed = go (
         let same : step ≡ its = cc in
         let lines_as : Shown → List Line = λ y. bs ++ (batch_lines y.batch ++ op_lines y.op y.word) in
         let beside : Alike (ls ++ (xs ++ os)) (lines_as its) = work_beside op word x.collector ls bs alike in
-        let passes : passed_of x.collector ≡ Some members = sym (passed_is x.collector x.collector.phase) ∙ (ap (λ (y : Shown). y.passed) (sym same) ∙ passed) in
+        let passes : passed_of x.collector ≡ Some members = sym (passed_same x.collector x.collector.phase) ∙ (ap (λ (y : Shown). y.passed) (sym same) ∙ passed) in
         let few : (b : ℕ) → sum_by (puts (marks b)) (lines_as its) ≤ 1 = subst (λ (y : Shown). (b : ℕ) → sum_by (puts (marks b)) (lines_as y) ≤ 1) same once in (
           x,
           ap bare_core (sym is) ∙ turned_behind u (bare_core u) (record { bare = refl; kept = kept }),

@@ -48,6 +48,7 @@ pub mod Seated
 pub mod SetTests
 pub mod Shapes
 pub mod Showing
+pub mod Shows
 pub mod Steps
 pub mod Sums
 pub mod Sweeping

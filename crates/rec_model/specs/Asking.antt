@@ -68,8 +68,8 @@ abbrev pub leave : Heap → (t : ℕ) → (made : Bool) → Asked
 leave heap t true = answered (without_registers heap t) answers.Done 0
 leave heap t false = refused heap
 
--- What asking gives. Parking and unparking leave the heap as it is. Every object has this many fields; `made` bears on New, Leaf and Leave, and on Put where its object is there;
--- `left` is the word that a Put leaves.
+-- What asking gives. Parking and unparking leave the heap as it is. Every object has this many fields; `made` bears on New, Leaf and
+-- Leave, and on Put where its object is there; `left` is the word that a Put leaves.
 abbrev pub asks : (fields : ℕ) → Heap → (t : ℕ) → Cmd → (made : Bool) → (left : ℕ) → Asked
 asks fields heap t (commands.New reg label) made left = bear fields heap t reg label false made
 asks fields heap t (commands.Leaf reg label) made left = bear fields heap t reg label true made

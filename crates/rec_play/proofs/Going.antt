@@ -29,7 +29,8 @@ use Rattle.rec_core.proofs.Gathering.{awaited_stays}
 use Rattle.rec_core.proofs.Leaving.{IsStayingIn, polls_stay}
 use Rattle.rec_core.proofs.Runs.{config_after}
 use Rattle.rec_core.specs.Shown.{Shows}
-use Rattle.rec_world.proofs.Shows.{shows_then, shows_worked}
+use Rattle.rec_core.proofs.Shows.{shows_then}
+use Rattle.rec_world.proofs.Shows.{shows_worked}
 use Rattle.rec_core.proofs.Steps.{actor_of}
 use Rattle.rec_order.specs.Events.{swept_by}
 use Rattle.rec_order.specs.Naming.{Naming, NamesGoOn}

@@ -6,7 +6,7 @@ use Rattle.rec_model.specs.declared.told.Told.{Told}
 use Rattle.rec_collector.specs.Shown.{Shown}
 use Rattle.rec_core.specs.Core.{Core}
 use Rattle.rec_core.specs.Shown.{Shows}
-use Rattle.rec_world.proofs.Shows.{shows_none}
+use Rattle.rec_core.proofs.Shows.{shows_none}
 use Rattle.rec_order.specs.Naming.{Naming}
 use Rattle.rec_world.specs.Journal.{Notes}
 use Rattle.rec_world.specs.Order.{Turns}

@@ -8,7 +8,7 @@ use Rattle.rec_core.specs.Core.{Core, opened}
 use Rattle.rec_audit.specs.Logged.{works_in}
 use Rattle.rec_core.specs.Shown.{Shows}
 use Rattle.rec_core.specs.declared.config.Config.{Config}
-use Rattle.rec_world.proofs.Shows.{shows_then}
+use Rattle.rec_core.proofs.Shows.{shows_then}
 use Rattle.rec_model.specs.declared.limits.TheConstants.{MOST_BYTES}
 use Rattle.rec_settle.specs.Collecting.{IsCollection}
 use Rattle.rec_audit.specs.declared.form.Heap.{Heap}

@@ -64,7 +64,7 @@ unresumed_once bytes line other kind wrong (inr x) (inr y) = go x.1 y.1
         let moved : IsRefusedBehind (numbers_of others) (drop place bytes) (feeds (take place bytes)) other wrong
         = subst (λ n. IsRefusedBehind (numbers_of others) (drop n bytes) (feeds (take n bytes)) other wrong) one wronged in
         refused_behind_once (numbers_of contents) (drop place bytes) (feeds (take place bytes)) line other kind wrong refused
-            (subst (λ (v : ImageContents). IsRefusedBehind (numbers_of v) (drop place bytes) (feeds (take place bytes)) other wrong) same moved)
+        (subst (λ (v : ImageContents). IsRefusedBehind (numbers_of v) (drop place bytes) (feeds (take place bytes)) other wrong) same moved)
 
 -- A script that goes on with an image has the image's numbers.
 pub numbers_same : (bytes : List ℕ) (contents : ImageContents) (script : ScriptContents) → IsResumedAs bytes contents script → config_in contents (log_room script) plain ≡ config_of script

@@ -11,7 +11,8 @@ use Rattle.rec_core.specs.Moves.{Move, turned, turned_at}
 use Rattle.rec_core.specs.Shown.{Shows, turn_shown}
 use Rattle.rec_core.proofs.BareRuns.{shows_kept}
 use Rattle.rec_core.proofs.Gathering.{awaited_stays}
-use Rattle.rec_world.proofs.Shows.{shows_none, shows_one, shows_then, shows_worked}
+use Rattle.rec_core.proofs.Shows.{shows_none, shows_one, shows_then}
+use Rattle.rec_world.proofs.Shows.{shows_worked}
 use Rattle.rec_settle.specs.Collecting.{Anyone, AreIdle, Follows}
 use Rattle.rec_settle.specs.Shown.{IsShownTo}
 use Rattle.rec_settle.specs.Stages.{offered}

@@ -20,7 +20,7 @@ use Rattle.rec_play.specs.Playing.{to_come}
 use Rattle.rec_play.specs.Start.{names_at}
 use Rattle.rec_play.specs.Shown.{IsShownTo, first_player, told_shown}
 use Rattle.rec_play.proofs.Rounds.{Between, HasRoom, all_played, command_made, has_room, journal_is, legally, notes_at, order_made, run_stopped, start, step_made}
-use Rattle.rec_world.proofs.Shows.{shows_none, shows_then}
+use Rattle.rec_core.proofs.Shows.{shows_none, shows_then}
 use Rattle.rec_play.proofs.Shows.{command_told, fewer_come, move_made, none_left, player_is, shown_more, shows_told}
 use Rattle.rec_settle.proofs.Goes.{if_err}
 use Rattle.rec_play.proofs.whole.play_watched.Goals as goal
