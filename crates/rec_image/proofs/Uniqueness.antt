@@ -1,5 +1,6 @@
 -- Bytes that are the text of no image stop at one line.
-use Rattle.std.proofs.Common.{◌≡◌, ◌⊎◌, inl, inr, ℕ, ◌+◌, ◌==◌, Bool, true, false, List, [], ◌∷◌, ◌++◌, drop, get_or, refl, sym, ap, subst, ◌∙◌, arith, append_assoc, append-nil}
+use Rattle.std.proofs.Common.{◌≡◌, ◌⊎◌, inl, inr, ℕ, ◌+◌, ◌==◌, Bool, true, false, List, [], ◌∷◌, ◌++◌, drop, get_or, refl, sym, ap, subst, ◌∙◌, arith, append_assoc, append-nil, cond}
+use Rattle.std.proofs.lemmas.List.Sums.{sum_by-cons}
 use Rattle.std.proofs.lemmas.Bool.{eqb-true}
 use Rattle.rec_report.specs.Text.{line_feed}
 use Rattle.rec_image.specs.Image.{AreWhole, IsContinued, StopsAt, feeds, text}
@@ -49,16 +50,16 @@ record HasLine (bytes : List ℕ) : Type 0 where
   parts : bytes ≡ next ++ (line_feed ++ after)
   one : feeds next ≡ 0
 
+-- one more byte in front of whole lines
+begins : (x : ℕ) (front : List ℕ) → HasLine (front ++ line_feed) → (b : Bool) → (x == 10) ≡ b → HasLine (x ∷ (front ++ line_feed))
+begins x front rest true e = record { next = []; after = front ++ line_feed; parts = ap (λ c. c ∷ (front ++ line_feed)) (eqb-true x 10 e); one = refl }
+begins x front rest false e =
+    let more : feeds (x ∷ rest.next) ≡ 0 + feeds rest.next = sum_by-cons (λ b. cond (b == 10) 1 0) x rest.next ∙ ap (λ (b : Bool). cond b 1 0 + feeds rest.next) e in
+    record { next = x ∷ rest.next; after = rest.after; parts = ap (λ l. x ∷ l) rest.parts; one = omega (arith, more, rest.one) }
+
 first_line : (front : List ℕ) → HasLine (front ++ line_feed)
 first_line [] = record { next = []; after = []; parts = refl; one = refl }
-first_line (x ∷ front) = go (x == 10) refl
-  where
-    rest : HasLine (front ++ line_feed)
-    rest = first_line front
-
-    go : (b : Bool) → (x == 10) ≡ b → HasLine (x ∷ (front ++ line_feed))
-    go true e = record { next = []; after = front ++ line_feed; parts = ap (λ c. c ∷ (front ++ line_feed)) (eqb-true x 10 e); one = refl }
-    go false e = record { next = x ∷ rest.next; after = rest.after; parts = ap (λ l. x ∷ l) rest.parts; one = ap (λ (b : Bool). (if b then 1 else 0) + feeds rest.next) e ∙ rest.one }
+first_line (x ∷ front) = begins x front (first_line front) (x == 10) refl
 
 -- ---- stops
 
