@@ -2,6 +2,7 @@
 #include "heap.h"
 
 #include "compile.h"
+#include <inttypes.h>
 #include <unistd.h>
 
 /* ---- primitives */
@@ -38,19 +39,18 @@ static void compare(mutator *m, const call *c) {
     bool all = true;
     for (int each = 1; each < c->count; each++)
         all = all && c->of & (n[each - 1] < n[each] ? LESS : n[each - 1] > n[each] ? MORE : EQUAL);
-    make(m, c->first, all ? TRUE : FALSE, 0);
+    set(m, c->first, all ? TRUE : FALSE, 0);
 }
 
 /* Two leaves are the same where they look the same. */
 static void is_same(mutator *m, const call *c) {
-    recycler_asked told;
     label a = label_of(m, c->first), b = label_of(m, c->first + 1);
-    must(recycler_same(m->handle, c->first, c->first + 1, &told));
-    make(m, c->first, told.answer == RECYCLER_A_YES || (a.of < PAIR && a.of == b.of && a.number == b.number) ? TRUE : FALSE, 0);
+    bool alike = a.of < PAIR && a.of == b.of && a.number == b.number;
+    set(m, c->first, alike || is_one(m, c->first, c->first + 1) ? TRUE : FALSE, 0);
 }
 
 static void is_of_kind(mutator *m, const call *c) {
-    make(m, c->first, c->of >> label_of(m, c->first).of & 1 ? TRUE : FALSE, 0);
+    set(m, c->first, c->of >> label_of(m, c->first).of & 1 ? TRUE : FALSE, 0);
 }
 
 static void cons(mutator *m, int to, int head, int tail) {
@@ -207,7 +207,7 @@ static void operate(mutator *m, int which, int first, int count) {
     }
     p->carry_out(m, &c);
     if (p->operands[letters] == '!')
-        make(m, first, VOID, 0);
+        set(m, first, VOID, 0);
 }
 
 /* ---- the machine. What waits for the value of a call is a frame on the heap, so C's own stack holds nothing of a program */
@@ -239,7 +239,7 @@ static int call_procedure(mutator *m, int first, int count, int next) {
         push(m, FRAMES, FRAME, next * REGISTERS + first, ENVIRONMENT, first);
     get(m, ENVIRONMENT, first + count, 0);
     if (wanted < 0) {
-        make(m, SPARE, EMPTY, 0);
+        set(m, SPARE, EMPTY, 0);
         for (; count > least; count--)
             cons(m, SPARE, first + count - 1, SPARE);
         copy(m, first + count++, SPARE);
@@ -277,23 +277,23 @@ static int look_around(mutator *m, int next) {
 static void run(mutator *m, int next) {
     do {
         const instruction *i = &code[next++];
+        int from;
         m->line = i->line > 0 ? i->line : m->line;
         switch (i->does) {
         case CONSTANT:
-            make(m, i->to, i->at, i->number);
+            set(m, i->to, i->at, i->number);
             break;
         case LOAD:
         case STORE:
             if (i->number == 0)
                 reach(m, ROOT, i->at);
-            else
-                copy(m, WALK, ENVIRONMENT);
-            for (int outside = i->number == 0 ? 0 : i->at; outside > 0; outside--)
-                get(m, WALK, WALK, 0);
+            from = i->number == 0 ? WALK : ENVIRONMENT;
+            for (int outside = i->number == 0 ? 0 : i->at; outside > 0; outside--, from = WALK)
+                get(m, WALK, from, 0);
             if (i->does == STORE)
-                put(m, WALK, i->number, i->to);
+                put(m, from, i->number, i->to);
             else
-                check(m, get(m, i->to, WALK, i->number), "`%s` has no value here", i->name);
+                check(m, get(m, i->to, from, i->number), "`%s` has no value here", i->name);
             break;
         case CLOSE:
             make(m, i->to, CLOSURE, next - 1);
@@ -353,8 +353,6 @@ int main(int argc, char **argv) {
     int slots = 4096, option;
     bool tells = false;
     size_t room = 0;
-    recycler_settled settled;
-    recycler_totals_told totals;
     while ((option = getopt(argc, argv, "s:t:v")) != -1) {
         slots = option == 's' ? atoi(optarg) : slots;
         thread_count = option == 't' ? atoi(optarg) : thread_count;
@@ -367,18 +365,12 @@ int main(int argc, char **argv) {
     }
     if (getdelim(&program, &room, '\0', file) < 0)
         program = ""; /* an empty file */
-    const recycler_config config = { slots, FIELDS, REGISTERS, thread_count, 1024, 1, 0 };
-    must(recycler_open(&heap, &config));
-    must(recycler_notices(&heap, 256));
-    must(recycler_start(&heap));
+    open_heap(slots);
     start(change(states, 1, UNUSED, TAKEN), 1);
     while (change(states, thread_count, RUNS, RUNS) >= 0)
         collect();
-    must(recycler_stop(&heap));
-    must(recycler_settle(&heap, &settled));
-    must(recycler_totals(&heap, &totals));
-    must(recycler_close(&heap));
+    total objects = close_heap();
     if (tells)
-        fprintf(stderr, "objects: %llu made, %llu freed\n", (unsigned long long)totals.born, (unsigned long long)totals.freed);
+        fprintf(stderr, "objects: %" PRIu64 " made, %" PRIu64 " freed\n", objects.born, objects.freed);
     return change(states, thread_count, HAS_FAILED, HAS_FAILED) < 0 ? 0 : 1;
 }
