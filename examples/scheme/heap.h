@@ -164,20 +164,21 @@ static void add_item(mutator *m, int vector, int item, int value) {
 
 static void carry_out(mutator *m);
 
+/* Whether what a thread carries out ended without a failure. */
+static bool succeeds(mutator *m) {
+    if (setjmp(m->failed) != 0)
+        return false;
+    carry_out(m);
+    return true;
+}
+
 static void *work(void *given) {
     mutator *m = given;
-    bool failed = false;
-    if (setjmp(m->failed) != 0) {
-        failed = true;
-    } else {
-        for (kind of = FALSE; of <= VOID; of++)
-            make(m, CONSTANTS + of - FALSE, of, 0);
-        carry_out(m);
-    }
+    int end = succeeds(m) ? ENDED : HAS_FAILED;
     while (change(holders, LOCKS, m->number, NOBODY) >= 0)
         continue;
     leave(m);
-    change(&states[m->number], 1, RUNS, failed ? HAS_FAILED : ENDED);
+    change(&states[m->number], 1, RUNS, end);
     return NULL;
 }
 

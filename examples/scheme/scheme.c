@@ -340,6 +340,8 @@ static void compile_program(void) {
 
 /* What a thread carries out, and then what that came to, is an item of ROOT behind the globals. The first thread has the program. */
 static void carry_out(mutator *m) {
+    for (kind of = FALSE; of <= VOID; of++)
+        make(m, CONSTANTS + of - FALSE, of, 0);
     if (m->number == 0)
         compile_program();
     reach(m, ROOT, global_count + 1 + m->number);
