@@ -3,7 +3,7 @@ use Rattle.std.specs.Prelude.{ℕ, ◌+◌, ◌-◌, ◌≤◌, false, true, Som
 use Rattle.rec_counts.specs.declared.slot.Slot.{Slot}
 use Rattle.rec_counts.specs.declared.slot.Due.{Due}
 use Rattle.rec_counts.specs.declared.slot.Due.TheVariants.{Nothing, Zero, Root}
-use Rattle.rec_counts.specs.Slot.{absent, fresh, lessened, due_of, out_of_set}
+use Rattle.rec_counts.specs.Slot.{absent, fresh, lessened, due_of, given_up_slot, out_of_set}
 use Rattle.rec_counts.specs.Groups.{last_set, earlier_sets, with_member}
 use Rattle.rec_counts.specs.Lists.{times}
 use Rattle.rec_counts.specs.Kept.{Kept}
@@ -64,6 +64,10 @@ without_root (x ∷ xs) s = record (with_slot s x (record (slot_at s x) { buffer
 -- the last set is taken out: its members are unbuffered, and go to the work list
 abbrev pub without_last_set : State → State
 without_last_set s = record s { slots = map (out_of_set (length s.sets - 1)) s.slots; sets = earlier_sets s.sets; work = s.work ++ last_set s.sets }
+
+-- the last set is given up: its members are, and go to the work list
+abbrev pub given_up : State → State
+given_up s = record s { slots = map (given_up_slot (length s.sets - 1)) s.slots; sets = earlier_sets s.sets; work = s.work ++ last_set s.sets }
 
 -- the slot joins the last set
 abbrev pub with_joined : State → ℕ → State

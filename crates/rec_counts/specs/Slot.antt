@@ -104,6 +104,14 @@ abbrev pub dead_if : Bool → Slot → Slot
 dead_if true v = record v { released = true; colour = Black }
 dead_if false v = v
 
+-- given up: in no buffer, released and Black
+abbrev pub given_up_if : Bool → Slot → Slot
+given_up_if given v = dead_if given (unbuffered_if given v)
+
+-- a member of the set of this number is given up, others stay
+abbrev pub given_up_slot : ℕ → Slot → Slot
+given_up_slot number v = given_up_if (is_in number v.set) v
+
 -- White where it was Gray
 abbrev pub white_if : Bool → Slot → Slot
 white_if true v = record v { colour = whitened v.colour }

@@ -1,12 +1,12 @@
 //! The counts, colours, flags, buffers and lists of all slots.
 ghost use Rattle.std.specs.Prelude.{IfOk, ◌≡◌, ℕ, ◌+◌, ◌-◌, ◌<◌, ◌≤◌, ◌^◌, true, false, Some, None, List, [], ◌∷◌, ◌++◌, length, drop, map, nat_lt, slice_get, slice_index_or as item_at};
 ghost use Rattle.rec_counts.specs.Batched.{batched};
-ghost use Rattle.rec_counts.specs.Counts.{IsKept, IsLastSetNew, counted_slots as counted_slots_of, decremented, opened, slot_at, unlisted, with_joined, with_slot, without_last_set, without_root};
+ghost use Rattle.rec_counts.specs.Counts.{IsKept, IsLastSetNew, counted_slots as counted_slots_of, decremented, given_up, opened, slot_at, unlisted, with_joined, with_slot, without_last_set, without_root};
 ghost use Rattle.rec_counts.specs.Groups.{last_set};
 ghost use Rattle.rec_counts.specs.Kept.{Kept};
 ghost use Rattle.rec_counts.specs.Lists.{EachOnce, times};
 ghost use Rattle.rec_counts.specs.Shelf.{empty};
-ghost use Rattle.rec_counts.specs.Slot.{absent, dead_if, lowered, raised, renewed_if, swept_clean, unbuffered_if, unrooted, white_if};
+ghost use Rattle.rec_counts.specs.Slot.{absent, lowered, raised, renewed_if, swept_clean, unbuffered_if, unrooted, white_if};
 
 use crate::changes::{Changes, make_changes};
 use crate::colour::Colour;
@@ -491,15 +491,6 @@ impl Counts {
         whiten(&mut self.slots, self.marked.as_slice());
     }
 
-    /// Says that each slot of the work list is released, and makes it Black.
-    pub fn give_up_work(&mut self)
-        ensures rest { self.new ≡ record self.old { slots = self.new.slots } }
-        ensures many { length self.new.slots ≡ length self.old.slots }
-        ensures slots { (x : ℕ) → slot_at self.new x ≡ dead_if (nat_lt 0 (times x self.old.work)) (slot_at self.old x) }
-    {
-        give_up(&mut self.slots, self.work.as_slice());
-    }
-
     /// Begins a set without members, behind the others.
     pub fn begin_set(&mut self)
         requires { length self.old.sets < length self.old.slots }
@@ -520,6 +511,19 @@ impl Counts {
         self.sets.join(slot);
     }
 
+    /// Takes the last set out of the cycle buffer and gives its members up: they are released and Black, in no buffer, and stand at
+    /// the end of the work list in the order in which they joined.
+    pub fn give_up_set(&mut self)
+        requires some { 0 < length self.old.sets }
+        requires new { IsLastSetNew self.old }
+        ensures { self.new ≡ given_up self.old }
+    {
+        let members = self.sets.last();
+        give_up(&mut self.slots, members);
+        self.work.push_all(members);
+        self.sets.drop_last();
+    }
+
     /// Takes the last set out of the cycle buffer. Its members are then in no buffer, and stand at the end of the work list
     /// in the order in which they joined.
     pub fn drop_set(&mut self)
@@ -527,7 +531,7 @@ impl Counts {
         requires new { IsLastSetNew self.old }
         ensures { self.new ≡ without_last_set self.old }
     {
-        let members = self.sets.set(self.sets.len() - 1);
+        let members = self.sets.last();
         unbuffer(&mut self.slots, members);
         self.work.push_all(members);
         self.sets.drop_last();

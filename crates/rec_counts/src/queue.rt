@@ -40,9 +40,8 @@ fn write_at(items: &mut [u16], place: usize, slots: &[u16])
     requires { place + length slots.now ≤ length items.old }
     ensures { take (place + length slots.now) items.new ≡ take place items.old ++ slots.now }
 {
-    for index in 0..slots.len() {
-        items[place + index] = slots[index];
-    }
+    let end = place + slots.len();
+    items[place..end].copy_from_slice(slots);
 }
 
 impl Queue {

@@ -1,7 +1,7 @@
 //! Slots that are changed together.
 ghost use Rattle.std.specs.Prelude.{◌≡◌, ℕ, nat_lt, length, slice_index_or as item_at};
 ghost use Rattle.rec_counts.specs.Lists.{EachOnce, times};
-ghost use Rattle.rec_counts.specs.Slot.{absent, dead_if, renewed_if, unbuffered_if, white_if};
+ghost use Rattle.rec_counts.specs.Slot.{absent, given_up_if, renewed_if, unbuffered_if, white_if};
 
 use crate::colour::Colour;
 use crate::slot::Slot;
@@ -27,13 +27,14 @@ pub(crate) fn renew(slots: &mut [Slot], members: &[u16])
     }
 }
 
-/// Says that the members are released, and makes them Black.
+/// Takes the members out of their buffer, says that they are released, and makes them Black.
 pub(crate) fn give_up(slots: &mut [Slot], members: &[u16])
     requires { EachOnce (length slots.old) members.now }
-    ensures { (x : ℕ) → item_at slots.new x absent ≡ dead_if (nat_lt 0 (times x members.now)) (item_at slots.old x absent) }
+    ensures { (x : ℕ) → item_at slots.new x absent ≡ given_up_if (nat_lt 0 (times x members.now)) (item_at slots.old x absent) }
 {
     for slot in members {
         let kept = &mut slots[*slot as usize];
+        kept.leave();
         kept.released = true;
         kept.colour = Colour::Black;
     }

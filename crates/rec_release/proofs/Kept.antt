@@ -1,16 +1,16 @@
 -- What always holds of the counts still does while slots are released, a set is freed, and slots are swept.
-use Rattle.std.proofs.Common.{◌≡◌, ℕ, Bool, true, false, Option, None, Some, IfSome, List, [], length, refl, arith, ap, inl, inr, ◌<◌, ◌∷◌, map, get_or, sym, ◌-◌, ◌∙◌}
+use Rattle.std.proofs.Common.{◌≡◌, ℕ, Bool, true, false, Option, None, Some, IfSome, List, [], length, refl, arith, ap, inl, inr, ◌<◌, ◌∷◌, ◌-◌}
 use Rattle.std.proofs.lemmas.Bool.{cases_lt}
-use Rattle.std.proofs.lemmas.List.{length-map}
 use Rattle.rec_counts.specs.Counts.{State, slot_at, IsKept}
 use Rattle.rec_counts.specs.Lists.{times}
 use Rattle.rec_counts.specs.Rest.{AreZeros}
-use Rattle.rec_counts.specs.Slot.{lowered, swept_clean, absent, is_in, out_of_set, unbuffered_if}
+use Rattle.rec_counts.specs.Slot.{lowered, swept_clean}
 use Rattle.rec_counts.specs.declared.slot.Slot.{Slot}
 use Rattle.rec_counts.proofs.Decrementing.{decremented_kept}
-use Rattle.rec_counts.proofs.Keeping.{keep_slot, relisted, map_at, slots_kept, dropped_kept}
+use Rattle.rec_counts.proofs.Keeping.{keep_slot, relisted, last_new}
+use Rattle.rec_counts.proofs.Leaving.{keep_given_up}
 use Rattle.rec_counts.proofs.Times.{once_none, once_push, once_rest, times-append, times-cons}
-use Rattle.rec_release.specs.CycleFree.{listed, dead_if, given_up, given_up_slot}
+use Rattle.rec_release.specs.CycleFree.{listed, given_up}
 use Rattle.rec_release.specs.Release.{emptied, listed_if, without_first}
 use Rattle.rec_release.specs.Sweep as sweeps
 use Rattle.rec_release.specs.TakenOff.{down_if, is_lowered, taken_off}
@@ -53,20 +53,6 @@ members_listed s n k = relisted k k.marked_once (once_none _) k.zeros_once (λ x
   | inr l ↦ omega (arith, times-append x s.free s.work, l, k.free_once x)
 ])
 
-dead_buffered : (b : Bool) (v : Slot) → (dead_if b (unbuffered_if b v)).buffered ≡ (unbuffered_if b v).buffered
-dead_buffered true v = refl
-dead_buffered false v = refl
-
-dead_set : (b : Bool) (v : Slot) → (dead_if b (unbuffered_if b v)).set ≡ (unbuffered_if b v).set
-dead_set true v = refl
-dead_set false v = refl
-
 -- the last set is given up
 pub given_kept : (s : State) → 0 < length s.sets → s.work ≡ [] → IsKept s → IsKept (given_up s)
-given_kept s some work k =
-    let n : ℕ = length s.sets - 1 in
-    let old : (x : ℕ) → get_or (map (out_of_set n) s.slots) x absent ≡ out_of_set n (slot_at s x) = λ x. map_at (out_of_set n) refl s.slots x in
-    let new : (x : ℕ) → get_or (map (given_up_slot n) s.slots) x absent ≡ given_up_slot n (slot_at s x) = λ x. map_at (given_up_slot n) refl s.slots x in
-    slots_kept (dropped_kept s some work k) (map (given_up_slot n) s.slots) (length-map s.slots (given_up_slot n) ∙ sym (length-map s.slots (out_of_set n)))
-    (λ x. ap (λ (v : Slot). v.buffered) (new x) ∙ dead_buffered (is_in n (slot_at s x).set) (slot_at s x) ∙ ap (λ (v : Slot). v.buffered) (sym (old x)))
-    (λ x. ap (λ (v : Slot). v.set) (new x) ∙ dead_set (is_in n (slot_at s x).set) (slot_at s x) ∙ ap (λ (v : Slot). v.set) (sym (old x)))
+given_kept s some work k = keep_given_up k some (last_new s work k)

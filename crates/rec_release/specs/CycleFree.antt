@@ -1,5 +1,5 @@
 -- The freeing of a set: what comes next, and what is learnt of the word that came out.
-use Rattle.std.specs.Prelude.{◌≡◌, ℕ, ◌-◌, ◌<◌, true, false, Option, None, Some, IfSome, [], ◌++◌, length, map}
+use Rattle.std.specs.Prelude.{◌≡◌, ℕ, ◌<◌, true, false, Option, None, Some, IfSome, [], ◌++◌, length}
 use Rattle.rec_word.specs.Place.{place_of}
 use Rattle.rec_word.specs.Word.{target_of}
 use Rattle.rec_word.specs.declared.op.Op.{Op}
@@ -7,10 +7,10 @@ use Rattle.rec_word.specs.declared.op.Op.TheVariants.{ClearField}
 use Rattle.rec_counts.specs.declared.colour.Colour.TheVariants.{Orange}
 use Rattle.rec_counts.specs.declared.slot.Slot.{Slot}
 use Rattle.rec_counts.specs.Counts.{State, slot_at}
-use Rattle.rec_counts.specs.Groups.{last_set, earlier_sets}
+pub use Rattle.rec_counts.specs.Counts.{given_up}
+use Rattle.rec_counts.specs.Groups.{last_set}
 use Rattle.rec_counts.specs.Lists.{times}
-use Rattle.rec_counts.specs.Slot.{is_in, out_of_set}
-pub use Rattle.rec_counts.specs.Slot.{dead_if}
+pub use Rattle.rec_counts.specs.Slot.{dead_if, given_up_slot}
 use Rattle.rec_word.specs.declared.member.Member.{Member}
 use Rattle.rec_word.specs.Walk.{behind, first_in, IsOf}
 use Rattle.rec_release.specs.Release.{IsReady}
@@ -33,14 +33,6 @@ op_at fields (Some a) = Some (ClearField (place_of a.slot a.field fields))
 
 unfoldable pub next_of : Machine → Option Op
 next_of m = op_at m.fields m.at
-
--- a member of the set of this number is released and Black, and in no buffer
-abbrev pub given_up_slot : ℕ → Slot → Slot
-given_up_slot number v = dead_if (is_in number v.set) (out_of_set number v)
-
--- the last set is gone, its members are given up and stand in the work list
-abbrev pub given_up : State → State
-given_up s = record s { slots = map (given_up_slot (length s.sets - 1)) s.slots; sets = earlier_sets s.sets; work = s.work ++ last_set s.sets }
 
 -- the field that comes next, with the counts then
 pub record Next : Type 0 where

@@ -6,7 +6,7 @@ ghost use Rattle.rec_counts.specs.Groups.{earlier_sets, last_set};
 ghost use Rattle.rec_counts.specs.Lists.{times};
 ghost use Rattle.rec_word.specs.Load.{Load, loaded_at};
 ghost use Rattle.rec_word.specs.Walk.{IsOf, first_member};
-ghost use Rattle.rec_release.specs.CycleFree.{IsAtWork, IsFreeable, Work, given_up, gone_on, listed, next_of, started_of, took_of};
+ghost use Rattle.rec_release.specs.CycleFree.{IsAtWork, IsFreeable, Work, gone_on, listed, next_of, started_of, took_of};
 ghost use Rattle.rec_release.specs.Freed.{FreedTo};
 ghost use Rattle.rec_release.specs.Ran.{RanFreeing};
 ghost use Rattle.rec_release.specs.TakenOff.{AllZerosButOrange, IsApart, KeepsOrange};
@@ -68,7 +68,7 @@ impl CycleFree {
     {
         counts.rules();
         let first = Member::first(counts.set(set));
-        give_up(counts);
+        counts.give_up_set();
         self.at = first;
     }
 
@@ -188,16 +188,6 @@ impl CycleFree {
     {
         self.next().is_some()
     }
-}
-
-// The last set is gone: its members are released and Black, and stand in the work list.
-fn give_up(counts: &mut Counts)
-    requires { IsFreeable counts.old }
-    ensures { counts.new ≡ given_up counts.old }
-{
-    counts.rules();
-    counts.drop_set();
-    counts.give_up_work();
 }
 
 // The field behind this one comes next; behind the last one all members go to the free list.
