@@ -91,8 +91,8 @@ passed_works p (Freeing m) members is = refl
 passed_works p _ members is = absurd (cc)
 
 -- the end of a collection
-completes : (at : Place) (q : Private) → at.next ≡ applied_at q.epoch q.phase + 1 → at.working ≡ worked_in q.phase → 1 ≤ q.epoch → KeepsCompleted at (completed_of q) × (with_end at (completed_of q) ≡ place_of q)
-completes at q next working some = go q.phase refl
+completes : (at : Place) (q : Private) → at.next ≡ applied_at q.epoch q.phase + 1 → at.working ≡ worked_in q.phase → 1 ≤ q.epoch → (q.phase ≡ Idle → completed_of q ≡ Some (q.epoch - 1)) → KeepsCompleted at (completed_of q) × (with_end at (completed_of q) ≡ place_of q)
+completes at q next working some between = go q.phase refl
   where
     stays : (phase : Phase) → q.phase ≡ phase → worked_in phase ≡ works_in phase → at ≡ place_of q
     stays phase is same =
@@ -102,6 +102,7 @@ completes at q next working some = go q.phase refl
     go : (phase : Phase) → q.phase ≡ phase → KeepsCompleted at (completed_in q phase) × (with_end at (completed_in q phase) ≡ place_of q)
     go Idle is =
         let make : ℕ → Bool → Place = λ n b. record { next = n; working = b } in
+        subst (λ o. KeepsCompleted at o × (with_end at o ≡ place_of q)) (sym (between is) ∙ ap (completed_in q) is)
         ((working ∙ ap worked_in is, sym (next ∙ ap (λ f. applied_at q.epoch f + 1) is)), ap (λ n. make n false) next ∙ ap (make (applied_at q.epoch q.phase + 1)) (ap works_in (sym is)))
     go (Looking t) is = (tt, stays (Looking t) is refl)
     go (Swapping t) is = (tt, stays (Swapping t) is refl)
@@ -316,7 +317,7 @@ turn_keeps w behind kept own e stamped =
         let at : Place = with_batch (place_of w.collector) (batch_of op q) in
         let placed : Placed w.collector (batch_of op q) q = subst (λ (x : Option Batch). Placed w.collector x q) (sym made.batch) (step_placed (begun w kept) s) in
         let some : 1 + under_way q.phase ≤ q.epoch = begun (turned_by w op word) still in
-        let end = completes at q placed.next placed.working (omega (arith, some)) in
+        let end = completes at q placed.next placed.working (omega (arith, some)) made.between in
         record {
           keep = (
             record {

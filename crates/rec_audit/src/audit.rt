@@ -1,7 +1,7 @@
 //! The audit of a collector: a journal that grows with each of its steps.
 
 ghost use Rattle.std.specs.Prelude.{◌≡◌, ◌++◌, ◌∷◌, [], List, IfOk, OnOk, OnErr};
-ghost use Rattle.rec_collector.specs.Shown.{Shown, shown_of};
+ghost use Rattle.rec_collector.specs.Shown.{HasTaken, Shown, shown_of};
 ghost use Rattle.rec_audit.specs.Lines.{text_of};
 ghost use Rattle.rec_audit.specs.Journal.{HasNoted, journal, lines_of};
 ghost use Rattle.rec_audit.specs.declared.form.Heap.{Heap};
@@ -55,6 +55,8 @@ impl Audit {
 
     /// Notes the step that the collector has just made: this operation, which found this word.
     pub fn note(&mut self, collector: &Machine, op: Op, word: u64) -> Result<(), NoMemory>
+        requires { HasTaken op word collector.now }
+
         // The lines of the step stand behind what there was, so the steps that it has noted are one more.
         ensures lines { OnOk result (self.new ≡ self.old ++ text_of (lines_of (shown_of op word collector.now))) }
         ensures noted { OnOk result ((heap : Heap) (steps : List Shown) → HasNoted heap steps self.old

@@ -1,7 +1,7 @@
 //! The lines that tell of a step of the collector.
 
-ghost use Rattle.std.specs.Prelude.{◌≡◌, ◌++◌, map, OnOk};
-ghost use Rattle.rec_collector.specs.Shown.{batch_of, completed_of, passed_of, shown_of};
+ghost use Rattle.std.specs.Prelude.{◌≡◌, ◌++◌, ℕ, map, OnOk};
+ghost use Rattle.rec_collector.specs.Shown.{HasTaken, batch_of, completed_of, passed_of, shown_of};
 ghost use Rattle.rec_audit.specs.Lines.{text_of, text_of_line};
 ghost use Rattle.rec_audit.specs.Journal.{batch_lines, completed_lines, entry_line, lines_of, op_lines, part_lines, parts_lines, passed_lines};
 
@@ -53,15 +53,16 @@ fn push_parts(text: &mut Vec<u8>, buffers: &[Buffer]) -> Result<(), AllocError>
     Ok(())
 }
 
-/// Writes the batch that the last step of the collector applied, if it did.
+/// Writes the batch that the last step of the collector applied, if it did. `op` is the operation of that step.
 fn push_batch(text: &mut Vec<u8>, collector: &Machine, op: Op) -> Result<(), AllocError>
+    requires { (word : ℕ) × HasTaken op word collector.now }
     ensures { OnOk result (text.new.items ≡ text.old.items ++ text_of (batch_lines (batch_of op collector.now))) }
 {
-    let Some(epoch) = collector.applied(op) else {
+    let Some(batch) = collector.applied(op) else {
         return Ok(());
     };
-    push_line(text, Kind::Epoch, &[u64::from(epoch)])?;
-    push_parts(text, collector.applied_newer())?;
+    push_line(text, Kind::Epoch, &[u64::from(batch.epoch)])?;
+    push_parts(text, batch.newer)?;
     Ok(())
 }
 
@@ -103,6 +104,7 @@ pub fn push_step(
     op: Op,
     word: u64,
 ) -> Result<(), AllocError>
+    requires { HasTaken op word collector.now }
     ensures { OnOk result (text.new.items ≡ text.old.items ++ text_of (lines_of (shown_of op word collector.now))) }
 {
     push_batch(text, collector, op)?;

@@ -36,6 +36,11 @@ record IsShownOf (p q : Private) (turn : Turn) (passed : Option (List ℕ)) : Ty
   newer : applied_newer q ≡ p.newer
   passed_so : passed_of q ≡ passed
   completed : completed_of q ≡ epoch_told turn
+  between : q.phase ≡ Idle → completed_of q ≡ Some (q.epoch - 1)
+
+-- so it is not between two collections
+under_not_between : (phase : Phase) (A : Type 0) → IsUnder phase → phase ≡ Idle → A
+under_not_between phase A under is = absurd (subst IsUnder is under)
 
 -- a step that goes on
 goes_shown : (p r q : Private) (turn : Turn) (phase : Phase) (passed : Option (List ℕ)) → IsUnder phase → r.epoch ≡ p.epoch → r.newer ≡ p.newer → passed_in r phase ≡ passed → GoesOn r q turn phase → IsShownOf p q turn passed
@@ -45,14 +50,17 @@ goes_shown p r q turn phase passed under epoch newer same on =
     go : (phase : Phase) → IsUnder phase → passed_in r phase ≡ passed → IsShownOf p (record r { phase = phase; turns = r.turns + 1 }) Moved passed
     go Idle under same = absurd under
     go (Looking t) under same = absurd under
-    go (Freeing m) under same = record { applied = ap (λ e. Some (e - 1)) epoch; newer = newer; passed_so = same; completed = refl }
-    go _ under same = record { applied = ap (λ e. Some (e - 1)) epoch; newer = newer; passed_so = same; completed = refl }
+    go (Freeing m) under same = record { applied = ap (λ e. Some (e - 1)) epoch; newer = newer; passed_so = same; completed = refl; between = λ is. under_not_between (Freeing m) _ tt is }
+    go f under same = record { applied = ap (λ e. Some (e - 1)) epoch; newer = newer; passed_so = same; completed = refl; between = λ is. under_not_between f _ under is }
 
 -- and one that completes the collection
 ends_shown : (p r q : Private) (turn : Turn) (swept : ℕ) → r.epoch ≡ p.epoch → r.newer ≡ p.newer → Ends r q turn swept → IsShownOf p q turn None
 ends_shown p r q turn swept epoch newer on =
     subst (λ x. IsShownOf p x turn None) (sym on.after) (subst (λ t. IsShownOf p (record r { phase = Idle; turns = 0; collections = r.collections + 1; newer = map cleared r.older; older = r.newer }) t None) (sym on.answer)
-    (record { applied = ap (λ e. Some (e - 1)) epoch; newer = newer; passed_so = refl; completed = refl }))
+    (record { applied = ap (λ e. Some (e - 1)) epoch; newer = newer; passed_so = refl; completed = told; between = λ is. told }))
+  where
+    told : cond (r.collections + 1 == 0) None (Some (r.epoch - 1)) ≡ Some (r.epoch - 1)
+    told = ap (λ b. cond b None (Some (r.epoch - 1))) (ne_eqb (r.collections + 1) 0 (λ e. omega (arith, e)))
 
 prepares_shown : (p q : Private) (turn : Turn) (w : Parts) (v : preps.Work) → PreparesOn p w v q turn → IsShownOf p q turn None
 prepares_shown p q turn w v (PreparesOn.more due on) = goes_shown p _ q turn (Preparing v.machine) None tt refl refl refl on
@@ -210,8 +218,8 @@ within : {op named : Op} → ◌≡◌ {A = Option Op} (Some op) (Some named) �
 within {op} {named} is w = let same : op ≡ named = cc in subst IsWithin (sym same) w
 
 -- what is shown of a step within a collection
-inside_made : {p q : Private} {word : ℕ} {box : Contents} {turn : Turn} (op : Op) (s : Step p word box (Some op) q turn) → IsWithin op → batch_made s ≡ None → passed_of q ≡ set_passed s → completed_of q ≡ epoch_told turn → IsShownAsMade op s
-inside_made {p} {q} op s w none passed completed = record { batch = ap (batch_with (applied_newer q)) (w q) ∙ sym none; passed = passed; completed = completed }
+inside_made : {p q : Private} {word : ℕ} {box : Contents} {turn : Turn} (op : Op) (s : Step p word box (Some op) q turn) → IsWithin op → batch_made s ≡ None → passed_of q ≡ set_passed s → completed_of q ≡ epoch_told turn → (q.phase ≡ Idle → completed_of q ≡ Some (q.epoch - 1)) → IsShownAsMade op s
+inside_made {p} {q} op s w none passed completed between = record { batch = ap (batch_with (applied_newer q)) (w q) ∙ sym none; passed = passed; completed = completed; between = between }
 
 -- another mailbox is looked at: no batch was applied
 looking_none : (op : Op) (q : Private) (t : ℕ) → q.phase ≡ Looking t → applied_of op q ≡ None
@@ -224,6 +232,7 @@ looking_made {p} {q} op s t is none passed told = record {
   batch = ap (batch_with (applied_newer q)) (looking_none op q t is) ∙ sym none;
   passed = ap (passed_in q) is ∙ sym passed;
   completed = ap (completed_in q) is ∙ sym told;
+  between = λ idle. let no : Looking t ≡ Idle = sym is ∙ idle in absurd (cc);
 }
 
 -- the batch was applied
@@ -233,11 +242,12 @@ applied_made {p} {q} op s r passed batch same h is made set = record {
   batch = ap (λ n. batch_with n (applied_of op q)) h.newer ∙ ap (batch_with r.newer) (same ∙ h.applied) ∙ sym (made ∙ ap (λ b. Some b) is);
   passed = h.passed_so ∙ sym set;
   completed = h.completed;
+  between = h.between;
 }
 
 -- a step of a machine at work
 works_made : {p q : Private} {word : ℕ} {box : Contents} {turn : Turn} (op : Op) (s : Step p word box (Some op) q turn) (passed : Option (List ℕ)) → IsWithin op → IsShownOf p q turn passed → batch_made s ≡ None → set_passed s ≡ passed → IsShownAsMade op s
-works_made op s passed w h none set = inside_made op s w none (h.passed_so ∙ sym set) h.completed
+works_made op s passed w h none set = inside_made op s w none (h.passed_so ∙ sym set) h.completed h.between
 
 -- what the machines name
 release_within : (op : Op) (m : releases.Machine) → Some op ≡ releases.next_of m → IsWithin op
@@ -298,7 +308,7 @@ shown_as_made p q word box op turn s kept given = go s
         applied_made op (Step.request_alone idle more is alone on) (requested p) (passed_among on) (record { epoch = p.epoch; newer = p.newer }) (ap (λ o. applied_of o q) same) h
         (let less : p.epoch ≡ p.epoch + 1 - 1 = omega arith in ap (λ e. let b : Batch = record { epoch = e; newer = p.newer } in b) less) refl refl
     go (Step.wait t looks other is same answer) = looking_made op (Step.wait t looks other is same answer) t (ap (λ (x : Private). x.phase) same ∙ looks) refl refl (ap epoch_told answer)
-    go (Step.gather t looks word_is is on) = inside_made op (Step.gather t looks word_is is on) (within is (λ x. refl)) refl (ap passed_of on.after) (ap completed_of on.after ∙ sym (ap epoch_told on.answer))
+    go (Step.gather t looks word_is is on) = inside_made op (Step.gather t looks word_is is on) (within is (λ x. refl)) refl (ap passed_of on.after) (ap completed_of on.after ∙ sym (ap epoch_told on.answer)) (λ idle. let no : Returning t ≡ Idle = sym (ap (λ (x : Private). x.phase) on.after) ∙ idle in absurd (cc))
     go (Step.give_back t next returning is present on) = looking_made op (Step.give_back t next returning is present on) next (ap (λ (x : Private). x.phase) on.after) refl refl (ap epoch_told on.answer)
     go (Step.apply t returning is left on) =
         let same : op ≡ ReturnBox t p.epoch = cc in

@@ -6,6 +6,8 @@ use Rattle.rec_word.specs.declared.op.Op.TheVariants.{StoreEpoch, ReturnBox}
 use Rattle.rec_log.specs.declared.contents.Contents.{Contents}
 use Rattle.rec_counts.specs.Groups.{last_set}
 use Rattle.rec_word.specs.declared.member.Member.{Member}
+use Rattle.rec_collector.specs.Given.{IsGiven}
+use Rattle.rec_collector.specs.Kept.{IsMachine}
 use Rattle.rec_collector.specs.Parts.{Parts}
 use Rattle.rec_collector.specs.Private.{Private}
 use Rattle.rec_collector.specs.Step.{ClearsOn, IsTested, Step}
@@ -70,8 +72,9 @@ passed_in p _ = None
 abbrev pub passed_of : Private → Option (List ℕ)
 passed_of p = passed_in p p.phase
 
+-- between two collections the last step completed one, but before the first
 abbrev pub completed_in : Private → Phase → Option ℕ
-completed_in p Idle = Some (p.epoch - 1)
+completed_in p Idle = if p.collections == 0 then None else Some (p.epoch - 1)
 completed_in p _ = None
 
 -- the epoch whose collection the last step completed, if it completed one
@@ -118,8 +121,18 @@ abbrev pub epoch_told : Turn → Option ℕ
 epoch_told (Collected epoch freed) = Some epoch
 epoch_told _ = None
 
--- What is shown of a step is what it did.
+-- What is shown of a step is what it did. Where it left no collection under way, it completed one.
 pub record IsShownAsMade {p q : Private} {word : ℕ} {box : Contents} {turn : Turn} (op : Op) (s : Step p word box (Some op) q turn) : Type 0 where
   pub batch : batch_of op q ≡ batch_made s
   pub passed : passed_of q ≡ set_passed s
   pub completed : completed_of q ≡ epoch_told turn
+  pub between : q.phase ≡ Idle → completed_of q ≡ Some (q.epoch - 1)
+
+-- The last step of a machine was this operation, and found this word.
+pub record HasTaken (op : Op) (word : ℕ) (q : Private) : Type 0 where
+  pub before : Private
+  pub box : Contents
+  pub turn : Turn
+  pub step : Step before word box (Some op) q turn
+  pub kept : IsMachine before
+  pub given : IsGiven before word

@@ -47,5 +47,6 @@ pub use machine::Machine;
 pub use phase::Phase;
 pub use policy::Policy;
 pub use sets::Sets;
+pub use shown::Applied;
 pub use turn::Turn;
 pub use turns::Turns;

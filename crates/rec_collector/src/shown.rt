@@ -1,32 +1,40 @@
 //! What a watch is shown of a step, read off the machine right behind it.
-ghost use Rattle.std.specs.Prelude.{◌≡◌, IfNone, IfSome};
-ghost use Rattle.rec_collector.specs.Shown.{applied_newer, applied_of, completed_of, passed_of};
+ghost use Rattle.std.specs.Prelude.{◌≡◌, ℕ, None, Some, IfNone, IfSome};
+ghost use Rattle.rec_collector.specs.Shown.{HasTaken, batch_made, batch_of, completed_of, passed_of};
 
 use crate::machine::Machine;
 use crate::phase::Phase;
 use rec_log::Buffer;
 use rec_word::Op;
 
-impl Machine {
-    /// The epoch of the batch that the last step applied, if it applied one. `op` is the operation of that step.
-    pub fn applied(&self, op: Op) -> Option<u32>
-        ensures { result ≡ applied_of op self.now }
-    {
-        match (op, self.phase()) {
-            (_, Phase::Looking { .. }) => None,
-            (Op::StoreEpoch(_) | Op::ReturnBox(..), _) => Some(self.epoch().saturating_sub(1)),
-            _ => None,
-        }
-    }
+/// A batch that a step applied.
+#[derive(Clone, Copy)]
+pub struct Applied<'a> {
+    /// The epoch in which its newer buffers were filled.
+    pub epoch: u32,
+    /// These buffers: for each mutator, in order, what it did in that epoch.
+    pub newer: &'a [Buffer],
+}
 
-    /// Where the last step applied a batch, its newer buffers: for each mutator, in order, what it did in the epoch of that batch.
-    pub fn applied_newer(&self) -> &[Buffer]
-        ensures { result.now ≡ applied_newer self.now }
+impl Machine {
+    /// The batch that the last step applied, if it applied one. `op` is the operation of that step.
+    pub fn applied(&self, op: Op) -> Option<Applied<'_>>
+        requires taken { (word : ℕ) × HasTaken op word self.now }
+
+        ensures some { IfSome result (λ batch. batch_of op self.now ≡ Some (record { epoch = batch.epoch; newer = batch.newer.now })) }
+        ensures none { IfNone result (batch_of op self.now ≡ None) }
+
+        // It is what the step did, by whichever rule it was made.
+        ensures made { (word : ℕ) (taken : HasTaken op word self.now) → batch_of op self.now ≡ batch_made taken.step }
     {
-        match self.phase() {
-            Phase::Idle => self.older(),
-            _ => self.newer(),
-        }
+        let newer = match (op, self.phase()) {
+            (_, Phase::Looking { .. }) => return None,
+            (Op::StoreEpoch(_) | Op::ReturnBox(..), Phase::Idle) => self.older(),
+            (Op::StoreEpoch(_) | Op::ReturnBox(..), _) => self.newer(),
+            _ => return None,
+        };
+        let epoch = self.epoch().saturating_sub(1);
+        Some(Applied { epoch, newer })
     }
 
     /// The members of the set that passed both tests in the last step, if one did. Their fields are exchanged from the next step on.
@@ -45,13 +53,15 @@ impl Machine {
         }
     }
 
-    /// The epoch whose collection the last step completed, if it completed one. Before the first step it is the epoch before the first
-    /// one.
+    /// The epoch whose collection the last step completed, if it completed one.
     pub fn completed(&self) -> Option<u32>
-        ensures { result ≡ completed_of self.now }
+        ensures completed { result ≡ completed_of self.now }
+
+        // Before the first collection is complete there is none.
+        ensures none { self.now.collections ≡ 0 → result ≡ None }
     {
         match self.phase() {
-            Phase::Idle => Some(self.epoch().saturating_sub(1)),
+            Phase::Idle if self.collections() != 0 => Some(self.epoch().saturating_sub(1)),
             _ => None,
         }
     }

@@ -16,7 +16,7 @@ use Rattle.rec_collector.specs.Bare as collectors_bare
 use Rattle.rec_collector.specs.Given.{IsGiven, IsGivenAt}
 use Rattle.rec_collector.specs.Next.{next_of}
 use Rattle.rec_collector.specs.Private as collectors
-use Rattle.rec_collector.specs.Shown.{Shown}
+use Rattle.rec_collector.specs.Shown.{HasTaken, Shown}
 use Rattle.rec_collector.specs.Step.{Step}
 use Rattle.rec_collector.specs.Took.{step_of, turn_of}
 use Rattle.rec_collector.specs.declared.phase.Phase.{Phase}
@@ -33,6 +33,7 @@ use Rattle.rec_core.specs.Preconditions.{MayTurn}
 use Rattle.rec_core.specs.Reach.{KeepsReached}
 use Rattle.rec_core.specs.Shown.{Shows}
 use Rattle.rec_core.specs.Swept.{IsSweep}
+use Rattle.rec_core.specs.Turn.{seen_at, step_seen}
 use Rattle.rec_core.specs.declared.config.Config.{Config}
 use Rattle.rec_core.proofs.Bare.{found_bare}
 use Rattle.rec_core.proofs.BareKept.{kept_bare}
@@ -41,6 +42,7 @@ use Rattle.rec_core.proofs.Dated.{Explains, end_explained, move_explained}
 use Rattle.rec_core.proofs.Reach as seen
 use Rattle.rec_core.proofs.Runs as dated_runs
 use Rattle.rec_core.proofs.Swept as swept
+use Rattle.rec_core.proofs.Turning.{turn_case}
 use Rattle.rec_core.proofs.Words.{may_turn_given}
 
 -- ---- the heap behind
@@ -136,6 +138,19 @@ rule_of w op kept named =
     let word : ℕ = cell (cells_of w) op in
     let b : Contents = box w (looked_at w.collector.phase) in
     subst (λ (x : Option Op). Step w.collector word b x (step_of w.collector word b) (turn_of w.collector word)) named (step_made w.collector word b kept.collector.machine kept.collector.between (given_is w op kept named))
+
+-- behind a turn the collector has taken what is seen of it
+pub turn_taken : {dated : Bool} → (w : Core) → IsKept dated w → IfSome (step_seen w) (λ seen. HasTaken seen.0 seen.1 (turned w).collector)
+turn_taken w kept =
+    turn_case w (λ o v. IfSome (seen_at w o) (λ seen. HasTaken seen.0 seen.1 v.collector)) (λ none. tt)
+    (λ op named. record {
+      before = w.collector;
+      box = box w (looked_at w.collector.phase);
+      turn = turn_of w.collector (cell (cells_of w) op);
+      step = rule_of w op kept named;
+      kept = kept.collector.machine;
+      given = given_is w op kept named;
+    })
 
 -- the collector may make its next turn
 pub may_turn : {dated : Bool} → (w : Core) → IsKept dated w → IfSome (next_of w.collector) (MayTurn w)

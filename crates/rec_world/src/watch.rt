@@ -1,7 +1,7 @@
 //! Who watches a collector, and a turn of the collector that is watched.
 ghost use Rattle.std.specs.Prelude.{◌≡◌, ℕ, ◌≤◌, List, [], ◌∷◌, ◌++◌, IfOk, IfErr};
 ghost use Rattle.rec_io.specs.Faults.{Rose};
-ghost use Rattle.rec_collector.specs.Shown.{Shown, shown_of};
+ghost use Rattle.rec_collector.specs.Shown.{HasTaken, Shown, shown_of};
 ghost use Rattle.rec_collector.specs.declared.turn.Turn as answers;
 ghost use Rattle.rec_core.specs.Shown.{turn_shown};
 ghost use Rattle.rec_core.specs.Turn.{IsTurn, step_seen};
@@ -23,6 +23,8 @@ pub trait Watch {
 
     /// Is shown a step of the world's collector, right behind it: its operation, and the word that this found.
     fn after(&mut self, world: &World, op: Op, word: u64) -> Result<(), NoMemory>
+        requires { HasTaken op word world.now.collector }
+
         ensures shown { IfOk result (λ done. WasShown self.old (shown_of op word world.now.collector ∷ []) self.new) }
 
         // Where its memory runs out it was shown nothing, and that is counted.

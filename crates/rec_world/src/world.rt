@@ -1,4 +1,4 @@
-ghost use Rattle.std.specs.Prelude.{◌≡◌, ℕ, ◌+◌, ◌*◌, ◌%◌, ◌<◌, ◌↔◌, true, false, None, Some, All, length, map, slice_index_or, IsTrue, IsNone, IsSome, IfOk, IfErr};
+ghost use Rattle.std.specs.Prelude.{◌≡◌, ℕ, ◌+◌, ◌*◌, ◌%◌, ◌<◌, ◌↔◌, true, false, None, Some, All, length, map, slice_index_or, IsTrue, IsNone, IsSome, IfSome, IfOk, IfErr};
 ghost use Rattle.rec_word.specs.Header.{is_leaf};
 ghost use Rattle.rec_counts.specs.Counts.{slot_at};
 ghost use Rattle.rec_model.specs.Heap.{opening, register, registers_of};
@@ -7,6 +7,7 @@ ghost use Rattle.rec_model.specs.Sight.{IsTaken, Represents, NumbersSlots};
 ghost use Rattle.rec_mutator.specs.Private.{is_busy, answer_of, work_of};
 ghost use Rattle.rec_mutator.specs.declared.made.Made.TheVariants as makes;
 ghost use Rattle.rec_mutator.specs.declared.work.Work.TheVariants as works;
+ghost use Rattle.rec_collector.specs.Shown.{HasTaken};
 ghost use Rattle.rec_collector.specs.declared.turn.Turn as turns;
 ghost use Rattle.rec_core.specs.Config.{IsConfig, IsMutator, IsValid, IsWork, HasLabel};
 ghost use Rattle.rec_core.specs.Core.{Core, sight, mutator, opened, opened_mutator};
@@ -209,6 +210,9 @@ impl World {
         // What is seen of it: the operation that came next, and the word that it named.
         ensures seen { result.1 ≡ step_seen self.old }
         ensures unseen { IsNone result.1 ↔ (result.0 ≡ turns.Turn.EpochsSpent) }
+
+        // It is the last step of the collector, so that the collector may be asked what that step did.
+        ensures taken { IfSome result.1 (λ seen. HasTaken seen.0 seen.1 self.new.collector) }
         ensures kept { IsWorld self.new }
     {
         let Some(op) = self.collector.next() else {

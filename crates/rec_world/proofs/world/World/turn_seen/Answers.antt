@@ -7,13 +7,14 @@ use Rattle.rec_word.specs.declared.op.Op.{Op}
 use Rattle.rec_collector.specs.Given.{IsGiven, IsSized, swapping_for}
 use Rattle.rec_collector.specs.Next.{next_of}
 use Rattle.rec_collector.specs.Private.{Private}
+use Rattle.rec_collector.specs.Shown.{HasTaken}
 use Rattle.rec_collector.specs.Took.{took_of, turn_of}
 use Rattle.rec_collector.specs.declared.turn.Turn.{Turn}
 use Rattle.rec_collector.specs.declared.turn.Turn.TheVariants as turns
 use Rattle.rec_core.specs.Preconditions.{MayTurn}
-use Rattle.rec_core.specs.Turn.{IsTurn, told_at, turn_told}
+use Rattle.rec_core.specs.Turn.{IsTurn, seen_at, step_seen, told_at, turn_told}
 use Rattle.rec_core.proofs.Turn.{turn_is_one}
-use Rattle.rec_core.proofs.BareRuns.{may_turn}
+use Rattle.rec_core.proofs.BareRuns.{may_turn, turn_taken}
 use Rattle.rec_world.proofs.Calls.{ReadyToTurn, ready_to_turn, box_read, moved_world}
 use Rattle.rec_world.proofs.Turnings.{holds_looked, home_still, turned_is}
 use Rattle.rec_world.proofs.world.World.turn_seen.Goals as goal
@@ -119,3 +120,12 @@ returns-clause-turn c =
 
 pub returns-clause-kept : goal.returns-clause-kept
 returns-clause-kept c = world (goal.at.returns-clause-kept c).After-gather
+
+-- and the step that the collector has taken in it
+pub returns-clause-taken : goal.returns-clause-taken
+returns-clause-taken c =
+    let at : After-gather = (goal.at.returns-clause-taken c).After-gather in
+    let w : Core = core c.self.inside in
+    let seen : step_seen w ≡ Some (c.in-Some.op, c.perform-found.result) = ap (seen_at w) (its_op at) ∙ ap (λ n. Some (c.in-Some.op, n)) (sym c.perform-found.ensures.found) in
+    let taken : HasTaken c.in-Some.op c.perform-found.result (turned w).collector = subst (λ o. IfSome o (λ x. HasTaken x.0 x.1 (turned w).collector)) seen (turn_taken w (ends at).kept) in
+    subst (λ (x : Core). HasTaken c.in-Some.op c.perform-found.result x.collector) (sym (left at)) taken
