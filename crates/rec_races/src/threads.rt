@@ -50,7 +50,7 @@ pub fn stop(alloc: Global, heap: Heap, mutators: Vec<Mutator>, collector: Collec
 {
     match heap.stop(alloc, mutators, collector) {
         Ok(world) => world,
-        Err(_) => unreachable!(), // stopping takes no memory
+        Err(_) => unreachable!(), // stopping is never refused memory
     }
 }
 

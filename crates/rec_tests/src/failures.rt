@@ -23,7 +23,7 @@ const PLAY: [&str; 2] = ["recycler", "play"];
 const MAKE: [&str; 4] = ["recycler", "make", "--mutators=1", "--commands=0"];
 
 // Words with which the worked script is run, and the text that is written.
-const WHOLE: [(&'static [&'static str], &str); 4] = [
+const WHOLE: [(&'static [&'static str], &str); 5] = [
     (&PLAY, TEXT),
     (&["recycler", "threads"], TEXT),
     (
@@ -32,6 +32,10 @@ const WHOLE: [(&'static [&'static str], &str); 4] = [
          done 3 null 0 object 1 value 1 yes 0 no 0 none 0 full 0 busy 0\n\
          live 2 made 2 refused 0 freed 0\n\
          epochs 3 cycles 0 delta 0 sigma 0\n",
+    ),
+    (
+        &["recycler", "play", "--image"],
+        "recycler image 1\nheap 4 1 2 1\nobject 0 #2\nobject 7 -\nregisters #1 #2\nend\n",
     ),
     (&MAKE, "recycler 1\nheap 1024 2 8\nmutator\n"),
 ];
