@@ -79,7 +79,7 @@ late_null epoch weight place = (let none : epoch_of 0 ≡ 0 = epoch_of_null in g
 -- ---- lists
 
 -- a word is replaced in a list of words by one that weighs nothing
-pub set_less : (f : ℕ → ℕ → ℕ) (xs : List ℕ) (p y : ℕ) → f p y ≡ 0 → f p 0 ≡ 0 → sum_at f (slice_set xs p y) + f p (slice_index_or xs p 0) ≤ sum_at f xs
+set_less : (f : ℕ → ℕ → ℕ) (xs : List ℕ) (p y : ℕ) → f p y ≡ 0 → f p 0 ≡ 0 → sum_at f (slice_set xs p y) + f p (slice_index_or xs p 0) ≤ sum_at f xs
 set_less f [] p y none null = omega (arith, null)
 set_less f (x ∷ xs) zero y none null = omega (arith, none)
 set_less f (x ∷ xs) (suc p) y none null = (let more = set_less (λ i. f (suc i)) xs p y none null in omega (arith, more))

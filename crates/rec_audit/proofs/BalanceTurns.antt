@@ -11,24 +11,22 @@ use Rattle.rec_model.specs.Accounted.{is_wrong_write, late, put_late, replaced_l
 use Rattle.rec_model.proofs.Sums.{sum_at_same, sum_at_split, sum_by_same}
 use Rattle.rec_collector.specs.Next.{next_of as collector_next}
 use Rattle.rec_collector.specs.Private as collectors
-use Rattle.rec_collector.specs.Shown.{Batch, batch_made, batch_of}
-use Rattle.rec_collector.specs.Step.{NamesWord, Step}
-use Rattle.rec_collector.specs.Took.{step_of, turn_of}
-use Rattle.rec_collector.proofs.ShownSteps.{shown_as_made}
+use Rattle.rec_collector.specs.Shown.{Batch, batch_of}
+use Rattle.rec_collector.specs.Step.{NamesWord}
+use Rattle.rec_collector.specs.Took.{step_of}
 use Rattle.rec_core.specs.Kept as of_core
 use Rattle.rec_core.specs.Loads.{tried_in}
 use Rattle.rec_core.specs.Pending.{older_at, writes_of}
 use Rattle.rec_audit.proofs.Lasting.{op_keeps, op_less, wrote}
-use Rattle.rec_core.proofs.Runs.{given_is, rule_of}
 use Rattle.rec_audit.specs.Form.{number}
 use Rattle.rec_audit.specs.Graph.{has_target, is_out, is_put}
 use Rattle.rec_audit.specs.Journal.{batch_lines, op_lines}
 use Rattle.rec_audit.specs.Lines.{Line}
 use Rattle.rec_audit.specs.Logged.{last_batch, works_in}
-use Rattle.rec_audit.specs.Runs.{place_of}
 use Rattle.rec_audit.proofs.Balance.{Balanced, BalancedAt, after, batch_puts, batch_replaces, batch_takes, both_less, both_more, early, late_null, late_puts, late_replaces, none_late, op_weighs, put_by, puts, replaced_by, replaces, takes_out}
 use Rattle.rec_audit.proofs.Journalled.{StandsIn, applied_in, last_sum}
 use Rattle.rec_audit.proofs.Newly.{row_weighs}
+use Rattle.rec_audit.proofs.OneTurn.{one_turn, ops_of}
 use Rattle.rec_audit.proofs.Placing.{Placed, step_placed}
 use Rattle.rec_audit.proofs.RunTurns.{IsBatchOf, ops_late, step_batch, tried_near}
 use Rattle.rec_audit.proofs.Runs.{begun}
@@ -186,32 +184,19 @@ module _ (ls : List Line) (w : Core) (op : Op) (kept : IsKept true w) (named : �
   abbrev v : Core
   v = turned_by w op (cell (cells_of w) op)
 
-  abbrev ops_are : List Line
-  ops_are = op_lines op (cell (cells_of w) op)
-
-  s : Step w.collector (cell (cells_of w) op) (box w (looked_at w.collector.phase)) (Some op) q (turn_of w.collector (cell (cells_of w) op))
-  s = rule_of w op kept named
-
-  shown : batch_of op q ≡ batch_made s
-  shown = (shown_as_made w.collector q (cell (cells_of w) op) (box w (looked_at w.collector.phase)) op (turn_of w.collector (cell (cells_of w) op)) s kept.collector.machine (given_is w op kept named)).batch
+  open (one_turn w op kept named still) use {s, shown, at_w, at_v}
 
   placed : (x : Option Batch) → batch_of op q ≡ x → Placed w.collector x q
   placed x is = subst (λ (y : Option Batch). Placed w.collector y q) (sym shown ∙ is) (step_placed (begun w kept) s)
 
-  at_w : (place_of w.collector).next ≡ applied_in w + 1
-  at_w = ap (λ e. applied_at e w.collector.phase + 1) kept.collector.epoch
-
-  at_v : applied_at q.epoch q.phase ≡ applied_in v
-  at_v = ap (λ e. applied_at e q.phase) still.collector.epoch
-
   tried : tried_in w ≤ applied_in w + 1
   tried = tried_near w.epoch w.collector.phase
 
-  ops_puts : (f : ℕ → ℕ → ℕ) → sum_by (puts f) ops_are ≡ 0
-  ops_puts f = none_late (puts f) ops_are (ops_late op (cell (cells_of w) op)) (late_puts f)
+  ops_puts : (f : ℕ → ℕ → ℕ) → sum_by (puts f) (ops_of w op) ≡ 0
+  ops_puts f = none_late (puts f) (ops_of w op) (ops_late op (cell (cells_of w) op)) (late_puts f)
 
-  ops_replaces : (f : ℕ → ℕ → ℕ) → sum_by (replaces f) ops_are ≡ 0
-  ops_replaces f = none_late (replaces f) ops_are (ops_late op (cell (cells_of w) op)) (late_replaces f)
+  ops_replaces : (f : ℕ → ℕ → ℕ) → sum_by (replaces f) (ops_of w op) ≡ 0
+  ops_replaces f = none_late (replaces f) (ops_of w op) (ops_late op (cell (cells_of w) op)) (late_replaces f)
 
   -- words of earlier epochs are put by no write since
   put_nothing : (f : ℕ → ℕ → ℕ) → ((place word : ℕ) → epoch_of word ≤ applied_in w → f place word ≡ 0) → sum_by (put_by f) (writes_of w) ≤ sum_by (put_by f) (writes_of v)
@@ -224,7 +209,7 @@ module _ (ls : List Line) (w : Core) (op : Op) (kept : IsKept true w) (named : �
     same_epoch = omega (arith, at_w, at_v, (placed None is).next)
 
     -- what stands lasts, so no later word comes out
-    none_out : (g : ℕ → ℕ → ℕ) → sum_by (takes_out (late (applied_in w) g)) ops_are ≡ 0
+    none_out : (g : ℕ → ℕ → ℕ) → sum_by (takes_out (late (applied_in w) g)) (ops_of w op) ≡ 0
     none_out g =
         let f : ℕ → ℕ → ℕ = late (applied_in w) g in
         let after_it : sum_by (put_late (applied_in w) g) (writes_of v) ≡ sum_at (late (applied_in w) g) v.words + sum_by (replaced_late (applied_in w) g) (writes_of v)
@@ -241,24 +226,24 @@ module _ (ls : List Line) (w : Core) (op : Op) (kept : IsKept true w) (named : �
         early_none : (a : ℕ) (g : ℕ → ℕ → ℕ) (place word : ℕ) → epoch_of word ≤ a → late a g place word ≡ 0
         early_none a g place word up = grind (arith, nat_tests)
 
-    quiet_turn : Balanced (ls ++ ops_are) v
-    quiet_turn = subst (λ n. BalancedAt n (ls ++ ops_are) v) (sym same_epoch) (record {
+    quiet_turn : Balanced (ls ++ ops_of w op) v
+    quiet_turn = subst (λ n. BalancedAt n (ls ++ ops_of w op) v) (sym same_epoch) (record {
       stands = λ g.
           let f : ℕ → ℕ → ℕ = early (applied_in w) g in
           omega (
             arith,
             balanced.stands g,
-            sum_by-append (takes_out f) ls ops_are,
-            sum_by-append (replaces f) ls ops_are,
-            sum_by-append (puts f) ls ops_are,
+            sum_by-append (takes_out f) ls (ops_of w op),
+            sum_by-append (replaces f) ls (ops_of w op),
+            sum_by-append (puts f) ls (ops_of w op),
             ops_replaces f,
             op_less w op kept named (after (applied_in w) (replaced_by f)),
             op_weighs w op (length w.collector.counts.slots) w.collector.fields (length w.collector.newer) names f (null_early (applied_in w) g),
           );
       near = λ g.
           let f : ℕ → ℕ → ℕ = late (applied_in w) g in
-          omega (arith, balanced.near g, sum_by-append (replaces f) ls ops_are, ops_replaces f, ap (sum_by (wrote (replaced_by f))) (placed None is).last);
-      gone = λ g. omega (arith, balanced.gone g, sum_by-append (takes_out (late (applied_in w) g)) ls ops_are, none_out g);
+          omega (arith, balanced.near g, sum_by-append (replaces f) ls (ops_of w op), ops_replaces f, ap (sum_by (wrote (replaced_by f))) (placed None is).last);
+      gone = λ g. omega (arith, balanced.gone g, sum_by-append (takes_out (late (applied_in w) g)) ls (ops_of w op), none_out g);
     })
 
   -- ---- a batch is applied
@@ -271,7 +256,7 @@ module _ (ls : List Line) (w : Core) (op : Op) (kept : IsKept true w) (named : �
     last_is = (placed (Some x) is).last
 
     abbrev behind : List Line
-    behind = (ls ++ batch_lines (Some x)) ++ ops_are
+    behind = (ls ++ batch_lines (Some x)) ++ ops_of w op
 
     newer_weigh : (h : Write → ℕ) → sum_by (in_epoch (applied_in w + 1) h) (writes_of v) ≡ sum_by (wrote h) x.newer
     newer_weigh h = ap (λ n. sum_by (in_epoch n h) (writes_of v)) (sym next_epoch) ∙ last_weighs v h still ∙ ap (sum_by (wrote h)) last_is
@@ -284,15 +269,15 @@ module _ (ls : List Line) (w : Core) (op : Op) (kept : IsKept true w) (named : �
         parts a e n = grind (arith, nat_tests)
 
     lines_put : (f : ℕ → ℕ → ℕ) → sum_by (puts f) behind ≡ sum_by (puts f) ls + sum_by (wrote (put_by f)) x.newer
-    lines_put f = omega (arith, sum_by-append (puts f) (ls ++ batch_lines (Some x)) ops_are, sum_by-append (puts f) ls (batch_lines (Some x)), batch_puts f x, ops_puts f)
+    lines_put f = omega (arith, sum_by-append (puts f) (ls ++ batch_lines (Some x)) (ops_of w op), sum_by-append (puts f) ls (batch_lines (Some x)), batch_puts f x, ops_puts f)
 
     lines_replace : (f : ℕ → ℕ → ℕ) → sum_by (replaces f) behind ≡ sum_by (replaces f) ls + sum_by (wrote (replaced_by f)) x.newer
-    lines_replace f = omega (arith, sum_by-append (replaces f) (ls ++ batch_lines (Some x)) ops_are, sum_by-append (replaces f) ls (batch_lines (Some x)), batch_replaces f x, ops_replaces f)
+    lines_replace f = omega (arith, sum_by-append (replaces f) (ls ++ batch_lines (Some x)) (ops_of w op), sum_by-append (replaces f) ls (batch_lines (Some x)), batch_replaces f x, ops_replaces f)
 
     lines_take : (f : ℕ → ℕ → ℕ) → sum_by (takes_out f) behind ≡ sum_by (takes_out f) ls
     lines_take f = omega (
       arith,
-      sum_by-append (takes_out f) (ls ++ batch_lines (Some x)) ops_are,
+      sum_by-append (takes_out f) (ls ++ batch_lines (Some x)) (ops_of w op),
       sum_by-append (takes_out f) ls (batch_lines (Some x)),
       batch_takes f x,
       ap (sum_by (takes_out f)) (batch_plain op (cell (cells_of w) op) q x is),
@@ -385,9 +370,9 @@ module _ (ls : List Line) (w : Core) (op : Op) (kept : IsKept true w) (named : �
         near_none a g place old up = grind (arith, nat_tests)
 
   -- what the lines of a turn leave
-  pub turned_balance : Balanced ((ls ++ batch_lines (batch_of op q)) ++ ops_are) v
+  pub turned_balance : Balanced ((ls ++ batch_lines (batch_of op q)) ++ ops_of w op) v
   turned_balance = go (batch_of op q) refl
     where
-      go : (x : Option Batch) → batch_of op q ≡ x → Balanced ((ls ++ batch_lines x) ++ ops_are) v
-      go None is = subst (λ ts. Balanced (ts ++ ops_are) v) (sym (append-nil ls)) (quiet_turn is)
+      go : (x : Option Batch) → batch_of op q ≡ x → Balanced ((ls ++ batch_lines x) ++ ops_of w op) v
+      go None is = subst (λ ts. Balanced (ts ++ ops_of w op) v) (sym (append-nil ls)) (quiet_turn is)
       go (Some x) is = batch_turn x is

@@ -21,13 +21,10 @@ use Rattle.rec_audit.proofs.Grown.{any_closing, any_more, dead_epoch, dead_out, 
 use Rattle.rec_audit.proofs.Rising.{both_of}
 use Rattle.rec_audit.proofs.RunReach.{LeadsTo, target_member}
 use Rattle.rec_audit.proofs.Marking.{or_left, or_right}
-
--- a bare word leads where the word does
-pub bits_same : (word : ℕ) → target_bits (bare word) ≡ target_bits word
-bits_same word = omega arith
+use Rattle.rec_word.proofs.Bare.{bits_bare}
 
 pub leads_same : (word : ℕ) → has_target (bare word) ≡ has_target word
-leads_same word = ap (λ n. nat_lt 0 n) (bits_same word)
+leads_same word = ap (λ n. nat_lt 0 n) (bits_bare word)
 
 -- a word that leads somewhere isn't 0
 bare_some : (word : ℕ) → has_target word ≡ true → bare word ≡ 0 → ⊥
@@ -290,7 +287,7 @@ target_less ls bs a m n there =
     let from : opens_from (heap_of ls).fields m o.line ≡ true
     = ap (λ b. b && (number 1 o.line / (heap_of ls).fields == m)) o.opens_one ∙ (ap (λ k. k / (heap_of ls).fields == m) o.place ∙ (sym (ap (λ k. number 1 t.line / k == m) (ap (λ h. h.fields) a.heap)) ∙ both.1)) in
     let lives : not (is_dead ls (number 2 o.line)) ≡ true = alive (is_dead ls (number 2 o.line)) (λ dead. not_dead (is_dead bs (number 2 t.line)) t.second (sym (ap (is_dead bs) o.word) ∙ a.dead (number 2 o.line) leads dead)) in
-    let same : target_in o.line ≡ n = ap (λ k. k - 1) (sym (bits_same (number 2 o.line)) ∙ ap target_bits o.word) ∙ t.leads in
+    let same : target_in o.line ≡ n = ap (λ k. k - 1) (sym (bits_bare (number 2 o.line)) ∙ ap target_bits o.word) ∙ t.leads in
     subst (λ k. is_in k (targets ls m) ≡ true) same (target_there (λ line. not (is_dead ls (number 2 line))) (opens_from (heap_of ls).fields m) ls o.line o.listed from lives)
 
 -- what a journal of bare words reaches, the one of dated words reaches

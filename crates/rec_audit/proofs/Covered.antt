@@ -1,14 +1,13 @@
 -- Each path of a run's references is one of its journal's graph, where a set is given up.
 use Rattle.std.proofs.Common.{◌≡◌, ◌≢◌, ◌⊎◌, inl, inr, ℕ, zero, suc, ◌+◌, ◌-◌, ◌/◌, ◌<◌, ◌≤◌, ◌==◌, ◌&&◌, ◌||◌, not, leb, nat_lt, nat_le, Bool, true, false, cond, List, [], ◌∷◌, ◌++◌, filter, map, length, slice_index_or, refl, sym, ap, subst, ◌∙◌, arith}
 use Rattle.std.specs.List.{Contains, flat_map, list_any, range_with_len, sum_by, zip}
-use Rattle.std.proofs.Math.Bool.{or-true}
 use Rattle.std.proofs.lemmas.Bool.{cases_Bool, cases_eq, cases_lt, eq-eqb, eqb-true, false≢true, lt-ltb, or_cases}
 use Rattle.std.proofs.lemmas.Bool.Decides.{nat_tests}
 use Rattle.std.proofs.lemmas.List.{get_or_past}
 use Rattle.std.proofs.lemmas.List.Elements.{Contains-append_left, Contains-append_right}
 use Rattle.std.proofs.lemmas.List.Folds.{list_any-append}
 use Rattle.std.proofs.lemmas.List.FromFn.{get_or-range_with_len, length-range_with_len}
-use Rattle.std.proofs.lemmas.List.Sums.{get_or-le-sum_by, sum_by-append, sum_by-cons, sum_by-le-sum_by}
+use Rattle.std.proofs.lemmas.List.Sums.{sum_by-append, sum_by-cons, sum_by-le-sum_by}
 use Rattle.rec_core.proofs.Common.{only_if, one_if_same, epoch_of, node_of, home, sum_at, get_or-le-sum_at, Write, Dated, dated_birth, is_at, is_from, Contents, Entry, blank, buffer_at, Phase, Idle, Private, IsMutator, Core, nobody, IsKept, epoch_at, births_in, pending}
 use Rattle.rec_log.specs.declared.entry.Entry.TheVariants as entries
 use Rattle.rec_word.specs.Bare.{bare}
@@ -31,15 +30,17 @@ use Rattle.rec_audit.specs.Logged.{last_batch, works_in}
 use Rattle.rec_audit.specs.Runs.{IsReachedIn}
 use Rattle.rec_audit.specs.declared.form.Heap.{Heap}
 use Rattle.rec_audit.proofs.Balance.{after, both_more, early, puts, replaced_by, replaces, rows_weigh, takes_out}
-use Rattle.rec_audit.proofs.Bared.{Alike, bits_same, by_bare, leads_same, roots_same, target_there}
+use Rattle.rec_audit.proofs.Bared.{Alike, by_bare, leads_same, roots_same, target_there}
 use Rattle.rec_audit.proofs.Blocks.{entry_has_line}
 use Rattle.rec_audit.proofs.Covering.{Covers}
-use Rattle.rec_audit.proofs.EpochTold.{birth_stands, name_stands, snapshot_from}
+use Rattle.rec_audit.proofs.EpochTold.{birth_stands, name_stands, snapshot_from, weighs_in}
 use Rattle.rec_audit.proofs.JournalReach.{tells_births, worked_epoch}
 use Rattle.rec_audit.proofs.Journalled.{applied_in, replaced_when}
 use Rattle.rec_audit.proofs.Newborn.{IsUntold}
 use Rattle.rec_audit.proofs.RunGraph.{HasBlock, Tells}
 use Rattle.rec_audit.proofs.Untold.{untold_taken}
+use Rattle.rec_word.proofs.Bare.{bits_bare}
+use Rattle.rec_audit.proofs.Marking.{or_left, or_right}
 
 -- ---- lists
 
@@ -65,21 +66,12 @@ some_both f (x ∷ xs) (y ∷ ys) d e some = elim (cases_lt 0 (f (x, y))) [
   | inr none ↦ (let more = some_both f xs ys d e (omega (arith, some, none, sum_by-cons f (x, y) (zip xs ys))) in (suc more.0, omega (arith, more.1), more.2))
 ]
 
-weighs_in : {X : Type 0} (g : X → ℕ) (xs : List X) (x : X) → Contains xs x → g x ≤ sum_by g xs
-weighs_in g xs x (k, below, there) = omega (arith, get_or-le-sum_by g xs k x below, ap g there)
-
 any_weighs : {X : Type 0} (test : X → Bool) (h : X → ℕ) (xs : List X) → ((x : X) → test x ≡ true → 1 ≤ h x) → list_any test xs ≡ true → 1 ≤ sum_by h xs
 any_weighs test h [] weighs is = absurd (false≢true is)
 any_weighs test h (x ∷ xs) weighs is = elim (or_cases (test x) (list_any test xs) is) [
   | inl here ↦ omega (arith, weighs x here, sum_by-cons h x xs)
   | inr later ↦ omega (arith, any_weighs test h xs weighs later, sum_by-cons h x xs)
 ]
-
-or_left : (a b : Bool) → a ≡ true → (a || b) ≡ true
-or_left a b is = ap (λ x. x || b) is
-
-or_right : (a b : Bool) → b ≡ true → (a || b) ≡ true
-or_right a b is = ap (λ x. a || x) is ∙ or-true a
 
 -- the blocks are apart
 blocks_less : (h : Line → ℕ) (ls : List Line) → sum_by h (earlier_blocks ls) + sum_by h (this_block ls) ≤ sum_by h ls
@@ -416,7 +408,7 @@ module _ (ls bs : List Line) (v : Core) (kept : IsKept true v) (told : Tells ls 
         let from : opens_from (heap_of bs).fields (place / v.config.fields) l ≡ true
         = ap (λ b. b && (number 1 l / (heap_of bs).fields == place / v.config.fields)) opened ∙ eq-eqb (number 1 l / (heap_of bs).fields) (place / v.config.fields) (ap (λ k. k / (heap_of bs).fields) at ∙ ap (λ k. place / k) fields_are) in
         let alive : not (is_dead bs (number 2 l)) ≡ true = ap not (ap (is_dead bs) puts_it ∙ lives) in
-        let to : target_in l ≡ n - 1 = ap (λ y. target_bits y - 1) puts_it ∙ ap (λ k. k - 1) (bits_same word ∙ is) in
+        let to : target_in l ≡ n - 1 = ap (λ y. target_bits y - 1) puts_it ∙ ap (λ k. k - 1) (bits_bare word ∙ is) in
         subst (λ k. is_in k (targets bs (place / v.config.fields)) ≡ true) to (target_there (λ line. not (is_dead bs (number 2 line))) (opens_from (heap_of bs).fields (place / v.config.fields)) bs l c from alive)
 
   -- ---- the reach
@@ -506,7 +498,7 @@ module _ (ls bs : List Line) (v : Core) (kept : IsKept true v) (told : Tells ls 
           closes_it : (p y b e : ℕ) → b ≤ e → only_if (p == p) (only_if (y == y) (only_if (leb b e) 1)) ≡ 1
           closes_it p y b e low = grind (arith, nat_tests)
 
-  pub covered : (node : ℕ) → IsInReach (pending v) (applied_in v) node → IsReachedAt bs (node - 1)
+  covered : (node : ℕ) → IsInReach (pending v) (applied_in v) node → IsReachedAt bs (node - 1)
   covered node reached = all_in_reach (pending v) (applied_in v) (λ n. IsReachedAt bs (n - 1)) at_root at_edge node reached
 
   -- and a free slot is a root

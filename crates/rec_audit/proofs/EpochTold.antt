@@ -23,20 +23,18 @@ use Rattle.rec_collector.specs.Kept.{under_way}
 use Rattle.rec_collector.specs.Next.{next_of}
 use Rattle.rec_collector.specs.Private.{Private, blank, buffer_at}
 use Rattle.rec_collector.specs.Shown.{Batch, Shown, batch_made, batch_of, shown_of}
-use Rattle.rec_collector.specs.Step.{Step}
-use Rattle.rec_collector.specs.Took.{step_of, turn_of}
+use Rattle.rec_collector.specs.Took.{step_of}
 use Rattle.rec_collector.specs.declared.phase.Phase.{Phase}
 use Rattle.rec_collector.specs.declared.phase.Phase.TheVariants.{Idle, Looking, Returning, Swapping}
 use Rattle.rec_collector.proofs.Bare as collecting
 use Rattle.rec_collector.proofs.Bare.{buffer_bare}
 use Rattle.rec_collector.proofs.BareKept.{rows_many}
-use Rattle.rec_collector.proofs.ShownSteps.{shown_as_made}
 use Rattle.rec_core.specs.Bare.{Behind, bare_core}
 use Rattle.rec_core.specs.Cells.{cell}
 use Rattle.rec_core.specs.Config.{IsConfig, IsMutator}
 use Rattle.rec_core.specs.Core.{Core, box, cells_of, heap_by, mutator, nobody, opened}
 use Rattle.rec_core.specs.Kept.{IsKept}
-use Rattle.rec_core.specs.Moves.{AllFit, Move, after_moves, looked_at, turned, turned_at, turned_by}
+use Rattle.rec_core.specs.Moves.{AllFit, Move, after_moves, turned, turned_at, turned_by}
 use Rattle.rec_core.specs.Pending.{Filed, applied_at, births_in, births_of, buffers, dated_names, epoch_at, older_at, snapshots_of, writes_of}
 use Rattle.rec_core.specs.Shown.{shown_behind, turn_shown}
 use Rattle.rec_core.specs.Turn.{seen_at}
@@ -45,7 +43,7 @@ use Rattle.rec_core.proofs.BareSeen.{turned_behind}
 use Rattle.rec_core.proofs.Batches.{none_of}
 use Rattle.rec_core.proofs.Dated.{Explains, moves_explained}
 use Rattle.rec_audit.proofs.Lasting.{wrote}
-use Rattle.rec_core.proofs.Runs.{given_is, move_kept, rule_of}
+use Rattle.rec_core.proofs.Runs.{move_kept}
 use Rattle.rec_core.proofs.Sums.{box_share, buffers_sum, log_share, share, zip_sum-none}
 use Rattle.rec_core.proofs.Turns.{now_at}
 use Rattle.rec_audit.specs.Journal.{batch_lines, entry_line, line_of, part_lines, parts_lines, register_number, snap_line}
@@ -58,6 +56,7 @@ use Rattle.rec_audit.proofs.Blocks.{entry_has_line}
 use Rattle.rec_audit.proofs.Forming.{part}
 use Rattle.rec_audit.proofs.Journalled.{IsOfEpoch, StandsIn, applied_in, box_spare, last_sum, log_spare, stands_in}
 use Rattle.rec_audit.proofs.JournalReach.{tells_births, tells_names}
+use Rattle.rec_audit.proofs.OneTurn.{one_turn, some_epoch}
 use Rattle.rec_audit.proofs.Placing.{Placed, step_placed}
 use Rattle.rec_audit.proofs.RunAnswers.{first_explained}
 use Rattle.rec_audit.proofs.RunTurns.{IsBatchOf, step_batch}
@@ -66,7 +65,7 @@ use Rattle.rec_audit.proofs.Marking.{or_left, or_right}
 use Rattle.rec_core.proofs.Turning.{parts_of_turn}
 
 -- an element weighs no more than all
-weighs_in : {X : Type 0} (g : X → ℕ) (xs : List X) (x : X) → Contains xs x → g x ≤ sum_by g xs
+pub weighs_in : {X : Type 0} (g : X → ℕ) (xs : List X) (x : X) → Contains xs x → g x ≤ sum_by g xs
 weighs_in g xs x (k, below, there) = omega (arith, get_or-le-sum_by g xs k x below, ap g there)
 
 -- ---- writes of the epoch of the last batch
@@ -127,9 +126,6 @@ module _ (w : Core) (kept : IsKept true w) (f : Filed → List Dated) (h : Dated
       let at : i + 1 - 1 ≡ i = omega arith in
       subst (λ n. box_share h f (slice_index_or w.mutators n nobody, slice_index_or w.boxes n (blank 0 0)) ≡ 0) at (box_none (i + 1) (number i below)))
 
-  some : 1 + under_way w.collector.phase ≤ w.epoch
-  some = (let all : w.config.first_epoch + w.collector.collections + under_way w.collector.phase ≡ w.epoch = kept.collector.begun in let first : 1 ≤ w.config.first_epoch = kept.config.some_epoch in omega arith)
-
   row_none : (epoch : ℕ) (row : List Buffer) → epoch ≢ applied_in w → sum_by (share h f epoch) row ≡ 0
   row_none epoch row other = none_of (share h f epoch) row (blank 0 0) (λ i below. apart epoch (slice_index_or row i (blank 0 0)) other)
 
@@ -148,7 +144,7 @@ module _ (w : Core) (kept : IsKept true w) (f : Filed → List Dated) (h : Dated
       let under : under_way w.collector.phase ≡ 1 = ap under_way is ∙ way in
       let older : older_at w.epoch w.collector.phase ≡ applied_in w = ap (older_at w.epoch) is ∙ before ∙ sym epoch in
       let last : last_batch w.collector ≡ w.collector.older = ap (λ p. if works_in p then w.collector.newer else w.collector.older) is ∙ ap (λ b. if b then w.collector.newer else w.collector.older) waits in
-      omega (arith, row_none (w.epoch - 1) w.collector.newer (omega (arith, epoch, some, under)), ap (λ e. sum_by (share h f e) w.collector.older) older, ap (sum_by (share h f (applied_in w))) last)
+      omega (arith, row_none (w.epoch - 1) w.collector.newer (omega (arith, epoch, some_epoch w kept, under)), ap (λ e. sum_by (share h f e) w.collector.older) older, ap (sum_by (share h f (applied_in w))) last)
 
   worked : (phase : Phase) → w.collector.phase ≡ phase → works_in phase ≡ true → applied_at w.epoch phase ≡ w.epoch - 1 → older_at w.epoch phase ≡ w.epoch - 2 → under_way phase ≡ 1 → newer_sum + older_sum ≡ last_share
   worked phase is works at before way =
@@ -158,7 +154,7 @@ module _ (w : Core) (kept : IsKept true w) (f : Filed → List Dated) (h : Dated
       let last : last_batch w.collector ≡ w.collector.newer = ap (λ p. if works_in p then w.collector.newer else w.collector.older) is ∙ ap (λ b. if b then w.collector.newer else w.collector.older) works in
       omega (
         arith,
-        row_none (older_at w.epoch w.collector.phase) w.collector.older (omega (arith, older, epoch, some, under)),
+        row_none (older_at w.epoch w.collector.phase) w.collector.older (omega (arith, older, epoch, some_epoch w kept, under)),
         ap (λ e. sum_by (share h f e) w.collector.newer) epoch,
         ap (sum_by (share h f (applied_in w))) last,
       )
@@ -314,13 +310,10 @@ tells_last w epoch newer kept at last = record {
 
 module _ (w : Core) (op : Op) (kept : IsKept true w) (named : ◌≡◌ {A = Option Op} (next_of w.collector) (Some op)) (still : IsKept true (turned_by w op (cell (cells_of w) op))) where
   open (parts_of_turn w op) use {q, v}
-
-  s : Step w.collector (cell (cells_of w) op) (box w (looked_at w.collector.phase)) (Some op) q (turn_of w.collector (cell (cells_of w) op))
-  s = rule_of w op kept named
+  open (one_turn w op kept named still) use {s, shown}
 
   turned_applies : (d : Batch) → batch_of op q ≡ Some d → (d.epoch ≡ applied_in v) × (last_batch v.collector ≡ d.newer)
   turned_applies d is =
-      let shown : batch_of op q ≡ batch_made s = (shown_as_made w.collector q (cell (cells_of w) op) (box w (looked_at w.collector.phase)) op (turn_of w.collector (cell (cells_of w) op)) s kept.collector.machine (given_is w op kept named)).batch in
       let made : batch_made s ≡ Some d = sym shown ∙ is in
       let placed : Placed w.collector (Some d) q = subst (λ (x : Option Batch). Placed w.collector x q) made (step_placed (begun w kept) s) in
       let its : IsBatchOf w.collector d = step_batch (begun w kept) s d made in

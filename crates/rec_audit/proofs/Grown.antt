@@ -27,6 +27,7 @@ use Rattle.rec_audit.specs.declared.graph.Graph.{Graph}
 use Rattle.rec_audit.specs.declared.known.Known.{Known}
 use Rattle.rec_audit.specs.Known.{AreKnown, IsKnownOf}
 use Rattle.rec_audit.specs.Graphs.{AreReferences, IsGraphOf, IsPutLine, IsBornLine, IsSnapLine, IsOutLine, IsSweepLine, IsEpochLine, TellNothing, closing_in, named_in, opened_from, opened_to, opens_to, slots_of}
+use Rattle.rec_counts.proofs.ToldSlots.{filter_same}
 
 -- ---- the last line of a kind
 
@@ -477,10 +478,6 @@ graph_epoch lines line g h epoch more taken named marked is =
 
 -- ---- what is reached
 
-filter_alike : (p q : ℕ → Bool) → ((n : ℕ) → p n ≡ q n) → (xs : List ℕ) → filter p xs ≡ filter q xs
-filter_alike p q same [] = refl
-filter_alike p q same (x ∷ xs) = ap (λ b. cond b (x ∷ filter p xs) (filter p xs)) (same x) ∙ ap (λ t. cond (q x) (x ∷ t) t) (filter_alike p q same xs)
-
 -- two tests that agree on the slots of a heap
 filter_below : (p q : ℕ → Bool) (n : ℕ) → ((k : ℕ) → k < n → p k ≡ q k) → filter p (range_with_len 0 n) ≡ filter q (range_with_len 0 n)
 filter_below p q n same = on (range_with_len 0 n) (λ k d lt. subst (λ (m : ℕ). m < n) (sym (get_or-range_with_len 0 n k d (omega (arith, length-range_with_len 0 n)))) (omega (arith, length-range_with_len 0 n)))
@@ -537,7 +534,7 @@ roots_same : (lines : List Line) (line : Line) → is_epoch line.kind ≡ false 
 roots_same lines line epoch heap born sweep named =
     ap (λ t. t ++ filter (λ slot. not (is_taken (lines ++ line ∷ []) slot)) (range_with_len 0 (heap_of (lines ++ line ∷ [])).slots)) (named_same lines line epoch named)
     ∙ ap (λ h. named_in lines ++ filter (λ slot. not (is_taken (lines ++ line ∷ []) slot)) (range_with_len 0 h.slots)) (heap_same lines line heap)
-    ∙ ap (λ t. named_in lines ++ t) (filter_alike (λ slot. not (is_taken (lines ++ line ∷ []) slot)) (λ slot. not (is_taken lines slot)) (λ slot. ap not (taken_same lines line slot born sweep)) (range_with_len 0 (heap_of lines).slots))
+    ∙ ap (λ t. named_in lines ++ t) (filter_same (λ slot. not (is_taken (lines ++ line ∷ []) slot)) (λ slot. not (is_taken lines slot)) (λ slot. ap not (taken_same lines line slot born sweep)) (range_with_len 0 (heap_of lines).slots))
 
 roots_quiet : (lines : List Line) (line : Line) → IsQuiet line → roots (lines ++ line ∷ []) ≡ roots lines
 roots_quiet lines line quiet = roots_same lines line quiet.epoch quiet.heap quiet.born quiet.sweep quiet.named

@@ -93,16 +93,17 @@ tells_births b = births_in b.epoch b.buffer.entries
 abbrev pub tells_names : Filed → List Dated
 tells_names b = dated_names b.epoch b.buffer.snapshot
 
+-- whether a birth is this slot's, in the epoch that is applied or a later one
+abbrev pub born_late : Core → (slot : ℕ) → Dated → ℕ
+born_late w slot = is_from (applied_in w) (slot + 1)
+
+pub from_birth : (w : Core) (slot epoch : ℕ) (leaf : Bool) → applied_in w ≤ epoch → born_late w slot (dated_birth epoch (slot + 1) leaf) ≡ 1
+from_birth w slot epoch leaf late = one (applied_in w) epoch (slot + 1) leaf late
+  where
+    one : (a e n : ℕ) (leaf : Bool) → a ≤ e → is_from a n (dated_birth e n leaf) ≡ 1
+    one a e n leaf late = grind (arith, nat_tests)
+
 module _ (w : Core) (kept : IsKept true w) (slot : ℕ) where
-  abbrev its : Dated → ℕ
-  its = is_from (applied_in w) (slot + 1)
-
-  from_birth : (epoch : ℕ) (leaf : Bool) → applied_in w ≤ epoch → its (dated_birth epoch (slot + 1) leaf) ≡ 1
-  from_birth epoch leaf late = one (applied_in w) epoch (slot + 1) leaf late
-    where
-      one : (a e n : ℕ) (leaf : Bool) → a ≤ e → is_from a n (dated_birth e n leaf) ≡ 1
-      one a e n leaf late = grind (arith, nat_tests)
-
   -- a birth that a batch told, or that none has told yet, is one of the epoch or a later one
   pub batch_root : (leaf : Bool) → works_in w.collector.phase ≡ true → StandsIn w.collector.newer (entries.Born slot leaf) → IsInReach (pending w) (applied_in w) (slot + 1)
   batch_root leaf works (i, below, c) =
@@ -110,10 +111,10 @@ module _ (w : Core) (kept : IsKept true w) (slot : ℕ) where
       root_in_reach (pending w) (applied_in w) (slot + 1) (omega arith)
       (omega (
         arith,
-        buffers_sum its tells_births w,
-        get_or-le-sum_by (share its tells_births (w.epoch - 1)) w.collector.newer i (blank 0 0) below,
-        birth_weighs its (w.epoch - 1) (buffer_at w.collector.newer i).entries slot leaf c,
-        from_birth (w.epoch - 1) leaf (omega (arith, epoch)),
+        buffers_sum (born_late w slot) tells_births w,
+        get_or-le-sum_by (share (born_late w slot) tells_births (w.epoch - 1)) w.collector.newer i (blank 0 0) below,
+        birth_weighs (born_late w slot) (w.epoch - 1) (buffer_at w.collector.newer i).entries slot leaf c,
+        from_birth w slot (w.epoch - 1) leaf (omega (arith, epoch)),
       ))
 
   pub untold_root : works_in w.collector.phase ≡ true → IsUntold w slot → IsInReach (pending w) (applied_in w) (slot + 1)
@@ -121,20 +122,20 @@ module _ (w : Core) (kept : IsKept true w) (slot : ℕ) where
     | inr none ↦ absurd (none_in (entries.Born slot leaf) (mutator w t).log.entries none c)
     | inl later ↦ root_in_reach (pending w) (applied_in w) (slot + 1) (omega arith) (omega (
       arith,
-      buffers_sum its tells_births w,
-      get_or-le-sum_by (log_share its tells_births) w.mutators (t - 1) nobody (let many : length w.mutators ≡ w.config.mutators = kept.mutators.many in omega (arith, is.0, is.1)),
-      birth_weighs its (epoch_at (mutator w t)) (mutator w t).log.entries slot leaf c,
-      from_birth (epoch_at (mutator w t)) leaf (omega (arith, later)),
+      buffers_sum (born_late w slot) tells_births w,
+      get_or-le-sum_by (log_share (born_late w slot) tells_births) w.mutators (t - 1) nobody (let many : length w.mutators ≡ w.config.mutators = kept.mutators.many in omega (arith, is.0, is.1)),
+      birth_weighs (born_late w slot) (epoch_at (mutator w t)) (mutator w t).log.entries slot leaf c,
+      from_birth w slot (epoch_at (mutator w t)) leaf (omega (arith, later)),
     ))
   ]
   untold_root works (IsUntold.in_box t leaf is c) = elim (box_later w t kept is) [
     | inr none ↦ absurd (none_in (entries.Born slot leaf) (box w t).entries none c)
     | inl later ↦ root_in_reach (pending w) (applied_in w) (slot + 1) (omega arith) (omega (
       arith,
-      buffers_sum its tells_births w,
-      zip_weighs (box_share its tells_births) w.mutators w.boxes (t - 1) nobody (blank 0 0) (let many : length w.mutators ≡ w.config.mutators = kept.mutators.many in omega (arith, is.0, is.1)) (let many : length w.boxes ≡ w.config.mutators = kept.mutators.mailboxes in omega (arith, is.0, is.1)),
-      birth_weighs its (epoch_at (mutator w t) - 1) (box w t).entries slot leaf c,
-      from_birth (epoch_at (mutator w t) - 1) leaf (omega (arith, later)),
+      buffers_sum (born_late w slot) tells_births w,
+      zip_weighs (box_share (born_late w slot) tells_births) w.mutators w.boxes (t - 1) nobody (blank 0 0) (let many : length w.mutators ≡ w.config.mutators = kept.mutators.many in omega (arith, is.0, is.1)) (let many : length w.boxes ≡ w.config.mutators = kept.mutators.mailboxes in omega (arith, is.0, is.1)),
+      birth_weighs (born_late w slot) (epoch_at (mutator w t) - 1) (box w t).entries slot leaf c,
+      from_birth w slot (epoch_at (mutator w t) - 1) leaf (omega (arith, later)),
     ))
   ]
   untold_root works (IsUntold.gathered t leaf is waits c) = absurd (false≢true (sym waits ∙ works))

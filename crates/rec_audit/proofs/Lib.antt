@@ -34,6 +34,7 @@ pub mod Rising
 pub mod RunGraph
 pub mod Runs
 pub mod RunTurns
+pub mod OneTurn
 pub mod RunReach
 pub mod RunClean
 pub mod Bared

@@ -5,21 +5,17 @@ use Rattle.std.proofs.lemmas.List.FromFn.{map-range_with_len_more}
 use Rattle.std.proofs.lemmas.List.Elements.{filter-append}
 use Rattle.std.proofs.lemmas.Bool.{cases_eq, cases_lt, eq-eqb, ne_eqb, or_cases, false≢true}
 use Rattle.std.proofs.lemmas.List.{length-replicate, map-id, take_more, get_or-take, get_or-set_same, get_or-set_other, take_at, take-take, take_all, get_or_past, get_or-replicate, length_push}
-use Rattle.std.proofs.lemmas.List.Folds.{list_any-append, list_any_at}
 use Rattle.std.proofs.Math.Bool.{or_assoc, or-false, or-true}
 use Rattle.rec_model.specs.Reach.{is_in, IsReached}
 use Rattle.rec_model.specs.Reach.IsReached.{root, child}
 use Rattle.rec_model.proofs.Numbered.{closed_has_reached}
 use Rattle.rec_model.specs.Numbering.{IsDistinct}
-use Rattle.rec_model.proofs.Members.{IsDistinct-push, distinct_below, is_in-cases, is_in-cons}
+use Rattle.rec_model.proofs.Members.{IsDistinct-push, distinct_below, is_in-cases, is_in-cons, is_in-append, is_in-at}
 use Rattle.rec_audit.specs.declared.reach.Marks.{Marks}
 use Rattle.rec_audit.specs.declared.references.Edge.{Edge}
 use Rattle.rec_audit.specs.States.{IsMarking, MarksMore}
 use Rattle.rec_audit.specs.Walks.{ArePruned, IsClosedTo, live_in}
 use Rattle.rec_audit.proofs.Pruning.{pruned_none}
-
-is_in-append : (n : ℕ) (xs ys : List ℕ) → is_in n (xs ++ ys) ≡ (is_in n xs || is_in n ys)
-is_in-append n xs ys = list_any-append (λ m. m == n) xs ys
 
 is_in-one : (n m : ℕ) → is_in n (m ∷ []) ≡ (m == n)
 is_in-one n m = or-false (m == n)
@@ -180,9 +176,6 @@ or_left a b is = ap (λ c. c || b) is
 pub or_right : (a b : Bool) → b ≡ true → (a || b) ≡ true
 or_right a b is = ap (λ c. a || c) is ∙ or-true a
 
-get_in : (xs : List ℕ) (i : ℕ) → i < length xs → is_in (get_or xs i 0) xs ≡ true
-get_in xs i within = list_any_at (λ m. m == get_or xs i 0) xs i 0 within (eq-eqb (get_or xs i 0) (get_or xs i 0) refl)
-
 pub follow_more : (dead : ℕ → Bool) (old now new : List (List Edge)) (start : ℕ) (m n o : Marks) (i slot : ℕ) → i < length n.order.items → slot ≡ get_or n.order.items i 0 → IsFollowing dead old now start m n i → ArePruned dead old new → MarksMore n o (live_in dead old slot) → IsFollowing dead old new start m o (i + 1)
 follow_more dead old now new start m n o i slot within is follows pruned more =
     record {
@@ -196,7 +189,7 @@ follow_more dead old now new start m n o i slot within is follows pruned more =
       sound = λ s there.
           elim (or_cases (is_in s n.order.items) (is_in s (live_in dead old slot)) (sym (more.has s) ∙ there)) [
             | inl old ↦ follows.sound s old
-            | inr new ↦ child slot s (follows.sound slot (ap (λ (k : ℕ). is_in k n.order.items) is ∙ get_in n.order.items i within)) new
+            | inr new ↦ child slot s (follows.sound slot (ap (λ (k : ℕ). is_in k n.order.items) is ∙ is_in-at n.order.items i within)) new
           ];
       closed = λ closed p s there leads. more.has s ∙ from closed p s (is_in-cases p (take i n.order.items) (slot ∷ []) (sym (ap (is_in p) front) ∙ there)) leads;
     }
@@ -226,4 +219,4 @@ follow_all dead old now start m n i past follows closed s = (
 
 -- a slot of the order is one of the heap
 pub slot_within : (n : Marks) (i slot : ℕ) → IsMarking n → i < length n.order.items → slot ≡ get_or n.order.items i 0 → slot < length n.marked.items
-slot_within n i slot marking within is = marking.within slot (ap (λ (k : ℕ). is_in k n.order.items) is ∙ get_in n.order.items i within)
+slot_within n i slot marking within is = marking.within slot (ap (λ (k : ℕ). is_in k n.order.items) is ∙ is_in-at n.order.items i within)

@@ -112,7 +112,7 @@ applied_worked epoch (Returning t) is = absurd (let no : false ≡ true = is in 
 applied_worked epoch _ is = refl
 
 -- the buffers of the last batch behind a step
-abbrev pub last_of : Private → Option Batch → List Contents
+abbrev last_of : Private → Option Batch → List Contents
 last_of p None = last_batch p
 last_of p (Some batch) = batch.newer
 

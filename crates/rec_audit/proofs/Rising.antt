@@ -33,7 +33,7 @@ abbrev pub Rises : ℕ → List Line → ℕ → Type 0
 Rises k [] m = k ≤ m
 Rises k (line ∷ lines) m = (n : ℕ) × (k ≤ n) × (opens line ≡ true → (k ≤ number_of (number 2 line)) × (number_of (number 2 line) < n)) × Rises n lines m
 
-pub rises_le : (k m : ℕ) (lines : List Line) → Rises k lines m → k ≤ m
+rises_le : (k m : ℕ) (lines : List Line) → Rises k lines m → k ≤ m
 rises_le k m [] r = r
 rises_le k m (line ∷ lines) r = let up : k ≤ r.0 = r.1 in omega (arith, rises_le r.0 m lines r.3)
 

@@ -37,7 +37,7 @@ use Rattle.rec_audit.proofs.Newborn.{IsUntold, none_in}
 use Rattle.rec_audit.proofs.NewbornTurns.{IsTold, turned_taken, turned_told}
 use Rattle.rec_audit.proofs.Newly.{home_taken, put_lasts}
 use Rattle.rec_collector.proofs.ShownSteps.{shown_as_made}
-use Rattle.rec_core.proofs.Runs.{given_is, rule_of}
+use Rattle.rec_core.proofs.Runs.{given_is}
 use Rattle.rec_core.proofs.Turns.{now_at}
 use Rattle.rec_audit.specs.Form.{heap_of, number}
 use Rattle.rec_audit.specs.Graph.{has_target, is_dead, is_put, is_taken, opens, this_block}
@@ -47,6 +47,7 @@ use Rattle.rec_audit.specs.Runs.{heap_for, place_of}
 use Rattle.rec_audit.specs.declared.kind.Kind.TheVariants as kinds
 use Rattle.rec_audit.proofs.Blocks.{Each, IsLineOf, block_more, block_new, dead_closed, dead_more, each_at, each_both, entry_has_line, heap_more_lines, heap_new, is_late, late_plain, line_is_of, parts_are, taken_epoch, taken_in, taken_more}
 use Rattle.rec_audit.proofs.Grown.{dead_out, taken_same, taken_sweep}
+use Rattle.rec_audit.proofs.OneTurn.{one_turn, ops_of, some_epoch}
 use Rattle.rec_audit.proofs.Placing.{HasBegun, Placed, is_unswept, step_placed, step_unswept, worked_in}
 use Rattle.rec_audit.proofs.RunGraph.{HasBlock, Status, Tells}
 use Rattle.rec_audit.proofs.Runs.{begun}
@@ -208,9 +209,7 @@ behind_batch lines (Some b) = lines ++ batch_lines (Some b)
 module _ (lines : List Line) (w : Core) (op : Op) (kept : IsKept true w) (named : ◌≡◌ {A = Option Op} (next_of w.collector) (Some op)) (still : IsKept true (turned_by w op (cell (cells_of w) op)))
     (names : NamesWord (length w.collector.counts.slots) w.collector.fields (length w.collector.newer) op) (tells : Tells lines w) where
   open (parts_of_turn w op) use {found as word, q, v}
-
-  s : Step w.collector (cell (cells_of w) op) (box w (looked_at w.collector.phase)) (Some op) q (turn_of w.collector (cell (cells_of w) op))
-  s = rule_of w op kept named
+  open (one_turn w op kept named still) use {s, at_w, at_v}
 
   -- what was applied
   record Applied (batch : Option Batch) : Type 0 where
@@ -218,17 +217,8 @@ module _ (lines : List Line) (w : Core) (op : Op) (kept : IsKept true w) (named 
     shown : batch_of op q ≡ batch
     placed : Placed w.collector batch q
 
-  at_w : (place_of w.collector).next ≡ applied_in w + 1
-  at_w = ap (λ e. applied_at e w.collector.phase + 1) kept.collector.epoch
-
-  at_v : applied_at q.epoch q.phase ≡ applied_in v
-  at_v = ap (λ e. applied_at e q.phase) still.collector.epoch
-
   its_batch : (x : Batch) → Applied (Some x) → IsBatchOf w.collector x
   its_batch x a = step_batch (begun w kept) s x a.made
-
-  some_epoch : 1 + under_way w.collector.phase ≤ w.epoch
-  some_epoch = subst (λ e. 1 + under_way w.collector.phase ≤ e) kept.collector.epoch (begun w kept)
 
   -- the epoch of the last batch rises by one with a batch
   applied_none : Applied None → applied_in v ≡ applied_in w
@@ -243,10 +233,7 @@ module _ (lines : List Line) (w : Core) (op : Op) (kept : IsKept true w) (named 
 
   lasting : (batch : Option Batch) → Applied batch → applied_in v ≤ tried_in w
   lasting None a = omega (arith, applied_none a, tried_late w.epoch w.collector.phase)
-  lasting (Some x) a = omega (arith, applied_some x a, tried_waits w.epoch w.collector.phase some_epoch (its_batch x a).waits)
-
-  abbrev ops_are : List Line
-  ops_are = op_lines op (cell (cells_of w) op)
+  lasting (Some x) a = omega (arith, applied_some x a, tried_waits w.epoch w.collector.phase (some_epoch w kept) (its_batch x a).waits)
 
   abbrev lines_behind : Option Batch → List Line
   lines_behind batch = behind_batch lines batch ++ op_lines op (cell (cells_of w) op)
@@ -265,22 +252,22 @@ module _ (lines : List Line) (w : Core) (op : Op) (kept : IsKept true w) (named 
       go : HasBlock lines w → HasBlock (lines ++ op_lines op (cell (cells_of w) op)) v
       go (HasBlock.none waits empty) = HasBlock.none (waits_on q.phase (sym a.placed.working ∙ waits)) (λ e c. empty e (subst (λ row. StandsIn row e) a.placed.last c))
       go (HasBlock.some rest late is) =
-          HasBlock.some (rest ++ ops_are) (each_both is_late rest ops_are late (ops_late op (cell (cells_of w) op)))
-          (block_more is_late lines ops_are (λ k l. (late_plain k l).0) (ops_late op (cell (cells_of w) op)) ∙ ap (λ t. t ++ ops_are) is ∙ append_assoc (parts_lines (last_batch w.collector)) rest ops_are ∙ ap (λ row. parts_lines row ++ (rest ++ ops_are)) (sym a.placed.last))
+          HasBlock.some (rest ++ ops_of w op) (each_both is_late rest (ops_of w op) late (ops_late op (cell (cells_of w) op)))
+          (block_more is_late lines (ops_of w op) (λ k l. (late_plain k l).0) (ops_late op (cell (cells_of w) op)) ∙ ap (λ t. t ++ ops_of w op) is ∙ append_assoc (parts_lines (last_batch w.collector)) rest (ops_of w op) ∙ ap (λ row. parts_lines row ++ (rest ++ ops_of w op)) (sym a.placed.last))
   block_behind (Some x) a =
       let e : Line = line_of kinds.Epoch (x.epoch ∷ []) in
-      HasBlock.some ops_are (ops_late op (cell (cells_of w) op))
-      (block_more is_late (lines ++ e ∷ parts_lines x.newer) ops_are (λ k l. (late_plain k l).0) (ops_late op (cell (cells_of w) op)) ∙ ap (λ t. t ++ ops_are) (block_new lines e (parts_lines x.newer) refl (parts_are x.newer)) ∙ ap (λ row. parts_lines row ++ ops_are) (sym a.placed.last))
+      HasBlock.some (ops_of w op) (ops_late op (cell (cells_of w) op))
+      (block_more is_late (lines ++ e ∷ parts_lines x.newer) (ops_of w op) (λ k l. (late_plain k l).0) (ops_late op (cell (cells_of w) op)) ∙ ap (λ t. t ++ ops_of w op) (block_new lines e (parts_lines x.newer) refl (parts_are x.newer)) ∙ ap (λ row. parts_lines row ++ ops_of w op) (sym a.placed.last))
 
   -- what was put before
   closed_behind : (batch : Option Batch) (place wd : ℕ) (l : Line) → Contains (this_block lines) l → l.kind ≡ kinds.Put → number 1 l ≡ place → number 3 l ≡ wd → Status (lines_behind batch) v place wd
   closed_behind None place wd l c put at old =
-      Status.closed l (subst (λ ls. Contains ls l) (sym (block_more is_late lines ops_are (λ k x. (late_plain k x).0) (ops_late op (cell (cells_of w) op)))) (Contains-append_left (this_block lines) ops_are l c)) put at old
-  closed_behind (Some x) place wd l c put at old = Status.dead (dead_more (behind_batch lines (Some x)) ops_are wd (dead_closed lines (line_of kinds.Epoch (x.epoch ∷ [])) (parts_lines x.newer) l wd refl c put old))
+      Status.closed l (subst (λ ls. Contains ls l) (sym (block_more is_late lines (ops_of w op) (λ k x. (late_plain k x).0) (ops_late op (cell (cells_of w) op)))) (Contains-append_left (this_block lines) (ops_of w op) l c)) put at old
+  closed_behind (Some x) place wd l c put at old = Status.dead (dead_more (behind_batch lines (Some x)) (ops_of w op) wd (dead_closed lines (line_of kinds.Epoch (x.epoch ∷ [])) (parts_lines x.newer) l wd refl c put old))
 
   dead_behind : (batch : Option Batch) (wd : ℕ) → is_dead lines wd ≡ true → is_dead (lines_behind batch) wd ≡ true
-  dead_behind None wd dead = dead_more lines ops_are wd dead
-  dead_behind (Some x) wd dead = dead_more (behind_batch lines (Some x)) ops_are wd (dead_more lines (batch_lines (Some x)) wd dead)
+  dead_behind None wd dead = dead_more lines (ops_of w op) wd dead
+  dead_behind (Some x) wd dead = dead_more (behind_batch lines (Some x)) (ops_of w op) wd (dead_more lines (batch_lines (Some x)) wd dead)
 
   put_behind : (batch : Option Batch) → Applied batch → (place wd : ℕ) → wd ≢ 0 → Status lines w place wd → Status (lines_behind batch) v place wd
   put_behind batch a place wd some (Status.dead is) = Status.dead (dead_behind batch wd is)
@@ -306,7 +293,7 @@ module _ (lines : List Line) (w : Core) (op : Op) (kept : IsKept true w) (named 
           subst (of_core.IsMadeIn (w.epoch - 1)) c.2 (all.made c.0 (entries.Put place new old) c.1)
 
       gathered : (phase : Phase) → w.collector.phase ≡ phase → applied_at w.epoch phase ≡ w.epoch - 2 → under_way phase ≡ 1 → epoch_of new ≡ applied_in w + 1
-      gathered phase at epoch way = omega (arith, made, ap (applied_at w.epoch) at, epoch, some_epoch, ap under_way at, way)
+      gathered phase at epoch way = omega (arith, made, ap (applied_at w.epoch) at, epoch, (some_epoch w kept), ap under_way at, way)
 
       go : (phase : Phase) → w.collector.phase ≡ phase → works_in phase ≡ false → epoch_of new ≡ applied_in w + 1
       go Idle at waits = absurd (none_in (entries.Put place new old) (buffer_at w.collector.newer i).entries (ap (λ (x : Buffer). x.entries) ((now_at w Idle kept at).1 i (omega arith) below)) c)
@@ -345,8 +332,8 @@ module _ (lines : List Line) (w : Core) (op : Op) (kept : IsKept true w) (named 
   known_in_batch x a l opened (suc k, below, there) = known_part x a l opened (line_is_of x.newer l (k, omega arith, there))
 
   known : (batch : Option Batch) → Applied batch → (l : Line) → Contains (lines_behind batch) l → opens l ≡ true → IsKnown l
-  known batch a l c opened = elim (Contains-append_cases (behind_batch lines batch) ops_are l c) [
-    | inr late ↦ absurd (false≢true (sym (late_shut l (each_at is_late ops_are l (ops_late op (cell (cells_of w) op)) late)) ∙ opened))
+  known batch a l c opened = elim (Contains-append_cases (behind_batch lines batch) (ops_of w op) l c) [
+    | inr late ↦ absurd (false≢true (sym (late_shut l (each_at is_late (ops_of w op) l (ops_late op (cell (cells_of w) op)) late)) ∙ opened))
     | inl before ↦ by batch a before
   ]
     where
@@ -405,8 +392,8 @@ module _ (lines : List Line) (w : Core) (op : Op) (kept : IsKept true w) (named 
       subst (λ hs. 0 < slice_index_or hs (place / w.config.fields) 0) (sym same) (home_taken w place new old kept own (omega (arith, gathered_epoch place new old b.waits own)))
 
   heap_behind : (batch : Option Batch) → heap_of (lines_behind batch) ≡ heap_for w.config
-  heap_behind None = heap_more_lines is_late lines ops_are (λ k l. (late_plain k l).1) (ops_late op (cell (cells_of w) op)) ∙ tells.heap
-  heap_behind (Some x) = heap_more_lines is_late (behind_batch lines (Some x)) ops_are (λ k l. (late_plain k l).1) (ops_late op (cell (cells_of w) op)) ∙ heap_new lines (line_of kinds.Epoch (x.epoch ∷ [])) (parts_lines x.newer) refl (parts_are x.newer) ∙ tells.heap
+  heap_behind None = heap_more_lines is_late lines (ops_of w op) (λ k l. (late_plain k l).1) (ops_late op (cell (cells_of w) op)) ∙ tells.heap
+  heap_behind (Some x) = heap_more_lines is_late (behind_batch lines (Some x)) (ops_of w op) (λ k l. (late_plain k l).1) (ops_late op (cell (cells_of w) op)) ∙ heap_new lines (line_of kinds.Epoch (x.epoch ∷ [])) (parts_lines x.newer) refl (parts_are x.newer) ∙ tells.heap
 
   -- all of it
   pub turned_tells : Tells (behind_batch lines (batch_of op q) ++ op_lines op (cell (cells_of w) op)) v

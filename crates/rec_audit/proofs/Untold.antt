@@ -2,7 +2,6 @@
 use Rattle.std.proofs.Common.{◌≡◌, ◌≢◌, ◌⊎◌, inl, inr, ℕ, zero, suc, ◌+◌, ◌-◌, ◌<◌, ◌≤◌, ◌==◌, ◌||◌, if◌then◌else◌, Bool, true, false, cond, Option, None, Some, List, [], ◌∷◌, ◌++◌, length, slice_index_or, slice_set, refl, sym, ap, subst, ◌∙◌, arith, append-nil, append_assoc}
 use Rattle.std.specs.List.{Contains, sum_by}
 use Rattle.std.proofs.lemmas.Bool.{cases_eq, cases_lt, cond-true, eq-eqb, false≢true, ne_eqb}
-use Rattle.std.proofs.lemmas.Bool.Decides.{nat_tests}
 use Rattle.std.proofs.lemmas.List.{get_or-set_other, get_or-set_same}
 use Rattle.std.proofs.lemmas.List.Elements.{Contains-append_right}
 use Rattle.std.proofs.lemmas.List.Sums.{get_or-le-sum_by}
@@ -15,8 +14,7 @@ use Rattle.rec_collector.specs.Next.{next_of as collector_next}
 use Rattle.rec_collector.specs.Private as collectors
 use Rattle.rec_collector.specs.Shown.{Batch, batch_made, batch_of}
 use Rattle.rec_collector.specs.Step.{NamesWord, Step}
-use Rattle.rec_collector.specs.Took.{step_of, turn_of}
-use Rattle.rec_collector.proofs.ShownSteps.{shown_as_made}
+use Rattle.rec_collector.specs.Took.{step_of}
 use Rattle.rec_core.specs.Core.{heap_by}
 use Rattle.rec_core.specs.Config.{IsConfig}
 use Rattle.rec_core.specs.Objects.{first_object}
@@ -26,7 +24,6 @@ use Rattle.rec_core.proofs.OpenedFrom.{pending_begins}
 use Rattle.rec_core.specs.Moves.{begun_from, offering, stepped}
 use Rattle.rec_core.specs.Pending.{births_of}
 use Rattle.rec_core.proofs.Reach.{steps_keep_taken}
-use Rattle.rec_core.proofs.Runs.{given_is, rule_of}
 use Rattle.rec_core.proofs.Steps.{in_list}
 use Rattle.rec_core.proofs.Sums.{box_share, buffers_sum, log_share, share}
 use Rattle.rec_core.proofs.Turns.{now_at}
@@ -37,9 +34,10 @@ use Rattle.rec_audit.specs.Runs.{heap_for}
 use Rattle.rec_audit.specs.Lines.{Line}
 use Rattle.rec_audit.specs.Logged.{works_in}
 use Rattle.rec_audit.specs.declared.kind.Kind.TheVariants as kinds
+use Rattle.rec_audit.proofs.OneTurn.{one_turn, ops_of}
 use Rattle.rec_audit.proofs.Blocks.{IsLineOf, line_is_of}
 use Rattle.rec_audit.proofs.Grown.{last_same, taken_same, taken_sweep}
-use Rattle.rec_audit.proofs.JournalReach.{birth_weighs, tells_births, zip_weighs}
+use Rattle.rec_audit.proofs.JournalReach.{born_late, from_birth, birth_weighs, tells_births, zip_weighs}
 use Rattle.rec_audit.proofs.Journalled.{StandsIn, applied_in, box_later, log_later}
 use Rattle.rec_audit.proofs.Newborn.{IsUntold, none_in, untold_before}
 use Rattle.rec_audit.proofs.NewbornTurns.{box_after}
@@ -97,22 +95,13 @@ batch_untaken lines b slot none free = taken_none slot lines (batch_lines (Some 
 -- ---- births of a later epoch
 
 module _ (w : Core) (kept : IsKept true w) (slot : ℕ) where
-  abbrev its : Dated → ℕ
-  its = is_from (applied_in w) (slot + 1)
-
-  from_birth : (epoch : ℕ) (leaf : Bool) → applied_in w ≤ epoch → its (dated_birth epoch (slot + 1) leaf) ≡ 1
-  from_birth epoch leaf late = one (applied_in w) epoch (slot + 1) leaf late
-    where
-      one : (a e n : ℕ) (leaf : Bool) → a ≤ e → is_from a n (dated_birth e n leaf) ≡ 1
-      one a e n leaf late = grind (arith, nat_tests)
-
   -- one that was gathered
-  gathered_weighs : (leaf : Bool) → StandsIn w.collector.newer (entries.Born slot leaf) → 1 ≤ sum_by (share its tells_births (w.epoch - 1)) w.collector.newer
+  gathered_weighs : (leaf : Bool) → StandsIn w.collector.newer (entries.Born slot leaf) → 1 ≤ sum_by (share (born_late w slot) tells_births (w.epoch - 1)) w.collector.newer
   gathered_weighs leaf (i, below, c) = omega (
     arith,
-    get_or-le-sum_by (share its tells_births (w.epoch - 1)) w.collector.newer i (blank 0 0) below,
-    birth_weighs its (w.epoch - 1) (buffer_at w.collector.newer i).entries slot leaf c,
-    from_birth (w.epoch - 1) leaf (let behind : applied_in w < w.epoch = kept.accounted.epochs.behind in omega arith),
+    get_or-le-sum_by (share (born_late w slot) tells_births (w.epoch - 1)) w.collector.newer i (blank 0 0) below,
+    birth_weighs (born_late w slot) (w.epoch - 1) (buffer_at w.collector.newer i).entries slot leaf c,
+    from_birth w slot (w.epoch - 1) leaf (let behind : applied_in w < w.epoch = kept.accounted.epochs.behind in omega arith),
   )
 
   -- a free slot has none
@@ -121,8 +110,8 @@ module _ (w : Core) (kept : IsKept true w) (slot : ℕ) where
       let n : (slot + 1) - 1 ≡ slot = omega arith in
       let is_free : (pending w).free (slot + 1) ≡ true = ap (λ k. slice_index_or w.headers k 0 == 0) n ∙ eq-eqb (slice_index_or w.headers slot 0) 0 free in
       let none : named (pending w) (slot + 1) ≡ 0 = kept.accounted.unnamed (slot + 1) (omega arith) (ap (λ (b : Bool). if b then true else (pending w).released (slot + 1)) is_free) in
-      let births : sum_by its (births_of w) ≤ named (pending w) (slot + 1) = omega arith in
-      omega (arith, none, births, gathered_weighs leaf c, buffers_sum its tells_births w)
+      let births : sum_by (born_late w slot) (births_of w) ≤ named (pending w) (slot + 1) = omega arith in
+      omega (arith, none, births, gathered_weighs leaf c, buffers_sum (born_late w slot) tells_births w)
 
   -- and none beside one that was gathered is in a log or a mailbox
   both_births : (t : ℕ) (leaf other : Bool) → IsMutator w.config t → Contains (mutator w t).log.entries (entries.Born slot leaf) ⊎ Contains (box w t).entries (entries.Born slot leaf) → StandsIn w.collector.newer (entries.Born slot other) → ⊥
@@ -131,11 +120,11 @@ module _ (w : Core) (kept : IsKept true w) (slot : ℕ) where
     | inl later ↦ omega (
       arith,
       kept.accounted.born (slot + 1) (omega arith),
-      buffers_sum its tells_births w,
+      buffers_sum (born_late w slot) tells_births w,
       gathered_weighs other gathered,
-      get_or-le-sum_by (log_share its tells_births) w.mutators (t - 1) nobody (in_list w t kept is),
-      birth_weighs its (epoch_at (mutator w t)) (mutator w t).log.entries slot leaf c,
-      from_birth (epoch_at (mutator w t)) leaf (omega (arith, later)),
+      get_or-le-sum_by (log_share (born_late w slot) tells_births) w.mutators (t - 1) nobody (in_list w t kept is),
+      birth_weighs (born_late w slot) (epoch_at (mutator w t)) (mutator w t).log.entries slot leaf c,
+      from_birth w slot (epoch_at (mutator w t)) leaf (omega (arith, later)),
     )
   ]
   both_births t leaf other is (inr c) gathered = elim (box_later w t kept is) [
@@ -143,11 +132,11 @@ module _ (w : Core) (kept : IsKept true w) (slot : ℕ) where
     | inl later ↦ omega (
       arith,
       kept.accounted.born (slot + 1) (omega arith),
-      buffers_sum its tells_births w,
+      buffers_sum (born_late w slot) tells_births w,
       gathered_weighs other gathered,
-      zip_weighs (box_share its tells_births) w.mutators w.boxes (t - 1) nobody (blank 0 0) (in_list w t kept is) (let many : length w.boxes ≡ w.config.mutators = kept.mutators.mailboxes in omega (arith, is.0, is.1)),
-      birth_weighs its (epoch_at (mutator w t) - 1) (box w t).entries slot leaf c,
-      from_birth (epoch_at (mutator w t) - 1) leaf (omega (arith, later)),
+      zip_weighs (box_share (born_late w slot) tells_births) w.mutators w.boxes (t - 1) nobody (blank 0 0) (in_list w t kept is) (let many : length w.boxes ≡ w.config.mutators = kept.mutators.mailboxes in omega (arith, is.0, is.1)),
+      birth_weighs (born_late w slot) (epoch_at (mutator w t) - 1) (box w t).entries slot leaf c,
+      from_birth w slot (epoch_at (mutator w t) - 1) leaf (omega (arith, later)),
     )
   ]
 
@@ -163,7 +152,7 @@ untold_taken w slot kept u free =
     omega (arith, none, births, by u)
   where
     its_one : (epoch : ℕ) (leaf : Bool) → applied_in w ≤ epoch → is_from (applied_in w) (slot + 1) (dated_birth epoch (slot + 1) leaf) ≡ 1
-    its_one epoch leaf late = from_birth w kept slot epoch leaf late
+    its_one epoch leaf late = from_birth w slot epoch leaf late
 
     by : IsUntold w slot → 1 ≤ sum_by (is_from (applied_in w) (slot + 1)) (births_of w)
     by (IsUntold.in_log t leaf is c) = elim (log_later w t kept is) [
@@ -262,14 +251,7 @@ module _ (ls : List Line) (w : Core) (op : Op) (kept : IsKept true w) (named_is 
   abbrev v : Core
   v = turned_by w op found
 
-  abbrev ops_are : List Line
-  ops_are = op_lines op (cell (cells_of w) op)
-
-  s : Step c found its_box (Some op) q (turn_of c found)
-  s = rule_of w op kept named_is
-
-  shown : batch_of op q ≡ batch_made s
-  shown = (shown_as_made c q found its_box op (turn_of c found) s kept.collector.machine (given_is w op kept named_is)).batch
+  open (one_turn w op kept named_is still) use {s, shown}
 
   -- where a batch was applied nothing is gathered
   landed : (t slot : ℕ) (leaf : Bool) → IsMutator w.config t → works_in q.phase ≡ false → Contains (buffer_at q.newer (t - 1)).entries (entries.Born slot leaf) → worked_in q.phase ≡ true → ⊥
@@ -367,7 +349,7 @@ module _ (ls : List Line) (w : Core) (op : Op) (kept : IsKept true w) (named_is 
       ]
       at_op o is = inl (ap (λ hs. slice_index_or hs slot 0) (sym (headers_stay w op (length c.counts.slots) c.fields (length c.newer) names (λ x e. cc))) ∙ free)
 
-  pub turned_untaken : Untaken ((ls ++ batch_lines (batch_of op q)) ++ ops_are) v
+  pub turned_untaken : Untaken ((ls ++ batch_lines (batch_of op q)) ++ ops_of w op) v
   turned_untaken slot (inl free) = elim (header_back slot free) [
     | inl none ↦ op_untaken (ls ++ batch_lines (batch_of op q)) op found slot (none_told (batch_of op q) refl none)
     | inr swept ↦

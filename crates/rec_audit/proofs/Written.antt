@@ -10,6 +10,7 @@ use Rattle.rec_audit.specs.declared.form.Heap.{Heap}
 use Rattle.rec_audit.specs.declared.kind.Kind.TheVariants.{Title, Heap as HeapLine}
 use Rattle.rec_audit.specs.Lines.{Line, numerals, text_of, text_of_line}
 use Rattle.rec_audit.specs.Journal.{HasNoted, entry_line, heap_numbers, line_of, part_lines, parts_lines, register_number}
+use Rattle.rec_model.proofs.Counted.{enumerate_from-push}
 
 -- a number of 64 bits has at most 20 digits
 pub twenty_digits : (n : ℕ) → n < 2 ^ 64 → length (decimal n) ≤ 20
@@ -18,12 +19,6 @@ twenty_digits n small = length-decimal-le 20 n (omega arith) (omega arith) small
 -- the text of lines, and of more behind them
 text_more : (lines more : List Line) → text_of (lines ++ more) ≡ text_of lines ++ text_of more
 text_more lines more = flat_map-append text_of_line lines more
-
-enumerate_from-push : {X : Type 0} (n : ℕ) (xs : List X) (x : X) → enumerate_from n (xs ++ x ∷ []) ≡ enumerate_from n xs ++ (n + length xs, x) ∷ []
-enumerate_from-push n [] x = let e : n ≡ n + 0 = omega arith in ap (λ k. (k, x) ∷ []) e
-enumerate_from-push n (y ∷ ys) x =
-    let e : n + 1 + length ys ≡ n + length (y ∷ ys) = omega arith in
-    ap (λ ps. (n, y) ∷ ps) (enumerate_from-push (n + 1) ys x ∙ ap (λ k. enumerate_from (n + 1) ys ++ (k, x) ∷ []) e)
 
 -- the part of one mutator more
 part_more : (buffers : List Contents) (i : ℕ) (d : Contents) → i < length buffers → parts_lines (take (i + 1) buffers) ≡ parts_lines (take i buffers) ++ part_lines (i + 1) (get_or buffers i d)

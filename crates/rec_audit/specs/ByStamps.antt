@@ -21,7 +21,7 @@ by_stamp word = dated_word true (stamp_epoch word) word
 abbrev pub mutator_by_stamps : mutators.Private → mutators.Private
 mutator_by_stamps p = record p { log = buffer_by by_stamp p.log }
 
-abbrev pub collector_by_stamps : collectors.Private → collectors.Private
+abbrev collector_by_stamps : collectors.Private → collectors.Private
 collector_by_stamps c = record c { newer = map (buffer_by by_stamp) c.newer; older = map (buffer_by by_stamp) c.older }
 
 -- The heap with each word in a field or in a buffer dated by its own stamp.

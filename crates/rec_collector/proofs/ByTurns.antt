@@ -29,7 +29,7 @@ some_next due op e = subst (λ (o : Option Op). IsSome o) (sym e) refl
 
 -- while something is due the machine is at work, and its next operation is the one that is due
 module _ (stands : ℕ → Private → Turn → Type 0) (p : Private) (n : ℕ) (due : Option Op) (phase : Phase) (counts : State) (next : Next) (op : Op) (r : Runs stands p n due phase counts next) (named : due ≡ Some op) where
-  abbrev pub at : r.now ≡ midway p n phase counts
+  abbrev at : r.now ≡ midway p n phase counts
   at = (r.busy (some_next due op named)).0
 
   pub run_stands : stands n r.now Moved
@@ -38,11 +38,11 @@ module _ (stands : ℕ → Private → Turn → Type 0) (p : Private) (n : ℕ) 
   pub run_loops : IsLooped phase → IsLooped r.now.phase
   run_loops l = subst (λ (x : Private). IsLooped x.phase) (sym at) l
 
-  pub run_op : next_at (midway p n phase counts) phase ≡ due → next_of r.now ≡ Some op
+  run_op : next_at (midway p n phase counts) phase ≡ due → next_of r.now ≡ Some op
   unfolding next_of
   run_op is = ap (λ (x : Private). next_at x x.phase) at ∙ is ∙ named
 
-  pub run_given : (word : ℕ) → IsGiven r.now word → IsGivenAt (midway p n phase counts) word phase
+  run_given : (word : ℕ) → IsGiven r.now word → IsGivenAt (midway p n phase counts) word phase
   unfolding IsGiven
   run_given word g = subst (λ (x : Private). IsGivenAt x word x.phase) at g
 

@@ -23,7 +23,7 @@ counted_told Touched sets = omega arith
 counted_told Held sets = omega arith
 
 -- the sets that were tested and those that are left
-abbrev pub told_and_left : Parts → ℕ
+abbrev told_and_left : Parts → ℕ
 told_and_left w = told w.sets + length w.counts.sets
 
 -- the numbers of slots and fields and the policy stay, and no set is lost

@@ -92,7 +92,7 @@ work_keeps p word phase k e g at_work =
     none _ a = refl
 
 -- what a word may be where a machine is at work, and what it is given to
-pub may_work : (p : Private) (word : ℕ) (phase : Phase) → IsMachine p → p.phase ≡ phase → IsWork phase → IsGivenAt p word phase → MayWork (parts_of p) word phase
+may_work : (p : Private) (word : ℕ) (phase : Phase) → IsMachine p → p.phase ≡ phase → IsWork phase → IsGivenAt p word phase → MayWork (parts_of p) word phase
 unfolding IsGivenAt
 may_work p word (Releasing m) k e at_work g = let a : IsAt p (Releasing m) = now_at p (Releasing m) k e in (record { clearing = a.clearing; exchanged = a.exchanged; exchanges = a.exchanges; few = omega (arith, told_at p (Releasing m) k e, k.collections, k.epoch) }, g)
 may_work p word (Freeing m) k e at_work g = let a : IsAt p (Freeing m) = now_at p (Freeing m) k e in (record { clearing = a.clearing; exchanged = a.exchanged; exchanges = a.exchanges; few = omega (arith, told_at p (Freeing m) k e, k.collections, k.epoch) }, g)
@@ -143,7 +143,7 @@ module _ (p now : Private) (word : ℕ) (phase : Phase) (n : Next) (k : IsMachin
   pub turned_keeps : IsMachine (landed p n)
   turned_keeps = subst (λ (m : Next). IsMachine (landed p m)) (sym is) (work_keeps p word phase k at given at_work)
 
-  pub turned : (q : Private) (turn : Turn) → q ≡ ended_if n.phase (landed p n) → turn ≡ came_turn p.epoch n.phase → KeepsSizes (landed p n) q → (q ≡ took_at now word phase) × (turn ≡ turn_at now word phase) × KeepsSizes now q
+  turned : (q : Private) (turn : Turn) → q ≡ ended_if n.phase (landed p n) → turn ≡ came_turn p.epoch n.phase → KeepsSizes (landed p n) q → (q ≡ took_at now word phase) × (turn ≡ turn_at now word phase) × KeepsSizes now q
   turned q turn ends answers sizes = (
     ends ∙ ap (came p) is ∙ (work_took p word phase at_work).0 ∙ ap (λ (r : Private). took_at r word phase) v,
     answers ∙ ap (λ (m : Next). came_turn p.epoch m.phase) is ∙ (work_took p word phase at_work).1 ∙ ap (λ (r : Private). turn_at r word phase) v,

@@ -32,7 +32,7 @@ told_at p phase k e = subst (λ (f : Phase). IsTold p f) e k.told
 
 -- What holds of each phase to which a word may lead holds of the phase that follows a preparation, a trial, and the tests of sets.
 module _ (P : Phase → Type 0) (preparing : (m : preps.Machine) → P (Preparing m)) (opening : P Opening) (closing : P (Closing 0)) where
-  pub prepared_phase : (w : Parts) (v : preps.Work) → P (prepared w v).phase
+  prepared_phase : (w : Parts) (v : preps.Work) → P (prepared w v).phase
   unfolding prepared
   prepared_phase w v = go v.machine.at v.counts.free
     where

@@ -69,11 +69,11 @@ module _ (p : Private) (n : ℕ) (phase : Phase) (counts : State) (word : ℕ) (
   landed_is : landed q next ≡ landed (before_last p (n + 1)) next
   landed_is = ap (λ (x : Private). landed x next) at ∙ (λ i. landed (record p { turns = turns_are i }) next)
 
-  pub step_took : took_of q word ≡ came (before_last p (n + 1)) next
+  step_took : took_of q word ≡ came (before_last p (n + 1)) next
   unfolding took_of
   step_took = ap (took_at q word) phase_is ∙ sym (work_took q word phase works).0 ∙ ap (came q) here ∙ came_is
 
-  pub step_turn : turn_of q word ≡ came_turn p.epoch next.phase
+  step_turn : turn_of q word ≡ came_turn p.epoch next.phase
   unfolding turn_of
   step_turn = ap (turn_at q word) phase_is ∙ sym (work_took q word phase works).1 ∙ ap (λ (x : Next). came_turn q.epoch x.phase) here ∙ ap (λ (x : Private). came_turn x.epoch next.phase) at
 
@@ -83,7 +83,7 @@ module _ (p : Private) (n : ℕ) (phase : Phase) (counts : State) (word : ℕ) (
   sizes_land : KeepsSizes q (landed q next)
   sizes_land = landed_sizes q (landed q next) next (subst (Lands q) here (work_lands q word phase k phase_is given works)) (same_sizes (landed q next))
 
-  pub step_led : Led p (n + 1) next (took_of q word) (turn_of q word)
+  step_led : Led p (n + 1) next (took_of q word) (turn_of q word)
   step_led = record {
     is = step_took;
     answers = step_turn;
@@ -95,14 +95,14 @@ module _ (p : Private) (n : ℕ) (phase : Phase) (counts : State) (word : ℕ) (
   came_took : came q next ≡ took_of q word
   came_took = came_is ∙ sym step_took
 
-  pub step_machine : IsMachine (took_of q word)
+  step_machine : IsMachine (took_of q word)
   step_machine = subst IsMachine came_took (came_keeps q next machine_lands)
 
-  pub step_sizes : KeepsSizes p (took_of q word)
+  step_sizes : KeepsSizes p (took_of q word)
   step_sizes = subst (KeepsSizes p) came_took (sizes_on p (landed q next) (came q next) (sizes_on p q (landed q next) sizes sizes_land) (ended_sizes (landed q next) next.phase machine_lands))
 
   -- while something is due it goes on in this phase
-  pub step_busy : (later : Phase) (s : State) → IsWork later → next ≡ next_in later (with_counts (parts_of p) s) → (took_of q word ≡ midway p (n + 1) later s) × (turn_of q word ≡ Moved)
+  step_busy : (later : Phase) (s : State) → IsWork later → next ≡ next_in later (with_counts (parts_of p) s) → (took_of q word ≡ midway p (n + 1) later s) × (turn_of q word ≡ Moved)
   step_busy later s w e =
       let f : p.turns + (n + 1 - 1) + 1 ≡ p.turns + (n + 1) = omega arith in (
         step_took ∙ ap (came (before_last p (n + 1))) e ∙ (stays_at (moved (with_parts (before_last p (n + 1)) (with_counts (parts_of p) s)) later) later w).0 ∙ (λ i. record p { phase = later; counts = s; turns = f i }),
@@ -128,7 +128,7 @@ run_more stands after p n op due later phase phase' counts counts' next next' wo
 -- a run as its calls tell it: its parts and its phase are those to which its last turn came
 module _ (p : Private) (n : ℕ) (next : Next) (q : Private) (turn : Turn) (l : Led p n next q turn) (some : 0 < n) (found : Next) (is : found ≡ next) (more : ℕ) (all : more ≡ n) where
   -- the machine behind the run, before a collection that it may complete
-  abbrev pub behind_run : Private
+  abbrev behind_run : Private
   behind_run = record (with_parts p found.parts) { phase = found.phase; turns = p.turns + more }
 
   behind_is : behind_run ≡ landed (before_last p n) next

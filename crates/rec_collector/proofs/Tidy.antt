@@ -84,7 +84,7 @@ tidy_off lowers s t at h ready released i =
     record {
       untried = untried_moved s (taken_off lowers s t) n.marked (off_lowers lowers s t i.apart h) i.untried;
       apart = (off_keeps lowers s t h).apart i.apart;
-      all_zeros = (off_keeps lowers s t h).zeros i.all_zeros;
+      all_zeros = (off_keeps lowers s t h).all_but_orange i.all_zeros;
       outside = outside_on s (taken_off lowers s t) (off_lowers lowers s t i.apart h) i.outside;
       listed = λ x l r b.
           let r' : (slot_at s x).released ≡ true = sym (n.released x) ∙ r in
@@ -137,7 +137,7 @@ tidy_first (z ∷ zs) s e k i =
       untried = untried_moved s (without_first (z ∷ zs) s) refl (first_lowers (z ∷ zs) s) i.untried;
       apart = (first_keeps (z ∷ zs) true s e k).apart i.apart;
       outside = outside_on s (without_first (z ∷ zs) s) (first_lowers (z ∷ zs) s) i.outside;
-      all_zeros = (first_keeps (z ∷ zs) true s e k).zeros i.all_zeros;
+      all_zeros = (first_keeps (z ∷ zs) true s e k).all_but_orange i.all_zeros;
       listed = λ x l r b. elim (eqb_tells x z) [
         | inl q ↦ let n : one (eqb x z) ≡ 1 = ap one q.0 in omega (arith, n)
         | inr q ↦ omega (arith, i.listed x (omega (arith, l, length-set s.slots z v)) (sym (released_same s z x q.1) ∙ r) (sym (buffered x) ∙ b))

@@ -24,11 +24,11 @@ pub record IsUntried (s : State) : Type 0 where
   pub no_white : (x : ℕ) → is_white (slot_at s x).colour ≡ false
 
 -- Every released slot is in the free list, is at work or is held in the work list, or waits in the root buffer or in a set.
-abbrev pub AreListed : State → Option At → Type 0
+abbrev AreListed : State → Option At → Type 0
 AreListed s at = (x : ℕ) → x < length s.slots → (slot_at s x).released ≡ true → (slot_at s x).buffered ≡ false → 0 < times x s.free + times x s.work + one (is_at x at)
 
 -- no slot of the work list is buffered
-abbrev pub AreHeld : State → Type 0
+abbrev AreHeld : State → Type 0
 AreHeld s = (x : ℕ) → 0 < times x s.work → (slot_at s x).buffered ≡ false
 
 -- What is known of the counts of slots with so many fields, while this field is due of a released slot. Each slot that has no count, is

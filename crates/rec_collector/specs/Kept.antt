@@ -163,7 +163,7 @@ swept_at (Closing swept) = swept
 swept_at _ = 0
 
 -- whether the collection under way has made its trial
-abbrev pub tried_in : Phase → ℕ
+abbrev tried_in : Phase → ℕ
 tried_in (Preparing prep) = 1
 tried_in Opening = 1
 tried_in (Sweeping due swept) = 1

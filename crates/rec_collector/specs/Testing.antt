@@ -65,7 +65,7 @@ abbrev pub zeros_released : (lowers : Bool) → Parts → Begun
 zeros_released lowers w = with_release w (releases.started_of (new_release w.fields) lowers w.counts)
 
 -- A set that passes both tests is freed. Any other is refurbished, and its zeros are released.
-abbrev pub settled_by : Verdict → Parts → Begun
+abbrev settled_by : Verdict → Parts → Begun
 settled_by Passed w = with_freeing w (frees.started_of (new_freeing w.fields) w.counts)
 settled_by _ w = zeros_released true (record w { counts = refurbished_of w.counts })
 

@@ -33,7 +33,7 @@ module _ (w : Core) (t : ℕ) (kept : IsKeptBy true (stand_at w.collector.left O
   abbrev s : State
   s = counted w t kept phase
 
-  abbrev pub batched : Parts
+  abbrev batched : Parts
   batched = record (parts_of c) { counts = s }
 
   -- nothing was at work before

@@ -17,7 +17,7 @@ use Rattle.rec_sigma.proofs.Cyclics.{in_set, own_set}
 use Rattle.rec_collector.proofs.Outside.{in_use_orange}
 
 -- it was not released, and if its cyclic count was its true count less so many, so it is still
-abbrev pub StaysExact : (u v : Slot) → Type 0
+abbrev StaysExact : (u v : Slot) → Type 0
 StaysExact u v = (u.released ≡ false) × ((k : ℕ) → u.cyclic ≡ u.count - k → v.cyclic ≡ v.count - k)
 
 -- No slot joins a set, and a set loses no member but with all others. No slot becomes Orange, and of one that is Orange and not

@@ -96,7 +96,7 @@ target_named raw node pos is = by (target_of raw) (code_target raw)
     by (Some x) e = ap Some (omega (arith, is, e))
 
 -- what a trial sees of a word: the word, unless that leads to a Green slot
-pub record SeesAs (s : State) (raw word : ℕ) : Type 0 where
+record SeesAs (s : State) (raw word : ℕ) : Type 0 where
   pub less : (node : ℕ) → 0 < node → one_if_same node (node_of word) ≤ one_if_same node (node_of raw)
   pub shows : (node : ℕ) → 0 < node → is_green (slot_at s (node - 1)).colour ≡ false → one_if_same node (node_of raw) ≤ one_if_same node (node_of word)
   pub unmarked : (node : ℕ) → 0 < node → node_of word ≡ node → is_green (slot_at s (node - 1)).colour ≡ false

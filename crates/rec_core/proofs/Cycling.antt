@@ -18,7 +18,7 @@ use Rattle.rec_core.proofs.CyclesTrial.{trial_stands_moved}
 use Rattle.rec_core.proofs.CyclesWait.{sets_stand_moved, sets_wait_moved}
 
 -- no member of a set is given up
-abbrev pub AreAlive : (released : ℕ → Bool) → State → Type 0
+abbrev AreAlive : (released : ℕ → Bool) → State → Type 0
 AreAlive released s = (node : ℕ) → 0 < node → is_member s node ≡ true → released node ≡ false
 
 -- so while sets wait, and while they are prepared

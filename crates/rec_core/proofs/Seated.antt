@@ -12,12 +12,7 @@ use Rattle.rec_model.proofs.Members.{is_in-cons}
 use Rattle.rec_core.proofs.Common.{Config, Private, nobody}
 use Rattle.rec_core.specs.Objects.{rows_of}
 use Rattle.rec_core.specs.Core.{all_holding_by, holding_by}
-
--- what two lists name, one behind the other
-named-append : (xs ys : List (Option ℕ)) → named (xs ++ ys) ≡ named xs ++ named ys
-named-append [] ys = refl
-named-append (None ∷ xs) ys = named-append xs ys
-named-append (Some n ∷ xs) ys = ap (λ (ns : List ℕ). n ∷ ns) (named-append xs ys)
+use Rattle.rec_model.proofs.Named.{named-append}
 
 -- the rows name what the whole list does
 pub roots-rows : (width many : ℕ) (xs : List (Option ℕ)) → length xs ≡ many * width → roots (rows_of width many xs) ≡ named xs

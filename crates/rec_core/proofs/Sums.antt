@@ -89,7 +89,7 @@ buffers_sum g f w =
     )
 
 -- with this mutator and this in its mailbox
-abbrev pub with_own : Core → (t : ℕ) → Private → Contents → Core
+abbrev with_own : Core → (t : ℕ) → Private → Contents → Core
 with_own w t q b = record w { mutators = slice_set w.mutators (t - 1) q; boxes = slice_set w.boxes (t - 1) b }
 
 -- what a change of one mutator and its mailbox does to a sum over all buffers

@@ -129,7 +129,7 @@ module _ (w : Core) (slot field : ℕ) (may : MayEmpty w slot field) where
   off_accounted lowers = move_accounted (AccountMove.clearing (rule lowers)) accounted
 
   -- what is still to be emptied, where this was begun
-  abbrev pub IsLeftBy : (lowers : Bool) → Option Phase → Type 0
+  abbrev IsLeftBy : (lowers : Bool) → Option Phase → Type 0
   IsLeftBy lowers begun =
       (x f : ℕ) → x < w.config.slots → f < w.config.fields → (slot_at (off lowers) x).released ≡ true → IsLeft (begun_release begun) x f ⊎ (IsLeftOf (off lowers).work (begun_freeing begun) x f ⊎ (slice_index_or words (place_of x f w.config.fields) 0 ≡ 0))
 

@@ -36,7 +36,7 @@ IsInRange config LogEntries = (1 ≤ config.log_entries) × (config.log_entries 
 IsInRange config FirstEpoch = (1 ≤ config.first_epoch) × (config.first_epoch ≤ LAST_EPOCH)
 
 -- where a number stands among the numbers of a heap
-abbrev pub rank : Part → ℕ
+abbrev rank : Part → ℕ
 rank Slots = 0
 rank Fields = 1
 rank Registers = 2

@@ -68,7 +68,7 @@ pub record IsOwn (dated : Bool) (config : Config) (t : ℕ) (p : Private) : Type
   pub dates : p.dates ≡ dated
 
 -- said of heaps whose words are dated alone
-abbrev pub OfDated : (dated : Bool) → Type 0 → Type 0
+abbrev OfDated : (dated : Bool) → Type 0 → Type 0
 OfDated true P = P
 OfDated false P = Unit {0}
 
@@ -213,7 +213,7 @@ pub record HasCollector (dated : Bool) (config : Config) (requested : ℕ) (word
   pub emptied : (x f : ℕ) → x < config.slots → f < config.fields → (slot_at c.counts x).released ≡ true → IsLeft (release_due c.phase) x f ⊎ (IsLeftOf c.counts.work (freeing_due c.phase) x f ⊎ (slice_index_or words (place_of x f config.fields) 0 ≡ 0))
 
 -- a sweep runs
-abbrev pub is_sweeping : Phase → Bool
+abbrev is_sweeping : Phase → Bool
 is_sweeping (Sweeping due swept) = true
 is_sweeping (Closing swept) = true
 is_sweeping _ = false
@@ -291,7 +291,7 @@ pub record IsDated (w : Core) : Type 0 where
   pub dated_held : IsHeldAt w w.collector.phase
 
 -- behind a heap of bare words stands one of dated words that keeps all of this
-abbrev pub HasBehind : (dated : Bool) → Core → Type 0
+abbrev HasBehind : (dated : Bool) → Core → Type 0
 HasBehind true w = Unit {0}
 HasBehind false w = Behind w IsDated
 

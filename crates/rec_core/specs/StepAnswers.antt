@@ -34,7 +34,7 @@ may_answer (commands.Leaf reg label) answer = if is_done answer then true else r
 may_answer _ answer = true
 
 -- the log entries that a command made: one for a birth and one for a write
-abbrev pub entries_of : Cmd → Answer → ℕ
+abbrev entries_of : Cmd → Answer → ℕ
 entries_of (commands.New reg label) answers.Done = 1
 entries_of (commands.Leaf reg label) answers.Done = 1
 entries_of (commands.Put src f val) answers.Done = 1

@@ -207,7 +207,7 @@ told_slots {before = before} {slots = slots} {born = born} {added = added} {take
     (λ i l. h i ∙ ap (λ m. settled_at m (get_or slots i absent)) (k.marks i) ∙ ap (settled_at (mark_of (ltb 0 (added i)) (ltb 0 (times i taken)))) (told_slot k fits covered i)
     ∙ sym (get_or-map-range_with_len (batched_at before born added taken) 0 (length before) i i absent (omega (arith, l, e, k.many)) (omega arith)))
 
-filter_same : (p q : ℕ → Bool) → ((x : ℕ) → p x ≡ q x) → (xs : List ℕ) → filter p xs ≡ filter q xs
+pub filter_same : (p q : ℕ → Bool) → ((x : ℕ) → p x ≡ q x) → (xs : List ℕ) → filter p xs ≡ filter q xs
 filter_same p q h [] = refl
 filter_same p q h (x ∷ xs) = ap (λ b. cond b (x ∷ filter p xs) (filter p xs)) (h x) ∙ ap (λ ys. cond (q x) (x ∷ ys) ys) (filter_same p q h xs)
 

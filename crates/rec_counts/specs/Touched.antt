@@ -44,7 +44,7 @@ pub record AreListed (marks : List Mark) (added : List ℕ) (added_room : ℕ) (
   pub taken_rooms : taken_room ≡ length marks
 
 -- the mark of a slot that one reference more was told of
-abbrev pub mark_added : Mark → Mark
+abbrev mark_added : Mark → Mark
 mark_added Untouched = Added
 mark_added mark = mark
 

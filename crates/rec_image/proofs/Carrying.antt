@@ -10,7 +10,7 @@ use Rattle.rec_word.specs.Word.{target_of}
 use Rattle.rec_model.proofs.Common.{IsDistinct, IsNumbering, IsReached, firsts, is_in, named, roots}
 use Rattle.rec_model.specs.Reach.IsReached.{root, child}
 use Rattle.rec_model.proofs.Carried.{Each, firsts_after-map, flat_map-named, is_in-map, named-map}
-use Rattle.rec_model.proofs.Members.{all_of, is_in-cases, is_in-cons, is_in-head, is_in-tail, in_flat_map}
+use Rattle.rec_model.proofs.Members.{all_of, is_in-cases, is_in-cons, is_in-head, is_in-tail, in_flat_map, is_in-at}
 use Rattle.rec_model.proofs.Numbered.{lists_reached, numbering_distinct}
 use Rattle.rec_model.specs.Sight.{Sight, Reaches, NumbersSlots, targets_of, words_of}
 use Rattle.rec_image.specs.Image.{Node, children, nothing}
@@ -24,18 +24,12 @@ here n ns = ap (λ (b : Bool). cond (not b) (1 + place_in ns n) 0) (eq-eqb n n r
 pub later : (n m : ℕ) (ns : List ℕ) → (m ≡ n → ⊥) → place_in (m ∷ ns) n ≡ suc (place_in ns n)
 later n m ns apart = ap (λ (b : Bool). cond (not b) (1 + place_in ns n) 0) (ne_eqb m n apart) ∙ (let e : 1 + place_in ns n ≡ suc (place_in ns n) = omega arith in e)
 
--- the number at a place is in the list
-pub member : (xs : List ℕ) (i : ℕ) → i < length xs → is_in (get_or xs i 0) xs ≡ true
-member [] i lt = absurd (omega arith)
-member (x ∷ xs) zero lt = is_in-head x xs
-member (x ∷ xs) (suc i) lt = is_in-tail (get_or xs i 0) x xs (member xs i (omega arith))
-
 -- the number at a place has that place
 pub place_at : (ns : List ℕ) (k : ℕ) → IsDistinct ns → k < length ns → place_in ns (get_or ns k 0) ≡ k
 place_at [] k d lt = absurd (omega arith)
 place_at (n ∷ ns) zero d lt = here n ns
 place_at (n ∷ ns) (suc k) d lt =
-    later (get_or ns k 0) n ns (λ e. both_ways (is_in n ns) d.0 (subst (λ (m : ℕ). is_in m ns ≡ true) (sym e) (member ns k (omega arith))))
+    later (get_or ns k 0) n ns (λ e. both_ways (is_in n ns) d.0 (subst (λ (m : ℕ). is_in m ns ≡ true) (sym e) (is_in-at ns k (omega arith))))
     ∙ ap suc (place_at ns k d.1 (omega arith))
 
 -- a number in the list stands at its place

@@ -7,6 +7,7 @@ use Rattle.std.proofs.lemmas.List.FromFn.{length-range_with_len, get_or-range_wi
 use Rattle.rec_model.proofs.Common.{is_in, IsReached, firsts_after, joined, IsNumbering}
 use Rattle.rec_model.specs.Reach.IsReached.{root, child}
 use Rattle.rec_model.proofs.Members.{is_in-head, is_in-cons, is_in-tail, of_all, all_of}
+use Rattle.rec_model.proofs.Firsts.{joined-met, joined-new}
 
 -- each number is met already or is the next one, where those below m are met
 abbrev pub Grows : (m : ℕ) → List ℕ → Type 0
@@ -134,12 +135,6 @@ not_in_range m k past = elim (cases_Bool (is_in k (range_with_len 0 m))) [
   | inr none ↦ none
   | inl there ↦ absurd (let lt : k < 0 + m = range_in 0 m k there in omega arith)
 ]
-
-joined-met : (met : List ℕ) (n : ℕ) (ns : List ℕ) → is_in n met ≡ true → joined met (n ∷ ns) ≡ joined met ns
-joined-met met n ns h = rw h refl
-
-joined-new : (met : List ℕ) (n : ℕ) (ns : List ℕ) → is_in n met ≡ false → joined met (n ∷ ns) ≡ joined (met ++ n ∷ []) ns
-joined-new met n ns h = rw h (sym (append_assoc met (n ∷ []) (firsts_after (met ++ n ∷ []) ns)))
 
 -- the next number more
 joined-next : (m k : ℕ) (xs : List ℕ) → k ≡ m → joined (range_with_len 0 m) (k ∷ xs) ≡ joined (range_with_len 0 (suc m)) xs

@@ -14,7 +14,7 @@ use Rattle.rec_io.specs.Text.{EndsNumeral}
 use Rattle.rec_image.specs.Drafts.{AreRead, AreRegistersRead, AreUnread, meets, meets_all}
 use Rattle.rec_image.specs.Image.{AreRegisters, IsPlace, IsSized, heap_line, registers_line, word}
 use Rattle.rec_image.proofs.Prefixes.{words_end, feed_ends}
-use Rattle.rec_image.proofs.Restoring.{named-append}
+use Rattle.rec_model.proofs.Named.{named-append}
 
 -- i of the words are read
 pub record AreReading (count slots i : ℕ) (bytes rest : List ℕ) (before after : List (Option ℕ)) (met now : Meeting) : Type 0 where

@@ -14,7 +14,7 @@ use Rattle.rec_model.specs.Numbering.{IsDistinct}
 use Rattle.rec_model.specs.Reach.{is_in, named}
 use Rattle.rec_model.specs.Reach.IsReached.{child, root}
 use Rattle.rec_model.specs.Sight.{IsTaken, NumbersSlots, Reaches, Represents, StandsBy, field_of, targets_of, words_of}
-use Rattle.rec_model.proofs.Members.{is_in-head, is_in-left, is_in-right, is_in-tail}
+use Rattle.rec_model.proofs.Members.{is_in-head, is_in-left, is_in-right, is_in-tail, is_in-at}
 use Rattle.rec_model.proofs.Numbered.{lists_reached, numbering_distinct}
 use Rattle.rec_model.proofs.Standing.{reached_is_taken}
 use Rattle.rec_core.specs.Config.{IsConfig}
@@ -26,7 +26,7 @@ use Rattle.rec_image.specs.Renewed.{AgreeButWords, IsRenewed, IsSlots, in_slots,
 use Rattle.rec_image.specs.Restored.{config_of, mark_of, objects_in, restored}
 use Rattle.rec_image.specs.Standing.{IsImageOf, StandsFor, image_of, node_of, place_in}
 use Rattle.rec_image.specs.Standing as images
-use Rattle.rec_image.proofs.Carrying.{at_place, here, later, member, place_at}
+use Rattle.rec_image.proofs.Carrying.{at_place, here, later, place_at}
 use Rattle.rec_image.proofs.Restoring.{all_named, are_objects, below_reached, have_labels, nodes_many, reached_below, restored_by}
 use Rattle.rec_image.proofs.Returning.{image_again}
 use Rattle.rec_image.proofs.Worlds.{few_listed, header, is_image, two_maps, same_map}
@@ -217,7 +217,7 @@ module _ (w : Core) (list : List ℕ) (slots : ℕ) (world : IsWorld w) (numbers
   header_moved : (s : ℕ) (leaf : Bool) (label : ℕ) → IsTaken (sight new) s → IsHeaderOf leaf label (get_or w.headers (get_or list s 0) 0) → IsHeaderOf leaf label (get_or new.headers s 0)
   header_moved s leaf label taken was =
       let within : s < length list = below s taken in
-      let head : IsTakenHeader (get_or w.headers (get_or list s 0) 0) = header w list world numbers few (get_or list s 0) (member list s within) in
+      let head : IsTakenHeader (get_or w.headers (get_or list s 0) 0) = header w list world numbers few (get_or list s 0) (is_in-at list s within) in
       let own = subst (λ (node : Node). IsHeaderOf node.leaf node.label (get_or new.headers s 0)) (node_at s within) (by.header s taken) in
       record { leaf = own.leaf ∙ was.leaf; label = omega (arith, own.label, was.label, head.some) }
 

@@ -45,7 +45,7 @@ null_highest m fields (suc count) =
 -- ---- registers
 
 -- registers that name the next objects, and then null
-abbrev pub next_registers : (registers «from» left : ℕ) → List (Option ℕ)
+abbrev next_registers : (registers «from» left : ℕ) → List (Option ℕ)
 next_registers registers «from» left = map Some (range_with_len «from» (min registers left)) ++ replicate (registers - min registers left) None
 
 -- the registers of some mutators, which name the next objects as long as some are left

@@ -29,6 +29,7 @@ use Rattle.rec_image.specs.Image.{AreRegisters, ImageContents, IsImage, IsNode, 
 use Rattle.rec_image.specs.Restored.{config_of, fields_in, mark_of, objects_in, restored}
 use Rattle.rec_image.specs.Standing.{StandsBy, StandsFor}
 use Rattle.rec_image.proofs.Worlds.{same_map, two_maps}
+use Rattle.rec_model.proofs.Named.{named-append}
 
 -- ---- what stands one behind the other
 
@@ -74,12 +75,6 @@ rows_again slots registers (own ∷ held) all =
     let behind : drop registers (own ++ rest) ≡ rest = ap (λ n. drop n (own ++ rest)) at ∙ drop-append-add own rest 0 in
     (λ i. first i ∷ rows_of registers (length held) (behind i))
     ∙ ap (λ (rs : List (List (Option ℕ))). own ∷ rs) (rows_again slots registers held (All-tail (AreRegisters slots registers) own held all))
-
--- what they name
-pub named-append : (xs ys : List (Option ℕ)) → named (xs ++ ys) ≡ named xs ++ named ys
-named-append [] ys = refl
-named-append (None ∷ xs) ys = named-append xs ys
-named-append (Some n ∷ xs) ys = ap (λ (ns : List ℕ). n ∷ ns) (named-append xs ys)
 
 roots_flat : (held : List (List (Option ℕ))) → roots held ≡ named (flat_map (λ own. own) held)
 roots_flat [] = refl

@@ -7,12 +7,12 @@ use Rattle.std.proofs.lemmas.List.Elements.{All-head, All-tail}
 use Rattle.rec_report.specs.Text.{line_feed}
 use Rattle.rec_image.specs.declared.line.Heap.{Heap}
 use Rattle.rec_image.specs.Drafts.{BeginsObject, CanClose, IsOfHeap, NoObjectNext, NoRowNext, draft, so_far}
-use Rattle.rec_image.specs.Image.{AreRegisters, AreWhole, ImageContents, IsContinued, IsImage, IsNode, IsSized, IsText, Node, StopsAt, end_line, feeds, header_line, heap_line, node_head, object_line, registers_line, text}
+use Rattle.rec_image.specs.Image.{AreRegisters, AreWhole, ImageContents, IsContinued, IsImage, IsNode, IsSized, Node, StopsAt, end_line, feeds, header_line, heap_line, node_head, object_line, registers_line, text}
 use Rattle.rec_image.proofs.Continuing.{regroup}
 use Rattle.rec_image.proofs.Prefixes.{IsLine, feed_ends, feeds-append, line_front, lines_front, no_feed_numeral, numeral_front, object_front, object_is_line, object_parts, registers_front, registers_is_line}
 
 -- each image that goes on from the lines before has a next line, and it isn't at the front of the rest
-abbrev pub Misses : (before rest : List ℕ) → Type 0
+abbrev Misses : (before rest : List ℕ) → Type 0
 Misses before rest = (w : ImageContents) (t : List ℕ) → IsImage w → text w ≡ before ++ t → (line : List ℕ) × (after : List ℕ) × IsLine line × (t ≡ line ++ after) × ((s : List ℕ) → rest ≡ line ++ s → ⊥)
 
 pub stopped : (bytes before rest : List ℕ) (line : ℕ) → bytes ≡ before ++ rest → AreWhole before → IsContinued before → line ≡ feeds before + 1 → Misses before rest → StopsAt bytes line

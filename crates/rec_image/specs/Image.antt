@@ -107,7 +107,7 @@ text v =
     ++ (flat_map object_line v.objects ++ (flat_map registers_line v.held ++ end_line)))
 
 -- the bytes are the text of an image
-abbrev pub IsText : List ℕ → Type 0
+abbrev IsText : List ℕ → Type 0
 IsText bytes = (v : ImageContents) × IsImage v × (bytes ≡ text v)
 
 -- the text of some image goes on from these bytes

@@ -20,7 +20,7 @@ abbrev pub in_slots : ImageContents → ℕ → ImageContents
 in_slots v slots = record v { slots = slots }
 
 -- the numbers of a heap that begins anew: so many slots, and epochs from 1
-abbrev pub config_anew : Config → (slots : ℕ) → Config
+abbrev config_anew : Config → (slots : ℕ) → Config
 config_anew config slots = record config { slots = slots; first_epoch = 1 }
 
 -- where each field of an object leads

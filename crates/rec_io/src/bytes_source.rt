@@ -1,7 +1,6 @@
 //! A source in memory, with calls that fail.
-ghost use Rattle.std.specs.Prelude.{◌≡◌, ◌↔◌, ◌<◌, ◌≤◌, ℕ, [], IfOk, Some, length, min};
-ghost use Rattle.rec_io.specs.BytesSource.{after_read};
-ghost use Rattle.rec_io.specs.Calls.{NextFails};
+ghost use Rattle.std.specs.Prelude.{◌≡◌, ◌<◌, ◌≤◌, ℕ, IfOk, Some, length};
+ghost use Rattle.rec_io.specs.BytesSource.{Gives, after_read};
 ghost use Rattle.rec_io.specs.Faults.{Rose, last_count};
 ghost use Rattle.rec_io.specs.Source.{IfGiven, OnEnd, OnReadFailed, GivesFront, IsSpent};
 ghost use Rattle.rec_io.specs.Told.{KeepsTold, StaysTold};
@@ -75,10 +74,7 @@ impl Source for BytesSource {
         ensures stays_told { StaysTold (Some self.old.rest) (Some self.new.rest) }
 
         // It fails at the calls that are listed and at no others, and else gives as much as fits.
-        ensures fails { (result ≡ Given.Failed) ↔ NextFails self.old.fails self.old.calls }
-        ensures ends { (result ≡ Given.End) ↔
-            ((¬ NextFails self.old.fails self.old.calls) × (self.old.rest ≡ [])) }
-        ensures gives { IfGiven result (λ n. n ≡ min (length into.old) (length self.old.rest)) }
+        ensures gives { Gives self.old (length into.old) result }
 
         // What it holds afterwards.
         ensures after { self.new ≡ after_read result self.old }

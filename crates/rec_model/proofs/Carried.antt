@@ -36,7 +36,7 @@ in_map f n (m ∷ ns) h = elim (is_in-cons n (f m) (map f ns) h) [
 ]
 
 -- a renaming that is one to one on what has P
-abbrev pub IsOneToOne : (P : ℕ → Type 0) → (ℕ → ℕ) → Type 0
+abbrev IsOneToOne : (P : ℕ → Type 0) → (ℕ → ℕ) → Type 0
 IsOneToOne P f = (m n : ℕ) → P m → P n → f m ≡ f n → m ≡ n
 
 abbrev pub Each : (P : ℕ → Type 0) → List ℕ → Type 0

@@ -1,5 +1,5 @@
 -- What lists of references and of dated nodes name, as sums of weights.
-use Rattle.std.proofs.Common.{◌≡◌, inl, inr, ℕ, suc, ◌+◌, ◌<◌, ◌&&◌, ◌==◌, nat_lt, nat_le, Bool, true, false, cond, List, [], ◌∷◌, map, filter, sum_by, refl, ap, subst, ◌∙◌, arith, ◌++◌}
+use Rattle.std.proofs.Common.{◌≡◌, length, inl, inr, ℕ, suc, ◌+◌, ◌<◌, ◌&&◌, ◌==◌, nat_lt, nat_le, Bool, true, false, cond, List, [], ◌∷◌, map, filter, sum_by, refl, ap, subst, ◌∙◌, arith, ◌++◌}
 use Rattle.std.specs.List.{enumerate_from}
 use Rattle.std.proofs.lemmas.Bool.Decides.{nat_tests}
 use Rattle.std.proofs.lemmas.Bool.{false≢true, eqb-true}
@@ -148,3 +148,10 @@ null_no_target w epoch s =
     ∙ sum_by-filter (λ (r : Reference). r.source == s) (λ r. one_if_same 0 r.target) (references_of w epoch)
     ∙ sum_by-filter (is_of epoch) (λ r. only_if (r.source == s) (one_if_same 0 r.target)) (references w)
     ∙ sum_by_none (λ (r : Reference). only_if (is_of epoch r) (only_if (r.source == s) (one_if_same 0 r.target))) (references w) (λ r. grind (arith, nat_tests))
+
+-- one element more has the next number
+pub enumerate_from-push : {X : Type 0} (n : ℕ) (xs : List X) (x : X) → enumerate_from n (xs ++ x ∷ []) ≡ enumerate_from n xs ++ (n + length xs, x) ∷ []
+enumerate_from-push n [] x = let e : n ≡ n + 0 = omega arith in ap (λ k. (k, x) ∷ []) e
+enumerate_from-push n (y ∷ ys) x =
+    let e : n + 1 + length ys ≡ n + length (y ∷ ys) = omega arith in
+    ap (λ ps. (n, y) ∷ ps) (enumerate_from-push (n + 1) ys x ∙ ap (λ k. enumerate_from (n + 1) ys ++ (k, x) ∷ []) e)

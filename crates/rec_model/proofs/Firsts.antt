@@ -5,11 +5,11 @@ use Rattle.rec_model.proofs.Common.{is_in, firsts_after, joined, IsDistinct}
 use Rattle.rec_model.proofs.Members.{is_in-left, is_in-right, is_in-cases, is_in-cons, is_in-head, is_in-tail, IsDistinct-push, not_in-left}
 
 -- a number that is met already is left out
-joined-met : (met : List ℕ) (n : ℕ) (ns : List ℕ) → is_in n met ≡ true → joined met (n ∷ ns) ≡ joined met ns
+pub joined-met : (met : List ℕ) (n : ℕ) (ns : List ℕ) → is_in n met ≡ true → joined met (n ∷ ns) ≡ joined met ns
 joined-met met n ns h = rw h refl
 
 -- a new number stands first
-joined-new : (met : List ℕ) (n : ℕ) (ns : List ℕ) → is_in n met ≡ false → joined met (n ∷ ns) ≡ joined (met ++ n ∷ []) ns
+pub joined-new : (met : List ℕ) (n : ℕ) (ns : List ℕ) → is_in n met ≡ false → joined met (n ∷ ns) ≡ joined (met ++ n ∷ []) ns
 joined-new met n ns h = rw h (sym (append_assoc met (n ∷ []) (firsts_after (met ++ n ∷ []) ns)))
 
 -- more numbers join one after another

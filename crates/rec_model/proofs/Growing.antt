@@ -70,7 +70,7 @@ abbrev pub with_line : List (List Line) → ℕ → Line → List (List Line)
 with_line journals t line = slice_set journals (t - 1) (slice_index_or journals (t - 1) [] ++ line ∷ [])
 
 -- the journals after an event: an answer is a line more
-abbrev pub with_event : List (List Line) → Event → List (List Line)
+abbrev with_event : List (List Line) → Event → List (List Line)
 with_event journals (Answers t line) = with_line journals t line
 with_event journals _ = journals
 

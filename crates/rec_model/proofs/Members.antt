@@ -1,5 +1,5 @@
 -- Which numbers stand in a list: in parts of it, in a list of lists, and in one without repeats.
-use Rattle.std.proofs.Common.{subst, filter, not, ◌≢◌, ◌<◌, ◌≤◌, length, eqb, ◌≡◌, ℕ, ◌==◌, ◌||◌, ◌⊎◌, inl, inr, Bool, true, false, List, [], ◌∷◌, ◌++◌, All, refl, sym, ◌∙◌, ap}
+use Rattle.std.proofs.Common.{subst, zero, suc, get_or, arith, filter, not, ◌≢◌, ◌<◌, ◌≤◌, length, eqb, ◌≡◌, ℕ, ◌==◌, ◌||◌, ◌⊎◌, inl, inr, Bool, true, false, List, [], ◌∷◌, ◌++◌, All, refl, sym, ◌∙◌, ap}
 use Rattle.std.specs.List.{flat_map, list_any, IsDistinct as IsDistinctBy}
 use Rattle.std.proofs.lemmas.Cmp.{nat_eq_equiv}
 use Rattle.std.proofs.lemmas.Map.Made.{length-le_from_is_member}
@@ -12,7 +12,7 @@ use Rattle.std.proofs.Math.Bool.{or-true}
 use Rattle.rec_model.proofs.Common.{is_in, IsDistinct}
 
 -- a number stands in one of two parts
-is_in-append : (n : ℕ) (xs ys : List ℕ) → is_in n (xs ++ ys) ≡ (is_in n xs || is_in n ys)
+pub is_in-append : (n : ℕ) (xs ys : List ℕ) → is_in n (xs ++ ys) ≡ (is_in n xs || is_in n ys)
 is_in-append n xs ys = list_any-append (λ m. m == n) xs ys
 
 pub is_in-left : (n : ℕ) (xs ys : List ℕ) → is_in n xs ≡ true → is_in n (xs ++ ys) ≡ true
@@ -122,7 +122,7 @@ pub distinct_below : (ns : List ℕ) (bound : ℕ) → IsDistinct ns → ((n : �
 distinct_below ns bound d below = length-le_from_distinct_below ns bound (by_std ns d) (λ n h. below n (any_is_in n ns h))
 
 -- the numbers but for one
-abbrev pub without : ℕ → List ℕ → List ℕ
+abbrev without : ℕ → List ℕ → List ℕ
 without k ns = filter (λ m. not (m == k)) ns
 
 -- a number stands among those that are left where one is taken out, as long as it is another
@@ -160,3 +160,18 @@ IsDistinct-without k (m ∷ ns) d = elim (cases_eq m k) [
     IsDistinct-without k ns d.1,
   )
 ]
+
+-- and so does the one at a place
+pub is_in-at : (xs : List ℕ) (i : ℕ) → i < length xs → is_in (get_or xs i 0) xs ≡ true
+is_in-at [] i lt = absurd (omega arith)
+is_in-at (x ∷ xs) zero lt = is_in-head x xs
+is_in-at (x ∷ xs) (suc i) lt = is_in-tail (get_or xs i 0) x xs (is_in-at xs i (omega arith))
+
+-- what holds of each holds of the last, and of those before it
+pub All-last : {X : Type 0} (P : X → Type 0) (xs : List X) (x : X) → All P (xs ++ x ∷ []) → P x
+All-last P [] x h = All-head P x [] h
+All-last P (y ∷ ys) x h = All-last P ys x (All-tail P y (ys ++ x ∷ []) h)
+
+pub All-earlier : {X : Type 0} (P : X → Type 0) (xs : List X) (x : X) → All P (xs ++ x ∷ []) → All P xs
+All-earlier P [] x h = All-nil P
+All-earlier P (y ∷ ys) x h = All-cons P y ys (All-head P y (ys ++ x ∷ []) h) (All-earlier P ys x (All-tail P y (ys ++ x ∷ []) h))

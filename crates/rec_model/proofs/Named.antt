@@ -6,7 +6,7 @@ use Rattle.rec_model.proofs.Common.{named, is_in, joined}
 use Rattle.rec_model.proofs.Members.{is_in-head, is_in-tail}
 use Rattle.rec_model.proofs.Firsts.{joined-append}
 
-named-append : (xs ys : List (Option ℕ)) → named (xs ++ ys) ≡ named xs ++ named ys
+pub named-append : (xs ys : List (Option ℕ)) → named (xs ++ ys) ≡ named xs ++ named ys
 named-append [] ys = refl
 named-append (None ∷ xs) ys = named-append xs ys
 named-append (Some n ∷ xs) ys = ap (λ ns. n ∷ ns) (named-append xs ys)

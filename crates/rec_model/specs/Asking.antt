@@ -96,18 +96,18 @@ refuses_new (answers.Busy before after) = true
 refuses_new _ = false
 
 -- the refusals of a write
-abbrev pub refuses_put : Answer → Bool
+abbrev refuses_put : Answer → Bool
 refuses_put answers.LogFull = true
 refuses_put answers.NoField = true
 refuses_put _ = false
 
 -- the refusal of leaving
-abbrev pub refuses_leave : Answer → Bool
+abbrev refuses_leave : Answer → Bool
 refuses_leave answers.NotYet = true
 refuses_leave _ = false
 
 -- the refusals that a command may have
-abbrev pub IsRefusalOf : Cmd → Answer → Type 0
+abbrev IsRefusalOf : Cmd → Answer → Type 0
 IsRefusalOf (commands.New reg label) answer = refuses_new answer ≡ true
 IsRefusalOf (commands.Leaf reg label) answer = refuses_new answer ≡ true
 IsRefusalOf (commands.Put src f val) answer = refuses_put answer ≡ true

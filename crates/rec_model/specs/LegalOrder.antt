@@ -128,7 +128,7 @@ abbrev pub IsQuiet : ℕ → List Event → ℕ → ℕ → Type 0
 IsQuiet t events i j = (k : ℕ) (e : Event) → i ≤ k → k < j → slice_get events k ≡ Some e → is_by t e ≡ false
 
 -- object n is unfreed at some moment after the mutator's previous event and up to event i
-abbrev pub WasUnfreed : Limits → Moment → List Event → ℕ → ℕ → ℕ → Type 0
+abbrev WasUnfreed : Limits → Moment → List Event → ℕ → ℕ → ℕ → Type 0
 WasUnfreed limits start events t i n =
     (j : ℕ) × (j ≤ i) × IsQuiet t events j i × (is_in n (moment limits start events j).unfreed ≡ true)
 

@@ -6,11 +6,11 @@ use Rattle.rec_model.specs.Sums.{only_if, one_if_same, sum_at, HasSameSums, HasS
 use Rattle.rec_model.specs.Pending.{node_of, epoch_of, home, Write, Dated, dated, dated_birth, Pending, word_in, is_at, Holds}
 
 -- the list gains one element
-abbrev pub Gains : {X : Type 0} → (before : List X) → X → (after : List X) → Type 0
+abbrev Gains : {X : Type 0} → (before : List X) → X → (after : List X) → Type 0
 Gains {X} before x after = (weight : X → ℕ) → sum_by weight after ≡ sum_by weight before + weight x
 
 -- one element of the list is replaced
-abbrev pub Replaces : {X : Type 0} → (before : List X) → (old new : X) → (after : List X) → Type 0
+abbrev Replaces : {X : Type 0} → (before : List X) → (old new : X) → (after : List X) → Type 0
 Replaces {X} before old new after = (weight : X → ℕ) → sum_by weight after + weight old ≡ sum_by weight before + weight new
 
 -- the element at one place of the list is replaced
@@ -205,13 +205,13 @@ pub record Frees (before after : Pending) (node : ℕ) : Type 0 where
   pub leaf : (x : ℕ) → 0 < x → x ≢ node → after.leaf x ≡ before.leaf x
 
 -- The list keeps all elements from this epoch on, and gains none.
-abbrev pub KeepsFrom : {X : Type 0} → (epoch_of : X → ℕ) → (epoch : ℕ) → (before after : List X) → Type 0
+abbrev KeepsFrom : {X : Type 0} → (epoch_of : X → ℕ) → (epoch : ℕ) → (before after : List X) → Type 0
 KeepsFrom {X} epoch_of epoch before after =
     ((weight : X → ℕ) → sum_by weight after ≤ sum_by weight before)
     × ((weight : X → ℕ) → ((x : X) → epoch_of x < epoch → weight x ≡ 0) → sum_by weight after ≡ sum_by weight before)
 
 -- The same of a list of nodes, which may lose what is null too.
-abbrev pub KeepsNodesFrom : (epoch : ℕ) → (before after : List Dated) → Type 0
+abbrev KeepsNodesFrom : (epoch : ℕ) → (before after : List Dated) → Type 0
 KeepsNodesFrom epoch before after =
     ((weight : Dated → ℕ) → sum_by weight after ≤ sum_by weight before)
     × ((weight : Dated → ℕ) → ((d : Dated) → d.epoch < epoch → weight d ≡ 0) → ((e : ℕ) → weight (dated e 0) ≡ 0) → sum_by weight after ≡ sum_by weight before)

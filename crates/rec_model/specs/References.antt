@@ -29,7 +29,7 @@ abbrev pub references : Pending → List Reference
 references w = map (open_reference w.fields) (enumerate_from 0 w.words) ++ map (closed_reference w.fields) w.writes
 
 -- it is open, or closed at this epoch or later
-abbrev pub lasts_to : (epoch : ℕ) → Option ℕ → Bool
+abbrev lasts_to : (epoch : ℕ) → Option ℕ → Bool
 lasts_to epoch None = true
 lasts_to epoch (Some closed) = nat_le epoch closed
 

@@ -19,7 +19,7 @@ abbrev pub IsTaken : Sight → ℕ → Type 0
 IsTaken w slot = 0 < slice_index_or w.headers slot 0
 
 -- a slot holds a leaf
-abbrev pub HoldsLeaf : Sight → ℕ → Type 0
+abbrev HoldsLeaf : Sight → ℕ → Type 0
 HoldsLeaf w slot = is_leaf (slice_index_or w.headers slot 0) ≡ true
 
 -- the words of a slot's fields, in order

@@ -17,10 +17,10 @@ frames = search (sendable, crosses) depth 20
 buffers : IsSend buffer.the_field.row
 buffers = search (sendable, crosses) depth 20
 
-cmds : IsSend cmd.the_field.row
+pub cmds : IsSend cmd.the_field.row
 cmds = search sendable depth 20
 
-tolds : IsSend told.the_field.row
+pub tolds : IsSend told.the_field.row
 tolds = search sendable depth 20
 
 works : IsSend work.the_field.row

@@ -49,11 +49,11 @@ begun_machine p work from m valid stays there = record {
 plain_machine : (p : Private) (word : ℕ) → IsMachine p → is_busy p ≡ true → TakesNone p.phase → IsFound p (next_of p) word → IsMachine (took_of p word)
 plain_machine p word m busy none found = step_machine m (record { snapshot = m.snapshot; capacity = refl; entries = m.entries }) found (learnt_made p word p.log busy none)
 
-begun_busy : (p : Private) (work : Work) (from : ℕ) → is_busy (begun_of p work from) ≡ true
+pub begun_busy : (p : Private) (work : Work) (from : ℕ) → is_busy (begun_of p work from) ≡ true
 unfolding begun_of
 begun_busy p work from = refl
 
-begun_takes_none : (p : Private) (work : Work) (from : ℕ) → TakesNone (begun_of p work from).phase
+pub begun_takes_none : (p : Private) (work : Work) (from : ℕ) → TakesNone (begun_of p work from).phase
 unfolding begun_of
 begun_takes_none p work from = tt
 
@@ -112,7 +112,7 @@ nulled_machine p reg word m = first_machine p (null reg) p.from word m tt
 abbrev put : (src f val : ℕ) → Work
 put src f val = works.Command (commands.Put src f val)
 
-abbrev storing : (p : Private) (src f val slot : ℕ) → Private
+abbrev pub storing : (p : Private) (src f val slot : ℕ) → Private
 storing p src f val slot = record p { phase = Storing src f val slot; steps = 1 }
 
 -- by its first one

@@ -20,7 +20,7 @@ use Rattle.rec_play.specs.Moves.{AreDue, IsSpent, Player, made_by}
 use Rattle.rec_play.specs.Numbers.{config_of}
 use Rattle.rec_play.specs.Played.{lengths_of}
 use Rattle.rec_play.specs.Playing.{IsOrderFor, Rest, generator_of, mutators_of, number_of_actor, order, all_turns, to_come}
-use Rattle.rec_play.specs.Run.{commands_of}
+use Rattle.rec_play.specs.Run.{HasCommand, commands_of}
 use Rattle.rec_play.proofs.Orders.{order_comes, order_names}
 
 -- a script has no more mutators than a heap can have
@@ -40,11 +40,6 @@ commands_are script zero some = absurd (omega (arith, some))
 commands_are script (suc i) some = ap (λ n. slice_index_or script.commands n []) (let same : i ≡ suc i - 1 = omega arith in same)
 
 -- whoever has a command is one of the script's mutators
-pub record HasCommand (script : ScriptContents) (t m : ℕ) : Type 0 where
-  pub some : 1 ≤ t
-  pub most : t ≤ length script.commands
-  pub next : m < length (commands_of script t)
-
 pub has_next : (script : ScriptContents) (t m : ℕ) → m < length (commands_of script t) → HasCommand script t m
 has_next script zero m within = absurd (omega (arith, within))
 has_next script (suc i) m within = record {

@@ -46,8 +46,8 @@ use Rattle.rec_script.specs.Script.{ScriptContents, AreCommands, IsCommand, IsSc
 use Rattle.rec_settle.specs.Collecting.{Follows}
 use Rattle.rec_play.specs.Moves.{Carries}
 use Rattle.rec_play.specs.Played.{config_of}
-use Rattle.rec_play.specs.Run.{commands_of, made_in}
-use Rattle.rec_play.proofs.Due.{HasCommand, commands_are, has_command}
+use Rattle.rec_play.specs.Run.{HasCommand, commands_of, made_in}
+use Rattle.rec_play.proofs.Due.{commands_are, has_command}
 
 -- a command more is a line more of its mutator
 pub line_own : (events : List Event) (t : ℕ) (line : Line) → filter_map (line_by t) (events ++ Answers t line ∷ []) ≡ filter_map (line_by t) events ++ line ∷ []

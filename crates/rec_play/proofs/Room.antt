@@ -16,7 +16,7 @@ use Rattle.rec_play.specs.Start.{Start, moment_at}
 use Rattle.rec_play.proofs.Ready.{fits_longest}
 
 -- the answer is another than that the log is full
-abbrev pub HasRoom : Line → Type 0
+abbrev HasRoom : Line → Type 0
 HasRoom line = line.1.answer ≢ LogFull
 
 -- a mutator's count of Done answers, after one more of some mutator

@@ -35,8 +35,8 @@ use Rattle.rec_play.specs.Moves.{AreThere, Carries, IsSpent, MakesCommand, Makes
 use Rattle.rec_play.specs.Played.{AreReady, IsPlayed, IsStopped, config_of, lengths_of, lines_of}
 use Rattle.rec_play.specs.Start.{IsStartOf, MayBegin, Start, names_at}
 use Rattle.rec_play.specs.Playing.{all_turns, generator_of, mutators_of, number_of_actor, order, to_come}
-use Rattle.rec_play.specs.Run.{IsPlayedRun, EndsTurn, commands_of, made_in}
-use Rattle.rec_play.proofs.Due.{HasCommand, commands_are, few_mutators, has_command, is_of_script, lengths_at, none_made, order_is}
+use Rattle.rec_play.specs.Run.{HasCommand, IsPlayedRun, EndsTurn, commands_of, made_in}
+use Rattle.rec_play.proofs.Due.{commands_are, few_mutators, has_command, is_of_script, lengths_at, none_made, order_is}
 use Rattle.rec_play.proofs.Going.{Went, actors_swept, begun, line_other, line_own, line_swept, turns_are_lines, went_command, went_step}
 use Rattle.rec_play.proofs.Opened.{IsPlayedLegally, played_legally}
 use Rattle.rec_play.proofs.Room.{no_log_full}
@@ -44,7 +44,7 @@ use Rattle.rec_play.proofs.Orders.{order_names, order_length, collectors, collec
 use Rattle.rec_play.proofs.There.{begun_there}
 
 -- each mutator has made as many commands as were answered
-abbrev pub AreCounted : ScriptContents → (made : List ℕ) → List Event → Type 0
+abbrev AreCounted : ScriptContents → (made : List ℕ) → List Event → Type 0
 AreCounted script made events = (t : ℕ) → 1 ≤ t → t ≤ length script.commands → made_by made t ≡ made_in events t
 
 -- A command more is counted.

@@ -13,12 +13,13 @@ use Rattle.rec_world.specs.Order.{Turns}
 use Rattle.rec_world.proofs.Calls.{world_kept}
 use Rattle.rec_settle.proofs.Shows.{shows_step}
 use Rattle.rec_script.specs.Script.{ScriptContents}
+use Rattle.rec_play.specs.Run.{HasCommand}
 use Rattle.rec_play.specs.Moves.{AreThere, Carries, IsSpent, Makes, MakesCommand, Player, made_by}
 use Rattle.rec_play.specs.Playing.{Rest, to_come}
 use Rattle.rec_play.specs.Shown.{IsShownTo, move_shown, told_shown}
 use Rattle.rec_play.specs.declared.moves.Move.{Move}
 use Rattle.rec_play.specs.declared.moves.Move.TheVariants.{Command, Step}
-use Rattle.rec_play.proofs.Due.{HasCommand, has_command}
+use Rattle.rec_play.proofs.Due.{has_command}
 use Rattle.rec_play.proofs.Going.{shows_command}
 use Rattle.rec_play.proofs.Rounds.{Between}
 

@@ -15,9 +15,9 @@ use Rattle.rec_core.specs.declared.config.Config.{Config}
 use Rattle.rec_world.specs.World.{is_leave_done}
 use Rattle.rec_script.specs.Script.{ScriptContents, LeavesLast}
 use Rattle.rec_play.specs.Moves.{AreThere, IsSpent, made_by}
-use Rattle.rec_play.specs.Run.{commands_of}
+use Rattle.rec_play.specs.Run.{HasCommand, commands_of}
 use Rattle.rec_play.specs.Start.{MayBegin}
-use Rattle.rec_play.proofs.Due.{HasCommand, has_next}
+use Rattle.rec_play.proofs.Due.{has_next}
 
 -- no command but the last one is that by which the mutator leaves
 pub stays_on : (cmds : List Cmd) (made : ℕ) (cmd : Cmd) (answer : Answer) → LeavesLast cmds → slice_get cmds made ≡ Some cmd → made + 1 < length cmds → is_leave_done cmd answer ≡ false

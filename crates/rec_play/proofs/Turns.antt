@@ -66,7 +66,7 @@ numbered : (left : List ℕ) (i : ℕ) → left_after_turn left (Mutator (i + 1)
 numbered left i = ap (λ n. slice_set left n (slice_index_or left n 0 - 1)) (let same : i + 1 - 1 ≡ i = omega arith in same)
 
 -- the place that a word names
-abbrev pub place_of : Rest → ℕ
+abbrev place_of : Rest → ℕ
 place_of rest = (pcg32 rest.generator).0 % (length (unfinished rest.left) + 1)
 
 -- the collector's turn is drawn

@@ -4,7 +4,7 @@ use Rattle.std.specs.List.{slice_get, filter_map, flat_map, enumerate_from}
 use Rattle.rec_play.specs.Playing.{if_unfinished}
 
 -- those with commands left, numbered from k
-abbrev pub from : ℕ → List ℕ → List ℕ
+abbrev from : ℕ → List ℕ → List ℕ
 from k left = filter_map (λ p. if_unfinished p.0 p.1) (enumerate_from k left)
 
 -- a mutator that is named has commands left

@@ -27,13 +27,13 @@ use Rattle.rec_play.specs.Moves.{AreDue, AreThere, IsSpent, Makes, Player, made_
 use Rattle.rec_play.specs.Numbers.{config_of}
 use Rattle.rec_play.specs.Played.{lengths_of}
 use Rattle.rec_play.specs.Playing.{Rest, generator_of, to_come}
-use Rattle.rec_play.specs.Run.{IsPlayedRun, made_in}
+use Rattle.rec_play.specs.Run.{HasCommand, IsPlayedRun, made_in}
 use Rattle.rec_play.specs.Watched.{HasPlayed, IsSettlingAt, IsAt, IsPlaying, IsWatched, Tells, Watched, offered, player_of}
 use Rattle.rec_play.specs.declared.actor.Actor.TheVariants.{Mutator, Collector}
 use Rattle.rec_play.specs.declared.moves.Move.{Move}
 use Rattle.rec_play.specs.declared.moves.Move.TheVariants.{Command, Step}
 use Rattle.rec_play.specs.declared.stage.Stage.TheVariants.{Playing, Settling, EpochsSpent}
-use Rattle.rec_play.proofs.Due.{HasCommand, all_made, few_mutators, has_command, is_of_script, none_made}
+use Rattle.rec_play.proofs.Due.{all_made, few_mutators, has_command, is_of_script, none_made}
 use Rattle.rec_play.proofs.Going.{line_swept}
 use Rattle.rec_play.proofs.Rounds.{counted_more, run_made, run_stepped}
 use Rattle.rec_play.proofs.Opened.{opened_begins}

@@ -1,6 +1,6 @@
 -- What the commands of a script gave when they were played.
 use Rattle.std.specs.Prelude.{◌≡◌, ℕ, ◌-◌, ◌<◌, ◌≤◌, List, [], ◌∷◌, ◌++◌, map, length, slice_index_or}
-use Rattle.std.specs.List.{All, filter_map}
+use Rattle.std.specs.List.{All, filter_map, sum}
 use Rattle.rec_model.specs.declared.command.Cmd.{Cmd}
 use Rattle.rec_model.specs.LegalOrder.{Line, Event, Limits, Moment, after_all, actors, line_by, IsLegalOrder, NoLogFull}
 use Rattle.rec_model.specs.Sight.{StandsBy}
@@ -8,6 +8,7 @@ use Rattle.rec_model.specs.Unfreed.{AreUnfreed}
 use Rattle.rec_core.specs.Core.{Core, sight}
 use Rattle.rec_core.specs.Moves.{turned}
 use Rattle.rec_world.specs.Journal.{Notes, no_notes}
+use Rattle.rec_world.specs.Order.{Turns}
 use Rattle.rec_order.specs.Naming.{Naming}
 use Rattle.rec_script.specs.Script.{ScriptContents}
 use Rattle.rec_play.specs.declared.actor.Actor.{Actor}
@@ -38,6 +39,12 @@ pub record AreReady (commands : List (List Cmd)) (journals : List Notes) : Type 
   pub one_each : length journals ≡ length commands
   pub empty : All (λ journal. journal.lines ≡ []) journals
   pub room : (i : ℕ) → length (slice_index_or commands i []) ≤ (slice_index_or journals i no_notes).room
+
+-- What is told of a whole run can be noted: there are such journals, and the order is empty and has room for all commands.
+pub record MayNote (script : ScriptContents) (journals : List Notes) (noted : Turns) : Type 0 where
+  pub ready : AreReady script.commands journals
+  pub order : noted.list ≡ []
+  pub room : sum (lengths_of script) ≤ noted.room
 
 -- The journals hold the script's commands with what was told, and no log was full. One legal order from the start's heap explains
 -- them, and its answers stand in the order of the playing rule. What was told is what the run tells that the rule's turns make up,

@@ -26,6 +26,12 @@ abbrev pub commands_of : ScriptContents → ℕ → List Cmd
 commands_of script zero = []
 commands_of script (suc i) = slice_index_or script.commands i []
 
+-- the script has a mutator with this number, and it has a command behind so many
+pub record HasCommand (script : ScriptContents) (t m : ℕ) : Type 0 where
+  pub some : 1 ≤ t
+  pub most : t ≤ length script.commands
+  pub next : m < length (commands_of script t)
+
 -- how many commands of each mutator were answered
 abbrev pub made_in : List Event → ℕ → ℕ
 made_in events t = length (filter_map (line_by t) events)

@@ -1,13 +1,15 @@
 -- What a watch is shown of a run by the playing rule, turn by turn.
 use Rattle.std.specs.Prelude.{◌≡◌, ℕ, Option, None, Some, List, [], ◌∷◌, ◌++◌, replicate}
+use Rattle.rec_model.specs.LegalOrder.{Line}
 use Rattle.rec_model.specs.declared.limits.TheConstants.{MOST_MUTATORS}
 use Rattle.rec_collector.specs.Shown.{Shown}
 use Rattle.rec_core.specs.Core.{Core}
 use Rattle.rec_core.specs.Moves.{turned}
 use Rattle.rec_core.specs.Shown.{turn_shown}
+use Rattle.rec_order.specs.Naming.{Naming}
 use Rattle.rec_script.specs.Script.{ScriptContents}
 use Rattle.rec_play.specs.Moves.{Makes, Player}
-use Rattle.rec_play.specs.Played.{lengths_of}
+use Rattle.rec_play.specs.Played.{IsStopped, lengths_of}
 use Rattle.rec_play.specs.Playing.{generator_of, to_come}
 use Rattle.rec_play.specs.declared.actor.Actor.{Actor}
 use Rattle.rec_play.specs.declared.actor.Actor.TheVariants.{Collector}
@@ -48,3 +50,9 @@ pub record StopsBehind (script : ScriptContents) (seed turns : ℕ) (first : Cor
   pub later : List Actor
   pub next : to_come player.rest ≡ Collector ∷ later
   pub stopped : after ≡ turned before
+
+-- A watch refused a step of the collector, so the run stopped behind it. The watch was shown each turn before; the journals and the order
+-- tell the turns before it, whichever objects the slots held at first.
+pub record WasRefused (script : ScriptContents) (seed turns : ℕ) (first : Core) (was_shown : List Shown → Type 0) (journals : List (List Line)) (noted : List ℕ) (after : Core) : Type 0 where
+  pub shown : (shown : List Shown) × StopsBehind script seed turns first shown after × was_shown shown
+  pub stopped : (named : Naming) → IsStopped script first named seed turns journals noted after

@@ -16,7 +16,7 @@ ghost use Rattle.rec_play.specs.Moves.{AreDue, Carries, HasTurned, IsSpent, MayG
 ghost use Rattle.rec_play.specs.Numbers.{config_of};
 ghost use Rattle.rec_play.specs.Played.{lengths_of};
 ghost use Rattle.rec_play.specs.Playing.{generator_of, to_come};
-ghost use Rattle.rec_play.specs.Run.{commands_of};
+ghost use Rattle.rec_play.specs.Run.{HasCommand, commands_of};
 ghost use Rattle.rec_play.specs.Shown.{told_shown};
 
 use crate::opening::lengths_of;
@@ -162,9 +162,7 @@ impl<'a> Playing<'a> {
 // changes.
 #[inline(always)]
 fn give_turn(script: &Script, t: u8, made: usize, world: &mut World) -> (Cmd, Told)
-    requires some { 1 ≤ t }
-    requires most { t ≤ length script.now.commands }
-    requires next { made < length (commands_of script.now t) }
+    requires next { HasCommand script.now t made }
     requires config { world.old.config ≡ config_of script.now }
     requires idle { AreIdle world.old }
     requires present { (mutator world.old t).left ≡ false }

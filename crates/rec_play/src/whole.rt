@@ -1,7 +1,6 @@
 //! The commands of a script, carried out in the order of the playing rule.
 
-ghost use Rattle.std.specs.Prelude.{◌≡◌, ◌+◌, ◌≤◌, List, [], IfErr, IfOk, length};
-ghost use Rattle.std.specs.List.{sum};
+ghost use Rattle.std.specs.Prelude.{◌≡◌, ◌+◌, ◌≤◌, List, IfErr, IfOk, length};
 ghost use Rattle.rec_io.specs.Faults.{Rose};
 ghost use Rattle.rec_model.specs.LegalOrder.{Event};
 ghost use Rattle.rec_model.specs.Sight.{Represents};
@@ -9,11 +8,10 @@ ghost use Rattle.rec_collector.specs.Shown.{Shown};
 ghost use Rattle.rec_core.specs.Core.{sight};
 ghost use Rattle.rec_core.specs.Shown.{Shows};
 ghost use Rattle.rec_order.specs.Legal.{AreIdle};
-ghost use Rattle.rec_order.specs.Naming.{Naming};
-ghost use Rattle.rec_play.specs.Played.{AreReady, IsPlayed, IsStopped, config_of, last_moment, lengths_of, lines_of};
+ghost use Rattle.rec_play.specs.Played.{IsPlayed, MayNote, config_of, last_moment, lengths_of, lines_of};
 ghost use Rattle.rec_play.specs.Playing.{order as order_of};
 ghost use Rattle.rec_play.specs.Start.{IsStartOf, MayBegin, Start};
-ghost use Rattle.rec_play.specs.Shown.{IsShownWhole, StopsBehind};
+ghost use Rattle.rec_play.specs.Shown.{IsShownWhole, WasRefused};
 ghost use Rattle.rec_world.specs.World.{IsWorld};
 
 use crate::{Move, Playing};
@@ -35,9 +33,7 @@ pub fn play(
     // The heap is opened with the script's numbers, with one object or from objects, and nothing was done on it; there is one journal
     // per mutator, empty, with room for its commands; the order is empty and has room for all commands.
     requires begins { MayBegin script.now world.old }
-    requires journals { AreReady script.now.commands journals.old }
-    requires order { order.old.list ≡ [] }
-    requires room { sum (lengths_of script.now) ≤ order.old.room }
+    requires notes { MayNote script.now journals.old order.old }
 
     // From whatever heap stands for the world, some legal order explains what was told. Its answers stand in the order of the rule,
     // and its heap stands for the world afterwards. Its events are what the run tells that the turns of the rule make up, and the world
@@ -71,9 +67,7 @@ pub fn play_watched<W: Watch>(
     watch: &mut W,
 ) -> Result<(), NoMemory>
     requires begins { MayBegin script.now world.old }
-    requires journals { AreReady script.now.commands journals.old }
-    requires order { order.old.list ≡ [] }
-    requires room { sum (lengths_of script.now) ≤ order.old.room }
+    requires notes { MayNote script.now journals.old order.old }
 
     // What `play` promises.
     ensures played { IfOk result (λ done. (start : Start) → start.world ≡ world.old → IsStartOf script.now start → (events : List Event)
@@ -87,11 +81,10 @@ pub fn play_watched<W: Watch>(
     ensures kept { IsWorld world.new }
 
     // What the watch was shown: all of the collector's steps, which is what a watch is shown of the moves that the turns make up; or,
-    // where it refused one, those before it.
+    // where it refused one, those before it. The journals and the order tell the turns before that step then, whichever objects the slots
+    // held at first.
     ensures shown { IfOk result (λ done. (shown : List Shown) × IsShownWhole script.now seed turns world.old shown world.new × W.WasShown watch.old shown watch.new × Shows world.old shown world.new) }
-    ensures refused { IfErr result (λ error. (shown : List Shown) × StopsBehind script.now seed turns world.old shown world.new × W.WasShown watch.old shown watch.new) }
-    // The journals and the order tell the turns before that step then, whichever objects the slots held at first.
-    ensures stopped { IfErr result (λ error. (named : Naming) → IsStopped script.now world.old named seed turns (lines_of journals.new) order.new.list world.new) }
+    ensures refused { IfErr result (λ error. WasRefused script.now seed turns world.old (λ shown. W.WasShown watch.old shown watch.new) (lines_of journals.new) order.new.list world.new) }
     ensures rose { IfErr result (λ error. Rose (W.refused watch.old) (W.refused watch.new)) }
     ensures never_falls { W.refused watch.old ≤ W.refused watch.new }
 {

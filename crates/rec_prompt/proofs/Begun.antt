@@ -43,7 +43,7 @@ between v t kept idle is =
 
 -- Every heap has forgotten its lost slots from the epoch behind the requested one on.
 module _ (v : Core) (kept : IsKept true v) where
-  begun : counted v + under_way v.collector.phase ≡ v.epoch
+  pub begun : counted v + under_way v.collector.phase ≡ v.epoch
   begun = kept.collector.begun
 
   -- a register, or a field of a slot that a register reaches, leads to no lost slot

@@ -13,7 +13,7 @@ use Rattle.rec_core.proofs.Steps.{slot_there, taken_slot}
 use Rattle.rec_core.proofs.Sums.{share, log_share, box_share, buffers_sum, zip_sum-none}
 use Rattle.rec_core.proofs.Turns.{now_at}
 use Rattle.rec_prompt.specs.Lost.{fields_to}
-use Rattle.rec_prompt.proofs.Begun.{between}
+use Rattle.rec_prompt.proofs.Begun.{begun, between}
 use Rattle.rec_prompt.proofs.Forgets.{counted, Forgets, IsClean, node_leads, spare_clean}
 
 -- a snapshot that doesn't name the slot has nothing of it
@@ -71,21 +71,18 @@ module _ (late : ℕ) (first : Core) (lost : ℕ → Type 0) (v : Core) (kept : 
   way : under_way v.collector.phase ≡ 0
   way = ap under_way idle
 
-  epoch : counted v + under_way v.collector.phase ≡ v.epoch
-  epoch = kept.collector.begun
-
   of_mutator : (i : ℕ) → i < length v.mutators → IsMutator v.config (i + 1)
   of_mutator i below = let many : length v.mutators ≡ v.config.mutators = kept.mutators.many in (omega arith, omega (arith, below, many))
 
   of_log : (t : ℕ) → IsMutator v.config t → IsClean slot (mutator v t).log
   of_log t is = elim (between v t kept idle is) [
-    | inl now ↦ f.logs t slot is (omega (arith, now, past, epoch, way)) gone
+    | inl now ↦ f.logs t slot is (omega (arith, now, past, begun v kept, way)) gone
     | inr spare ↦ spare_clean slot v.config (mutator v t).log spare.0
   ]
 
   of_box : (t : ℕ) → IsMutator v.config t → IsClean slot (box v t)
   of_box t is = elim (between v t kept idle is) [
-    | inl now ↦ f.boxes t slot is (omega (arith, now, past, epoch, way)) gone
+    | inl now ↦ f.boxes t slot is (omega (arith, now, past, begun v kept, way)) gone
     | inr spare ↦ spare_clean slot v.config (box v t) spare.1
   ]
 

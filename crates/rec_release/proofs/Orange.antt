@@ -9,7 +9,7 @@ use Rattle.rec_counts.specs.declared.slot.Slot.{Slot}
 use Rattle.rec_counts.specs.Counts.{State, IsKept, slot_at, with_slot, decremented}
 use Rattle.rec_counts.specs.Groups.{last_set, earlier_sets}
 use Rattle.rec_counts.specs.Lists.{one, times}
-use Rattle.rec_counts.specs.Rest.{AllZeros, AreZeros, KeepsRest}
+use Rattle.rec_counts.specs.Rest.{AreZeros, KeepsRest}
 use Rattle.rec_counts.specs.Slot.{absent, is_in, lessened, lessened_if, lowered, stays, out_of_set, unbuffered_if}
 use Rattle.rec_counts.specs.Colour.{is_orange}
 use Rattle.rec_counts.proofs.Decrementing.{stays_released, all_zeros_kept, decremented_less, rest_decremented, zeros_from, ZerosFrom, zero_found, same_slot}
@@ -19,28 +19,17 @@ use Rattle.rec_word.specs.declared.member.Member.{Member}
 use Rattle.rec_word.specs.Walk.{behind}
 use Rattle.rec_release.specs.CycleFree.{dead_if, given_up, gone_on, listed_behind, IsFreeable}
 use Rattle.rec_release.specs.Release.{emptied, listed_if, next_from, without_first, IsReady}
-use Rattle.rec_release.specs.TakenOff.{down_if, is_lowered, taken_off, AllZerosButOrange, IsApart, IsMember, KeepsOrange}
+use Rattle.rec_release.specs.TakenOff.{down_if, is_lowered, taken_off, AllZerosButOrange, IsApart, IsMember, Keeps, KeepsOrange}
 use Rattle.rec_release.proofs.Giving.{given_slot}
 use Rattle.rec_release.proofs.Keeping.{each_next, first_released, ready_emptied}
 use Rattle.rec_release.proofs.TakenOff.{down_most, off_most, ready_off, written, KeepsMost}
-
--- What each move keeps. One of a machine that lowers leaves the orange slots as they are, and one of a machine that doesn't
--- leaves all zeros in the zeros.
-pub record Keeps (lowers : Bool) (s t : State) : Type 0 where
-  pub slots : length t.slots ≡ length s.slots
-  pub sets : t.sets ≡ s.sets
-  pub all_zeros : lowers ≡ false → AllZeros s → AllZeros t
-  pub zeros : AllZerosButOrange s → AllZerosButOrange t
-  pub apart : IsApart s → IsApart t
-  pub before : (x : ℕ) → (slot_at t x).colour ≡ Orange → (slot_at s x).colour ≡ Orange
-  pub kept : lowers ≡ true → (x : ℕ) → (slot_at s x).colour ≡ Orange → (slot_at t x).colour ≡ Orange
 
 keeps_on : {lowers : Bool} {s t u : State} → Keeps lowers s t → Keeps lowers t u → Keeps lowers s u
 keeps_on k l = record {
   slots = l.slots ∙ k.slots;
   sets = l.sets ∙ k.sets;
   all_zeros = λ e a. l.all_zeros e (k.all_zeros e a);
-  zeros = λ a. l.zeros (k.zeros a);
+  all_but_orange = λ a. l.all_but_orange (k.all_but_orange a);
   apart = λ a. l.apart (k.apart a);
   before = λ x o. k.before x (l.before x o);
   kept = λ e x o. l.kept e x (k.kept e x o);
@@ -59,7 +48,7 @@ lists_keep lowers s work free = record {
   slots = refl;
   sets = refl;
   all_zeros = λ e a. a;
-  zeros = λ a. a;
+  all_but_orange = λ a. a;
   apart = λ a x o. member_on s (record s { work = work; free = free }) x refl (a x o).no_zero refl (a x o);
   before = λ x o. o;
   kept = λ e x o. o;
@@ -83,7 +72,7 @@ first_keeps (z ∷ zs) lowers s e k =
       slots = length-set s.slots z v;
       sets = refl;
       all_zeros = λ _ a x r c. omega (arith, n x, new x, ap one r, a x (old x r) (sym (count x) ∙ c));
-      zeros = λ a x r c o. omega (arith, n x, new x, ap one r, a x (old x r) (sym (count x) ∙ c) (λ q. o (colour x ∙ q)));
+      all_but_orange = λ a x r c o. omega (arith, n x, new x, ap one r, a x (old x r) (sym (count x) ∙ c) (λ q. o (colour x ∙ q)));
       apart = λ a x o. let m : IsMember s x = a x (sym (colour x) ∙ o) in
           record { member = m.member; no_zero = omega (arith, n x, m.no_zero); unreleased = one-none _ (omega (arith, new x, ap one m.unreleased, n x, m.no_zero)) };
       before = λ x o. sym (colour x) ∙ o;
@@ -147,7 +136,7 @@ down_keeps true lowers s y e h =
       slots = most.slots;
       sets = refl;
       all_zeros = λ f. absurd (false≢true (sym (ap (λ b. is_lowered b (slot_at s y).colour) f) ∙ e));
-      zeros = λ a x r c o. elim (written s y v x) [
+      all_but_orange = λ a x r c o. elim (written s y v x) [
         | inl q ↦ absurd (o (colour x ∙ ap (λ z. (slot_at s z).colour) q.0 ∙ lowered_orange lowers (slot_at s y).colour e))
         | inr q ↦ a x (sym (most.released x) ∙ r) (ap (λ (w : Slot). w.count) (sym q) ∙ c) (λ p. o (colour x ∙ p))
       ];
@@ -163,7 +152,7 @@ down_keeps false lowers s y e h =
       slots = k.slots;
       sets = k.sets;
       all_zeros = λ _. all_zeros_kept s y;
-      zeros = λ a x r c o. elim (decremented_at s y x) [
+      all_but_orange = λ a x r c o. elim (decremented_at s y x) [
         | inl q ↦ let last : (slot_at s y).count ≡ 1 = omega (arith, h, c, ap (λ z. (slot_at (decremented s y) z).count) q.0, decremented_less s y y, one-same y) in
             subst (λ z. 0 < times z (decremented s y).zeros) (sym q.0) (zero_found s y (ap (λ z. (slot_at s z).released) (sym q.0) ∙ sym (k.released x) ∙ r) last)
         | inr q ↦ let old : 0 < times x s.zeros = a x (ap (λ (w : Slot). w.released) (sym q) ∙ r) (ap (λ (w : Slot). w.count) (sym q) ∙ c) (λ p. o (ap (λ (w : Slot). w.colour) q ∙ p)) in omega (arith, n x, old)

@@ -18,9 +18,9 @@ use Rattle.rec_release.specs.Release.{Work, emptied, gone_on, listed_if, next_fr
 use Rattle.rec_release.specs.Released.{Released, HasReleased, exchanged, place_due, with_fields}
 use Rattle.rec_word.specs.Load.{given}
 use Rattle.rec_word.proofs.Given.{given-nil, given-cons}
-use Rattle.rec_release.specs.TakenOff.{taken_off}
+use Rattle.rec_release.specs.TakenOff.{taken_off, Keeps}
 use Rattle.rec_release.proofs.Keeping.{each_next, first_released, first_zero, held_off, listed_ready, next_work, none_left, work_last, work_next, work_on, FirstZero}
-use Rattle.rec_release.proofs.Orange.{last_keeps, off_keeps, Keeps}
+use Rattle.rec_release.proofs.Orange.{last_keeps, off_keeps}
 use Rattle.rec_release.proofs.TakenOff.{leading-nil, leading_push, off_count, off_most, ready_off, KeepsMost}
 
 -- slots of which something differs are two

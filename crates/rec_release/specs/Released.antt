@@ -10,7 +10,7 @@ use Rattle.rec_release.specs.declared.at.At.{At}
 use Rattle.rec_release.specs.Release.{Machine, Work, IsReady, IsHeld, took_of, started_of}
 
 -- the places of the slot at work that are still to be exchanged
-abbrev pub places_left : ℕ → Option At → List ℕ
+abbrev places_left : ℕ → Option At → List ℕ
 places_left fields None = []
 places_left fields (Some a) = places_from fields a.slot a.field
 

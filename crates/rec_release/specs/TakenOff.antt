@@ -1,10 +1,11 @@
 -- What is taken off a count, and what is known of the orange slots meanwhile.
-use Rattle.std.specs.Prelude.{◌≡◌, ◌≢◌, ℕ, ◌<◌, Bool, true, false, Option, None, Some, List}
+use Rattle.std.specs.Prelude.{◌≡◌, ◌≢◌, ℕ, ◌<◌, Bool, true, false, Option, None, Some, List, length}
 use Rattle.std.specs.List.{concat}
 use Rattle.rec_counts.specs.declared.colour.Colour.{Colour}
 use Rattle.rec_counts.specs.declared.colour.Colour.TheVariants.{Orange}
 use Rattle.rec_counts.specs.Counts.{State, slot_at, with_slot, decremented}
 use Rattle.rec_counts.specs.Lists.{times}
+use Rattle.rec_counts.specs.Rest.{AllZeros}
 use Rattle.rec_counts.specs.Slot.{lowered}
 use Rattle.rec_counts.specs.Colour.{is_orange}
 
@@ -41,3 +42,14 @@ IsApart s = (x : ℕ) → (slot_at s x).colour ≡ Orange → IsMember s x
 pub record KeepsOrange (gone : List ℕ) (s t : State) : Type 0 where
   pub kept : (x : ℕ) → times x gone ≡ 0 → (slot_at s x).colour ≡ Orange → (slot_at t x).colour ≡ Orange
   pub before : (x : ℕ) → (slot_at t x).colour ≡ Orange → (times x gone ≡ 0) × ((slot_at s x).colour ≡ Orange)
+
+-- What each move of a release or of a freeing keeps. One of a machine that lowers leaves the orange slots as they are,
+-- and one of a machine that doesn't leaves all zeros in the zeros.
+pub record Keeps (lowers : Bool) (s t : State) : Type 0 where
+  pub slots : length t.slots ≡ length s.slots
+  pub sets : t.sets ≡ s.sets
+  pub all_zeros : lowers ≡ false → AllZeros s → AllZeros t
+  pub all_but_orange : AllZerosButOrange s → AllZerosButOrange t
+  pub apart : IsApart s → IsApart t
+  pub before : (x : ℕ) → (slot_at t x).colour ≡ Orange → (slot_at s x).colour ≡ Orange
+  pub kept : lowers ≡ true → (x : ℕ) → (slot_at s x).colour ≡ Orange → (slot_at t x).colour ≡ Orange

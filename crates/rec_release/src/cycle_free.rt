@@ -9,7 +9,7 @@ ghost use Rattle.rec_word.specs.Walk.{IsOf, first_member};
 ghost use Rattle.rec_release.specs.CycleFree.{IsAtWork, IsFreeable, Work, gone_on, listed, next_of, started_of, took_of};
 ghost use Rattle.rec_release.specs.Freed.{FreedTo};
 ghost use Rattle.rec_release.specs.Ran.{RanFreeing};
-ghost use Rattle.rec_release.specs.TakenOff.{AllZerosButOrange, IsApart, KeepsOrange};
+ghost use Rattle.rec_release.specs.TakenOff.{AllZerosButOrange, IsApart, Keeps, KeepsOrange};
 
 use crate::clears::Clears;
 use crate::take_off::take_off;
@@ -99,10 +99,7 @@ impl CycleFree {
 
         ensures took { record { machine = self.new; counts = counts.new } ≡ took_of (record { machine = self.old; counts = counts.old }) word }
         ensures kept { IsAtWork self.new counts.new }
-        ensures slots { length counts.new.slots ≡ length counts.old.slots }
-        ensures sets { counts.new.sets ≡ counts.old.sets }
-        ensures all_but_orange { AllZerosButOrange counts.old → AllZerosButOrange counts.new }
-        ensures apart { IsApart counts.old → IsApart counts.new }
+        ensures keeps { Keeps true counts.old counts.new }
         ensures orange { KeepsOrange [] counts.old counts.new }
 
         // One word more came out of one place more, whatever this freeing took in before.

@@ -2,10 +2,9 @@ ghost use Rattle.std.specs.Prelude.{◌≡◌, ◌<◌, ◌↔◌, ◌++◌, ◌
 ghost use Rattle.rec_word.specs.Word.{target_of};
 ghost use Rattle.rec_counts.specs.Counts.{State, slot_at};
 ghost use Rattle.rec_counts.specs.Lists.{times};
-ghost use Rattle.rec_counts.specs.Rest.{AllZeros};
 ghost use Rattle.rec_release.specs.Release.{IsAtWork, IsHeld, IsReady, emptied, first_of, gone_on, next_from, next_of, started_of, took_of, without_first};
 ghost use Rattle.rec_release.specs.Released.{Released, place_due};
-ghost use Rattle.rec_release.specs.TakenOff.{AllZerosButOrange, IsApart, KeepsOrange};
+ghost use Rattle.rec_release.specs.TakenOff.{Keeps, KeepsOrange};
 
 use crate::at::At;
 use crate::take_off::take_off;
@@ -56,13 +55,11 @@ impl Release {
 
         ensures started { record { machine = self.new; counts = counts.new } ≡ started_of self.old lowers counts.old }
         ensures kept { IsAtWork self.new counts.new }
-        ensures slots { length counts.new.slots ≡ length counts.old.slots }
         ensures lowers { self.new.lowers ≡ lowers }
-        ensures sets { counts.new.sets ≡ counts.old.sets }
         ensures done { IsNone (next_of self.new) → counts.new.zeros ≡ [] }
-        ensures all_zeros { AllZeros counts.old → AllZeros counts.new }
-        ensures all_but_orange { AllZerosButOrange counts.old → AllZerosButOrange counts.new }
-        ensures apart { IsApart counts.old → IsApart counts.new }
+
+        // Either kind of release keeps as much: no target was lowered or decremented yet.
+        ensures keeps { (lowers : Bool) → Keeps lowers counts.old counts.new }
         ensures orange { KeepsOrange [] counts.old counts.new }
 
         // Nothing is exchanged yet.
@@ -92,13 +89,9 @@ impl Release {
 
         ensures took { record { machine = self.new; counts = counts.new } ≡ took_of (record { machine = self.old; counts = counts.old }) word }
         ensures kept { IsAtWork self.new counts.new }
-        ensures slots { length counts.new.slots ≡ length counts.old.slots }
         ensures lowers { self.new.lowers ≡ self.old.lowers }
-        ensures sets { counts.new.sets ≡ counts.old.sets }
         ensures done { IsNone (next_of self.new) → counts.new.zeros ≡ [] }
-        ensures all_zeros { self.new.lowers ≡ false → AllZeros counts.old → AllZeros counts.new }
-        ensures all_but_orange { AllZerosButOrange counts.old → AllZerosButOrange counts.new }
-        ensures apart { IsApart counts.old → IsApart counts.new }
+        ensures keeps { Keeps self.new.lowers counts.old counts.new }
         ensures orange { self.new.lowers ≡ true → KeepsOrange [] counts.old counts.new }
 
         // One word more came out of one place more, whatever this release took in before.

@@ -10,15 +10,8 @@ use Rattle.std.proofs.lemmas.Grind.{flat_map-append}
 use Rattle.rec_model.specs.LegalOrder.{Line}
 use Rattle.rec_world.specs.Journal.{Notes}
 use Rattle.rec_model.specs.Numbering.{times}
-use Rattle.rec_model.proofs.Counted.{times-append, times-cons}
+use Rattle.rec_model.proofs.Counted.{times-append, times-cons, enumerate_from-push}
 use Rattle.rec_report.specs.Text.{answer_line, own_lines, lines_by_mutator, turn_line, IsOrderOf, is_refused, refusals}
-
--- one element more has the next number
-enumerate_from-push : {X : Type 0} (n : ℕ) (xs : List X) (x : X) → enumerate_from n (xs ++ x ∷ []) ≡ enumerate_from n xs ++ (n + length xs, x) ∷ []
-enumerate_from-push n [] x = let e : n ≡ n + 0 = omega arith in ap (λ k. (k, x) ∷ []) e
-enumerate_from-push n (y ∷ ys) x =
-    let e : n + 1 + length ys ≡ n + length (y ∷ ys) = omega arith in
-    ap (λ ps. (n, y) ∷ ps) (enumerate_from-push (n + 1) ys x ∙ ap (λ k. enumerate_from (n + 1) ys ++ (k, x) ∷ []) e)
 
 -- the next element of a list, under a function of its number
 pub next_numbered : {X Y : Type 0} (f : ℕ × X → Y) (n : ℕ) (xs : List X) (i : ℕ) (d : X) → i < length xs → map f (enumerate_from n (take (i + 1) xs)) ≡ map f (enumerate_from n (take i xs)) ++ f (n + i, get_or xs i d) ∷ []

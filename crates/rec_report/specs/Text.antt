@@ -49,7 +49,7 @@ abbrev pub lines_in_order : List (List Line) → List ℕ → List (List ℕ)
 lines_in_order journals order = map (λ p. turn_line journals p.1 (times p.1 (take p.0 order))) (enumerate_from 0 order)
 
 -- the answers in an order, or without one mutator by mutator
-abbrev pub answer_lines : List (List Line) → Option (List ℕ) → List (List ℕ)
+abbrev answer_lines : List (List Line) → Option (List ℕ) → List (List ℕ)
 answer_lines journals None = lines_by_mutator journals
 answer_lines journals (Some order) = lines_in_order journals order
 
@@ -73,7 +73,7 @@ field_number slots None = None
 field_number slots (Some slot) = number_of slots slot
 
 -- what stands before a live object's label
-abbrev pub label_word : (leaf : Bool) → List ℕ
+abbrev label_word : (leaf : Bool) → List ℕ
 label_word true = codes " leaf "
 label_word false = codes " label "
 

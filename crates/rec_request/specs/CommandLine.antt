@@ -133,7 +133,7 @@ pub record Asks (words : List Text) (request : Request) : Type 0 where
   pub asked : AsksBy (subcommand_of recycler words) request
 
 -- the turns of a played run are in their range
-abbrev pub HasFewTurns : How → Type 0
+abbrev HasFewTurns : How → Type 0
 HasFewTurns (hows.Play asked) = asked.turns ≤ MOST_TURNS
 HasFewTurns hows.Threads = ⊤
 

@@ -189,7 +189,7 @@ IsKept kepts.Journal script asked end world text = IsJournal script asked end wo
 IsKept kepts.Image script asked end world text = IsImageText world text
 
 -- how commands are played where neither a summary nor a trace is asked for
-abbrev pub plainly : (seed turns : ℕ) → Play
+abbrev plainly : (seed turns : ℕ) → Play
 plainly seed turns = record { seed = seed; turns = turns; summary = false; trace = false }
 
 -- how a script is played of which something else than its answers is written

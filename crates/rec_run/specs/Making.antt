@@ -67,7 +67,7 @@ pub record IsDrawn (script : ScriptContents) (start : Start) (play : Play) (even
   pub not_yet : (i t : ℕ) (line : Line) → slice_get events i ≡ Some (Event.Answers t line) → line.1.answer ≡ answers.NotYet → IsAwaitedTurn script start.world (names_at start) (all_turns (lengths_of script) play.seed play.turns) events i t line
 
 -- the steps of the run, by the way it was made
-abbrev pub MakesSteps : ScriptContents → Start → How → List (List Line) → List Event → Naming → Core → Type 0
+abbrev MakesSteps : ScriptContents → Start → How → List (List Line) → List Event → Naming → Core → Type 0
 MakesSteps script start (hows.Play play) journals events names world = IsDrawn script start play events names world
 MakesSteps script start hows.Threads journals events names world = IsDriven script start journals events names world
 

@@ -1,11 +1,10 @@
 //! A script is played: its commands are carried out in an order that is drawn.
-ghost use Rattle.std.specs.Prelude.{◌≡◌, ◌+◌, ◌≤◌, List, [], IfOk};
-ghost use Rattle.std.specs.List.{sum};
+ghost use Rattle.std.specs.Prelude.{◌≡◌, ◌+◌, ◌≤◌, List, IfOk};
 ghost use Rattle.rec_model.specs.declared.limits.TheConstants.{MOST_TURNS};
 ghost use Rattle.rec_collector.specs.Shown.{Shown};
 ghost use Rattle.rec_core.specs.Config.{IsConfig};
 ghost use Rattle.rec_core.specs.Shown.{Shows};
-ghost use Rattle.rec_play.specs.Played.{AreReady, config_of, lengths_of};
+ghost use Rattle.rec_play.specs.Played.{MayNote, config_of};
 ghost use Rattle.rec_play.specs.Shown.{IsShownWhole};
 ghost use Rattle.rec_play.specs.Start.{IsStartOf, MayBegin, Start, opening_of};
 ghost use Rattle.rec_world.specs.World.{opened};
@@ -57,9 +56,7 @@ pub fn play_on(
     auditor: &mut Auditor,
 ) -> Result<Outcome, NoMemory>
     requires begins { MayBegin script.now world }
-    requires journals { AreReady script.now.commands journals.items }
-    requires order { order.list ≡ [] }
-    requires room { sum (lengths_of script.now) ≤ order.room }
+    requires notes { MayNote script.now journals.items order }
     ensures outcome { IfOk result (λ outcome. (start : Start) → start.world ≡ world → IsStartOf script.now start → IsOutcome script.now start (hows.Play how) outcome) }
 
     // The auditor was shown all of the collector's steps.

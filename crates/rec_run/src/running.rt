@@ -1,15 +1,13 @@
 //! The top call: from words, and the bytes of a script or a journal, to the bytes of an answer.
-ghost use Rattle.std.specs.Prelude.{◌≡◌, ◌≢◌, ◌⊎◌, ℕ, ◌≤◌, false, List, Option, Some, map, IfOk};
+ghost use Rattle.std.specs.Prelude.{◌≡◌, ◌≢◌, ◌⊎◌, ℕ, ◌≤◌, false, List, map, IfOk};
 ghost use Rattle.std.specs.List.{flat_map};
-ghost use Rattle.rec_io.specs.Faults.{Rose};
 ghost use Rattle.rec_io.specs.Source.{Passes};
 ghost use Rattle.rec_io.specs.Told.{KeepsTold};
-ghost use Rattle.rec_script.specs.Script.{IsText, IsRefused};
+ghost use Rattle.rec_script.specs.Script.{IsRefused};
 ghost use Rattle.rec_script.specs.declared.error.Kind.{Kind};
-ghost use Rattle.rec_request.specs.CommandLine.{Asks, AsksToAudit, AsksToMake, AsksToRead, AsksToResume, IsCommandLine, IsInRange, ReadsSource};
-ghost use Rattle.rec_run.specs.Ends.{Ends, HasCause, passage};
+ghost use Rattle.rec_request.specs.CommandLine.{Asks, AsksToMake, IsCommandLine, IsInRange, ReadsSource};
+ghost use Rattle.rec_run.specs.Ends.{Ends, HasCause, MustEnd, passage};
 ghost use Rattle.rec_run.specs.Headline.{AnswersTo, WroteAnswer, WroteFront};
-ghost use Rattle.rec_run.specs.Resuming.{IsResumable, IsUnresumed};
 ghost use Rattle.rec_run.specs.Running.{on_threads};
 ghost use Rattle.rec_run.specs.Status.{may_write};
 ghost use Rattle.rec_request.specs.declared.request.How.TheVariants as hows;
@@ -64,32 +62,8 @@ pub fn run<R: Threads + Wait + Sync, S: Source, K: Flush, G: Gate>(
     ensures unread { result ≡ Status.Usage → source.new ≡ source.old }
     ensures made_unread { AsksToMake (map (λ word. word.now) words.now) → source.new ≡ source.old }
 
-    // A script that is told is answered, unless a count rises or memory runs out.
-    ensures complete { AsksToRead (map (λ word. word.now) words.now) → (bytes : List ℕ) → S.rest source.old ≡ Some bytes → IsText bytes
-        → ¬ Rose (S.faults source.old) (S.faults source.new) → ¬ Rose (K.faults sink.old) (K.faults sink.new)
-        → (result ≡ Status.Done) ⊎ (result ≡ Status.NoMemory) }
-
-    // An image that is told, with mutators behind it, goes on, unless a count rises or memory runs out; and bytes that are none are
-    // refused.
-    ensures resumed { AsksToResume (map (λ word. word.now) words.now) → (bytes : List ℕ) → S.rest source.old ≡ Some bytes → IsResumable bytes
-        → ¬ Rose (S.faults source.old) (S.faults source.new) → ¬ Rose (K.faults sink.old) (K.faults sink.new)
-        → (result ≡ Status.Done) ⊎ (result ≡ Status.NoMemory) }
-    ensures unresumed { AsksToResume (map (λ word. word.now) words.now) → (bytes : List ℕ) → S.rest source.old ≡ Some bytes → ¬ IsResumable bytes
-        → ¬ Rose (S.faults source.old) (S.faults source.new)
-        → ((line : ℕ) × (kind : Kind) × IsUnresumed bytes line kind × (result ≡ Status.BadScript line kind)) ⊎ (result ≡ Status.NoMemory) }
-
-    // A text that is told and is no script's is refused with its line and kind, unless a read fails or memory runs out.
-    ensures refuses { AsksToRead (map (λ word. word.now) words.now) → (bytes : List ℕ) (line : ℕ) (kind : Kind) → S.rest source.old ≡ Some bytes
-        → IsRefused bytes line kind → ¬ Rose (S.faults source.old) (S.faults source.new)
-        → (result ≡ Status.BadScript line kind) ⊎ (result ≡ Status.NoMemory) }
-
-    // Whatever is read as a journal, what is to be said of it is written, unless a call fails or memory runs out.
-    ensures audited { AsksToAudit (map (λ word. word.now) words.now) → ¬ Rose (S.faults source.old) (S.faults source.new) → ¬ Rose (K.faults sink.old) (K.faults sink.new)
-        → (result ≡ Status.Done) ⊎ (result ≡ Status.NoMemory) }
-
-    // A made script is written, unless a write fails or memory runs out.
-    ensures made { AsksToMake (map (λ word. word.now) words.now) → ¬ Rose (K.faults sink.old) (K.faults sink.new)
-        → (result ≡ Status.Done) ⊎ (result ≡ Status.NoMemory) }
+    // When it must end in Done, or refuse what it read, unless memory runs out.
+    ensures must { MustEnd (map (λ word. word.now) words.now) result (passage S.rest S.faults source.old source.new) (passage K.written K.faults sink.old sink.new) }
 {
     match read_words(alloc, words) {
         Ok(request) => {

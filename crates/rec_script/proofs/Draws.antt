@@ -34,7 +34,7 @@ unfolding after_words word_after
 word_here n g here so = ap (word_after 0) so
 
 -- the command is the one that is drawn, and the generator is behind it
-abbrev pub IsDrawn : (g next : Lcg) → Cmd → Type 0
+abbrev IsDrawn : (g next : Lcg) → Cmd → Type 0
 IsDrawn g next cmd = (cmd ≡ drawn g) × (next ≡ after_drawn g)
 
 drawn_in : (g next : Lcg) (row : ℕ) (cmd : Cmd) → row ≡ word_after 0 g % 16 → cmd ≡ command_in row (word_after 1 g) (word_after 2 g) (word_after 3 g) → next ≡ after_words (1 + length (operands_of cmd)) g → IsDrawn g next cmd

@@ -4,10 +4,11 @@ use Rattle.std.specs.Prelude.{All, Any, slice_get}
 use Rattle.std.proofs.lemmas.Bool.{cases_lt}
 use Rattle.std.proofs.lemmas.Bool.Decides.{nat_tests}
 use Rattle.std.proofs.lemmas.Option.{none-some, same_Some}
-use Rattle.std.proofs.lemmas.List.Elements.{All-push, All-cons, All-head, All-tail}
+use Rattle.std.proofs.lemmas.List.Elements.{All-push}
 use Rattle.rec_model.specs.declared.command.Cmd.{Cmd}
 use Rattle.rec_script.specs.Script.{ScriptContents, Allows, HasLeft, IsCommand, LeavesLast, AreCommands, IsScript, last_commands, most_mutators}
 use Rattle.rec_script.proofs.Leaving.{nobody, stays_before}
+use Rattle.rec_model.proofs.Members.{All-last, All-earlier}
 
 -- each version allows eight mutators
 pub many_mutators : (version : ℕ) → 8 ≤ most_mutators version
@@ -22,23 +23,15 @@ last_of [] last = refl
 last_of (c ∷ []) last = refl
 last_of (c ∷ d ∷ cs) last = last_of (d ∷ cs) last
 
-all_last : {X : Type 0} (P : X → Type 0) (xs : List X) (x : X) → All P (xs ++ x ∷ []) → P x
-all_last P [] x h = All-head P x [] h
-all_last P (y ∷ ys) x h = all_last P ys x (All-tail P y (ys ++ x ∷ []) h)
-
-all_earlier : {X : Type 0} (P : X → Type 0) (xs : List X) (x : X) → All P (xs ++ x ∷ []) → All P xs
-all_earlier P [] x h = λ k d lt. absurd (omega arith)
-all_earlier P (y ∷ ys) x h = All-cons P y ys (All-head P y (ys ++ x ∷ []) h) (all_earlier P ys x (All-tail P y (ys ++ x ∷ []) h))
-
 -- the last mutator's commands are within their limits
 pub last_within : (contents : ScriptContents) (earlier : List (List Cmd)) (last : List Cmd) → IsScript contents → contents.commands ≡ earlier ++ last ∷ [] → AreCommands contents.version contents.registers contents.fields last
-last_within contents earlier last script e = all_last (AreCommands contents.version contents.registers contents.fields) earlier last (subst (λ (t : List (List Cmd)). All (AreCommands contents.version contents.registers contents.fields) t) e script.commands)
+last_within contents earlier last script e = All-last (AreCommands contents.version contents.registers contents.fields) earlier last (subst (λ (t : List (List Cmd)). All (AreCommands contents.version contents.registers contents.fields) t) e script.commands)
 
 -- one command more is within the limits
 pub one_command_more : (v s f r : ℕ) (earlier : List (List Cmd)) (last more : List Cmd) (cmd : Cmd) → IsScript (record { version = v; slots = s; fields = f; registers = r; commands = earlier ++ last ∷ [] }) → Allows v cmd → IsCommand r f cmd → length (last_commands (earlier ++ last ∷ [])) < 200000 → ¬ HasLeft (last_commands (earlier ++ last ∷ [])) → more ≡ last ++ cmd ∷ []
     → IsScript (record { version = v; slots = s; fields = f; registers = r; commands = earlier ++ more ∷ [] })
 one_command_more v s f r earlier last more cmd script its in-range room stays e =
-    let within : AreCommands v r f last = all_last (AreCommands v r f) earlier last script.commands in
+    let within : AreCommands v r f last = All-last (AreCommands v r f) earlier last script.commands in
     let few : length more ≤ 200000 = omega (arith, ap (length {A = Cmd}) (last_of earlier last), ap (length {A = Cmd}) e, length-append last (cmd ∷ [])) in
     let grown : AreCommands v r f more = record {
       few = few;
@@ -51,7 +44,7 @@ one_command_more v s f r earlier last more cmd script its in-range room stays e 
       heap = script.heap;
       some_mutators = omega (arith, length-append earlier (more ∷ []));
       most_mutators = omega (arith, script.most_mutators, length-append earlier (more ∷ []), length-append earlier (last ∷ []));
-      commands = All-push (AreCommands v r f) earlier more (all_earlier (AreCommands v r f) earlier last script.commands) grown;
+      commands = All-push (AreCommands v r f) earlier more (All-earlier (AreCommands v r f) earlier last script.commands) grown;
     }
 
 -- one mutator more, without commands, is within the limits
@@ -74,7 +67,7 @@ last_emptied v s f r earlier last fresh script none =
       heap = script.heap;
       some_mutators = omega (arith, length-append earlier (fresh ∷ []));
       most_mutators = omega (arith, script.most_mutators, length-append earlier (fresh ∷ []), length-append earlier (last ∷ []));
-      commands = All-push (AreCommands v r f) earlier fresh (all_earlier (AreCommands v r f) earlier last script.commands) (subst (AreCommands v r f) (sym none) (no_commands v r f));
+      commands = All-push (AreCommands v r f) earlier fresh (All-earlier (AreCommands v r f) earlier last script.commands) (subst (AreCommands v r f) (sym none) (no_commands v r f));
     }
 
 -- ---- the commands of one mutator

@@ -19,7 +19,7 @@ use Rattle.rec_script.proofs.Regrouping.{AreSmall, small}
 use Rattle.rec_script.proofs.Stopping.{IsBodyLine, body_lines, all_at}
 
 -- each byte is of ASCII
-abbrev pub IsPlain : List ℕ → Type 0
+abbrev IsPlain : List ℕ → Type 0
 IsPlain bs = AllByRecursion (λ b. b < 128) bs
 
 abbrev pub ArePlain : List (List ℕ) → Type 0

@@ -65,7 +65,7 @@ command_again r f Park h is = absurd is.0
 command_again r f Unpark h is = absurd is.0
 
 -- a line begins with the letters of `mutator`
-abbrev pub is_mutator : List (List ℕ) → Bool
+abbrev is_mutator : List (List ℕ) → Bool
 is_mutator line = letters (get_or line 0 []) == 28021
 
 no_mutator_word : (cmd : Cmd) → letters (word_of cmd) == 28021 ≡ false

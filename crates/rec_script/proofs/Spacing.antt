@@ -53,7 +53,7 @@ two_front bytes value end three tens ones front is at =
 abbrev ArePast : ℕ → List ℕ → Type 0
 ArePast b bs = AllByRecursion (λ c. b < c) bs
 
-abbrev pub IsWord : List ℕ → Type 0
+abbrev IsWord : List ℕ → Type 0
 IsWord word = (0 < length word) × ArePast 32 word
 
 abbrev pub AreWords : List (List ℕ) → Type 0

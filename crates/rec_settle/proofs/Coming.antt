@@ -29,7 +29,7 @@ use Rattle.rec_settle.proofs.Waiting.{few_waits, moved_nearer, polled_nearer}
 use Rattle.rec_core.proofs.BareRuns.{offering_kept}
 
 -- a stage in which a collection is under way, or begins with the next turn
-abbrev pub Collects : Settling → Type 0
+abbrev Collects : Settling → Type 0
 Collects Offering = ⊥
 Collects Settled = ⊥
 Collects _ = Unit {0}

@@ -101,7 +101,7 @@ next_round Round.First = Round.Second
 next_round Round.Second = Round.Over
 next_round Round.Over = Round.Over
 
-abbrev pub RestsFirst : Core → (words : List ℕ) → Private → Phase → Type 0
+abbrev RestsFirst : Core → (words : List ℕ) → Private → Phase → Type 0
 RestsFirst w words c (Trying trial) = TrialRests w words (record { machine = trial; counts = c.counts })
 RestsFirst w words c (Preparing prep) = PrepRests w words (record { machine = prep; counts = c.counts })
 RestsFirst w words c Opening = SetsRest w words [] c.counts
@@ -109,7 +109,7 @@ RestsFirst w words c (Sweeping due n) = SetsRest w words [] c.counts
 RestsFirst w words c (Closing n) = SetsRest w words [] c.counts
 RestsFirst w words c _ = c.offers ≡ true
 
-abbrev pub RestsSecond : Core → (words : List ℕ) → Private → Phase → Type 0
+abbrev RestsSecond : Core → (words : List ℕ) → Private → Phase → Type 0
 RestsSecond w words c Idle = SetsRest w words [] c.counts
 RestsSecond w words c (Looking t) = SetsRest w words [] c.counts
 RestsSecond w words c (Swapping t) = SetsRest w words [] c.counts

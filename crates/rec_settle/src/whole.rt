@@ -1,17 +1,14 @@
 //! Settling as a whole.
 
-ghost use Rattle.std.specs.Prelude.{◌≡◌, ◌+◌, ◌<◌, ◌≤◌, ℕ, List, [], IfErr, IfOk};
+ghost use Rattle.std.specs.Prelude.{◌≡◌, ◌+◌, ◌<◌, ◌≤◌, List, [], IfErr, IfOk};
 ghost use Rattle.rec_word.specs.declared.word.TheConstants.{LAST_EPOCH};
-ghost use Rattle.rec_model.specs.Heap.{Heap};
-ghost use Rattle.rec_model.specs.Sight.{StandsBy};
 ghost use Rattle.rec_io.specs.Faults.{Rose};
 ghost use Rattle.rec_collector.specs.Shown.{Shown};
-ghost use Rattle.rec_core.specs.Core.{sight};
 ghost use Rattle.rec_core.specs.Shown.{Shows};
 ghost use Rattle.rec_world.specs.World.{IsWorld};
 ghost use Rattle.rec_settle.specs.Collecting.{AreIdle, taken_slots};
 ghost use Rattle.rec_settle.specs.Shown.{IsShownTo, StopsBehind};
-ghost use Rattle.rec_settle.specs.Whole.{HasSettled};
+ghost use Rattle.rec_settle.specs.Whole.{HasSettled, StaysSeen};
 ghost use Rattle.rec_settle.specs.declared.turns.Settling as stages;
 
 use crate::turns::{EpochsSpent, Settling};
@@ -37,11 +34,9 @@ pub fn settle(world: &mut World) -> Result<Settled, EpochsSpent>
     ensures done { IfOk result (HasSettled world.old world.new) }
 
     // Registers stay, and whatever heap that never frees stood for the world still does, by the same numbers of its objects.
-    ensures registers { (sight world.new).registers ≡ (sight world.old).registers }
-    ensures stands { (heap : Heap) (number : ℕ → ℕ) → StandsBy heap (sight world.old) number → StandsBy heap (sight world.new) number }
+    ensures stays { StaysSeen world.old world.new }
     ensures idle { AreIdle world.new }
     ensures config { world.new.config ≡ world.old.config }
-    ensures made { world.new.made ≡ world.old.made }
     ensures kept { IsWorld world.new }
 {
     match settle_watched(world, &mut Unwatched) {
@@ -61,11 +56,9 @@ pub fn settle_watched<W: Watch>(
     // What `settle` promises.
     ensures spent { IfOk result (λ settled. IfErr settled (λ error. (LAST_EPOCH < world.old.epoch + 4) × (error.requested ≡ world.old.epoch) × (world.new ≡ world.old))) }
     ensures done { IfOk result (λ settled. IfOk settled (HasSettled world.old world.new)) }
-    ensures registers { IfOk result (λ settled. (sight world.new).registers ≡ (sight world.old).registers) }
-    ensures stands { IfOk result (λ settled. (heap : Heap) (number : ℕ → ℕ) → StandsBy heap (sight world.old) number → StandsBy heap (sight world.new) number) }
+    ensures stays { IfOk result (λ settled. StaysSeen world.old world.new) }
     ensures idle { AreIdle world.new }
     ensures config { world.new.config ≡ world.old.config }
-    ensures made { IfOk result (λ settled. world.new.made ≡ world.old.made) }
     ensures kept { IsWorld world.new }
 
     // What the watch was shown: all turns up to the settled heap, which is what a watch is shown of the moves that they make up; or,

@@ -25,6 +25,7 @@ use Rattle.rec_table.specs.Answered.{FailsProbes, IsAnswered, IsPolled, worked}
 use Rattle.rec_table.specs.declared.start.Start.{Start}
 use Rattle.rec_table.proofs.Beats.{told_both}
 use Rattle.rec_table.proofs.Making.{learnt_keeps}
+use Rattle.rec_mutator.proofs.Straight.{begun_takes_none}
 
 is_poll : Option Work → Bool
 is_poll (Some works.Poll) = true
@@ -255,10 +256,6 @@ looked p from own = moved (begun_of p works.Poll from) (if own then at.Finished 
 looked_takes : (p : Private) (from word : ℕ) → took_of (begun_of p works.Poll from) word ≡ looked p from (word == p.epoch)
 unfolding begun_of took_of took_at
 looked_takes p from word = refl
-
-begun_takes_none : (p : Private) (work : Work) (from : ℕ) → TakesNone (begun_of p work from).phase
-unfolding begun_of
-begun_takes_none p work from = tt
 
 looks : (p : Private) (from word : ℕ) → is_busy (begun_of p works.Poll from) ≡ true → learnt (begun_of p works.Poll from) (Saw word) ≡ looked p from (word == p.epoch)
 looks p from word busy = here_same (begun_of p works.Poll from) word (spare (took_of (begun_of p works.Poll from) word)) busy (begun_takes_none p works.Poll from) ∙ looked_takes p from word

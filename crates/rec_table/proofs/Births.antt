@@ -9,7 +9,7 @@ use Rattle.rec_table.proofs.Making.{births_both}
 use Rattle.rec_core.proofs.Turn.{turned_made}
 
 -- the births in such lists of the first so many mutators, added up
-abbrev pub all_births : Core → (ℕ → List Beat) → ℕ → ℕ
+abbrev all_births : Core → (ℕ → List Beat) → ℕ → ℕ
 all_births w lists zero = 0
 all_births w lists (suc n) = all_births w lists n + births_told (mutator w (n + 1)) (lists (n + 1))
 

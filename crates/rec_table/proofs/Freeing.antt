@@ -15,7 +15,7 @@ use Rattle.rec_table.specs.Telling.{Frees, IsFreeOp, TellsTurn, TellsTurns, free
 use Rattle.rec_table.specs.Turn.{MakesTurn}
 
 -- the operation frees this slot
-abbrev pub FreesSlot : Op → Type 0
+abbrev FreesSlot : Op → Type 0
 FreesSlot op = (slot : ℕ) × (op ≡ ops.FreeHeader slot)
 
 pub frees_slot : (op : Op) → IsFreeOp op → FreesSlot op

@@ -264,7 +264,7 @@ module _ (key : Core) (slots id i : ℕ) (me : Me (Option Contents) View) (t epo
       let all = glances key slots id t (collecting_of me.0) p st is_p phase in
       subst (λ (y : Me (Option Contents) View × ℕ × ℕ). Operates key OperationKind.Glances slots id y.0 y.1 (λ n. n) (GlancedBy p y.2 st y.0)) (λ k. (sym is k, sym its k, sym n_is k)) all
 
-abbrev pub Hit : (p : Private) (t word : ℕ) (c : CollectorSeat) (me : Me (Option Contents) View) → Type 0
+abbrev Hit : (p : Private) (t word : ℕ) (c : CollectorSeat) (me : Me (Option Contents) View) → Type 0
 Hit p t word c me = (b : Contents) × (me ≡ (Collects (collecting_more c (Took word b)), (t - 1, Some b) ∷ [])) × IsSized p.registers p.capacity b
 
 pub look_hits : (p actor : Private) (t number epoch word : ℕ) (me me' : Me (Option Contents) View) → me ≡ (Collects (collecting_of me.0), []) → actor ≡ p → number ≡ t → p.epoch ≡ epoch → word ≡ crossing_word epoch Retired

@@ -42,7 +42,7 @@ use Rattle.rec_table.specs.Named.{NameFreed, freed_in, freed_objects, label_in}
 use Rattle.rec_table.specs.Telling.{freed_by, freed_by_all}
 
 -- The heap that never frees keeps each label.
-pub record KeepsLabels (before after : Heap) : Type 0 where
+record KeepsLabels (before after : Heap) : Type 0 where
   pub grows : length before.objects ≤ length after.objects
   pub same : (n : ℕ) → n < length before.objects → label_in after n ≡ label_in before n
 

@@ -14,7 +14,6 @@ use Rattle.rec_mutator.specs.Step.{NamesSlots}
 use Rattle.rec_model.specs.Asking.{plain as plain_told}
 use Rattle.rec_mutator.specs.declared.phase.Phase as phases
 use Rattle.rec_mutator.specs.declared.phase.Phase.TheVariants as at
-use Rattle.rec_mutator.specs.declared.work.Work.{Work}
 use Rattle.rec_mutator.specs.declared.work.Work.TheVariants as works
 use Rattle.rec_model.specs.declared.answer.Answer.TheVariants as answers
 use Rattle.rec_mutator.specs.declared.made.Made.TheVariants as makes
@@ -32,6 +31,7 @@ pub use Rattle.rec_table.specs.Straight.{IsPlainOp}
 use Rattle.rec_table.specs.declared.start.Start.{Start}
 use Rattle.rec_world.proofs.Row.{row_read, row_write}
 use Rattle.rec_table.proofs.Beats.{beats_both, world_after, mutator_after, step_same}
+use Rattle.rec_mutator.proofs.Straight.{begun_busy}
 
 -- the state in which the step is made
 abbrev pub before : Core → (t : ℕ) → Option Start → Core
@@ -41,10 +41,6 @@ before w t (Some start) = begun_from w t start.work start.from
 ready_is : (w : Core) (t : ℕ) (wk : Option Start) → IsKept false w → IsMutator w.config t → mutator (before w t wk) t ≡ ready (mutator w t) wk
 ready_is w t None kept is = refl
 ready_is w t (Some start) kept is = get_or-set_same w.mutators (t - 1) (begun_of (mutator w t) start.work start.from) nobody (in_list w t kept is)
-
-pub begun_busy : (p : Private) (work : Work) (from : ℕ) → is_busy (begun_of p work from) ≡ true
-unfolding begun_of
-begun_busy p work from = refl
 
 -- a slot of the mutator is one of the heap
 starts : (w : Core) (t from : ℕ) → IsKept false w → IsMutator w.config t → from < (mutator w t).slots → from < w.config.slots

@@ -17,7 +17,7 @@ use Rattle.rec_mutator.specs.declared.work.Work.{Work}
 use Rattle.rec_mutator.specs.declared.work.Work.TheVariants as works
 use Rattle.rec_mutator.proofs.Around.{behind_near}
 use Rattle.rec_mutator.proofs.Steps.{TakesNone, here_same}
-use Rattle.rec_mutator.proofs.Straight.{begun_machine, scanning, scans_is}
+use Rattle.rec_mutator.proofs.Straight.{begun_machine, scanning, scans_is, begun_busy}
 use Rattle.rec_table.specs.Rule.{MayBegin}
 use Rattle.rec_table.specs.Straight.{Bears, Carried, CarriesIf, IsPlainOp, Polled, Stands, record_of}
 use Rattle.rec_table.specs.declared.start.Start.{Start}
@@ -27,7 +27,7 @@ use Rattle.rec_table.proofs.Answering.{Path, answered, begun_slots, path_first, 
 use Rattle.rec_table.proofs.Leaving.{leaves, poll_stays}
 use Rattle.rec_table.proofs.Lines.{tells}
 use Rattle.rec_table.proofs.Making.{begun_work, births_more, counted, keeps_on, learnt_between, learns_word, plain_hand, plain_taken, plain_phase, ready_between, ready_busy, works_first}
-use Rattle.rec_table.proofs.Steps.{IsPlain, begun_busy, plain_takes_none}
+use Rattle.rec_table.proofs.Steps.{IsPlain, plain_takes_none}
 use Rattle.rec_table.proofs.Within.{there}
 
 -- A step that moves no mailbox leaves the seat so.
@@ -223,7 +223,7 @@ carried_twice h h' cmd from first second m answer may low between machine is mac
     }
 
 -- What the fields of an actor keep.
-abbrev pub Kept : (o m : Private) (me : Me (Option Contents) View) (births : ℕ) → Type 0
+abbrev Kept : (o m : Private) (me : Me (Option Contents) View) (births : ℕ) → Type 0
 Kept o m me births =
     (me ≡ (Mutates (seated_of me.0), hands (seated_of me.0) m)) × (m ≡ told o (seated_of me.0).log) × NamesSlots m × KeepsSizes o m × IsBetween m.phase × (births ≡ births_told o (seated_of me.0).log % 2 ^ 64)
 
@@ -310,7 +310,7 @@ one_born key o me me' op word births now opened is one at was more =
     births_more o p t.log None word births now (ap (λ (q : Private). told q t.log) (sym opened)) was (more ∙ ap (λ n. (births + n) % 2 ^ 64) (sym one_of)) ∙ ap (λ (l : List Beat). births_told o l % 2 ^ 64) (λ k. (seated_of (sym at k).0).log)
 
 -- the list after two steps of a command
-abbrev pub list_twice : MutatorView → Cmd → (from first second : ℕ) → List Beat
+abbrev list_twice : MutatorView → Cmd → (from first second : ℕ) → List Beat
 list_twice h cmd from first second = (h.log ++ beats (Some (record { work = works.Command cmd; from = from })) first) ++ beats None second
 
 -- A command that has made two steps, and how it goes on from there.

@@ -22,7 +22,7 @@ abbrev pub worked : Start → (words : List ℕ) → List Beat
 worked start words = Begins start ∷ map (λ word. Saw word) words
 
 -- what they make of the mutator's record
-abbrev pub record_after : Private → Start → (words : List ℕ) → Private
+abbrev record_after : Private → Start → (words : List ℕ) → Private
 record_after p start words = told_by p (worked start words)
 
 -- Every probe of an allocation failed, of a leaf or not: its first step found `before` in the freed word; then the header of each slot was

@@ -67,7 +67,7 @@ abbrev pub Offerless : List Move → Type 0
 Offerless ms = Every OffersNone ms
 
 -- the births of a list
-abbrev pub births_in : Private → Beat → ℕ
+abbrev births_in : Private → Beat → ℕ
 births_in p (Saw word) = births_of (next_of p) word
 births_in p _ = 0
 

@@ -23,7 +23,7 @@ abbrev pub label_in : Heap → (n : ℕ) → ℕ
 label_in heap n = (object heap n).label
 
 -- what the heap that never frees is at the end of a run's order
-abbrev pub last_heap : Core → Heap → (number : ℕ → ℕ) → (unfreed : List ℕ) → List Move → Heap
+abbrev last_heap : Core → Heap → (number : ℕ → ℕ) → (unfreed : List ℕ) → List Move → Heap
 last_heap w heap number unfreed moves = (after_all (limits_of w.config) (moment_of w heap unfreed) (events_of (naming_of heap number) w moves)).heap
 
 -- These labels are those of the objects that the run's order frees, in its order.

@@ -65,7 +65,7 @@ abbrev pub moves_of : (t : ℕ) → Option Start → List Move
 moves_of t None = Move.Steps t ∷ []
 moves_of t (Some start) = Move.Begins t start.work start.from ∷ Move.Steps t ∷ []
 
-abbrev pub moves_by : Core → (actor found : ℕ) → Kind → List Move
+abbrev moves_by : Core → (actor found : ℕ) → Kind → List Move
 moves_by w actor found (Kind.Steps work) = moves_of actor work
 moves_by w actor found Kind.Passes = if found == 0 then [] else Move.Steps actor ∷ []
 moves_by w actor found Kind.Turns = Move.Turns ∷ []
@@ -76,7 +76,7 @@ moves_by w actor found Kind.Glances = if found == crossing_word w.collector.epoc
 abbrev pub moves_made : Core → Operation → List Move
 moves_made w o = moves_by w o.actor o.found o.kind
 
-abbrev pub LeavesAs : (leaves : ℕ → ℕ) → (found : ℕ) → Op → Kind → Type 0
+abbrev LeavesAs : (leaves : ℕ → ℕ) → (found : ℕ) → Op → Kind → Type 0
 LeavesAs leaves found op (Kind.Steps work) = (n : ℕ) → leaves n ≡ written op n
 LeavesAs leaves found op Kind.Turns = (n : ℕ) → leaves n ≡ written op n
 LeavesAs leaves found op Kind.Passes = ((n : ℕ) → leaves n ≡ n) × (written op found ≡ found)
@@ -84,7 +84,7 @@ LeavesAs leaves found op Kind.Glances = ((n : ℕ) → leaves n ≡ n) × (writt
 
 -- An operation on the table is this one of the core: it stands at its word, and leaves what it leaves of every word. A load may stand
 -- for one that leaves the word found as it is.
-abbrev pub CarriesOut : (key : Core) → Operation → Op → Type 0
+abbrev CarriesOut : (key : Core) → Operation → Op → Type 0
 CarriesOut key o op = (o.index ≡ index_of (length key.words) (length key.headers) op) × LeavesAs o.leaves o.found op o.kind
 
 -- The steps of the run after an operation that made these moves. Where it made none, they are those before; else there is one more,

@@ -1,5 +1,5 @@
 -- The rule of the table, and what each step of a mutator tells.
-use Rattle.std.specs.Prelude.{◌≡◌, ◌≢◌, ℕ, ◌+◌, ◌-◌, ◌<◌, ◌≤◌, false, true, Option, Some, None, List, [], ◌∷◌, ◌++◌, length, slice_index_or}
+use Rattle.std.specs.Prelude.{◌≡◌, ◌≢◌, ℕ, ◌+◌, ◌-◌, ◌<◌, ◌≤◌, false, true, Option, Some, None, IfSome, List, [], ◌∷◌, ◌++◌, length, slice_index_or}
 use mathlib.Core.Option.{some}
 use lib.ListN.{get_elem?}
 use Rattle.atomic_table.specs.Table.{State, Me, Step, rest}
@@ -11,7 +11,7 @@ use Rattle.rec_mutator.specs.Causes.{gives_back}
 use Rattle.rec_mutator.specs.Next.{next_of}
 use Rattle.rec_mutator.specs.Private.{Private, is_busy, IsValid}
 use Rattle.rec_mutator.specs.Step.{NamesSlots}
-use Rattle.rec_mutator.specs.Took.{begun_of, took_of, spare, IsFound}
+use Rattle.rec_mutator.specs.Took.{begun_of, took_of, spare, IsBetween, IsFound}
 use Rattle.rec_mutator.specs.declared.phase.Phase as phases
 use Rattle.rec_mutator.specs.declared.phase.Phase.TheVariants as at
 use Rattle.rec_mutator.specs.declared.work.Work.{Work}
@@ -227,3 +227,15 @@ newcomer v = Spent
 abbrev pub joined : View → View → View
 joined (Collects c) (Mutates t) = Collects (record c { known = c.known ++ t.log ∷ [] })
 joined v w = v
+
+-- What a mutator's machine may be told that its step found: the step was the one due, the word is one that it can find there, and where it
+-- takes the mailbox, the seat holds what the mutator hands over for it.
+pub record MayLearn (p : Private) (work : Option Start) (op : Op) (word : ℕ) (me : Me (Option Contents) View) : Type 0 where
+  pub busy : is_busy p ≡ true
+  pub begun : IfSome work (λ start. p.phase ≡ at.Begun start.work)
+  pub between : IsBetween p.phase
+  pub number : 1 ≤ p.number
+  pub due : op ≡ next_of p
+  pub found : IsFound p op word
+  pub out : me.1 ≡ taken_by p word p.phase
+  pub hand : (seated_of me.0).hand ≡ hand_after (seated_of me.0).hand (took_of p word).log p.phase

@@ -1,5 +1,5 @@
 -- A run of the collector's turns on the table.
-use Rattle.std.specs.Prelude.{◌≡◌, ℕ, ◌+◌, Option, []}
+use Rattle.std.specs.Prelude.{◌≡◌, ℕ, ◌+◌, Option, List, []}
 use Rattle.atomic_table.specs.Seated.{TableId}
 use Rattle.atomic_table.specs.Table.{Me}
 use Rattle.rec_log.specs.declared.contents.Contents.{Contents}
@@ -20,6 +20,14 @@ use Rattle.rec_table.specs.declared.views.View.TheVariants.{Collects}
 
 abbrev pub no_seat : CollectorSeat
 no_seat = record { log = []; made = 0; known = [] }
+
+-- The collector's seat and its machine between two turns: the seat holds these mailboxes, and the machine is what the list makes of it.
+pub record IsSeat (z : TableId) (key : Core) (own : TableId) (has : Me (Option Contents) View) (boxes : List (ℕ × Option Contents)) (p : Private) : Type 0 where
+  pub table : own ≡ z
+  pub me : has ≡ (Collects (collecting_of has.0), boxes)
+  pub is : p ≡ gathered_all key.collector (collecting_of has.0).log
+  pub sizes : KeepsSizes key.collector p
+  pub between : IsBetween p.phase
 
 -- The collector made so many turns, of which all but the last one moved. This is what the last one answered, and Moved where there
 -- was none.

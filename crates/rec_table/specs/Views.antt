@@ -1,9 +1,10 @@
 -- What clauses see of a mutator on the table.
-use Rattle.std.specs.Prelude.{◌≡◌, ℕ, ◌<◌, ◌≤◌, None, Some, List, [], ◌++◌, ◌+◌, length, slice_index_or}
+use Rattle.std.specs.Prelude.{◌≡◌, false, ℕ, ◌<◌, ◌≤◌, None, Some, List, [], ◌++◌, ◌+◌, length, slice_index_or}
 use Rattle.atomic_table.specs.Seated.{TableId}
-use Rattle.rec_mutator.specs.Private.{Private}
+use Rattle.rec_mutator.specs.Private.{Private, answer_of, is_busy, work_of}
 use Rattle.rec_core.specs.Config.{IsMutator}
 use Rattle.rec_core.specs.Core.{Core, mutator}
+use Rattle.rec_mutator.specs.declared.made.Made.{Made}
 use Rattle.rec_mutator.specs.declared.made.Made.TheVariants as makes
 use Rattle.rec_mutator.specs.declared.phase.Phase.{Phase}
 use Rattle.rec_mutator.specs.declared.phase.Phase.TheVariants as at
@@ -62,6 +63,13 @@ IsTold (at.Finished (works.Command cmd) (makes.Crossed epoch)) = ⊥
 IsTold (at.Finished works.Poll (makes.Answered told)) = ⊥
 IsTold (at.Finished works.Poll (makes.Crossed epoch)) = Unit {0}
 IsTold _ = Unit {0}
+
+-- A work came to its end, and was answered so: the mutator works no more.
+pub record HasEnded (began : Work) (made : Made) (p : Private) : Type 0 where
+  pub answer : answer_of p ≡ Some made
+  pub idle : is_busy p ≡ false
+  pub work : work_of p ≡ Some began
+  pub told : IsTold p.phase
 
 -- the list grew by this work, which began with some slot as its scan's first one, and by steps
 pub data Works (work : Work) (log : List Beat) : List Beat → Type 0 where

@@ -3,12 +3,12 @@ ghost use Rattle.std.specs.Prelude.{◌≡◌, ◌<◌, ◌≤◌, ◌↔◌, []
 ghost use Rattle.rec_mutator.specs.Next.{next_of};
 ghost use Rattle.rec_mutator.specs.Private.{is_busy, is_full, register, HasOperands, IsMachine, KeepsSizes};
 ghost use Rattle.rec_mutator.specs.Step.{NamesSlots};
-ghost use Rattle.rec_mutator.specs.Took.{IsBetween, IsFound, spare, took_of};
+ghost use Rattle.rec_mutator.specs.Took.{IsBetween, IsFound};
 ghost use Rattle.rec_mutator.specs.declared.phase.Phase.TheVariants.{Begun};
 ghost use Rattle.rec_table.specs.Views.{mutator_view, mutator_now, IsOf};
 ghost use Rattle.rec_table.specs.Beats.{told, learnt};
 ghost use Rattle.rec_core.specs.Row.{index_of};
-ghost use Rattle.rec_table.specs.Rule.{ready, MayBegin, MayGo, beats, longer, seated_of, hands, me_after, taken_by, hand_after};
+ghost use Rattle.rec_table.specs.Rule.{ready, MayBegin, MayGo, MayLearn, beats, longer, seated_of, hands, me_after};
 ghost use Rattle.rec_table.specs.declared.views.Beat.TheVariants.{Saw};
 ghost use Rattle.rec_table.specs.declared.views.View.TheVariants.{Mutates};
 ghost use Rattle.rec_core.specs.Core.{mutator};
@@ -115,14 +115,7 @@ fn learn(
     word: u64,
 )
     requires table { seat.old.table_id ≡ board.now.table.shared.table_id }
-    requires busy { is_busy machine.old ≡ true }
-    requires begun { IfSome work (λ start. machine.old.phase ≡ Begun start.work) }
-    requires between { IsBetween machine.old.phase }
-    requires number { 1 ≤ machine.old.number }
-    requires op { op ≡ next_of machine.old }
-    requires found { IsFound machine.old op word }
-    requires out { seat.old.me.1 ≡ taken_by machine.old word machine.old.phase }
-    requires hand { (seated_of seat.old.me.0).hand ≡ hand_after (seated_of seat.old.me.0).hand (took_of machine.old word).log machine.old.phase }
+    requires may { MayLearn machine.old work op word seat.old.me }
     ensures seat { (seat.new.table_id ≡ seat.old.table_id) × (seat.new.id ≡ seat.old.id) }
     ensures machine { machine.new ≡ learnt machine.old (Saw word) }
     ensures same { KeepsSizes machine.old machine.new }
@@ -192,7 +185,7 @@ impl Actor {
     ghost use Rattle.rec_mutator.specs.declared.made.Made.TheVariants as makes;
     ghost use Rattle.rec_mutator.specs.declared.work.Work.TheVariants as works;
     ghost use Rattle.rec_table.specs.Answered.{IsAnswered, IsPolled, Leaves};
-    ghost use Rattle.rec_table.specs.Views.{IsTold, Works};
+    ghost use Rattle.rec_table.specs.Views.{HasEnded, IsTold, Works};
     ghost use Rattle.rec_table.specs.Journals.{Tells, line_of};
     ghost use Rattle.rec_table.specs.Scan.{HasScanned};
 
@@ -394,11 +387,8 @@ impl Actor {
         requires may { MayBegin (mutator_now self.old) work }
 
         ensures grows { Works work self.old.log self.new.log × (self.new ≡ record self.old { log = self.new.log }) }
-        ensures answer { answer_of (mutator_now self.new) ≡ Some result }
+        ensures ended { HasEnded work result (mutator_now self.new) }
         ensures line { Tells (mutator_now self.old) self.old.log self.new.log (line_of (Some work) (Some result)) }
-        ensures idle { is_busy (mutator_now self.new) ≡ false }
-        ensures work { work_of (mutator_now self.new) ≡ Some work }
-        ensures told { IsTold (mutator_now self.new).phase }
         ensures same { KeepsSizes (mutator_now self.old) (mutator_now self.new) }
         // A command's refusals have their causes in the list.
         ensures causes { (cmd : Command) (told : Answers) → work ≡ works.Command cmd → result ≡ makes.Answered told → IsAnswered (mutator_now self.old) cmd self.old.log self.new.log (mutator_now self.new) told }

@@ -1,13 +1,9 @@
 //! Runs of the collector's turns on the table.
 ghost use Rattle.std.specs.Prelude.{◌≡◌, ◌<◌, ◌≤◌, []};
-ghost use Rattle.rec_collector.specs.Kept.{KeepsSizes};
 ghost use Rattle.rec_collector.specs.Kind.{HasLoop, kind_of};
-ghost use Rattle.rec_collector.specs.Step.{IsBetween as IsBetweenTurns};
-ghost use Rattle.rec_table.specs.Beats.{gathered_all};
 ghost use Rattle.rec_table.specs.Rule.{boxes_out, collecting_of};
-ghost use Rattle.rec_table.specs.TurnRuns.{Made};
+ghost use Rattle.rec_table.specs.TurnRuns.{IsSeat, Made};
 ghost use Rattle.rec_table.specs.Views.{collector_view};
-ghost use Rattle.rec_table.specs.declared.views.View.TheVariants.{Collects};
 ghost use Rattle.rec_world.specs.World.{IsWorld};
 
 use crate::board::Board;
@@ -58,21 +54,13 @@ pub(crate) fn run_turns<W: Starting>(
     most: u32,
 ) -> (u32, Turn)
     requires world { IsWorld board.now.table.shared.key.value }
-    requires table { seat.old.table_id ≡ board.now.table.shared.table_id }
     requires start { W.start ≡ collecting_of seat.old.me.0 }
-    requires seat { seat.old.me ≡ (Collects (collecting_of seat.old.me.0), []) }
-    requires machine { machine.old ≡ gathered_all board.now.table.shared.key.value.collector (collecting_of seat.old.me.0).log }
-    requires sizes { KeepsSizes board.now.table.shared.key.value.collector machine.old }
-    requires between { IsBetweenTurns machine.old.phase }
+    requires seat { IsSeat board.now.table.shared.table_id board.now.table.shared.key.value seat.old.table_id seat.old.me [] machine.old }
     requires kind { kind ≡ kind_of machine.old.phase }
     requires looped { HasLoop kind }
     requires some { 0 < most }
 
-    ensures table { seat.new.table_id ≡ board.now.table.shared.table_id }
-    ensures seat { seat.new.me ≡ (Collects (collecting_of seat.new.me.0), boxes_out machine.new) }
-    ensures machine { machine.new ≡ gathered_all board.now.table.shared.key.value.collector (collecting_of seat.new.me.0).log }
-    ensures sizes { KeepsSizes board.now.table.shared.key.value.collector machine.new }
-    ensures between { IsBetweenTurns machine.new.phase }
+    ensures seat { IsSeat board.now.table.shared.table_id board.now.table.shared.key.value seat.new.table_id seat.new.me (boxes_out machine.new) machine.new }
     ensures same { collecting_of seat.new.me.0 ≡ record (collecting_of seat.old.me.0) { log = (collecting_of seat.new.me.0).log } }
     ensures made { Made (collector_view board.now.table.shared.table_id board.now.table.shared.key.value.collector (collecting_of seat.old.me.0)) (collector_view board.now.table.shared.table_id board.now.table.shared.key.value.collector (collecting_of seat.new.me.0)) result.0 result.1 }
     ensures some { 0 < result.0 }

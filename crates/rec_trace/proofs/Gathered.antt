@@ -15,19 +15,14 @@ use Rattle.rec_model.specs.Reach.{is_in, named}
 use Rattle.rec_world.specs.Numbering.{number_of}
 use Rattle.rec_trace.specs.Children.{children, all_children, unmet}
 use Rattle.rec_trace.proofs.Joining.{in_piece, unmet-append}
-
--- what two lists of fields name, one behind the other
-named_both : (xs ys : List (Option ℕ)) → named (xs ++ ys) ≡ named xs ++ named ys
-named_both [] ys = refl
-named_both (None ∷ xs) ys = named_both xs ys
-named_both (Some n ∷ xs) ys = ap (λ ns. n ∷ ns) (named_both xs ys)
+use Rattle.rec_model.proofs.Named.{named-append}
 
 -- what one word more leads to
 named_word : (words : List ℕ) (i : ℕ) → i < length words → named (map target_of (take (i + 1) words)) ≡ named (map target_of (take i words)) ++ named (target_of (get_or words i 0) ∷ [])
 named_word words i lt =
     ap (λ ws. named (map target_of ws)) (take_more words i 0 lt)
     ∙ ap named (map-append target_of (take i words) (get_or words i 0 ∷ []))
-    ∙ named_both (map target_of (take i words)) (target_of (get_or words i 0) ∷ [])
+    ∙ named-append (map target_of (take i words)) (target_of (get_or words i 0) ∷ [])
 
 -- is added where it isn't found yet
 pub added_more : (old now more found words : List ℕ) (i : ℕ) (x : Option ℕ) → now ≡ old ++ unmet found (named (map target_of (take i words))) → i < length words → x ≡ target_of (get_or words i 0)

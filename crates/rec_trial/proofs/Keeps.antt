@@ -26,7 +26,7 @@ pub at_work_keeps : (m : Machine) (s : State) (a : IsAtWork m s) → KeepsCounts
 at_work_keeps m s a = subst (λ (w : Work). KeepsCounts a.before w.counts) (sym a.is) (careful_keeps (whole_careful m.fields a.before a.words a.wide a.ready a.named))
 
 -- so it does between two moments
-same_among : (s t : State) → ((x : ℕ) → (slot_at t x).released ≡ (slot_at s x).released) → (xs : List ℕ) → released_among t xs ≡ released_among s xs
+pub same_among : (s t : State) → ((x : ℕ) → (slot_at t x).released ≡ (slot_at s x).released) → (xs : List ℕ) → released_among t xs ≡ released_among s xs
 same_among s t h xs = ap (λ (f : ℕ → Bool). filtered f xs) (same_functions h)
   where
     filtered : (ℕ → Bool) → List ℕ → List ℕ

@@ -1,10 +1,10 @@
 -- Marked slots that are passed: the moves that look at them and leave them as they are, made together.
-use Rattle.std.proofs.Common.{◌≡◌, ℕ, ◌+◌, ◌-◌, ◌<◌, ◌≤◌, Bool, true, false, zero, suc, length, refl, sym, ap, subst, ◌∙◌, arith}
-use Rattle.std.specs.Prelude.{nat_lt, slice_index_or as item_at}
+use Rattle.std.proofs.Common.{◌≡◌, ℕ, ◌+◌, ◌-◌, ◌<◌, ◌≤◌, false, zero, suc, length, refl, sym, ap, subst, ◌∙◌, arith}
+use Rattle.std.specs.Prelude.{slice_index_or as item_at}
 use Rattle.std.proofs.lemmas.Bool.{lt-ltb}
 use Rattle.rec_trial.specs.Moves.{blackened_if}
 use Rattle.rec_trial.specs.Trial.{IsPassed}
-use Rattle.rec_trial.proofs.Common.{State, Phase, Idle, Marking, Scanning, Collecting, Machine, Work, advanced, advanced_if, collect_moved, is_due, moved_at, moves_left, scan_moved, set_begun_if}
+use Rattle.rec_trial.proofs.Common.{State, Phase, Idle, Marking, Scanning, Collecting, Machine, Work, collect_moved, is_due, moved_at, moves_left, scan_moved, set_begun_if}
 use Rattle.rec_trial.proofs.Midway.{OnTheWay, moved_on}
 
 -- the machine has looked at one more
@@ -51,11 +51,3 @@ no_more_left m n s same further = subst (λ (k : Machine). moves_left k.phase (r
     go Marking = omega arith
     go Scanning = omega (arith, further)
     go Collecting = omega (arith, further)
-
--- the next field is one of the same phase
-pub advanced_phase : (m : Machine) → m.phase ≡ (advanced m).phase
-advanced_phase m = go (nat_lt (m.field + 1) m.fields)
-  where
-    go : (more : Bool) → m.phase ≡ (advanced_if more m).phase
-    go true = refl
-    go false = refl

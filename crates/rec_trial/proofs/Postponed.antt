@@ -1,5 +1,5 @@
 -- What a postponed trial leaves of the counts: all but the released roots, which go to the free list.
-use Rattle.std.proofs.Common.{◌≡◌, ℕ, suc, ◌+◌, ◌<◌, ◌≤◌, Bool, true, false, eqb, ltb, List, [], zero, ◌∷◌, ◌++◌, length, slice_get, Option, None, Some, refl, sym, ap, subst, ◌∙◌, arith, append_assoc, append-nil, inl, inr}
+use Rattle.std.proofs.Common.{◌≡◌, ℕ, suc, ◌+◌, ◌<◌, ◌≤◌, Bool, true, false, eqb, ltb, List, [], zero, ◌∷◌, ◌++◌, length, slice_get, Some, refl, sym, ap, subst, ◌∙◌, arith, append_assoc, append-nil, inl, inr}
 use Rattle.std.specs.List.{concat, filter}
 use Rattle.std.proofs.Math.ListN.{set}
 use Rattle.std.proofs.lemmas.Bool.{cases_Bool, eqb-true, false≢true}
@@ -9,7 +9,7 @@ use Rattle.rec_trial.proofs.Common.{Colour, State, IsKept, slot_at, with_slot, w
 use Rattle.rec_trial.specs.Postponed.{AreUnlisted, postponed, returned, returned_if, rotated, rotated_by, rotated_in}
 use Rattle.rec_trial.specs.Tried.{members}
 use Rattle.rec_trial.proofs.Conditions.{first_is}
-use Rattle.rec_trial.proofs.Keeps.{KeepsCounts}
+use Rattle.rec_trial.proofs.Keeps.{KeepsCounts, same_among}
 use Rattle.rec_counts.specs.declared.slot.Slot.{Slot}
 use Rattle.rec_counts.specs.Slot.{absent}
 use Rattle.rec_counts.specs.Lists as in_counts
@@ -39,10 +39,6 @@ pub record IsPostponed (s t : State) : Type 0 where
   pub waits : Waits s t
   pub kept : IsKept t
   pub unlisted : AreUnlisted t
-
-same_among : (s t : State) → ((x : ℕ) → (slot_at t x).released ≡ (slot_at s x).released) → (xs : List ℕ) → released_among t xs ≡ released_among s xs
-same_among s t h [] = refl
-same_among s t h (x ∷ xs) = rw (h x, same_among s t h xs) refl
 
 then : {s t u : State} → Waits s t → Waits t u → Waits s u
 then {s} {t} {u} k l = record {
@@ -137,7 +133,7 @@ module _ (s : State) (x : ℕ) (xs : List ℕ) (first : s.roots ≡ x ∷ xs) (k
   ]
 
   -- a released slot is another one, where the first root isn't released
-  pub other_than : (z : ℕ) → (slot_at s z).released ≡ true → (slot_at t x).released ≡ false → eqb z x ≡ false
+  other_than : (z : ℕ) → (slot_at s z).released ≡ true → (slot_at t x).released ≡ false → eqb z x ≡ false
   other_than z is r = elim (cases_Bool (eqb z x)) [
     | inl same ↦ absurd (false≢true (sym r ∙ released_too ∙ ap (λ y. (slot_at s y).released) (sym (eqb-true z x same)) ∙ is))
     | inr differs ↦ differs
@@ -167,10 +163,6 @@ turned_all (suc n) p = turned_all n (turned_on p)
 pub rotated_some : (s : State) (rs : List ℕ) (x : ℕ) → Some x ≡ slice_get rs 0 → returned (without_root rs s) x ≡ rotated_by rs s
 rotated_some s [] x h = cc
 rotated_some s (y ∷ ys) x h = ap (returned (without_root (y ∷ ys) s)) (first_is x y h)
-
-pub rotated_none : (s : State) (rs : List ℕ) → ◌≡◌ {A = Option ℕ} None (slice_get rs 0) → without_root rs s ≡ rotated_by rs s
-rotated_none s [] h = refl
-rotated_none s (y ∷ ys) h = cc
 
 pub root_out : (s : State) → IsKept s → (rs : List ℕ) → s.roots ≡ rs → (x : ℕ) → Some x ≡ slice_get rs 0 → (slot_at (without_root rs s) x).buffered ≡ false
 root_out s k [] e x h = cc

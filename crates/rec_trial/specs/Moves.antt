@@ -7,7 +7,7 @@ use Rattle.rec_counts.specs.declared.slot.Slot.{Slot}
 use Rattle.rec_counts.specs.Colour.{is_gray, is_white}
 
 -- the slot has this colour
-abbrev pub with_colour : State → ℕ → Colour → State
+abbrev with_colour : State → ℕ → Colour → State
 with_colour s x to = with_slot s x (record (slot_at s x) { colour = to })
 
 abbrev pub touched_if : (gray : Bool) → State → ℕ → State

@@ -9,7 +9,7 @@ use Rattle.rec_word.specs.declared.op.Op.TheVariants as ops
 use Rattle.rec_word.specs.declared.stamps.Stamp.{Stamp}
 
 -- the bare word leads where the word does
-bits_bare : (word : ℕ) → target_bits (bare word) ≡ target_bits word
+pub bits_bare : (word : ℕ) → target_bits (bare word) ≡ target_bits word
 bits_bare word = omega arith
 
 pub target_of_bare : (word : ℕ) → target_of (bare word) ≡ target_of word

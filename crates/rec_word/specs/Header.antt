@@ -2,7 +2,7 @@
 use Rattle.std.specs.Prelude.{◌≡◌, ℕ, ◌+◌, ◌-◌, ◌%◌, ◌^◌, ◌<◌, ◌≤◌, nat_le, Bool, true, false}
 
 -- the bit that a leaf's header has
-abbrev pub leaf_bit : Bool → ℕ
+abbrev leaf_bit : Bool → ℕ
 leaf_bit true = 2 ^ 63
 leaf_bit false = 0
 

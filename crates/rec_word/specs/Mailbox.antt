@@ -21,7 +21,7 @@ abbrev pub mailbox_of : (crossing : ℕ) → Mailbox
 mailbox_of crossing = if crossing % 4 == 0 then Spare else (if crossing % 4 == 1 then WithMutator else (if crossing % 4 == 2 then Retired else WithCollector))
 
 -- what a bit is worth that is set or not
-abbrev pub bit : (worth : ℕ) → Bool → ℕ
+abbrev bit : (worth : ℕ) → Bool → ℕ
 bit worth true = worth
 bit worth false = 0
 

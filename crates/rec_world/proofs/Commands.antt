@@ -1,7 +1,7 @@
 -- What a command and a poll are told, from what their steps say.
 use Rattle.std.proofs.Common.{◌≡◌, ◌≢◌, ◌↔◌, inl, inr, ℕ, ◌+◌, ◌%◌, ◌<◌, ◌≤◌, ◌&&◌, if◌then◌else◌, Bool, Option, None, Some, IfSome, true, false, List, length, slice_index_or, refl, sym, ap, subst, ◌∙◌, arith, add-zero}
 use Rattle.std.proofs.lemmas.Bool.{false≢true}
-use Rattle.rec_world.proofs.Common.{Contents, next_of, next_at, Private, IsAt, is_busy, work_of, work_at, answer_of, answer_at, probe_of, step_of, cell, IsMutator, Core, cells_of, box, sight, mutator, log_length, begun, stepped, found_by, WritesLeaf, AwaitsCollector, FindsNone, IsFull, IsBusy, IsLowestFree, Refuses, Changes, Stays, IsFinished, IsCrossed, epoch_after, is_leave_done}
+use Rattle.rec_world.proofs.Common.{Contents, next_of, next_at, Private, IsAt, is_busy, work_of, work_at, answer_of, answer_at, probe_of, step_of, cell, IsMutator, Core, cells_of, box, sight, mutator, log_length, begun, stepped, found_by, WritesLeaf, AwaitsCollector, FindsNone, IsFull, IsBusy, IsLowestFree, Refuses, Changes, Stays, IsFinished, IsPolled, epoch_after, is_leave_done}
 use Rattle.rec_word.specs.Header.{is_leaf}
 use Rattle.rec_word.specs.Word.{stamp_of}
 use Rattle.rec_model.specs.Asking.{is_done, plain, refuses_new, allocation}
@@ -481,16 +481,6 @@ poll_answers w b v t told kept is begins its f last_kept =
     go work answer (Says.stayed crossed poll here only) = absurd (crossed_told None told (sym crossed ∙ answer))
     go {last} {q} work answer (Says.crossed crossed poll phase still epoch log) = absurd (crossed_told (Some ((mutator last t).epoch + 1)) told (sym crossed ∙ answer))
 
--- What is said of a poll that ended so: nothing is seen of it, the mutator hasn't left by it, and it stays in its epoch just where that
--- is the requested one, and else is in the requested one, with an empty log.
-pub record IsPolled (w v : Core) (t : ℕ) (crossed : Option ℕ) : Type 0 where
-  pub quiet : IsQuiet w v t
-  pub crossed_into : IsCrossed w v t crossed
-  pub idle : is_busy (mutator v t) ≡ false
-  pub left : (mutator v t).left ≡ (mutator w t).left
-  pub none : (crossed ≡ None) ↔ (w.epoch ≡ (mutator w t).epoch)
-  pub some : (epoch : ℕ) → crossed ≡ Some epoch → epoch ≡ w.epoch
-
 -- the word that a poll looks at first is the requested epoch
 poll_finds : (w : Core) (t : ℕ) → (mutator w t).phase ≡ Begun works.Poll → found_by w t ≡ w.epoch
 unfolding next_of next_at
@@ -514,7 +504,7 @@ polled_here : (w last v : Core) (t : ℕ) → IsQuiet w last t → (mutator last
 polled_here w last v t quiet epoch log first only requested idle left =
     record {
       quiet = quiet_both w last v t quiet (works_quiet last v t first only);
-      crossed_into = (ap (λ (p : Private). p.epoch) only.own ∙ epoch, ap (λ (p : Private). length p.log.entries) only.own ∙ log);
+      crossed = (ap (λ (p : Private). p.epoch) only.own ∙ epoch, ap (λ (p : Private). length p.log.entries) only.own ∙ log);
       idle = idle;
       left = left;
       none = (λ _. sym quiet.requested ∙ requested ∙ epoch, λ _. refl);
@@ -530,7 +520,7 @@ polled_there w last v t quiet epoch next still its_epoch its_log idle left =
     let last_epoch : (mutator last t).epoch + 1 ≡ last.epoch = next.0 in
     record {
       quiet = quiet_both w last v t quiet still;
-      crossed_into = (ap (λ n. n + 1) epoch, its_epoch, ap (λ (b : Contents). length b.entries) its_log ∙ next.1);
+      crossed = (ap (λ n. n + 1) epoch, its_epoch, ap (λ (b : Contents). length b.entries) its_log ∙ next.1);
       idle = idle;
       left = left;
       none = (λ is. cc, λ same. let its : w.epoch ≡ (mutator w t).epoch = same in absurd (omega arith));

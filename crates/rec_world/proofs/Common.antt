@@ -11,4 +11,4 @@ pub use Rattle.rec_core.specs.Core.{Core, box, cells_of, log_length, mutator, no
 pub use Rattle.rec_core.specs.Moves.{EndsRun, Fits, Move, after_move, begun, found_by, left_by, looked_at, offering, performed, stepped, turned, turned_at, turned_by}
 pub use Rattle.rec_world.specs.Inside.{IsWhole, core}
 pub use Rattle.rec_world.specs.Mailbox.{gathered_by, gathered_from, held, held_by}
-pub use Rattle.rec_world.specs.World.{AwaitsCollector, Changes, FindsNone, IsBusy, IsCrossed, IsFinished, IsFull, IsLowestFree, IsShaped, IsWorld, Refuses, Stays, WritesLeaf, epoch_after, is_leave_done}
+pub use Rattle.rec_world.specs.World.{AwaitsCollector, Changes, FindsNone, IsBusy, IsCrossed, IsFinished, IsFull, IsLowestFree, IsPolled, IsShaped, IsWorld, Refuses, Stays, WritesLeaf, epoch_after, is_leave_done}

@@ -5,12 +5,7 @@ use Rattle.std.proofs.Crossing.{crosses}
 use Rattle.rec_model.specs.contracts.command.Cmd as cmd
 use Rattle.rec_model.specs.contracts.told.Told as told
 use Rattle.rec_world.specs.contracts.journal.Journal as journal
-
-cmds : IsSend cmd.the_field.row
-cmds = search sendable depth 20
-
-tolds : IsSend told.the_field.row
-tolds = search sendable depth 20
+use Rattle.rec_mutator.proofs.Sends.{cmds, tolds}
 
 -- each of its fields may
 each : AllSend (fields journal.TheInside.the_type)

@@ -48,7 +48,7 @@ abbrev pub label_of : ℕ → Option ℕ
 label_of header = if header == 0 then None else Some (label_in header)
 
 -- the command needs a log entry, and there is none left
-abbrev pub IsLogFull : Core → ℕ → Cmd → Type 0
+abbrev IsLogFull : Core → ℕ → Cmd → Type 0
 IsLogFull w t cmd = (log_length w t ≡ w.config.log_entries) × MakesEntry (mutator w t) cmd
 
 -- the command writes a field of an object that is a leaf, and the log has room
@@ -139,3 +139,13 @@ pub record IsFinished (before : Core) (t : ℕ) (made : Made) (after : Core) : T
 abbrev pub IsCrossed : (before after : Core) (t : ℕ) → Option ℕ → Type 0
 IsCrossed before after t None = ((mutator after t).epoch ≡ (mutator before t).epoch) × (log_length after t ≡ log_length before t)
 IsCrossed before after t (Some epoch) = (epoch ≡ (mutator before t).epoch + 1) × ((mutator after t).epoch ≡ epoch) × (log_length after t ≡ 0)
+
+-- What a poll comes to: the mutator stays in its epoch just where that is the requested one, and else is in the requested one, with an
+-- empty log. Nothing that is seen changes, and nothing of the collector; and the mutator hasn't left by it.
+pub record IsPolled (before after : Core) (t : ℕ) (result : Option ℕ) : Type 0 where
+  pub none : (result ≡ None) ↔ (before.epoch ≡ (mutator before t).epoch)
+  pub some : (epoch : ℕ) → result ≡ Some epoch → epoch ≡ before.epoch
+  pub crossed : IsCrossed before after t result
+  pub quiet : IsQuiet before after t
+  pub left : (mutator after t).left ≡ (mutator before t).left
+  pub idle : is_busy (mutator after t) ≡ false

@@ -20,11 +20,11 @@ ghost use Rattle.rec_word.specs.Op.{written};
 ghost use Rattle.rec_mutator.specs.Next.{next_of};
 ghost use Rattle.rec_mutator.specs.Took.{took_of, step_of, left_of};
 ghost use Rattle.rec_core.specs.Cells.{births_of, cell, with_cell};
-ghost use Rattle.rec_core.specs.Unfinished.{HasFound, IsQuiet};
+ghost use Rattle.rec_core.specs.Unfinished.{HasFound};
 ghost use Rattle.rec_core.specs.Worked.{AreIdle, StepsTo, IsWorked};
 ghost use Rattle.rec_world.specs.Mailbox.{held};
 ghost use Rattle.rec_world.specs.Stepping.{MakesStep};
-ghost use Rattle.rec_world.specs.World.{IsWorld, MayAsk, label_of, Refuses, Changes, Stays, IsFinished, IsCrossed};
+ghost use Rattle.rec_world.specs.World.{IsWorld, MayAsk, label_of, Refuses, Changes, Stays, IsFinished, IsPolled};
 
 mod opening;
 
@@ -277,14 +277,8 @@ impl World {
         ensures worked { IsWorked self.old t works.Poll self.new }
         ensures answer { answer_of (mutator self.new t) ≡ Some (makes.Crossed result) }
 
-        ensures none { (result ≡ None) ↔ (self.old.epoch ≡ (mutator self.old t).epoch) }
-        ensures some { (epoch : ℕ) → result ≡ Some epoch → epoch ≡ self.old.epoch }
-
-        // A mutator that crosses hands over its log; nothing that is seen changes, and nothing of the collector.
-        ensures crossed { IsCrossed self.old self.new t result }
-        ensures quiet { IsQuiet self.old self.new t }
-        ensures left { (mutator self.new t).left ≡ (mutator self.old t).left }
-        ensures idle { is_busy (mutator self.new t) ≡ false }
+        // Where the mutator crosses it hands over its log; nothing that is seen changes, and nothing of the collector.
+        ensures polled { IsPolled self.old self.new t result }
         ensures run { EndsRun self.new }
         ensures kept { IsWorld self.new }
     {

@@ -1,5 +1,6 @@
 -- The modules of the proofs.
 pub mod Opened
+pub mod Rows
 pub mod Runs
 pub mod Sends
 pub mod Settles

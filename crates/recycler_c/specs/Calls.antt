@@ -61,13 +61,13 @@ pub record IsSame (h : Option End) (hs : List Handle) (h' : Option End) (hs' : L
   pub mutators : hs' ≡ hs
 
 -- no heap is open; one rests; one runs
-abbrev pub IsClosed : Option End → Type 0
+abbrev IsClosed : Option End → Type 0
 IsClosed h = h ≡ None
 
-abbrev pub Rests : Option End → Type 0
+abbrev Rests : Option End → Type 0
 Rests h = IsSome (rests_in h)
 
-abbrev pub Runs : Option End → Type 0
+abbrev Runs : Option End → Type 0
 Runs h = IsSome (collects_in h)
 
 -- the handle is open, and no heap runs in it
@@ -78,13 +78,13 @@ pub record IsAtRest (h : Option End) : Type 0 where
   pub hears : hears_in h ≡ None
 
 -- a call that is for a heap at rest is refused so: none is open, or it runs
-abbrev pub LacksRest : Option End → Code → Type 0
+abbrev LacksRest : Option End → Code → Type 0
 LacksRest h codes.Closed = IsClosed h
 LacksRest h codes.Runs = Runs h
 LacksRest h _ = ⊥
 
 -- a call that is for one end of a running heap: none is open, or it rests, or the handle holds another end
-abbrev pub LacksEnd : (other : Type 0) → Option End → Code → Type 0
+abbrev LacksEnd : (other : Type 0) → Option End → Code → Type 0
 LacksEnd other h codes.Closed = IsClosed h
 LacksEnd other h codes.Rests = IsAtRest h
 LacksEnd other h codes.Other = other
@@ -144,7 +144,7 @@ pub record AreSame (h l h' l' : Option End) : Type 0 where
   pub listener : l' ≡ l
 
 -- notices were asked for before: the listener's handle is open, or somebody tells
-abbrev pub WereAsked : Option End → Option End → Type 0
+abbrev WereAsked : Option End → Option End → Type 0
 WereAsked h l = IsSome l ⊎ IsSome (tells_in h)
 
 abbrev pub AsksNotices : ℕ → Option End → Option End → Code → Option End → Option End → Type 0
@@ -316,7 +316,7 @@ pub record HasTurned (makes : CollectorView → CollectorView → Turn → Type 
   pub is : collects_in h' ≡ Some after
   pub made : HasMade makes tells before (tells_in h) told after (tells_in h')
 
-abbrev pub TurnsBy : (CollectorView → CollectorView → Turn → Type 0) → (CollectorView → Tellers → CollectorView → Tellers → Telling → Type 0) → Option End → Turned → Code → Option End → Turned → Type 0
+abbrev TurnsBy : (CollectorView → CollectorView → Turn → Type 0) → (CollectorView → Tellers → CollectorView → Tellers → Telling → Type 0) → Option End → Turned → Code → Option End → Turned → Type 0
 TurnsBy makes tells h told codes.Ok h' told' = HasTurned makes tells h h' told'
 TurnsBy makes tells h told code h' told' = LacksEnd (IsSome (mutates_in h) ⊎ IsSome (hears_in h)) h code × (h' ≡ h) × (told' ≡ told)
 

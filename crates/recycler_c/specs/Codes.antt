@@ -31,7 +31,7 @@ number_of codes.Left = 16
 number_of codes.FewSlots = 17
 
 -- the code of a number that is out of its range
-abbrev pub code_at : Part → Code
+abbrev code_at : Part → Code
 code_at parts.Slots = codes.Slots
 code_at parts.Fields = codes.Fields
 code_at parts.Registers = codes.Registers

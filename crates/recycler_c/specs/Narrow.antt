@@ -7,7 +7,7 @@ abbrev pub byte : ℕ → Bool
 byte n = nat_lt n 256
 
 -- whether each register and field of the command fits a byte
-abbrev pub is_narrow : Cmd → Bool
+abbrev is_narrow : Cmd → Bool
 is_narrow (commands.New reg label) = byte reg
 is_narrow (commands.Leaf reg label) = byte reg
 is_narrow (commands.Null reg) = byte reg

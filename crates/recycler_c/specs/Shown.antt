@@ -11,7 +11,7 @@ use Rattle.recycler_c.specs.declared.told.Heard.{Heard}
 use Rattle.recycler_c.specs.declared.told.Slot.{Slot}
 use Rattle.recycler_c.specs.declared.told.Turned.{Turned}
 
-abbrev pub plain : ℕ → Asked
+abbrev plain : ℕ → Asked
 plain n = record { answer = n; label = 0; before = 0; after = 0 }
 
 -- what a command was answered

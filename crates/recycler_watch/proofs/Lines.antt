@@ -44,7 +44,7 @@ slots_told same as_seen items old new was is a b e =
 pub slots_whole : (items : List (Bor Slot)) (new is : List Slot) → new ≡ is → map (λ one. one.now) items ≡ new → map (λ one. slot_seen one.now) items ≡ map slot_seen is
 slots_whole items new is a e = mapped slot_seen (λ (one : Bor Slot). one.now) items ∙ ap (map slot_seen) (e ∙ a)
 
-abbrev pub data_of : ℕ → Option ℕ → (command answer : Option (List ℕ)) (says : List ℕ) → SeenCollector → List SeenSlot → DataLine
+abbrev data_of : ℕ → Option ℕ → (command answer : Option (List ℕ)) (says : List ℕ) → SeenCollector → List SeenSlot → DataLine
 data_of number mutator command answer says collector slots = record { number = number; mutator = mutator; command = command; answer = answer; says = says; collector = collector; slots = slots }
 
 -- the line of a move, by its parts

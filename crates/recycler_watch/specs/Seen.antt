@@ -79,7 +79,7 @@ phase_name Opening = codes "sweep"
 phase_name (Sweeping _ _) = codes "sweep"
 phase_name (Closing _) = codes "sweep"
 
-abbrev pub is_settling : Stage → Bool
+abbrev is_settling : Stage → Bool
 is_settling Playing = false
 is_settling _ = true
 

@@ -136,7 +136,7 @@ turn_words (turns.Collected epoch freed) = codes "; epoch " ++ decimal epoch ++ 
 turn_words turns.EpochsSpent = []
 
 -- words where two numbers differ
-abbrev pub where_changed : (before after : ℕ) → List ℕ → List ℕ
+abbrev where_changed : (before after : ℕ) → List ℕ → List ℕ
 where_changed before after words = if before == after then [] else words
 
 -- what became of the sets, where one was tested
@@ -147,7 +147,7 @@ sets_words before after =
     ++ where_changed after.sets_held before.sets_held (codes "; the Sigma test refuses a set")
 
 -- two lists of what fields or registers lead to
-abbrev pub same_targets : List (Option ℕ) → List (Option ℕ) → Bool
+abbrev same_targets : List (Option ℕ) → List (Option ℕ) → Bool
 same_targets = pointwise (option_eq (λ m n. m == n))
 
 -- nothing that is seen of a slot changed

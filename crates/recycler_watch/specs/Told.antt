@@ -66,7 +66,7 @@ pub data IsTold : (made : ℕ) (before : Watched) (moves : List Move) (text : Li
   more : (made : ℕ) (before mid after : Watched) (moves : List Move) (move : Move) (text : List ℕ) → IsTold made before moves text mid → IsMade mid move after → IsTold made before (moves ++ move ∷ []) (text ++ move_text (made + length moves + 1) move (seen_of mid) (seen_of after)) after
 
 -- where a run stands behind its last move: so many moves were asked for, or no move is left
-abbrev pub IsEnd : (last after : Watched) → (made asked : ℕ) → Type 0
+abbrev IsEnd : (last after : Watched) → (made asked : ℕ) → Type 0
 IsEnd last after made asked = ((after ≡ last) × (made ≡ asked)) ⊎ (IsOver after.stage × (made ≤ asked))
 
 -- The moves before a number are made, and not told.

@@ -72,7 +72,7 @@ record IsHome (w : Core) (i : ℕ) : Type 0 where
   spare : buffer_at w.boxes i ≡ spare_of w.config
 
 -- the turn of a mutator that stands so is over, or it has left
-abbrev pub IsOver : Handshake → Type 0
+abbrev IsOver : Handshake → Type 0
 IsOver stand = (stand ≡ Handshake.Done) ⊎ (stand ≡ Handshake.Gone)
 
 -- so it is where no mailbox is to be gathered

@@ -39,7 +39,7 @@ returns-then-made-from-clause-stepped c = λ before turn.
     (polled_behind (IsSpent c.args.script.now c.args.made.now) before c.args.world.now c.poll.new.self c.in-Waiting.mutator
     (omega (arith, ap length (theirs c.args.script.now c.in-Waiting.mutator c.commands.result.now (c.requires.awaited c.in-Waiting.mutator c.in-Waiting.is).0.0 c.commands.ensures.value), c.if-made-from.true, ap (λ n. slice_index_or c.args.made.now (n - 1) 0) c.from.ensures))
     turn.turned c.requires.kept (subst (TurnHasCause before c.args.world.now) c.in-Waiting.is turn.cause)
-    (has_polled c.args.world.now c.poll.new.self c.in-Waiting.mutator c.poll.result c.poll.ensures.worked c.poll.ensures.quiet c.poll.ensures.idle c.poll.ensures.crossed c.poll.ensures.none c.poll.ensures.some))
+    (has_polled c.args.world.now c.poll.new.self c.in-Waiting.mutator c.poll.result c.poll.ensures.worked c.poll.ensures.polled.quiet c.poll.ensures.polled.idle c.poll.ensures.polled.crossed c.poll.ensures.polled.none c.poll.ensures.polled.some))
 
 pub returns-else-made-from-clause-stepped : goal.returns-else-made-from-clause-stepped
 returns-else-made-from-clause-stepped c = λ before turn.
@@ -71,7 +71,7 @@ pub poll-requires-clause-idle : goal.poll-requires-clause-idle
 poll-requires-clause-idle c = c.requires.goes.idle c.in-Waiting.mutator (c.requires.awaited c.in-Waiting.mutator c.in-Waiting.is).0
 
 pub returns-then-made-from-clause-requested : goal.returns-then-made-from-clause-requested
-returns-then-made-from-clause-requested c = c.poll.ensures.quiet.requested
+returns-then-made-from-clause-requested c = c.poll.ensures.polled.quiet.requested
 
 pub returns-then-made-from-clause-kept : goal.returns-then-made-from-clause-kept
 returns-then-made-from-clause-kept c = c.poll.ensures.kept
@@ -84,9 +84,9 @@ returns-else-made-from-clause-kept c = c.requires.kept
 
 pub returns-then-made-from-clause-goes : goal.returns-then-made-from-clause-goes
 returns-then-made-from-clause-goes c = record {
-  config = c.poll.ensures.quiet.config ∙ c.requires.goes.config;
-  idle = others_idle c.args.world.now c.poll.new.self c.in-Waiting.mutator c.poll.ensures.quiet.config c.poll.ensures.quiet.others c.poll.ensures.idle c.requires.goes.idle;
-  present = polled_there c.args.script.now c.args.made.now c.in-Waiting.mutator c.args.world.now c.poll.new.self c.poll.ensures.quiet.others c.poll.ensures.left c.requires.goes.present;
+  config = c.poll.ensures.polled.quiet.config ∙ c.requires.goes.config;
+  idle = others_idle c.args.world.now c.poll.new.self c.in-Waiting.mutator c.poll.ensures.polled.quiet.config c.poll.ensures.polled.quiet.others c.poll.ensures.polled.idle c.requires.goes.idle;
+  present = polled_there c.args.script.now c.args.made.now c.in-Waiting.mutator c.args.world.now c.poll.new.self c.poll.ensures.polled.quiet.others c.poll.ensures.polled.left c.requires.goes.present;
 }
 
 pub returns-else-made-from-clause-goes : goal.returns-else-made-from-clause-goes

@@ -31,8 +31,8 @@ loop-made-init g c =
     let is : c.start-playing.result ≡ first = player_is c.start-playing.result first.script first.rest first.made c.start-playing.ensures.script c.start-playing.ensures.rest c.start-playing.ensures.made in
     let each : (named : Naming) → Between c.args.script.now c.args.world.now named c.args.seed c.args.turns c.args.world.now c.args.journals.now c.args.order.now c.start-playing.result = λ named. start c.args.script.now c.args.world.now named c.args.seed c.args.turns c.args.journals.now c.args.order.now c.start-playing.result
     (subst IsScript c.start-playing.ensures.script c.start-playing.ensures.due.valid) c.requires.begins c.epoch-epoch.ensures.kept
-    (record { one_each = c.requires.journals.one_each; empty = c.requires.journals.empty; room = c.requires.journals.room })
-    c.requires.order c.requires.room c.start-playing.ensures.script c.start-playing.ensures.rest c.start-playing.ensures.made in
+    c.requires.notes.ready
+    c.requires.notes.order c.requires.notes.room c.start-playing.ensures.script c.start-playing.ensures.rest c.start-playing.ensures.made in
     record {
       between = each first_naming;
       each = each;
@@ -114,18 +114,17 @@ loop-made-preserved g c =
 pub returns-in_err-made-clause-refused : goal.returns-in_err-made-clause-refused
 returns-in_err-made-clause-refused g c =
     let so = c.loop-made.invariant.shown in
-    if_err c.from_residual.result (
-      so.0,
-      record { player = c.loop-made.playing; before = c.loop-made.world; so = so.1; later = to_come c.next_watched.new.self.rest; next = c.in_err-made.ensures.refused.0; stopped = c.in_err-made.ensures.refused.1 },
-      subst (λ xs. g.W.Watch.WasShown c.args.watch.now xs c.next_watched.new.watch) (append-nil so.0) (g.met.W.Watch.shown_then c.args.watch.now c.loop-made.watch c.next_watched.new.watch so.0 [] so.2 c.in_err-made.ensures.unshown),
-    )
-
-pub returns-in_err-made-clause-stopped : goal.returns-in_err-made-clause-stopped
-returns-in_err-made-clause-stopped g c =
     if_err c.from_residual.result
-    (λ named.
-    run_stopped c.args.script.now c.args.world.now named c.args.seed c.args.turns c.loop-made.world c.loop-made.journals c.loop-made.order c.loop-made.playing (to_come c.next_watched.new.self.rest) c.next_watched.new.world c.in_err-made.ensures.refused.0
-    c.in_err-made.ensures.refused.1 (c.loop-made.invariant.each named))
+    (record {
+      shown = (
+        so.0,
+        record { player = c.loop-made.playing; before = c.loop-made.world; so = so.1; later = to_come c.next_watched.new.self.rest; next = c.in_err-made.ensures.refused.0; stopped = c.in_err-made.ensures.refused.1 },
+        subst (λ xs. g.W.Watch.WasShown c.args.watch.now xs c.next_watched.new.watch) (append-nil so.0) (g.met.W.Watch.shown_then c.args.watch.now c.loop-made.watch c.next_watched.new.watch so.0 [] so.2 c.in_err-made.ensures.unshown),
+      );
+      stopped = λ named.
+          run_stopped c.args.script.now c.args.world.now named c.args.seed c.args.turns c.loop-made.world c.loop-made.journals c.loop-made.order c.loop-made.playing (to_come c.next_watched.new.self.rest) c.next_watched.new.world c.in_err-made.ensures.refused.0
+          c.in_err-made.ensures.refused.1 (c.loop-made.invariant.each named);
+    })
 
 pub returns-clause-played : goal.returns-clause-played
 returns-clause-played g c = λ at same is.

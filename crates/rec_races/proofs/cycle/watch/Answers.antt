@@ -42,7 +42,7 @@ loop-turn-preserved g c =
     elim c.match-told.branch [
       | in-Waiting w ↦ subst IsReady (sym w.world-is)
           (polled_ready c.turn-told.new.self w.poll.new.self w.in-Waiting.mutator ready
-          (c.turn-told.ensures.turn.awaited w.in-Waiting.mutator w.in-Waiting.is) w.poll.ensures.quiet w.poll.ensures.idle)
+          (c.turn-told.ensures.turn.awaited w.in-Waiting.mutator w.in-Waiting.is) w.poll.ensures.polled.quiet w.poll.ensures.polled.idle)
       | in-Collected+in_default-1 w ↦ subst IsReady (sym w.world-is) ready
       | in-Moved-1 w ↦ subst IsReady (sym w.world-is) ready
     ]

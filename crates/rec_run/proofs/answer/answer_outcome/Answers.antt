@@ -44,12 +44,12 @@ returns g c = λ start is.
     let tail : List ℕ = tail_of c.in_ok-traced.traced c.in-Ok.settled.live in
     IfOk-weaker c.end_text.result _ (λ text. Answers script start how (flat_map (λ line. line) text))
     (λ text whole. answers_script script start how journals is.events o.world world rows (flat_map (λ line. line) text) tail is.explained
-    (record { run = is.has_run; settles = c.in-Ok.ensures.done.settles }) c.in-Ok.ensures.done.settled (number, c.settle.ensures.stands (last_moment script start is.events).heap number is.has_run.stands)
+    (record { run = is.has_run; settles = c.in-Ok.ensures.done.settles }) c.in-Ok.ensures.done.settled (number, c.settle.ensures.stays.stands (last_moment script start is.events).heap number is.has_run.stands)
     (c.settle.ensures.kept.shaped.headers ∙ ap (λ (k : Config). k.slots) (c.settle.ensures.config ∙ is.config))
     listed
     (tail_is (is_traced how) o.world world c.in-Ok.settled c.in_ok-traced.traced is.idle c.in_ok-traced.ensures c.in-Ok.ensures.done)
     (whole ∙ ap (λ (front : List ℕ). front ++ tail)
     (told ∙ ap (λ (s : Bool). printed script.version s journals (option_map (λ (turns : Turns). turns.list) o.order) rows world.made world) c.wants_summary.ensures
     ∙ ap (λ (order : Option (List ℕ)). printed script.version (is_summary how) journals order rows world.made world) is.order
-    ∙ ap (λ (n : ℕ). printed script.version (is_summary how) journals (printed_order how (actors is.events)) rows n world) (c.settle.ensures.made ∙ is.made))))
+    ∙ ap (λ (n : ℕ). printed script.version (is_summary how) journals (printed_order how (actors is.events)) rows n world) (c.settle.ensures.stays.made ∙ is.made))))
     c.end_text.ensures

@@ -32,7 +32,7 @@ returns c =
       world = c.settle_watched-settled.new.world;
       explained = is.explained;
       settled = done.settled;
-      stands = (number, c.in_ok-_settled.ensures.stands (last_moment script (opening_of script) is.events).heap number is.has_run.stands);
+      stands = (number, c.in_ok-_settled.ensures.stays.stands (last_moment script (opening_of script) is.events).heap number is.has_run.stands);
       kept = subst (λ k. IsKept k script c.args.asked o.world c.settle_watched-settled.new.world c.into_text.result.items) (sym c.requires.journal)
           (record {
             played = first;

@@ -24,7 +24,7 @@ returns c =
       world = world;
       explained = is.explained;
       settled = c.in-Ok.ensures.done.settled;
-      stands = (number, c.settle.ensures.stands (last_moment c.args.script.now (opening_of c.args.script.now) is.events).heap number is.has_run.stands);
+      stands = (number, c.settle.ensures.stays.stands (last_moment c.args.script.now (opening_of c.args.script.now) is.events).heap number is.has_run.stands);
       kept = subst (λ k. IsKept k c.args.script.now c.args.asked o.world world image.items) (sym c.requires.image)
           (record { contents = written.0; image = written.1; numbers = written.3; stands = written.4; written = sym written.2 });
       made = record { run = subst (λ (p : Play). HasRun c.args.script.now (opening_of c.args.script.now) (hows.Play p) (lines_of o.journals.items) is.events o.world) c.played.ensures is.has_run; settles = c.in-Ok.ensures.done.settles };

@@ -16,7 +16,7 @@ returns-in-Ok-clause-outcome c = λ start first is.
     let js : List Notes = c.play_watched-played.new.journals in
     let script : ScriptContents = c.args.script.now in
     let all : length js ≡ length script.commands = many script (moment_at script start) (lines_of js) events js refl played.commands in
-    let len : c.args.journals.len ≡ length js = sym c.as_mut_slice.ensures.len ∙ ap length c.as_mut_slice.ensures.value ∙ c.requires.journals.one_each ∙ sym all in
+    let len : c.args.journals.len ≡ length js = sym c.as_mut_slice.ensures.len ∙ ap length c.as_mut_slice.ensures.value ∙ c.requires.notes.ready.one_each ∙ sym all in
     record {
       events = events;
       explained = subst (λ (ns : List Notes). AreExplained script (moment_at script start) (lines_of ns) events)

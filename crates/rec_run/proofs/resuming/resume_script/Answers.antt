@@ -6,6 +6,9 @@ use Rattle.rec_request.specs.declared.request.How.TheVariants as hows
 use Rattle.std.proofs.lemmas.Result.{IfOk-weaker}
 use Rattle.rec_run.proofs.resuming.resume_script.Goals as goal
 
+pub play_on-requires-clause-notes : goal.play_on-requires-clause-notes
+play_on-requires-clause-notes c = record { ready = c.in_ok-journals.ensures; order = c.in_ok-order.ensures.0; room = c.in_ok-order.ensures.1 }
+
 pub returns-clause-outcome : goal.returns-clause-outcome
 returns-clause-outcome c =
     let (start, first, restored) = c.in_ok-world.ensures.start in

@@ -14,4 +14,4 @@ pub returns-in-Waiting-clause-stepped : goal.returns-in-Waiting-clause-stepped
 returns-in-Waiting-clause-stepped c = λ before turn.
     subst (λ (t : Turn). HasStepped Anyone before t c.poll.new.self) (sym c.in-Waiting.is)
     (polled_behind Anyone before c.args.world.now c.poll.new.self c.in-Waiting.mutator tt turn.turned c.requires.kept (subst (TurnHasCause before c.args.world.now) c.in-Waiting.is turn.cause)
-    (has_polled c.args.world.now c.poll.new.self c.in-Waiting.mutator c.poll.result c.poll.ensures.worked c.poll.ensures.quiet c.poll.ensures.idle c.poll.ensures.crossed c.poll.ensures.none c.poll.ensures.some))
+    (has_polled c.args.world.now c.poll.new.self c.in-Waiting.mutator c.poll.result c.poll.ensures.worked c.poll.ensures.polled.quiet c.poll.ensures.polled.idle c.poll.ensures.polled.crossed c.poll.ensures.polled.none c.poll.ensures.polled.some))

@@ -79,20 +79,11 @@ returns-clause-done g c =
       live = c.count_taken.ensures;
     }
 
-pub returns-clause-registers : goal.returns-clause-registers
-returns-clause-registers g c =
-    (settling_settles c.args.world.now c.next_watched.new.world (world_kept c.args.world.now c.start.ensures.kept) c.requires.idle
-    (came_settled c.args.world.now c.loop.settling c.next_watched.new.self c.loop.world c.next_watched.new.world c.in_ok-next_watched.field-0 c.in_default.is c.loop.invariant.comes c.in_ok-next_watched.ensures.goes)).all.stays.registers
-
-pub returns-clause-stands : goal.returns-clause-stands
-returns-clause-stands g c =
-    (settling_settles c.args.world.now c.next_watched.new.world (world_kept c.args.world.now c.start.ensures.kept) c.requires.idle
-    (came_settled c.args.world.now c.loop.settling c.next_watched.new.self c.loop.world c.next_watched.new.world c.in_ok-next_watched.field-0 c.in_default.is c.loop.invariant.comes c.in_ok-next_watched.ensures.goes)).all.stays.stands
-
-pub returns-clause-made : goal.returns-clause-made
-returns-clause-made g c =
-    (settling_settles c.args.world.now c.next_watched.new.world (world_kept c.args.world.now c.start.ensures.kept) c.requires.idle
-    (came_settled c.args.world.now c.loop.settling c.next_watched.new.self c.loop.world c.next_watched.new.world c.in_ok-next_watched.field-0 c.in_default.is c.loop.invariant.comes c.in_ok-next_watched.ensures.goes)).all.stays.made
+pub returns-clause-stays : goal.returns-clause-stays
+returns-clause-stays g c =
+    let stays = (settling_settles c.args.world.now c.next_watched.new.world (world_kept c.args.world.now c.start.ensures.kept) c.requires.idle
+    (came_settled c.args.world.now c.loop.settling c.next_watched.new.self c.loop.world c.next_watched.new.world c.in_ok-next_watched.field-0 c.in_default.is c.loop.invariant.comes c.in_ok-next_watched.ensures.goes)).all.stays in
+    record { registers = stays.registers; stands = stays.stands; made = stays.made }
 
 pub returns-clause-shown : goal.returns-clause-shown
 returns-clause-shown g c =
@@ -110,20 +101,14 @@ returns-clause-shown g c =
 pub returns-in-Err-clause-spent : goal.returns-in-Err-clause-spent
 returns-in-Err-clause-spent g c = (c.in-Err.ensures.spent.0, c.in-Err.ensures.spent.1, refl)
 
-pub returns-in-Err-clause-registers : goal.returns-in-Err-clause-registers
-returns-in-Err-clause-registers g c = refl
-
-pub returns-in-Err-clause-stands : goal.returns-in-Err-clause-stands
-returns-in-Err-clause-stands g c = λ heap number stands. stands
+pub returns-in-Err-clause-stays : goal.returns-in-Err-clause-stays
+returns-in-Err-clause-stays g c = record { registers = refl; stands = λ heap number stands. stands; made = refl }
 
 pub returns-in-Err-clause-idle : goal.returns-in-Err-clause-idle
 returns-in-Err-clause-idle g c = c.requires.idle
 
 pub returns-in-Err-clause-config : goal.returns-in-Err-clause-config
 returns-in-Err-clause-config g c = refl
-
-pub returns-in-Err-clause-made : goal.returns-in-Err-clause-made
-returns-in-Err-clause-made g c = refl
 
 pub returns-in-Err-clause-kept : goal.returns-in-Err-clause-kept
 returns-in-Err-clause-kept g c = c.start.ensures.kept
@@ -143,14 +128,8 @@ returns-in_err-next_watched-clause-spent g c = IfOk-from_err c.from_residual.res
 pub returns-in_err-next_watched-clause-done : goal.returns-in_err-next_watched-clause-done
 returns-in_err-next_watched-clause-done g c = IfOk-from_err c.from_residual.result _ c.from_residual.ensures.0
 
-pub returns-in_err-next_watched-clause-registers : goal.returns-in_err-next_watched-clause-registers
-returns-in_err-next_watched-clause-registers g c = IfOk-from_err c.from_residual.result _ c.from_residual.ensures.0
-
-pub returns-in_err-next_watched-clause-stands : goal.returns-in_err-next_watched-clause-stands
-returns-in_err-next_watched-clause-stands g c = IfOk-from_err c.from_residual.result _ c.from_residual.ensures.0
-
-pub returns-in_err-next_watched-clause-made : goal.returns-in_err-next_watched-clause-made
-returns-in_err-next_watched-clause-made g c = IfOk-from_err c.from_residual.result _ c.from_residual.ensures.0
+pub returns-in_err-next_watched-clause-stays : goal.returns-in_err-next_watched-clause-stays
+returns-in_err-next_watched-clause-stays g c = IfOk-from_err c.from_residual.result _ c.from_residual.ensures.0
 
 pub returns-in_err-next_watched-clause-shown : goal.returns-in_err-next_watched-clause-shown
 returns-in_err-next_watched-clause-shown g c = IfOk-from_err c.from_residual.result _ c.from_residual.ensures.0

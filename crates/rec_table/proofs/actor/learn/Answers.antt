@@ -12,22 +12,22 @@ use Rattle.rec_table.proofs.actor.learn.Goals as goal
 use Rattle.rec_table.proofs.actor.learn.Goals.{After-from}
 
 taking : (c : After-from) → TakesBox c.args.machine.now.phase
-taking c = taking_phase c.args.machine.now c.args.op c.requires.op c.requires.between (subst IsTakeOp (sym c.in-TakeBox.is) tt)
+taking c = taking_phase c.args.machine.now c.args.op c.requires.may.due c.requires.may.between (subst IsTakeOp (sym c.in-TakeBox.is) tt)
 
 own : (c : After-from) → c.from.result ≡ c.args.machine.now.number
-own c = c.from.ensures ∙ takes_own c.args.machine.now c.args.op c.in-TakeBox.t c.in-TakeBox.field-1 c.requires.op c.requires.between c.in-TakeBox.is
+own c = c.from.ensures ∙ takes_own c.args.machine.now c.args.op c.in-TakeBox.t c.in-TakeBox.field-1 c.requires.may.due c.requires.may.between c.in-TakeBox.is
 
 out : (c : After-from) → c.args.seat.now.me.1 ≡ (c.from.result - 1, Some (spare (took_of c.args.machine.now c.args.word))) ∷ []
-out c = out_at c.args.machine.now c.args.word (c.from.result - 1) c.args.seat.now.me.1 (taking c) (ap (λ n. n - 1) (own c)) c.requires.out
+out c = out_at c.args.machine.now c.args.word (c.from.result - 1) c.args.seat.now.me.1 (taking c) (ap (λ n. n - 1) (own c)) c.requires.may.out
 
 boxed : (c : After-from) (q r : Private) (m m' : Option Contents) → q ≡ took_of c.args.machine.now c.args.word → KeepsSizes c.args.machine.now q
     → c.args.seat.now.me.1 ≡ (c.from.result - 1, m) ∷ rest c.args.seat.now.me.1 → r ≡ swapped_of q (held m) → m' ≡ Some (left_of q (held m)) → Boxed c.args.machine.now r m' (seated_of c.args.seat.now.me.0) c.args.word
 boxed c q r m m' took same value swapped left =
     let is : m ≡ Some (spare (took_of c.args.machine.now c.args.word)) = first_is (c.from.result - 1) (c.from.result - 1) m (Some (spare (took_of c.args.machine.now c.args.word))) c.args.seat.now.me.1 (rest c.args.seat.now.me.1) [] value (out c) in
-    learns_box c.args.machine.now q r (held m) m' (seated_of c.args.seat.now.me.0) c.args.word (taking c) took (ap held is) swapped left c.requires.hand same
+    learns_box c.args.machine.now q r (held m) m' (seated_of c.args.seat.now.me.0) c.args.word (taking c) took (ap held is) swapped left c.requires.may.hand same
 
 pub overflow_sub-from : goal.overflow_sub-from
-overflow_sub-from c = omega (arith, own c, c.requires.number)
+overflow_sub-from c = omega (arith, own c, c.requires.may.number)
 
 pub slot_mut-mailbox-requires : goal.slot_mut-mailbox-requires
 slot_mut-mailbox-requires c = (c.requires.table, (Some (spare (took_of c.args.machine.now c.args.word)), out c ∙ (λ k. (c.from.result - 1, Some (spare (took_of c.args.machine.now c.args.word))) ∷ rest (sym (out c) k))))
@@ -54,8 +54,8 @@ returns-in-TakeBox-clause-me c =
 pub returns-in_default-op : goal.returns-in_default-op
 returns-in_default-op c =
     let p : Private = c.args.machine.now in
-    let all = learns_word p c.took-in_default-op.new.self (seated_of c.args.seat.now.me.0) c.args.word c.args.seat.now.me c.requires.busy c.requires.between
-    (takes_none p.phase c.requires.between (λ takes. taking_takes p c.args.op takes c.requires.op c.in_default-op.not-TakeBox)) c.took-in_default-op.ensures.took c.requires.out in
+    let all = learns_word p c.took-in_default-op.new.self (seated_of c.args.seat.now.me.0) c.args.word c.args.seat.now.me c.requires.may.busy c.requires.may.between
+    (takes_none p.phase c.requires.may.between (λ takes. taking_takes p c.args.op takes c.requires.may.due c.in_default-op.not-TakeBox)) c.took-in_default-op.ensures.took c.requires.may.out in
     record {
       seat = (refl, refl);
       machine = all.0;
@@ -69,13 +69,13 @@ begun : (work : Option Start) (start : Start) (phase : Phase) → work ≡ Some 
 begun work start phase is so = subst (λ (w : Option Start). IfSome w (λ s. phase ≡ Begun s.work)) is so
 
 pub took_first-requires-clause-begun : goal.took_first-requires-clause-begun
-took_first-requires-clause-begun c = begun c.args.work c.in-Some.start c.args.machine.now.phase c.in-Some.is c.requires.begun
+took_first-requires-clause-begun c = begun c.args.work c.in-Some.start c.args.machine.now.phase c.in-Some.is c.requires.may.begun
 
 pub returns-in-Some : goal.returns-in-Some
 returns-in-Some c =
     let p : Private = c.args.machine.now in
-    let is : p.phase ≡ Begun c.in-Some.start.work = begun c.args.work c.in-Some.start p.phase c.in-Some.is c.requires.begun in
-    let all = learns_word p c.took_first.new.self (seated_of c.args.seat.now.me.0) c.args.word c.args.seat.now.me c.requires.busy c.requires.between (subst TakesNone (sym is) tt) c.took_first.ensures.took c.requires.out in
+    let is : p.phase ≡ Begun c.in-Some.start.work = begun c.args.work c.in-Some.start p.phase c.in-Some.is c.requires.may.begun in
+    let all = learns_word p c.took_first.new.self (seated_of c.args.seat.now.me.0) c.args.word c.args.seat.now.me c.requires.may.busy c.requires.may.between (subst TakesNone (sym is) tt) c.took_first.ensures.took c.requires.may.out in
     record {
       seat = (refl, refl);
       machine = all.0;

@@ -18,13 +18,13 @@ run_as-requires-clause-stands g c =
     let none = loops_out p p.phase (kinds_loop p.phase (subst (λ (k : Kind). HasLoop k) c.requires.kind c.requires.looped)) in
     record {
       world = c.requires.world;
-      table = c.requires.table;
-      me = c.requires.seat ∙ (λ k. (Collects seat, sym none k));
+      table = c.requires.seat.table;
+      me = c.requires.seat.me ∙ (λ k. (Collects seat, sym none k));
       same = ap (λ (x : CollectorSeat). record x { log = seat.log }) (sym c.requires.start);
-      is = c.requires.machine;
+      is = c.requires.seat.is;
       kept = c.rules.ensures;
-      sizes = c.requires.sizes;
-      between = c.requires.between;
+      sizes = c.requires.seat.sizes;
+      between = c.requires.seat.between;
       made = subst (λ (x : CollectorSeat). Made (collector_view z key.collector x) (collector_view z key.collector seat) 0 turns.Moved) (sym c.requires.start) Made.none;
     }
 
@@ -35,11 +35,7 @@ returns g c =
     let s = c.run_as.ensures.stands in
     let after : CollectorSeat = collecting_of c.run_as.new.seat.me.0 in
     record {
-      table = s.table;
-      seat = s.me;
-      machine = s.is;
-      sizes = s.sizes;
-      between = s.between;
+      seat = record { table = s.table; me = s.me; is = s.is; sizes = s.sizes; between = s.between };
       same = s.same ∙ ap (λ (x : CollectorSeat). record x { log = after.log }) c.requires.start;
       made = subst (λ (x : CollectorSeat). Made (collector_view z key.collector x) (collector_view z key.collector after) c.run_as.result.0 c.run_as.result.1) c.requires.start s.made;
       some = c.run_as.ensures.some;

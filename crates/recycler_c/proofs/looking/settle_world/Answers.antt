@@ -19,9 +19,9 @@ returns-in-Ok c = λ t. record {
   is = ap Some c.of.ensures;
   config = c.settle.ensures.config;
   done = c.in-Ok.ensures.done;
-  registers = c.settle.ensures.registers;
-  stands = c.settle.ensures.stands;
-  made = c.settle.ensures.made;
+  registers = c.settle.ensures.stays.registers;
+  stands = c.settle.ensures.stays.stands;
+  made = c.settle.ensures.stays.made;
   teller = refl;
 }
 

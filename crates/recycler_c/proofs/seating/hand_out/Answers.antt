@@ -12,13 +12,7 @@ use Rattle.recycler_c.specs.declared.handle.Handle.{Handle}
 use Rattle.recycler_c.proofs.Standings.{twice_other, twice_same}
 use Rattle.recycler_c.proofs.seating.hand_out.Goals as goal
 use Rattle.recycler_c.proofs.seating.hand_out.Goals.{After-unwrap-heap}
-
--- what holds of each holds of the last, and of those before it
-last_of : {X : Type 0} (P : X → Type 0) (xs : List X) (x : X) → All P (xs ++ x ∷ []) → P x
-last_of P xs x all = subst P (get_or-append_seam xs x [] x) (all (length xs) x (omega (arith, length-append xs (x ∷ []))))
-
-rest_of : {X : Type 0} (P : X → Type 0) (xs : List X) (x : X) → All P (xs ++ x ∷ []) → All P xs
-rest_of P xs x all = λ k d lt. subst P (get_or_append_left xs (x ∷ []) d k lt) (all k d (omega (arith, lt, length-append xs (x ∷ []))))
+use Rattle.rec_model.proofs.Members.{All-last, All-earlier}
 
 -- the mutator that leaves is the one whose turn it is
 leaves : (c : After-unwrap-heap) → c.loop-mutator.home.items ≡ c.pop.new.self.items ++ c.in-Some.mutator ∷ []
@@ -37,7 +31,7 @@ left : (c : After-unwrap-heap) → c.loop-mutator.heaps.items ≡ c.pop-in-Some.
 left c = c.pop-in-Some.ensures.items ∙ ap (λ o. c.pop-in-Some.new.self.items ++ option_to_list o) c.unwrap-heap.ensures
 
 heap_is : (c : After-unwrap-heap) (s : Started) → All (λ heap. arc_value heap ≡ s) c.args.heaps.items → arc_value c.unwrap-heap.result ≡ s
-heap_is c s all = last_of (λ heap. arc_value heap ≡ s) c.pop-in-Some.new.self.items c.unwrap-heap.result (subst (λ l. All (λ heap. arc_value heap ≡ s) l) (left c) (c.loop-mutator.invariant.heaps s all))
+heap_is c s all = All-last (λ heap. arc_value heap ≡ s) c.pop-in-Some.new.self.items c.unwrap-heap.result (subst (λ l. All (λ heap. arc_value heap ≡ s) l) (left c) (c.loop-mutator.invariant.heaps s all))
 
 pub invariant_of-fill : goal.invariant_of-fill
 invariant_of-fill c =
@@ -65,7 +59,7 @@ loop-mutator-preserved c =
       capacity = c.pop.ensures.capacity ∙ i.capacity;
       first = λ k e lt. sym (get_or_append_left new (c.in-Some.mutator ∷ []) e k lt) ∙ ap (λ (l : List MutatorView). get_or l k e) (sym (leaves a)) ∙ i.first k e (omega (arith, lt, long a));
       many = omega (arith, long a, fewer, i.many);
-      heaps = λ s all. rest_of (λ heap. arc_value heap ≡ s) c.pop-in-Some.new.self.items c.unwrap-heap.result (subst (λ l. All (λ heap. arc_value heap ≡ s) l) (left a) (i.heaps s all));
+      heaps = λ s all. All-earlier (λ heap. arc_value heap ≡ s) c.pop-in-Some.new.self.items c.unwrap-heap.result (subst (λ l. All (λ heap. arc_value heap ≡ s) l) (left a) (i.heaps s all));
       waiting = λ k d lt. twice_other hs n k g h d (λ same. omega (arith, lt, same, is_n)) ∙ i.waiting k d (omega (arith, lt, long a));
       out = λ s all k d e ge lt. dite (ℕ_discrete k n)
           (λ (same : k ≡ n). record {

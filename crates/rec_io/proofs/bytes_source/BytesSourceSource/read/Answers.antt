@@ -42,27 +42,28 @@ returns-then-count-eq0-clause-ended c =
     let e : c.args.self.now.rest ≡ [] = none_left _ _ _ _ c.requires (left c.self.inside.at _ _ _ c.deref.ensures.value r) c.copy_front-count.ensures.count c.if-count-eq0.true in
     record { empty = told (λ xs. xs ≡ []) c.args.self.now.rest e; told = told (λ xs. Some (drop c.self.inside.at c.self.inside.bytes.items) ≡ Some []) c.args.self.now.rest (ap Some (r ∙ e)) }
 
-pub returns-then-count-eq0-clause-ends : goal.returns-then-count-eq0-clause-ends
-returns-then-count-eq0-clause-ends c =
+pub returns-then-count-eq0-clause-gives : goal.returns-then-count-eq0-clause-gives
+returns-then-count-eq0-clause-gives c =
     let e : c.args.self.now.rest ≡ [] = none_left _ _ _ _ c.requires (left c.self.inside.at _ _ _ c.deref.ensures.value (ap (λ (s : BytesState). s.rest) c.self.view_is)) c.copy_front-count.ensures.count c.if-count-eq0.true in
-    (λ q. (unlisted _ _ ⊥ c.self.view_is c.if-next_fails.ensures.listed.1, e), λ q. refl)
+    record {
+      fails = (λ e. cc, unlisted _ _ _ c.self.view_is c.if-next_fails.ensures.listed.1);
+      ends = (λ q. (unlisted _ _ ⊥ c.self.view_is c.if-next_fails.ensures.listed.1, e), λ q. refl);
+      gives = tt;
+    }
 
 pub returns-clause-in_order : goal.returns-clause-in_order
 returns-clause-in_order c =
     let r : drop c.self.inside.at c.self.inside.bytes.items ≡ c.args.self.now.rest = ap (λ (s : BytesState). s.rest) c.self.view_is in
     front c.self.inside.at _ _ _ _ _ _ r (left c.self.inside.at _ _ _ c.deref.ensures.value r) c.copy_front-count.ensures.count c.copy_front-count.ensures.bytes
 
-pub returns-clause-fails : goal.returns-clause-fails
-returns-clause-fails c = (λ e. cc, unlisted _ _ _ c.self.view_is c.if-next_fails.ensures.listed.1)
-
-pub returns-clause-ends : goal.returns-clause-ends
-returns-clause-ends c =
-    let r : drop c.self.inside.at c.self.inside.bytes.items ≡ c.args.self.now.rest = ap (λ (s : BytesState). s.rest) c.self.view_is in
-    (λ e. cc, λ p. absurd (c.if-count-eq0.false (some_left _ _ _ _ (left c.self.inside.at _ _ _ c.deref.ensures.value r) c.copy_front-count.ensures.count p.1)))
-
 pub returns-clause-gives : goal.returns-clause-gives
 returns-clause-gives c =
-    c.copy_front-count.ensures.count ∙ ap (λ xs. min (length c.args.into.now) (length xs)) (left c.self.inside.at _ _ _ c.deref.ensures.value (ap (λ (s : BytesState). s.rest) c.self.view_is))
+    let r : drop c.self.inside.at c.self.inside.bytes.items ≡ c.args.self.now.rest = ap (λ (s : BytesState). s.rest) c.self.view_is in
+    record {
+      fails = (λ e. cc, unlisted _ _ _ c.self.view_is c.if-next_fails.ensures.listed.1);
+      ends = (λ e. cc, λ p. absurd (c.if-count-eq0.false (some_left _ _ _ _ (left c.self.inside.at _ _ _ c.deref.ensures.value r) c.copy_front-count.ensures.count p.1)));
+      gives = c.copy_front-count.ensures.count ∙ ap (λ xs. min (length c.args.into.now) (length xs)) (left c.self.inside.at _ _ _ c.deref.ensures.value r);
+    }
 
 pub returns-clause-after : goal.returns-clause-after
 returns-clause-after c =
@@ -70,8 +71,14 @@ returns-clause-after c =
     moved c.self.inside.at c.copy_front-count.result c.self.inside.bytes.items _ _ _ c.args.self.now v (c.next_fails.ensures.fails ∙ ap (λ (s : BytesState). s.fails) c.self.view_is)
     (c.next_fails.ensures.made ∙ ap (λ (s : BytesState). counted_up s.calls) c.self.view_is) (c.next_fails.ensures.faults ∙ ap (λ (s : BytesState). s.faults) c.self.view_is)
 
-pub returns-then-next_fails-clause-fails : goal.returns-then-next_fails-clause-fails
-returns-then-next_fails-clause-fails c = (λ e. subst (λ (t : BytesState). NextFails t.fails t.calls) c.self.view_is (c.next_fails.ensures.listed.0 c.if-next_fails.true), λ n. refl)
+pub returns-then-next_fails-clause-gives : goal.returns-then-next_fails-clause-gives
+returns-then-next_fails-clause-gives c =
+    let listed : NextFails c.args.self.now.fails c.args.self.now.calls = subst (λ (t : BytesState). NextFails t.fails t.calls) c.self.view_is (c.next_fails.ensures.listed.0 c.if-next_fails.true) in
+    record {
+      fails = (λ e. listed, λ n. refl);
+      ends = (λ e. cc, λ p. absurd (p.0 listed));
+      gives = tt;
+    }
 
 failed : (fails : List ℕ) (calls faults : ℕ) (before now : BytesState) → before ≡ now → fails ≡ before.fails → calls ≡ counted_up before.calls → faults ≡ counted_up before.faults →
     record { rest = before.rest; fails = fails; calls = calls; faults = faults } ≡ after_read Failed now
@@ -109,9 +116,6 @@ returns-then-next_fails-clause-after c =
 
 pub invariant_of-self-then-count-eq0 : goal.invariant_of-self-then-count-eq0
 invariant_of-self-then-count-eq0 c = (c.self.invariant.0, subst (λ (n : ℕ). n ≤ last_count) (sym c.next_fails.ensures.faults) c.self.invariant.1)
-
-pub returns-then-count-eq0-clause-fails : goal.returns-then-count-eq0-clause-fails
-returns-then-count-eq0-clause-fails c = (λ e. cc, unlisted _ _ _ c.self.view_is c.if-next_fails.ensures.listed.1)
 
 pub returns-then-count-eq0-clause-after : goal.returns-then-count-eq0-clause-after
 returns-then-count-eq0-clause-after c = ended _ _ _ _ c.args.self.now c.self.view_is c.next_fails.ensures.fails c.next_fails.ensures.made c.next_fails.ensures.faults

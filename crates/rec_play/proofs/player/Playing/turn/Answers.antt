@@ -8,8 +8,8 @@ use Rattle.rec_play.specs.InsidePlaying.{player}
 use Rattle.rec_play.specs.Moves.{AreDue, AreThere, Carries, IsSpent, MayGoOn, Player, made_by}
 use Rattle.rec_play.specs.Numbers.{config_of}
 use Rattle.rec_play.specs.Playing.{to_come}
-use Rattle.rec_play.specs.Run.{commands_of}
-use Rattle.rec_play.proofs.Due.{HasCommand, commands_are, due_made, due_stepped, few_mutators, next_turn}
+use Rattle.rec_play.specs.Run.{HasCommand, commands_of}
+use Rattle.rec_play.proofs.Due.{commands_are, due_made, due_stepped, few_mutators, next_turn}
 use Rattle.rec_play.proofs.There.{made_there}
 use Rattle.rec_play.proofs.player.Playing.turn.Goals as goal
 
@@ -43,23 +43,11 @@ bounds-self-inside-from g c =
     = next_turn (player c.self.inside) c.self.invariant c.next_turn.new.self c.in-Some-Mutator.mutator (c.in-Some-Mutator.ensures.turn ∙ ap (λ a. a ∷ to_come c.next_turn.new.self) c.in-Some-Mutator.field-0-is) in
     omega (arith, n.some, n.most, few_mutators c.self.inside.script.now c.self.invariant.valid, c.from.ensures)
 
-pub give_turn-cmd-requires-clause-some : goal.give_turn-cmd-requires-clause-some
-give_turn-cmd-requires-clause-some g c =
-    let n : HasCommand c.self.inside.script.now c.in-Some-Mutator.mutator (made_by c.self.inside.made c.in-Some-Mutator.mutator)
-    = next_turn (player c.self.inside) c.self.invariant c.next_turn.new.self c.in-Some-Mutator.mutator (c.in-Some-Mutator.ensures.turn ∙ ap (λ a. a ∷ to_come c.next_turn.new.self) c.in-Some-Mutator.field-0-is) in
-    n.some
-
-pub give_turn-cmd-requires-clause-most : goal.give_turn-cmd-requires-clause-most
-give_turn-cmd-requires-clause-most g c =
-    let n : HasCommand c.self.inside.script.now c.in-Some-Mutator.mutator (made_by c.self.inside.made c.in-Some-Mutator.mutator)
-    = next_turn (player c.self.inside) c.self.invariant c.next_turn.new.self c.in-Some-Mutator.mutator (c.in-Some-Mutator.ensures.turn ∙ ap (λ a. a ∷ to_come c.next_turn.new.self) c.in-Some-Mutator.field-0-is) in
-    n.most
-
 pub give_turn-cmd-requires-clause-next : goal.give_turn-cmd-requires-clause-next
 give_turn-cmd-requires-clause-next g c =
     let n : HasCommand c.self.inside.script.now c.in-Some-Mutator.mutator (made_by c.self.inside.made c.in-Some-Mutator.mutator)
     = next_turn (player c.self.inside) c.self.invariant c.next_turn.new.self c.in-Some-Mutator.mutator (c.in-Some-Mutator.ensures.turn ∙ ap (λ a. a ∷ to_come c.next_turn.new.self) c.in-Some-Mutator.field-0-is) in
-    subst (λ x. slice_index_or c.self.inside.made (x - 1) 0 < length (commands_of c.self.inside.script.now c.in-Some-Mutator.mutator)) (sym c.from.ensures) n.next
+    subst (λ x. HasCommand c.self.inside.script.now c.in-Some-Mutator.mutator (slice_index_or c.self.inside.made (x - 1) 0)) (sym c.from.ensures) n
 
 pub give_turn-cmd-requires-clause-config : goal.give_turn-cmd-requires-clause-config
 give_turn-cmd-requires-clause-config g c = subst (λ (q : Player). c.args.world.now.config ≡ config_of q.script) (sym c.self.view_is) c.requires.config

@@ -6,10 +6,10 @@ use Rattle.rec_word.specs.Load.{loaded_at}
 use Rattle.rec_counts.specs.Counts.{State}
 use Rattle.rec_release.specs.CycleFree.{Machine, Next, gone_on, next_of, op_at, took_of, work_of, IsAtWork}
 use Rattle.rec_release.specs.Freed.{FreedTo}
-use Rattle.rec_release.specs.TakenOff.{taken_off}
+use Rattle.rec_release.specs.TakenOff.{taken_off, Keeps}
 use Rattle.rec_word.proofs.Given.{works_at, WorksAt}
 use Rattle.rec_release.proofs.Freeing.{came_more, gone_work, off_work, took_some}
-use Rattle.rec_release.proofs.Orange.{gone_keeps, keeps_orange, Keeps}
+use Rattle.rec_release.proofs.Orange.{gone_keeps, keeps_orange}
 use Rattle.rec_release.proofs.cycle_free.CycleFree.took.Goals as goal
 use Rattle.rec_release.proofs.cycle_free.CycleFree.took.Goals.{After-go_on}
 
@@ -52,10 +52,7 @@ returns c =
     record {
       took = ap (work_of f) (went c) ∙ sym (took_some f a s c.args.word) ∙ ap (λ (p : Machine). took_of (record { machine = p; counts = s }) c.args.word) (sym (machine_was c));
       kept = kept c;
-      slots = keeps.slots;
-      sets = keeps.sets;
-      all_but_orange = keeps.zeros;
-      apart = keeps.apart;
+      keeps = keeps;
       orange = keeps_orange keeps refl;
       whole = rw (machine_was c) (λ before loads r. subst (λ (n : Next). FreedTo f before n.at n.counts (loads ++ loaded_at (Some a) c.args.word)) (sym (went c)) (came_more f before a s loads c.args.word k r).law);
     }

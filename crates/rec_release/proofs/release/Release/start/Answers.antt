@@ -1,10 +1,11 @@
 -- The contract of `Release::start`: begins to release the zeros, as far as no field is due: the first of them is released, and each Green one before the first that isn't.
-use Rattle.std.proofs.Common.{◌≡◌, ◌∙◌, ℕ, Bool, false, true, IsNone, [], refl, sym, subst}
+use Rattle.std.proofs.Common.{◌≡◌, ◌∙◌, ℕ, Bool, true, IsNone, [], refl, sym, subst}
 use Rattle.rec_counts.specs.Counts.{State}
 use Rattle.rec_release.specs.Release.{Work, next_of, started_of, with_next, IsAtWork}
 use Rattle.rec_release.specs.Released.{Released}
 use Rattle.rec_release.proofs.Keeping.{next_field, none_left, work_next}
-use Rattle.rec_release.proofs.Orange.{keeps_orange, next_keeps, Keeps}
+use Rattle.rec_release.specs.TakenOff.{Keeps}
+use Rattle.rec_release.proofs.Orange.{keeps_orange, next_keeps}
 use Rattle.rec_release.proofs.Runs.{at_work, came_first}
 use Rattle.rec_release.proofs.release.Release.start.Goals as goal
 
@@ -23,13 +24,9 @@ returns c =
     record {
       started = rw (← c.self.view_is) e;
       kept = subst (λ (v : Work). IsAtWork v.machine v.counts) (sym e) (work_next f b s c.self.invariant.0 c.requires.ready);
-      slots = (k b).slots;
       lowers = refl;
-      sets = (k b).sets;
       done = subst (λ (v : Work). IsNone (next_of v.machine) → v.counts.zeros ≡ []) (sym e) (none_left f b s);
-      all_zeros = (k false).all_zeros refl;
-      all_but_orange = (k b).zeros;
-      apart = (k b).apart;
+      keeps = k;
       orange = keeps_orange (k true) refl;
       whole = (n.slots, subst (λ (v : Work). Released f s v.machine.at v.counts [] [] n.slots) (sym (e ∙ n.is)) n.law);
     }

@@ -36,13 +36,9 @@ returns c =
     record {
       took = e ∙ sym (took_some f b a s c.args.word) ∙ ap (λ (p : Machine). took_of (record { machine = p; counts = s }) c.args.word) (sym m);
       kept = g.kept;
-      slots = g.keeps.slots;
       lowers = ap (λ (p : Machine). p.lowers) (sym m);
-      sets = g.keeps.sets;
       done = g.done;
-      all_zeros = g.keeps.all_zeros;
-      all_but_orange = g.keeps.zeros;
-      apart = g.keeps.apart;
+      keeps = g.keeps;
       orange = keeps_orange g.keeps;
       whole = rw m (λ before words from slots r.
           let n = came_more f b before a s words from slots c.args.word k.field r in

@@ -11,20 +11,17 @@ use Rattle.rec_mutator.proofs.Straight.{begun_machine}
 use Rattle.rec_table.specs.Rule.{MayBegin}
 use Rattle.rec_table.specs.Straight.{record_of}
 use Rattle.rec_table.specs.declared.start.Start.{Start}
-use Rattle.rec_table.proofs.Common.{Private, IsBetween, IsMachine, Core, answer_of, begun_of, beats, MayGo}
+use Rattle.rec_table.proofs.Common.{Private, IsBetween, IsMachine, answer_of, begun_of, beats, MayGo}
 use Rattle.rec_table.proofs.Straight.{Owns, carried_once, kept_by, learns_first, none_born, opened_on, owns, seen_on, Begins, begins}
 use Rattle.rec_table.proofs.actor.Actor.null.Goals as goal
 use Rattle.rec_table.proofs.actor.Actor.null.Goals.{After-from-from}
 
-abbrev key : (c : After-from-from) → Core
-key c = c.args.board.now.table.shared.key.value
-
 abbrev work : (c : After-from-from) → Work
 work c = works.Command (commands.Null c.args.reg)
 
-starts : (c : After-from-from) → Begins (key c) c.self.inside.opened.value c.self.inside.machine c.self.inside.seat.me c.args.self.now (work c) c.from-from.result
-starts c = begins (key c) c.self.inside.opened.value c.self.inside.machine c.self.inside.seat.me c.args.self.now (work c) c.from-from.result
-    (owns c.args.board.now.table.shared.table_id c.self.inside.seat.table_id (key c) c.self.inside.opened.value c.self.inside.machine c.self.inside.seat.me c.args.self.now c.self.view_is c.requires.own c.self.invariant.0 c.self.invariant.1 c.self.invariant.2 c.self.invariant.3 c.self.invariant.4)
+starts : (c : After-from-from) → Begins c.args.board.now.table.shared.key.value c.self.inside.opened.value c.self.inside.machine c.self.inside.seat.me c.args.self.now (work c) c.from-from.result
+starts c = begins c.args.board.now.table.shared.key.value c.self.inside.opened.value c.self.inside.machine c.self.inside.seat.me c.args.self.now (work c) c.from-from.result
+    (owns c.args.board.now.table.shared.table_id c.self.inside.seat.table_id c.args.board.now.table.shared.key.value c.self.inside.opened.value c.self.inside.machine c.self.inside.seat.me c.args.self.now c.self.view_is c.requires.own c.self.invariant.0 c.self.invariant.1 c.self.invariant.2 c.self.invariant.3 c.self.invariant.4)
     c.requires.may c.from-from.ensures.from c.from-from.ensures.kept
 
 -- the operation is the one that comes next
@@ -68,11 +65,11 @@ invariant_of-self c =
     let s = c.self.inside in
     let o = (starts a).owned in
     let start : Start = record { work = work a; from = c.from-from.result } in
-    kept_by (key a) s.opened.value c.nulled.new.self c.perform-word.new.seat.me s.births
-    (opened_on (key a) s.opened.value s.seat.me c.perform-word.new.seat.me (beats (Some start) c.perform-word.result) o.opened c.perform-word.ensures.me)
-    (learns_first (record_of (key a) s.seat.me) s.machine c.nulled.new.self (work a) c.from-from.result c.perform-word.result o.machine c.from-from.ensures.from c.nulled.ensures.took ∙ sym c.perform-word.ensures.learns)
+    kept_by a.args.board.now.table.shared.key.value s.opened.value c.nulled.new.self c.perform-word.new.seat.me s.births
+    (opened_on a.args.board.now.table.shared.key.value s.opened.value s.seat.me c.perform-word.new.seat.me (beats (Some start) c.perform-word.result) o.opened c.perform-word.ensures.me)
+    (learns_first (record_of a.args.board.now.table.shared.key.value s.seat.me) s.machine c.nulled.new.self (work a) c.from-from.result c.perform-word.result o.machine c.from-from.ensures.from c.nulled.ensures.took ∙ sym c.perform-word.ensures.learns)
     c.perform-word.ensures.stands
-    (none_born (key a) s.opened.value s.seat.me c.perform-word.new.seat.me (Some start) (ops.LoadCross c.number-number.result) c.perform-word.result s.births o.opened
+    (none_born a.args.board.now.table.shared.key.value s.opened.value s.seat.me c.perform-word.new.seat.me (Some start) (ops.LoadCross c.number-number.result) c.perform-word.result s.births o.opened
     (next s.machine c.args.reg c.from-from.result c.number-number.result c.number-number.ensures ∙ ap (λ (p : Private). next_of (begun_of p (work a) c.from-from.result)) o.machine)
     refl c.perform-word.ensures.me c.self.invariant.5)
 

@@ -8,7 +8,7 @@ use Rattle.rec_mutator.proofs.Straight.{begun_machine}
 use Rattle.rec_table.specs.Rule.{MayBegin}
 use Rattle.rec_table.specs.Straight.{record_of}
 use Rattle.rec_table.specs.declared.start.Start.{Start}
-use Rattle.rec_table.proofs.Common.{Private, IsBetween, IsFound, IsMachine, IsTold, Contents, Core, answer_of, work_of, begun_of, told, mutator_now, mutator_view, MutatorView, Mutates, Saw, View, beats, longer, MayGo, learnt, seated_of}
+use Rattle.rec_table.proofs.Common.{Private, IsBetween, IsFound, IsMachine, IsTold, Contents, answer_of, work_of, begun_of, told, mutator_now, mutator_view, MutatorView, Mutates, Saw, View, beats, longer, MayGo, learnt, seated_of}
 use Rattle.rec_table.proofs.Making.{begun_work, counted, keeps_on}
 use Rattle.rec_mutator.specs.Took.{IsRequested}
 use Rattle.atomic_table.specs.Table.{Me}
@@ -16,15 +16,12 @@ use Rattle.rec_table.proofs.Straight.{Owns, path_once, polled_once, polled_path,
 use Rattle.rec_table.proofs.actor.Actor.poll.Goals as goal
 use Rattle.rec_table.proofs.actor.Actor.poll.Goals.{After-from-from}
 
-abbrev key : (c : After-from-from) → Core
-key c = c.args.board.now.table.shared.key.value
-
 abbrev work : (c : After-from-from) → Work
 work c = works.Poll
 
-starts : (c : After-from-from) → Begins (key c) c.self.inside.opened.value c.self.inside.machine c.self.inside.seat.me c.args.self.now (work c) c.from-from.result
-starts c = begins (key c) c.self.inside.opened.value c.self.inside.machine c.self.inside.seat.me c.args.self.now (work c) c.from-from.result
-    (owns c.args.board.now.table.shared.table_id c.self.inside.seat.table_id (key c) c.self.inside.opened.value c.self.inside.machine c.self.inside.seat.me c.args.self.now c.self.view_is c.requires.own c.self.invariant.0 c.self.invariant.1 c.self.invariant.2 c.self.invariant.3 c.self.invariant.4)
+starts : (c : After-from-from) → Begins c.args.board.now.table.shared.key.value c.self.inside.opened.value c.self.inside.machine c.self.inside.seat.me c.args.self.now (work c) c.from-from.result
+starts c = begins c.args.board.now.table.shared.key.value c.self.inside.opened.value c.self.inside.machine c.self.inside.seat.me c.args.self.now (work c) c.from-from.result
+    (owns c.args.board.now.table.shared.table_id c.self.inside.seat.table_id c.args.board.now.table.shared.key.value c.self.inside.opened.value c.self.inside.machine c.self.inside.seat.me c.args.self.now c.self.view_is c.requires.own c.self.invariant.0 c.self.invariant.1 c.self.invariant.2 c.self.invariant.3 c.self.invariant.4)
     c.requires.may c.from-from.ensures.from c.from-from.ensures.kept
 
 -- the operation is the one that comes next
@@ -73,7 +70,7 @@ summoned-requires-clause-stays c = let a : After-from-from = (goal.at.summoned-r
 pub summoned-requires-clause-found : goal.summoned-requires-clause-found
 summoned-requires-clause-found c =
     let a : After-from-from = (goal.at.summoned-requires-clause-found c).After-from-from in
-    subst (λ (p : Private). IsRequested p c.perform-requested.result) (sym (starts a).owned.machine) (asked (record_of (key a) c.self.inside.seat.me) c.from-from.result c.perform-requested.result c.perform-requested.ensures.found)
+    subst (λ (p : Private). IsRequested p c.perform-requested.result) (sym (starts a).owned.machine) (asked (record_of a.args.board.now.table.shared.key.value c.self.inside.seat.me) c.from-from.result c.perform-requested.result c.perform-requested.ensures.found)
 
 pub invariant_of-self : goal.invariant_of-self
 invariant_of-self c =
@@ -81,11 +78,11 @@ invariant_of-self c =
     let s = c.self.inside in
     let o = (starts a).owned in
     let start : Start = record { work = work a; from = c.from-from.result } in
-    kept_by (key a) s.opened.value c.stayed.new.self c.perform-requested.new.seat.me s.births
-    (opened_on (key a) s.opened.value s.seat.me c.perform-requested.new.seat.me (beats (Some start) c.perform-requested.result) o.opened c.perform-requested.ensures.me)
-    (learns_first (record_of (key a) s.seat.me) s.machine c.stayed.new.self (work a) c.from-from.result c.perform-requested.result o.machine c.from-from.ensures.from c.stayed.ensures.took ∙ sym c.perform-requested.ensures.learns)
+    kept_by a.args.board.now.table.shared.key.value s.opened.value c.stayed.new.self c.perform-requested.new.seat.me s.births
+    (opened_on a.args.board.now.table.shared.key.value s.opened.value s.seat.me c.perform-requested.new.seat.me (beats (Some start) c.perform-requested.result) o.opened c.perform-requested.ensures.me)
+    (learns_first (record_of a.args.board.now.table.shared.key.value s.seat.me) s.machine c.stayed.new.self (work a) c.from-from.result c.perform-requested.result o.machine c.from-from.ensures.from c.stayed.ensures.took ∙ sym c.perform-requested.ensures.learns)
     c.perform-requested.ensures.stands
-    (none_born (key a) s.opened.value s.seat.me c.perform-requested.new.seat.me (Some start) (ops.LoadEpoch) c.perform-requested.result s.births o.opened
+    (none_born a.args.board.now.table.shared.key.value s.opened.value s.seat.me c.perform-requested.new.seat.me (Some start) (ops.LoadEpoch) c.perform-requested.result s.births o.opened
     (next s.machine c.from-from.result ∙ ap (λ (p : Private). next_of (begun_of p (work a) c.from-from.result)) o.machine)
     refl c.perform-requested.ensures.me c.self.invariant.5)
 
@@ -108,23 +105,23 @@ invariant_of-self-2 c =
     let s = c.self.inside in
     let o = (starts a).owned in
     let start : Start = record { work = works.Poll; from = c.from-from.result } in
-    kept_by (key a) s.opened.value c.summoned.new.self c.perform-requested.new.seat.me s.births
-    (opened_on (key a) s.opened.value s.seat.me c.perform-requested.new.seat.me (beats (Some start) c.perform-requested.result) o.opened c.perform-requested.ensures.me)
-    (learns_first (record_of (key a) s.seat.me) s.machine c.summoned.new.self works.Poll c.from-from.result c.perform-requested.result o.machine c.from-from.ensures.from c.summoned.ensures.took ∙ sym c.perform-requested.ensures.learns)
+    kept_by a.args.board.now.table.shared.key.value s.opened.value c.summoned.new.self c.perform-requested.new.seat.me s.births
+    (opened_on a.args.board.now.table.shared.key.value s.opened.value s.seat.me c.perform-requested.new.seat.me (beats (Some start) c.perform-requested.result) o.opened c.perform-requested.ensures.me)
+    (learns_first (record_of a.args.board.now.table.shared.key.value s.seat.me) s.machine c.summoned.new.self works.Poll c.from-from.result c.perform-requested.result o.machine c.from-from.ensures.from c.summoned.ensures.took ∙ sym c.perform-requested.ensures.learns)
     c.perform-requested.ensures.stands
-    (none_born (key a) s.opened.value s.seat.me c.perform-requested.new.seat.me (Some start) ops.LoadEpoch c.perform-requested.result s.births o.opened
+    (none_born a.args.board.now.table.shared.key.value s.opened.value s.seat.me c.perform-requested.new.seat.me (Some start) ops.LoadEpoch c.perform-requested.result s.births o.opened
     (next s.machine c.from-from.result ∙ ap (λ (p : Private). next_of (begun_of p works.Poll c.from-from.result)) o.machine)
     refl c.perform-requested.ensures.me c.self.invariant.5)
 
 -- the record behind the first step
 goes_on : (a : After-from-from) (me' : Me (Option Contents) View) (word : ℕ) → me' ≡ (Mutates (longer (seated_of a.self.inside.seat.me.0) (beats (Some (record { work = works.Poll; from = a.from-from.result })) word)), [])
-    → record_of (key a) me' ≡ learnt (begun_of (record_of (key a) a.self.inside.seat.me) works.Poll a.from-from.result) (Saw word)
+    → record_of a.args.board.now.table.shared.key.value me' ≡ learnt (begun_of (record_of a.args.board.now.table.shared.key.value a.self.inside.seat.me) works.Poll a.from-from.result) (Saw word)
     → (work_of (told a.self.inside.opened.value (seated_of me'.0).log) ≡ Some works.Poll) × IsTold (told a.self.inside.opened.value (seated_of me'.0).log).phase
 goes_on a me' word at learns =
     let s = a.self.inside in
-    let p : Private = record_of (key a) s.seat.me in
+    let p : Private = record_of a.args.board.now.table.shared.key.value s.seat.me in
     let start : Start = record { work = works.Poll; from = a.from-from.result } in
-    let opened = opened_on (key a) s.opened.value s.seat.me me' (beats (Some start) word) (starts a).owned.opened at in
+    let opened = opened_on a.args.board.now.table.shared.key.value s.opened.value s.seat.me me' (beats (Some start) word) (starts a).owned.opened at in
     let is = ap (λ (q : Private). told q (seated_of me'.0).log) opened ∙ learns in
     let c = counted p (Some start) word (starts a).goes (starts a).owned.stands.between in
     (ap work_of is ∙ c.work ∙ begun_work p works.Poll a.from-from.result, subst (λ (q : Private). IsTold q.phase) (sym is) c.told)

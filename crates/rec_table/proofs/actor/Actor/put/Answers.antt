@@ -10,27 +10,23 @@ use Rattle.rec_model.specs.declared.answer.Answer.TheVariants as answers
 use Rattle.rec_model.specs.declared.told.Told.{Told}
 use Rattle.rec_mutator.specs.Next.{next_of, next_at, write_op}
 use Rattle.rec_mutator.specs.Private.{word_for}
-use Rattle.rec_mutator.specs.declared.phase.Phase.TheVariants.{Storing}
 use Rattle.rec_mutator.specs.declared.work.Work.{Work}
 use Rattle.rec_mutator.specs.declared.work.Work.TheVariants as works
-use Rattle.rec_mutator.proofs.Straight.{begun_machine, looked_is, looked_machine}
+use Rattle.rec_mutator.proofs.Straight.{begun_machine, looked_is, looked_machine, storing}
 use Rattle.rec_table.specs.Rule.{MayBegin}
 use Rattle.rec_table.specs.Straight.{record_of}
 use Rattle.rec_table.specs.declared.start.Start.{Start}
-use Rattle.rec_table.proofs.Common.{Private, IsBetween, IsMachine, Contents, Core, is_full, register, answer_of, is_busy, begun_of, took_of, mutator_now, Saw, beats, MayGo, learnt, View}
+use Rattle.rec_table.proofs.Common.{Private, IsBetween, IsMachine, Contents, is_full, register, answer_of, is_busy, begun_of, took_of, mutator_now, Saw, beats, MayGo, learnt, View}
 use Rattle.rec_table.proofs.Straight.{Owns, answered_idle, carried_once, carried_twice, kept_by, learns_first, learns_second, none_born, opened_on, owns, seen_on, Begins, begins}
 use Rattle.rec_table.proofs.actor.Actor.put.Goals as goal
 use Rattle.rec_table.proofs.actor.Actor.put.Goals.{After-from-from}
 
-abbrev key : (c : After-from-from) → Core
-key c = c.args.board.now.table.shared.key.value
-
 abbrev work : (c : After-from-from) → Work
 work c = works.Command (commands.Put c.args.src c.args.field c.args.val)
 
-starts : (c : After-from-from) → Begins (key c) c.self.inside.opened.value c.self.inside.machine c.self.inside.seat.me c.args.self.now (work c) c.from-from.result
-starts c = begins (key c) c.self.inside.opened.value c.self.inside.machine c.self.inside.seat.me c.args.self.now (work c) c.from-from.result
-    (owns c.args.board.now.table.shared.table_id c.self.inside.seat.table_id (key c) c.self.inside.opened.value c.self.inside.machine c.self.inside.seat.me c.args.self.now c.self.view_is c.requires.own c.self.invariant.0 c.self.invariant.1 c.self.invariant.2 c.self.invariant.3 c.self.invariant.4)
+starts : (c : After-from-from) → Begins c.args.board.now.table.shared.key.value c.self.inside.opened.value c.self.inside.machine c.self.inside.seat.me c.args.self.now (work c) c.from-from.result
+starts c = begins c.args.board.now.table.shared.key.value c.self.inside.opened.value c.self.inside.machine c.self.inside.seat.me c.args.self.now (work c) c.from-from.result
+    (owns c.args.board.now.table.shared.table_id c.self.inside.seat.table_id c.args.board.now.table.shared.key.value c.self.inside.opened.value c.self.inside.machine c.self.inside.seat.me c.args.self.now c.self.view_is c.requires.own c.self.invariant.0 c.self.invariant.1 c.self.invariant.2 c.self.invariant.3 c.self.invariant.4)
     c.requires.may c.from-from.ensures.from c.from-from.ensures.kept
 
 object : (c : After-from-from) → register c.self.inside.machine c.args.src ≡ Some c.in-Some.slot
@@ -38,10 +34,6 @@ object c = sym c.register.ensures ∙ c.in-Some.is
 
 room : (c : After-from-from) → is_full c.self.inside.machine ≡ false
 room c = ap is_full ((starts c).owned.machine ∙ sym (starts c).owned.now) ∙ c.requires.room
-
--- a write that has looked at its object
-abbrev storing : (p : Private) (src f val slot : ℕ) → Private
-storing p src f val slot = record p { phase = Storing src f val slot; steps = 1 }
 
 -- the first operation is the one that comes next
 next : (p : Private) (src f val slot from : ℕ) → register p src ≡ Some slot → is_full p ≡ false → ops.LoadHeader slot ≡ next_of (begun_of p (works.Command (commands.Put src f val)) from)
@@ -69,7 +61,7 @@ perform-header-requires-clause-machine c =
     subst (λ (p : Private). IsMachine (begun_of p (work a) a.from-from.result)) (starts a).owned.machine (starts a).begun
 
 -- the first operation, of the record that the list makes up
-first : (a : After-from-from) → ops.LoadHeader a.in-Some.slot ≡ next_of (begun_of (record_of (key a) a.self.inside.seat.me) (work a) a.from-from.result)
+first : (a : After-from-from) → ops.LoadHeader a.in-Some.slot ≡ next_of (begun_of (record_of a.args.board.now.table.shared.key.value a.self.inside.seat.me) (work a) a.from-from.result)
 first a =
     next a.self.inside.machine a.args.src a.args.field a.args.val a.in-Some.slot a.from-from.result (object a) (room a)
     ∙ ap (λ (p : Private). next_of (begun_of p (work a) a.from-from.result)) (starts a).owned.machine
@@ -78,18 +70,18 @@ pub perform-header-requires-clause-op : goal.perform-header-requires-clause-op
 perform-header-requires-clause-op c = first (goal.at.perform-header-requires-clause-op c).After-from-from
 
 -- the record behind the first step, where the object is no leaf
-mid : (a : After-from-from) (me' : Me (Option Contents) View) (header : ℕ) → is_leaf header ≡ false → record_of (key a) me' ≡ learnt (begun_of (record_of (key a) a.self.inside.seat.me) (work a) a.from-from.result) (Saw header)
-    → storing a.self.inside.machine a.args.src a.args.field a.args.val a.in-Some.slot ≡ record_of (key a) me'
+mid : (a : After-from-from) (me' : Me (Option Contents) View) (header : ℕ) → is_leaf header ≡ false → record_of a.args.board.now.table.shared.key.value me' ≡ learnt (begun_of (record_of a.args.board.now.table.shared.key.value a.self.inside.seat.me) (work a) a.from-from.result) (Saw header)
+    → storing a.self.inside.machine a.args.src a.args.field a.args.val a.in-Some.slot ≡ record_of a.args.board.now.table.shared.key.value me'
 mid a me' header no_leaf learns =
     let m : Private = a.self.inside.machine in
     sym (looked_is m a.args.src a.args.field a.args.val a.in-Some.slot header (object a) (room a) no_leaf)
-    ∙ learns_first (record_of (key a) a.self.inside.seat.me) m (took_of (begun_of m (work a) m.from) header) (work a) a.from-from.result header (starts a).owned.machine a.from-from.ensures.from refl
+    ∙ learns_first (record_of a.args.board.now.table.shared.key.value a.self.inside.seat.me) m (took_of (begun_of m (work a) m.from) header) (work a) a.from-from.result header (starts a).owned.machine a.from-from.ensures.from refl
     ∙ sym learns
 
 begun_here : (a : After-from-from) → IsMachine (begun_of a.self.inside.machine (work a) a.self.inside.machine.from)
 begun_here a = subst (λ n. IsMachine (begun_of a.self.inside.machine (work a) n)) a.from-from.ensures.from (starts a).begun
 
-mid_machine : (a : After-from-from) (me' : Me (Option Contents) View) (header : ℕ) → IsTakenHeader header × (is_leaf header ≡ false) → record_of (key a) me' ≡ learnt (begun_of (record_of (key a) a.self.inside.seat.me) (work a) a.from-from.result) (Saw header) → IsMachine (record_of (key a) me')
+mid_machine : (a : After-from-from) (me' : Me (Option Contents) View) (header : ℕ) → IsTakenHeader header × (is_leaf header ≡ false) → record_of a.args.board.now.table.shared.key.value me' ≡ learnt (begun_of (record_of a.args.board.now.table.shared.key.value a.self.inside.seat.me) (work a) a.from-from.result) (Saw header) → IsMachine (record_of a.args.board.now.table.shared.key.value me')
 mid_machine a me' header found learns =
     subst IsMachine (mid a me' header found.1 learns) (looked_machine a.self.inside.machine a.args.src a.args.field a.args.val a.in-Some.slot header (begun_here a) (object a) (room a) found)
 
@@ -130,11 +122,11 @@ invariant_of-self c =
     let s = c.self.inside in
     let o = (starts a).owned in
     let start : Start = record { work = work a; from = c.from-from.result } in
-    kept_by (key a) s.opened.value c.barred.new.self c.perform-header.new.seat.me s.births
-    (opened_on (key a) s.opened.value s.seat.me c.perform-header.new.seat.me (beats (Some start) c.perform-header.result) o.opened c.perform-header.ensures.me)
-    (learns_first (record_of (key a) s.seat.me) s.machine c.barred.new.self (work a) c.from-from.result c.perform-header.result o.machine c.from-from.ensures.from c.barred.ensures.took ∙ sym c.perform-header.ensures.learns)
+    kept_by a.args.board.now.table.shared.key.value s.opened.value c.barred.new.self c.perform-header.new.seat.me s.births
+    (opened_on a.args.board.now.table.shared.key.value s.opened.value s.seat.me c.perform-header.new.seat.me (beats (Some start) c.perform-header.result) o.opened c.perform-header.ensures.me)
+    (learns_first (record_of a.args.board.now.table.shared.key.value s.seat.me) s.machine c.barred.new.self (work a) c.from-from.result c.perform-header.result o.machine c.from-from.ensures.from c.barred.ensures.took ∙ sym c.perform-header.ensures.learns)
     c.perform-header.ensures.stands
-    (none_born (key a) s.opened.value s.seat.me c.perform-header.new.seat.me (Some start) (ops.LoadHeader c.in-Some.slot) c.perform-header.result s.births o.opened (first a) refl c.perform-header.ensures.me c.self.invariant.5)
+    (none_born a.args.board.now.table.shared.key.value s.opened.value s.seat.me c.perform-header.new.seat.me (Some start) (ops.LoadHeader c.in-Some.slot) c.perform-header.result s.births o.opened (first a) refl c.perform-header.ensures.me c.self.invariant.5)
 
 pub returns-then-unpack : goal.returns-then-unpack
 returns-then-unpack c =
@@ -175,15 +167,15 @@ invariant_of-self-2 c =
     let start : Start = record { work = work a; from = c.from-from.result } in
     let no_leaf = sym c.unpack.ensures.leaf ∙ c.if-unpack.false in
     let behind = mid a c.perform-header.new.seat.me c.perform-header.result no_leaf c.perform-header.ensures.learns in
-    let opened = opened_on (key a) s.opened.value s.seat.me c.perform-header.new.seat.me (beats (Some start) c.perform-header.result) o.opened c.perform-header.ensures.me in
-    kept_by (key a) s.opened.value c.wrote.new.self c.perform-word.new.seat.me s.births
-    (opened_on (key a) s.opened.value c.perform-header.new.seat.me c.perform-word.new.seat.me (beats None c.perform-word.result) opened c.perform-word.ensures.me)
-    (learns_second (record_of (key a) c.perform-header.new.seat.me) (storing s.machine c.args.src c.args.field c.args.val c.in-Some.slot) c.wrote.new.self c.perform-word.result behind refl tt
+    let opened = opened_on a.args.board.now.table.shared.key.value s.opened.value s.seat.me c.perform-header.new.seat.me (beats (Some start) c.perform-header.result) o.opened c.perform-header.ensures.me in
+    kept_by a.args.board.now.table.shared.key.value s.opened.value c.wrote.new.self c.perform-word.new.seat.me s.births
+    (opened_on a.args.board.now.table.shared.key.value s.opened.value c.perform-header.new.seat.me c.perform-word.new.seat.me (beats None c.perform-word.result) opened c.perform-word.ensures.me)
+    (learns_second (record_of a.args.board.now.table.shared.key.value c.perform-header.new.seat.me) (storing s.machine c.args.src c.args.field c.args.val c.in-Some.slot) c.wrote.new.self c.perform-word.result behind refl tt
     (c.wrote.ensures.took ∙ ap (λ (q : Private). took_of q c.perform-word.result) (looked_is s.machine c.args.src c.args.field c.args.val c.in-Some.slot c.perform-header.result (object a) (room a) no_leaf)) ∙ sym c.perform-word.ensures.learns)
     c.perform-word.ensures.stands
-    (none_born (key a) s.opened.value c.perform-header.new.seat.me c.perform-word.new.seat.me None (ops.SwapField c.place_of-place.result c.word_for-left.result) c.perform-word.result s.births opened
+    (none_born a.args.board.now.table.shared.key.value s.opened.value c.perform-header.new.seat.me c.perform-word.new.seat.me None (ops.SwapField c.place_of-place.result c.word_for-left.result) c.perform-word.result s.births opened
     (second s.machine c.args.src c.args.field c.args.val c.in-Some.slot c.place_of-place.result c.word_for-left.result c.place_of-place.ensures c.word_for-left.ensures ∙ ap next_of behind) refl c.perform-word.ensures.me
-    (none_born (key a) s.opened.value s.seat.me c.perform-header.new.seat.me (Some start) (ops.LoadHeader c.in-Some.slot) c.perform-header.result s.births o.opened (first a) refl c.perform-header.ensures.me c.self.invariant.5))
+    (none_born a.args.board.now.table.shared.key.value s.opened.value s.seat.me c.perform-header.new.seat.me (Some start) (ops.LoadHeader c.in-Some.slot) c.perform-header.result s.births o.opened (first a) refl c.perform-header.ensures.me c.self.invariant.5))
 
 pub returns : goal.returns
 returns c =
@@ -194,7 +186,7 @@ returns c =
     let no_leaf = sym c.unpack.ensures.leaf ∙ c.if-unpack.false in
     let same = o.machine ∙ sym o.now in
     let now : Private = mutator_now c.args.self.now in
-    let learns : record_of (key a) c.perform-header.new.seat.me ≡ learnt (begun_of now (work a) c.from-from.result) (Saw c.perform-header.result)
+    let learns : record_of a.args.board.now.table.shared.key.value c.perform-header.new.seat.me ≡ learnt (begun_of now (work a) c.from-from.result) (Saw c.perform-header.result)
     = c.perform-header.ensures.learns ∙ ap (λ (p : Private). learnt (begun_of p (work a) c.from-from.result) (Saw c.perform-header.result)) (sym o.now) in
     let one = seen_on s.seat.table_id c.perform-header.new.seat.table_id s.opened.value s.seat.me c.perform-header.new.seat.me c.args.self.now (beats (Some start) c.perform-header.result) c.perform-header.ensures.seat.0 c.self.view_is c.perform-header.ensures.me in
     let grows = seen_on c.perform-header.new.seat.table_id c.perform-word.new.seat.table_id s.opened.value c.perform-header.new.seat.me c.perform-word.new.seat.me _ (beats None c.perform-word.result) c.perform-word.ensures.seat.0 one c.perform-word.ensures.me in

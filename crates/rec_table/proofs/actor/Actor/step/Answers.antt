@@ -99,33 +99,23 @@ make-word-requires-clause-there c =
     (there (key a) t.number s.opened.value c.prepare.new.machine c.args.board.now.table.shared.table_id.words c.requires.world (is_mutator a) (opened a)
     (keeps_on s.opened.value s.machine c.prepare.new.machine c.self.invariant.3 c.prepare.ensures.same) c.prepare.ensures.kept names (omega (arith, wide.0, wide.1, wide.2)))
 
-pub learn-requires-clause-between : goal.learn-requires-clause-between
-learn-requires-clause-between c =
-    let a : After-next-op = (goal.at.learn-requires-clause-between c).After-next-op in
-    subst (λ (p : Private). IsBetween p.phase) (sym (prepared a)) (between a)
-
-pub learn-requires-clause-number : goal.learn-requires-clause-number
-learn-requires-clause-number c =
-    let a : After-next-op = (goal.at.learn-requires-clause-number c).After-next-op in
+pub learn-requires-clause-may : goal.learn-requires-clause-may
+learn-requires-clause-may c =
+    let a : After-next-op = (goal.at.learn-requires-clause-may c).After-next-op in
     let x : ℕ = (seated_of c.self.inside.seat.me.0).number in
     let own = (actor_of (key a) x (world_kept (key a) c.requires.world) (is_mutator a)).own in
     let is : c.prepare.new.machine.number ≡ x = c.prepare.ensures.same.number ∙ c.self.invariant.3.number ∙ ap (λ (p : Private). p.number) (opened a) ∙ own.number in
-    omega (arith, is, (is_mutator a).0)
-
-pub learn-requires-clause-found : goal.learn-requires-clause-found
-learn-requires-clause-found c =
-    let a : After-next-op = (goal.at.learn-requires-clause-found c).After-next-op in
-    subst (λ (p : Private). IsFound p c.next-op.result c.make-word.result) (sym (prepared a)) c.make-word.ensures.found
-
-pub learn-requires-clause-out : goal.learn-requires-clause-out
-learn-requires-clause-out c =
-    let a : After-next-op = (goal.at.learn-requires-clause-out c).After-next-op in
-    made_out (seated_of c.self.inside.seat.me.0) c.prepare.new.machine (ready (now a) c.args.work) c.args.work c.make-word.result c.make-word.new.seat.me c.make-word.ensures.view (prepared a)
-
-pub learn-requires-clause-hand : goal.learn-requires-clause-hand
-learn-requires-clause-hand c =
-    let a : After-next-op = (goal.at.learn-requires-clause-hand c).After-next-op in
-    made_hand (seated_of c.self.inside.seat.me.0) c.prepare.new.machine (ready (now a) c.args.work) c.args.work c.make-word.result c.make-word.new.seat.me c.make-word.ensures.view (prepared a)
+    let seated = seated_of c.self.inside.seat.me.0 in
+    record {
+      busy = c.prepare.ensures.busy;
+      begun = c.prepare.ensures.begun;
+      between = subst (λ (p : Private). IsBetween p.phase) (sym (prepared a)) (between a);
+      number = omega (arith, is, (is_mutator a).0);
+      due = c.next-op.ensures;
+      found = subst (λ (p : Private). IsFound p c.next-op.result c.make-word.result) (sym (prepared a)) c.make-word.ensures.found;
+      out = made_out seated c.prepare.new.machine (ready (now a) c.args.work) c.args.work c.make-word.result c.make-word.new.seat.me c.make-word.ensures.view (prepared a);
+      hand = made_hand seated c.prepare.new.machine (ready (now a) c.args.work) c.args.work c.make-word.result c.make-word.new.seat.me c.make-word.ensures.view (prepared a);
+    }
 
 pub invariant_of-self : goal.invariant_of-self
 invariant_of-self c =

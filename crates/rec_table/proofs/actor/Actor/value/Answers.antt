@@ -11,20 +11,17 @@ use Rattle.rec_mutator.proofs.Straight.{begun_machine}
 use Rattle.rec_table.specs.Rule.{MayBegin}
 use Rattle.rec_table.specs.Straight.{record_of}
 use Rattle.rec_table.specs.declared.start.Start.{Start}
-use Rattle.rec_table.proofs.Common.{Private, IsBetween, IsMachine, Core, register, answer_of, begun_of, beats, MayGo}
+use Rattle.rec_table.proofs.Common.{Private, IsBetween, IsMachine, register, answer_of, begun_of, beats, MayGo}
 use Rattle.rec_table.proofs.Straight.{Owns, carried_once, kept_by, learns_first, none_born, opened_on, owns, seen_on, Begins, begins}
 use Rattle.rec_table.proofs.actor.Actor.value.Goals as goal
 use Rattle.rec_table.proofs.actor.Actor.value.Goals.{After-from-from}
 
-abbrev key : (c : After-from-from) → Core
-key c = c.args.board.now.table.shared.key.value
-
 abbrev work : (c : After-from-from) → Work
 work c = works.Command (commands.Value c.args.reg)
 
-starts : (c : After-from-from) → Begins (key c) c.self.inside.opened.value c.self.inside.machine c.self.inside.seat.me c.args.self.now (work c) c.from-from.result
-starts c = begins (key c) c.self.inside.opened.value c.self.inside.machine c.self.inside.seat.me c.args.self.now (work c) c.from-from.result
-    (owns c.args.board.now.table.shared.table_id c.self.inside.seat.table_id (key c) c.self.inside.opened.value c.self.inside.machine c.self.inside.seat.me c.args.self.now c.self.view_is c.requires.own c.self.invariant.0 c.self.invariant.1 c.self.invariant.2 c.self.invariant.3 c.self.invariant.4)
+starts : (c : After-from-from) → Begins c.args.board.now.table.shared.key.value c.self.inside.opened.value c.self.inside.machine c.self.inside.seat.me c.args.self.now (work c) c.from-from.result
+starts c = begins c.args.board.now.table.shared.key.value c.self.inside.opened.value c.self.inside.machine c.self.inside.seat.me c.args.self.now (work c) c.from-from.result
+    (owns c.args.board.now.table.shared.table_id c.self.inside.seat.table_id c.args.board.now.table.shared.key.value c.self.inside.opened.value c.self.inside.machine c.self.inside.seat.me c.args.self.now c.self.view_is c.requires.own c.self.invariant.0 c.self.invariant.1 c.self.invariant.2 c.self.invariant.3 c.self.invariant.4)
     c.requires.may c.from-from.ensures.from c.from-from.ensures.kept
 
 object : (c : After-from-from) → register c.self.inside.machine c.args.reg ≡ Some c.in-Some.slot
@@ -74,11 +71,11 @@ invariant_of-self c =
     let s = c.self.inside in
     let o = (starts a).owned in
     let start : Start = record { work = work a; from = c.from-from.result } in
-    kept_by (key a) s.opened.value c.labelled.new.self c.perform-header.new.seat.me s.births
-    (opened_on (key a) s.opened.value s.seat.me c.perform-header.new.seat.me (beats (Some start) c.perform-header.result) o.opened c.perform-header.ensures.me)
-    (learns_first (record_of (key a) s.seat.me) s.machine c.labelled.new.self (work a) c.from-from.result c.perform-header.result o.machine c.from-from.ensures.from c.labelled.ensures.took ∙ sym c.perform-header.ensures.learns)
+    kept_by a.args.board.now.table.shared.key.value s.opened.value c.labelled.new.self c.perform-header.new.seat.me s.births
+    (opened_on a.args.board.now.table.shared.key.value s.opened.value s.seat.me c.perform-header.new.seat.me (beats (Some start) c.perform-header.result) o.opened c.perform-header.ensures.me)
+    (learns_first (record_of a.args.board.now.table.shared.key.value s.seat.me) s.machine c.labelled.new.self (work a) c.from-from.result c.perform-header.result o.machine c.from-from.ensures.from c.labelled.ensures.took ∙ sym c.perform-header.ensures.learns)
     c.perform-header.ensures.stands
-    (none_born (key a) s.opened.value s.seat.me c.perform-header.new.seat.me (Some start) (ops.LoadHeader c.in-Some.slot) c.perform-header.result s.births o.opened
+    (none_born a.args.board.now.table.shared.key.value s.opened.value s.seat.me c.perform-header.new.seat.me (Some start) (ops.LoadHeader c.in-Some.slot) c.perform-header.result s.births o.opened
     (next s.machine c.args.reg c.in-Some.slot c.from-from.result (object a) ∙ ap (λ (p : Private). next_of (begun_of p (work a) c.from-from.result)) o.machine)
     refl c.perform-header.ensures.me c.self.invariant.5)
 

@@ -6,7 +6,6 @@ use Rattle.rec_mutator.specs.declared.made.Made.{Made}
 use Rattle.rec_mutator.specs.declared.work.Work.{Work}
 use Rattle.rec_mutator.specs.declared.work.Work.TheVariants as works
 use Rattle.rec_table.specs.declared.start.Start.{Start}
-use Rattle.rec_table.proofs.Steps.{begun_busy}
 use Rattle.rec_table.proofs.Answering.{Path, answered, begun_slots, path_first, polled}
 use Rattle.rec_table.proofs.Leaving.{leaves, poll_stays}
 use Rattle.rec_table.proofs.Lines.{tells}
@@ -14,6 +13,7 @@ use Rattle.rec_table.proofs.Making.{begun_work, keeps_on, works_first}
 use Rattle.rec_table.proofs.Straight.{answered_idle}
 use Rattle.rec_table.proofs.actor.Actor.work.Goals as goal
 use Rattle.rec_table.proofs.actor.Actor.work.Goals.{After-step}
+use Rattle.rec_mutator.proofs.Straight.{begun_busy}
 
 abbrev start_of : (c : After-step) → Start
 start_of c = record { work = c.args.work; from = c.next_scan-from.result }
@@ -55,8 +55,13 @@ returns-clause-line c =
     let p : Private = mutator_now c.args.self.now in
     tells p (mutator_now c.go_on.new.self) (start_of a) c.args.self.now.log c.go_on.new.self.log c.go_on.result (c.go_on.ensures.path (start_of a) p c.args.self.now.log refl (first a)) c.go_on.ensures.answer
 
-pub returns-clause-idle : goal.returns-clause-idle
-returns-clause-idle c = answered_idle (mutator_now c.go_on.new.self) c.go_on.result c.go_on.ensures.answer
+pub returns-clause-ended : goal.returns-clause-ended
+returns-clause-ended c = record {
+  answer = c.go_on.ensures.answer;
+  idle = answered_idle (mutator_now c.go_on.new.self) c.go_on.result c.go_on.ensures.answer;
+  work = c.go_on.ensures.work;
+  told = c.go_on.ensures.told;
+}
 
 pub returns-clause-same : goal.returns-clause-same
 returns-clause-same c = keeps_on (mutator_now c.args.self.now) (mutator_now c.step.new.self) (mutator_now c.go_on.new.self) c.step.ensures.same c.go_on.ensures.same

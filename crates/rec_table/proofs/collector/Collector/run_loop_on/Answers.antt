@@ -20,7 +20,7 @@ returns-clause-made c = λ first before.
     let to : CollectorSeat = collecting_of run.new.seat.me.0 in
     let after : CollectorView = collector_view run.new.seat.table_id s.opened.value to in
     let u_is : collector_view z key.collector from ≡ c.args.self.now = (λ k. collector_view (sym table k) (sym opened k) from) ∙ c.self.view_is in
-    let v_is : collector_view z key.collector to ≡ after = λ k. collector_view (sym run.ensures.table k) (sym opened k) to in
+    let v_is : collector_view z key.collector to ≡ after = λ k. collector_view (sym run.ensures.seat.table k) (sym opened k) to in
     let made : Made c.args.self.now after run.result.0 run.result.1 =
     subst (λ (x : CollectorView). Made x after run.result.0 run.result.1) u_is (subst (λ (x : CollectorView). Made (collector_view z key.collector from) x run.result.0 run.result.1) v_is run.ensures.made) in
     let few : c.args.from + run.result.0 ≤ c.args.most = omega (arith, run.ensures.few, c.requires.fewer) in

@@ -19,7 +19,7 @@ work-requires-clause-may c =
     (c.self.invariant, valid.1, valid.0, c.see_label.ensures)
 
 pub invariant_of-self : goal.invariant_of-self
-invariant_of-self c = c.work.ensures.idle
+invariant_of-self c = c.work.ensures.ended.idle
 
 pub returns-clause-grows : goal.returns-clause-grows
 returns-clause-grows c = subst (λ (m : MutatorView). Works (works.Command c.args.cmd) m.log c.work.new.self.log) c.self.view_is c.work.ensures.grows.0
@@ -28,7 +28,7 @@ pub returns-clause-is : goal.returns-clause-is
 returns-clause-is c = c.work.ensures.grows.1 ∙ (λ i. record (c.self.view_is i) { log = c.work.new.self.log })
 
 pub returns-clause-answer : goal.returns-clause-answer
-returns-clause-answer c = c.work.ensures.answer ∙ (λ i. Some (c.in-Answered.is i))
+returns-clause-answer c = c.work.ensures.ended.answer ∙ (λ i. Some (c.in-Answered.is i))
 
 pub returns-clause-causes : goal.returns-clause-causes
 returns-clause-causes c =
@@ -44,7 +44,7 @@ pub returns-clause-line : goal.returns-clause-line
 returns-clause-line c = subst (λ (m : MutatorView). Tells (mutator_now m) m.log c.work.new.self.log ((c.args.cmd, c.in-Answered.told) ∷ [])) c.self.view_is c.in-Answered.ensures.line
 
 pub returns-clause-idle : goal.returns-clause-idle
-returns-clause-idle c = c.work.ensures.idle
+returns-clause-idle c = c.work.ensures.ended.idle
 
 pub returns-clause-same : goal.returns-clause-same
 returns-clause-same c = subst (λ (m : MutatorView). KeepsSizes (mutator_now m) (mutator_now c.work.new.self)) c.self.view_is c.work.ensures.same

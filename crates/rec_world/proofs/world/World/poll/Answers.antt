@@ -4,7 +4,8 @@ use Rattle.rec_world.proofs.Common.{begun}
 use Rattle.rec_mutator.specs.declared.work.Work.TheVariants as works
 use Rattle.rec_world.proofs.Beginnings.{began_work}
 use Rattle.rec_world.proofs.Calls.{world_kept, finished_kept, worked}
-use Rattle.rec_world.proofs.Commands.{IsPolled, poll_said, poll_answers}
+use Rattle.rec_world.specs.World.{IsPolled}
+use Rattle.rec_world.proofs.Commands.{poll_said, poll_answers}
 use Rattle.rec_world.proofs.world.World.poll.Goals as goal
 use Rattle.rec_world.proofs.world.World.poll.Goals.{In-Crossed}
 
@@ -27,20 +28,5 @@ returns-clause-worked c = worked c.args.self.now (begun c.args.self.now c.args.t
 pub returns-clause-answer : goal.returns-clause-answer
 returns-clause-answer c = c.in-Crossed.ensures.finished.answer
 
-pub returns-clause-none : goal.returns-clause-none
-returns-clause-none c = (said c).none
-
-pub returns-clause-some : goal.returns-clause-some
-returns-clause-some c = (said c).some
-
-pub returns-clause-crossed : goal.returns-clause-crossed
-returns-clause-crossed c = (said c).crossed_into
-
-pub returns-clause-quiet : goal.returns-clause-quiet
-returns-clause-quiet c = (said c).quiet
-
-pub returns-clause-left : goal.returns-clause-left
-returns-clause-left c = (said c).left
-
-pub returns-clause-idle : goal.returns-clause-idle
-returns-clause-idle c = (said c).idle
+pub returns-clause-polled : goal.returns-clause-polled
+returns-clause-polled c = said c

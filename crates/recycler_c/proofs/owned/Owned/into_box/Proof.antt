@@ -1,7 +1,6 @@
 -- `into_box` makes the box again at its pointer.
 use Rattle.std.proofs.Common.{◌≡◌, List, [], ◌∷◌, ◌++◌, refl, sym, ap, subst, ◌∙◌}
 use base.Fraction.{full_share}
-use mir.Syntax.{impl, tnil, tcons, dnil, Dict}
 use mir.Raw.{raw as bare}
 use mir.Val.{Val, vptr, has_ty}
 use base.Logic.{SProp, ent, emp, id⊢, never, fst∗}
@@ -21,7 +20,7 @@ use denote.RattleType.{RattleType, owns}
 use denote.Signature.{types_at, plain}
 use denote.RawPtr.{Ptr, block_ptr, null_ptr, in_a_block}
 use denote.Steps.{nothing, only, heard}
-use denote.Param.{arg, layout, param}
+use denote.Param.{layout, param}
 use denote.Param.Laws.{arg_laws}
 use denote.Param.NoDrop.{glues}
 use denote.Triple.Clauses.{Lasts, lasts}
@@ -48,6 +47,7 @@ use Rattle.std_alloc.proofs.ResultValues.{and_tt}
 use Rattle.std_alloc.specs.contracts.boxed.Box.from_raw as callee
 use Rattle.std_alloc.proofs.boxed.Box.from_raw.Met.{met}
 use Rattle.recycler_c.specs.Boxed.{boxed, the_heap}
+use Rattle.recycler_c.proofs.Rows.{heap_row, end_row, no_drop}
 use Rattle.recycler_c.proofs.Values.{held_in, found, owned_out}
 use Rattle.recycler_c.specs.declared.end.End.{End}
 use Rattle.recycler_c.specs.contracts.end.End as end
@@ -57,15 +57,6 @@ use Rattle.recycler_c.specs.contracts.owned.Owned.into_box.{ended, clauses}
 use Rattle.recycler_c.specs.contracts.owned.Owned.into_box.Key.{name as #self}
 use Rattle.recycler_c.proofs.owned.Owned.into_box.Statement.{statement}
 use Rattle.recycler_c.proofs.owned.Owned.into_box.Code as code
-
-abbrev heap_row : RattleType
-heap_row = arg (bare (layout heap.the_row)) no heap.the_row
-
-abbrev end_row : RattleType
-end_row = arg (bare (layout end.the_row)) no end.the_row
-
-abbrev no_drop : Dict
-no_drop = impl ("recycler_c::Destruct++none::drop" ∷ []) (tcons (layout heap_row) tnil) dnil
 
 abbrev E : box.Bx
 E = record { row = end_row; laws = arg_laws (bare (layout end.the_row)) no end.the_row end_laws.the_row_laws refl; al = record { row = heap_row; laws = arg_laws (bare (layout heap.the_row)) no heap.the_row heap_laws.the_row_laws refl; g = ghosts; d = dict; drops = no_drop } }

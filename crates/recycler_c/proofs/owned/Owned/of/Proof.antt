@@ -1,7 +1,7 @@
 -- `of` takes the box apart, and keeps its pointer.
 use Rattle.std.proofs.Common.{◌≡◌, List, [], ◌∷◌, ◌++◌, refl, sym, ap, subst, ◌∙◌}
 use base.Fraction.{full_share}
-use mir.Syntax.{impl, tnil, tcons, dnil, Dict, method}
+use mir.Syntax.{impl, tnil, dnil, Dict, method}
 use mir.Raw.{raw as bare}
 use mir.Val.{Val, has_ty}
 use seplogic.Ra.Ura.{Ura}
@@ -29,7 +29,7 @@ use denote.Signature.{types_at, plain}
 use denote.Builtin.{RawPtr}
 use denote.RawPtr.{Ptr, block_ptr, null_ptr, ptr_val, in_a_block}
 use denote.Steps.{nothing, only}
-use denote.Param.{arg, layout, layouts, param}
+use denote.Param.{layout, layouts, param}
 use denote.Param.Glue.{Met}
 use denote.Param.Laws.{Laws, arg_laws}
 use denote.Param.NoDrop.{glues}
@@ -55,6 +55,7 @@ use Rattle.std_alloc.proofs.ResultValues.{and_tt}
 use Rattle.std_alloc.specs.contracts.boxed.Box as boxes
 use Rattle.std_alloc.specs.contracts.boxed.Box.into_raw as callee
 use Rattle.std_alloc.proofs.boxed.Box.into_raw.Met.{met}
+use Rattle.recycler_c.proofs.Rows.{heap_row, end_row, no_drop}
 use Rattle.recycler_c.proofs.Values.{held_in, owned_in}
 use Rattle.recycler_c.specs.declared.end.End.{End}
 use Rattle.recycler_c.specs.contracts.end.End as end
@@ -68,17 +69,8 @@ use Rattle.recycler_c.specs.contracts.owned.Owned.of.Key.{name as #self}
 use Rattle.recycler_c.proofs.owned.Owned.of.Statement.{statement}
 use Rattle.recycler_c.proofs.owned.Owned.of.Code as code
 
-abbrev heap_row : RattleType
-heap_row = arg (bare (layout heap.the_row)) no heap.the_row
-
-abbrev end_row : RattleType
-end_row = arg (bare (layout end.the_row)) no end.the_row
-
 abbrev end_row_laws : Laws end_row
 end_row_laws = arg_laws (bare (layout end.the_row)) no end.the_row end_laws.the_row_laws refl
-
-abbrev no_drop : Dict
-no_drop = impl ("recycler_c::Destruct++none::drop" ∷ []) (tcons (layout heap_row) tnil) dnil
 
 abbrev end_drop : Dict
 end_drop = impl ("recycler_c::recycler_c++end++End+Destruct::drop" ∷ []) tnil dnil
