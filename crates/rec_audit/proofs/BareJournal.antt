@@ -153,6 +153,7 @@ op_beside (ops.StoreEpoch epoch) word ls bs a = beside_none ls bs a
 op_beside (ops.LookBox t epoch) word ls bs a = beside_none ls bs a
 op_beside (ops.ReturnBox t epoch) word ls bs a = beside_none ls bs a
 op_beside ops.AddFreed word ls bs a = beside_none ls bs a
+op_beside (ops.ShiftBox t shift) word ls bs a = beside_none ls bs a
 
 passed_beside : (x : Option (List ℕ)) (ls bs : List Line) → Alike ls bs → Beside ls (passed_lines x) bs (passed_lines x)
 passed_beside None ls bs a = beside_none ls bs a

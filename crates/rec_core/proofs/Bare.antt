@@ -76,6 +76,7 @@ births_bare (ops.StoreEpoch epoch) word = refl
 births_bare (ops.LookBox t epoch) word = refl
 births_bare (ops.ReturnBox t epoch) word = refl
 births_bare ops.AddFreed word = refl
+births_bare (ops.ShiftBox t shift) word = refl
 
 -- ---- a step of a mutator
 

@@ -428,6 +428,7 @@ fitting w t kept is busy =
             | inl crosses ↦ (behind_of w t kept is crosses).1.word
             | inr leaves ↦ (leaving_of w t kept is leaves).1
           ];
+      bits = λ passage passes. absurd (subst IsBetween passes actor.own.between);
     }
   where
     small : w.epoch < 2 ^ 24
@@ -484,3 +485,4 @@ step_kept w t kept is busy = go (mutator w t).phase refl (actor_of w t kept is).
     go at.Retiring at_phase between = absurd between
     go at.Parting at_phase between = step_at w t at.Parting kept is busy at_phase tt
     go (at.Finished work made) at_phase between = step_at w t (at.Finished work made) kept is busy at_phase tt
+    go (at.Passing passage) at_phase between = absurd between

@@ -8,8 +8,11 @@ use Rattle.rec_model.specs.declared.told.Told.{Told}
 use Rattle.rec_mutator.specs.Causes.{FoundNone, HasCause}
 use Rattle.rec_mutator.specs.Scans.{ops_along, FailsScan}
 use Rattle.rec_mutator.specs.declared.made.Made.TheVariants as makes
+use Rattle.rec_mutator.specs.Private.{command_of}
+use Rattle.rec_mutator.specs.declared.passage.Passage.{Passage}
+use Rattle.rec_mutator.specs.declared.passage.Passage.TheVariants.{Parks, Holds, Deposits, Unparks, Reopens, Frees}
 use Rattle.rec_mutator.specs.declared.phase.Phase.{Phase}
-use Rattle.rec_mutator.specs.declared.phase.Phase.TheVariants.{Begun, Crossing, Swapping, Leaving, Retiring}
+use Rattle.rec_mutator.specs.declared.phase.Phase.TheVariants.{Begun, Crossing, Swapping, Leaving, Retiring, Passing}
 use Rattle.rec_mutator.specs.declared.work.Work.{Work}
 use Rattle.rec_mutator.specs.declared.work.Work.TheVariants as works
 use Rattle.rec_core.specs.Run.{maker}
@@ -25,12 +28,28 @@ no_leave : (reg label : ℕ) (leaf : Bool) → ◌≡◌ {A = Option Work} (Some
 no_leave reg label true e = cc
 no_leave reg label false e = cc
 
+-- nor does it park or unpark
+no_passage : (passage : Passage) (reg label : ℕ) (leaf : Bool) → ◌≡◌ {A = Option Work} (Some (works.Command (command_of passage))) (Some (works.Command (allocation leaf reg label))) → ⊥
+no_passage Parks reg label true e = cc
+no_passage Parks reg label false e = cc
+no_passage Holds reg label true e = cc
+no_passage Holds reg label false e = cc
+no_passage Deposits reg label true e = cc
+no_passage Deposits reg label false e = cc
+no_passage Unparks reg label true e = cc
+no_passage Unparks reg label false e = cc
+no_passage Reopens reg label true e = cc
+no_passage Reopens reg label false e = cc
+no_passage Frees reg label true e = cc
+no_passage Frees reg label false e = cc
+
 -- a command in work takes no mailbox
 command_none : (reg label : ℕ) (leaf : Bool) (phase : Phase) → work_at phase ≡ Some (works.Command (allocation leaf reg label)) → TakesNone phase
 command_none reg label leaf Crossing e = cc
 command_none reg label leaf Swapping e = cc
 command_none reg label leaf Leaving e = absurd (no_leave reg label leaf e)
 command_none reg label leaf Retiring e = absurd (no_leave reg label leaf e)
+command_none reg label leaf (Passing passage) e = absurd (no_passage passage reg label leaf e)
 command_none reg label leaf _ e = tt
 
 -- what a mutator that works on an allocation has become over some moves: its steps alone have changed it

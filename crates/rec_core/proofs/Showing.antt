@@ -415,6 +415,7 @@ step_says w t kept is busy stays =
     go at.Retiring its staying between = absurd between
     go at.Parting its staying between = absurd staying
     go (at.Finished work made) its staying between = here (at.Finished work made) its tt
+    go (at.Passing passage) its staying between = absurd between
 
 -- The step that takes the mailbox of a mutator that leaves decides that: its registers are null, and its log is the spare from there.
 pub leaving_decided : {dated : Bool} → (w : Core) (t : ℕ) → IsKept dated w → IsMutator w.config t → (mutator w t).phase ≡ at.Leaving → IsDecided w t commands.Leave (plain answers.Done) (stepped w t)

@@ -9,12 +9,13 @@ use Rattle.rec_model.specs.declared.command.Cmd.TheVariants as commands
 use Rattle.rec_mutator.specs.Took.{step_of}
 use Rattle.rec_mutator.specs.declared.made.Made.{Made}
 use Rattle.rec_mutator.specs.declared.made.Made.TheVariants as makes
+use Rattle.rec_mutator.specs.Private.{command_of}
 use Rattle.rec_mutator.specs.declared.phase.Phase.{Phase}
-use Rattle.rec_mutator.specs.declared.phase.Phase.TheVariants.{Idle, Begun, Scanning, Scanned, Storing, Crossing, Swapping, Giving, Leaving, Retiring, Parting, Finished}
+use Rattle.rec_mutator.specs.declared.phase.Phase.TheVariants.{Idle, Begun, Scanning, Scanned, Storing, Crossing, Swapping, Giving, Leaving, Retiring, Parting, Finished, Passing}
 use Rattle.rec_mutator.specs.declared.work.Work.{Work}
 use Rattle.rec_mutator.specs.declared.work.Work.TheVariants as works
 use Rattle.rec_mutator.proofs.Leaving.{parts_from}
-use Rattle.rec_mutator.proofs.Machines.{allocation_limit}
+use Rattle.rec_mutator.proofs.Machines.{allocation_limit, within_passage}
 use Rattle.rec_mutator.proofs.Polls.{poll_has_cause}
 use Rattle.rec_mutator.proofs.Sizes.{step_keeps, step_counts}
 use Rattle.rec_core.specs.Unfinished.{OnlyWorks, IsQuiet, HasFound, HasLetGo, Waits}
@@ -141,6 +142,7 @@ busy_work (Finished work made) busy = absurd (false≢true busy)
 busy_work Leaving busy = (works.Command commands.Leave, refl)
 busy_work Retiring busy = (works.Command commands.Leave, refl)
 busy_work Parting busy = (works.Command commands.Leave, refl)
+busy_work (Passing passage) busy = (works.Command (command_of passage), refl)
 busy_work _ busy = (works.Poll, refl)
 
 -- a finished work is no longer busy
@@ -181,6 +183,7 @@ limit_at p Leaving is = let one : p.steps ≡ 1 = is.0 in omega arith
 limit_at p Retiring is = let two : p.steps ≡ 2 = is.0 in omega arith
 limit_at p Parting is = let two : p.steps ≡ 2 = is.0 in omega arith
 limit_at p (Finished work made) is = is
+limit_at p (Passing passage) is = within_passage p passage is.steps
 
 -- those of a mutator
 pub steps_limited : {dated : Bool} → (w : Core) (t : ℕ) → IsKept dated w → IsMutator w.config t → IfSome (work_of (mutator w t)) (λ work. (mutator w t).steps ≤ limit_of w.config.slots work)
@@ -195,6 +198,8 @@ most_at slots steps (Some (works.Command (commands.New reg label))) work some is
 most_at slots steps (Some (works.Command (commands.Leaf reg label))) work some is few = few
 most_at slots steps (Some (works.Command (commands.Put src f val))) work some is few = let two : steps ≤ 2 = few in omega arith
 most_at slots steps (Some (works.Command commands.Leave)) work some is few = let three : steps ≤ 3 = few in omega arith
+most_at slots steps (Some (works.Command commands.Park)) work some is few = let two : steps ≤ 2 = few in omega arith
+most_at slots steps (Some (works.Command commands.Unpark)) work some is few = let two : steps ≤ 2 = few in omega arith
 most_at slots steps (Some works.Poll) work some is few = let three : steps ≤ 3 = few in omega arith
 most_at slots steps _ work some is few = let one : steps ≤ 1 = few in omega arith
 

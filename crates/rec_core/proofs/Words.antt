@@ -27,6 +27,7 @@ abbrev pub IsOwnOp : Private → Op → Type 0
 IsOwnOp p (ops.LoadCross n) = n ≡ p.number
 IsOwnOp p (ops.TakeBox n e) = n ≡ p.number
 IsOwnOp p (ops.GiveBox n e) = n ≡ p.number
+IsOwnOp p (ops.ShiftBox n shift) = n ≡ p.number
 IsOwnOp p (ops.LoadChild place) = ⊥
 IsOwnOp p (ops.ClearField place) = ⊥
 IsOwnOp p (ops.FreeHeader slot) = ⊥
@@ -90,6 +91,7 @@ own_within w t (ops.ClaimHeader slot header) kept is own names = (subst (λ n. s
 own_within w t (ops.LoadCross n) kept is own names = crossing_within w t n kept is (own ∙ (actor_of w t kept is).own.number)
 own_within w t (ops.TakeBox n e) kept is own names = crossing_within w t n kept is (own ∙ (actor_of w t kept is).own.number)
 own_within w t (ops.GiveBox n e) kept is own names = crossing_within w t n kept is (own ∙ (actor_of w t kept is).own.number)
+own_within w t (ops.ShiftBox n shift) kept is own names = crossing_within w t n kept is (own ∙ (actor_of w t kept is).own.number)
 own_within w t ops.LoadEpoch kept is own names = tt
 own_within w t ops.LoadFreed kept is own names = tt
 own_within w t _ kept is own names = absurd own
@@ -147,6 +149,7 @@ may_step w t kept is busy =
     spared at.Swapping here between = absurd between
     spared at.Leaving here between = λ swaps. (leaving_of w t kept is here).0 ∙ spare_own w t kept is ∙ nulled (mutator w t) ∙ ap spare (sym (learns_leaving (mutator w t) (found_by w t) here))
     spared at.Retiring here between = absurd between
+    spared (at.Passing passage) here between = absurd between
     spared _ here between = none (subst TakesNone (sym here) tt)
 
 -- what the collector names is there

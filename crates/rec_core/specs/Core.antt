@@ -40,7 +40,7 @@ sight w = record { fields = w.config.fields; headers = w.headers; words = w.word
 
 -- a mutator that isn't there
 abbrev pub nobody : Private
-nobody = record { number = 0; epoch = 0; slots = 0; fields = 0; registers = []; log = record { entries = []; snapshot = []; capacity = 0; last = false; still = false }; from = 0; phase = Idle; steps = 0; left = false; dates = false }
+nobody = record { number = 0; epoch = 0; slots = 0; fields = 0; registers = []; log = record { entries = []; snapshot = []; capacity = 0; last = false; still = false }; from = 0; phase = Idle; steps = 0; left = false; parked = false; dates = false }
 
 -- the private record of a mutator, numbered from 1
 abbrev pub mutator : Core → ℕ → Private

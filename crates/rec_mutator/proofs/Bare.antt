@@ -3,6 +3,7 @@ use Rattle.std.proofs.Common.{◌≡◌, Bool, true, false, ℕ, ◌+◌, ◌<�
 use Rattle.std.proofs.lemmas.List.{map-append}
 use Rattle.std.proofs.lemmas.List.{length-map}
 use Rattle.rec_word.specs.Bare.{bare, bare_in, bare_op}
+use Rattle.rec_word.specs.Mailbox.{holds}
 use Rattle.rec_word.specs.Op.{cell_of}
 use Rattle.rec_word.specs.Place.{place_of}
 use Rattle.rec_word.specs.Header.{is_leaf}
@@ -21,10 +22,12 @@ use Rattle.rec_mutator.specs.Bare.{bare_buffer, bare_phase, bare_private}
 use Rattle.rec_mutator.specs.Next.{begun_op, first_op, new_op, next_at, next_of, read_op, write_op, label_op}
 use Rattle.rec_mutator.specs.Private.{IsAt, IsMachine, IsStore, Private, is_busy, is_busy_at, is_full, probe_of, register, word_for}
 use Rattle.rec_mutator.specs.Step.{HasRoom}
-use Rattle.rec_mutator.specs.Took.{allowed_by, answered, begun_by, begun_of, born_in, first_by, label_by, left_at, left_of, leaving_by, is_uncollected, moved, new_by, probed, read_by, stored, step_of, swapped_at, swapped_of, took_at, took_of, with_entry, with_register, written_by}
+use Rattle.rec_mutator.specs.Took.{allowed_by, answered, awoken, begun_by, begun_of, born_in, first_by, label_by, left_at, left_of, leaving_by, is_uncollected, moved, new_by, passed, probed, read_by, stored, step_of, swapped_at, swapped_of, took_at, took_of, with_entry, with_register, written_by}
 use Rattle.rec_mutator.specs.declared.made.Made.TheVariants as makes
+use Rattle.rec_mutator.specs.declared.passage.Passage.{Passage}
+use Rattle.rec_mutator.specs.declared.passage.Passage.TheVariants.{Parks, Holds, Deposits, Unparks, Reopens, Frees}
 use Rattle.rec_mutator.specs.declared.phase.Phase.{Phase}
-use Rattle.rec_mutator.specs.declared.phase.Phase.TheVariants.{Idle, Begun, Scanning, Scanned, Storing, Crossing, Swapping, Giving, Leaving, Retiring, Parting, Finished}
+use Rattle.rec_mutator.specs.declared.phase.Phase.TheVariants.{Idle, Begun, Scanning, Scanned, Storing, Crossing, Swapping, Giving, Leaving, Retiring, Parting, Finished, Passing}
 use Rattle.rec_mutator.specs.declared.work.Work.{Work}
 use Rattle.rec_mutator.specs.declared.work.Work.TheVariants as works
 use Rattle.rec_mutator.proofs.LogStamps.{word_bare}
@@ -95,6 +98,7 @@ next_at_bare p Leaving m now = refl
 next_at_bare p Retiring m now = refl
 next_at_bare p Parting m now = refl
 next_at_bare p (Finished work made) m now = refl
+next_at_bare p (Passing passage) m now = refl
 
 -- what comes next
 pub next_bare : (p : Private) → IsMachine p → next_of (bare_private p) ≡ bare_op (next_of p)
@@ -171,6 +175,19 @@ store_learnt p src f val slot word m store =
     ap (λ n. answered (with_entry (bare_private p) (entries.Put (place_of slot f p.fields) n (bare word))) (commands.Put src f val) (record { answer = answers.Done; saw = bare word; left = n })) (for_bare p src f val slot m store)
     ∙ entry_bare p (entries.Put (place_of slot f p.fields) (word_for p val) word) (Finished (works.Command (commands.Put src f val)) (makes.Answered (record { answer = answers.Done; saw = word; left = word_for p val })))
 
+awoken_learnt : (p : Private) (word : ℕ) (deposit : Bool) → awoken (bare_private p) word deposit ≡ bare_private (awoken p word deposit)
+awoken_learnt p word true = refl
+awoken_learnt p word false = refl
+
+-- a step of parking or unparking
+passed_learnt : (p : Private) (word : ℕ) (passage : Passage) → passed (bare_private p) word passage ≡ bare_private (passed p word passage)
+passed_learnt p word Parks = refl
+passed_learnt p word Holds = refl
+passed_learnt p word Deposits = refl
+passed_learnt p word Unparks = awoken_learnt p word (holds word)
+passed_learnt p word Reopens = refl
+passed_learnt p word Frees = refl
+
 took_at_bare : (p : Private) (word : ℕ) (phase : Phase) → IsMachine p → IsAt p phase → took_at (bare_private p) (bare_in (cell_of (next_at p phase)) word) (bare_phase phase) ≡ bare_private (took_at p word phase)
 unfolding next_at took_at
 took_at_bare p word Idle m now = refl
@@ -186,6 +203,7 @@ took_at_bare p word Leaving m now = refl
 took_at_bare p word Retiring m now = refl
 took_at_bare p word Parting m now = refl
 took_at_bare p word (Finished work made) m now = refl
+took_at_bare p word (Passing passage) m now = passed_learnt p word passage
 
 -- what is learnt
 pub took_bare : (p : Private) (word : ℕ) → IsMachine p → took_of (bare_private p) (bare_in (cell_of (next_of p)) word) ≡ bare_private (took_of p word)
@@ -207,6 +225,7 @@ swapped_at_bare p b Leaving = refl
 swapped_at_bare p b Retiring = refl
 swapped_at_bare p b Parting = refl
 swapped_at_bare p b (Finished work made) = refl
+swapped_at_bare p b (Passing passage) = refl
 
 swapped_bare : (p : Private) (b : Contents) → swapped_of (bare_private p) (bare_buffer b) ≡ bare_private (swapped_of p b)
 unfolding swapped_of
@@ -226,6 +245,7 @@ left_at_bare p b Leaving = refl
 left_at_bare p b Retiring = refl
 left_at_bare p b Parting = refl
 left_at_bare p b (Finished work made) = refl
+left_at_bare p b (Passing passage) = refl
 
 pub left_bare : (p : Private) (b : Contents) → left_of (bare_private p) (bare_buffer b) ≡ bare_buffer (left_of p b)
 unfolding left_of
@@ -255,6 +275,7 @@ busy_at_bare Leaving = refl
 busy_at_bare Retiring = refl
 busy_at_bare Parting = refl
 busy_at_bare (Finished work made) = refl
+busy_at_bare (Passing passage) = refl
 
 pub busy_bare : (p : Private) → is_busy (bare_private p) ≡ is_busy p
 busy_bare p = busy_at_bare p.phase

@@ -7,7 +7,7 @@ use Rattle.rec_mutator.specs.Bare.{bare_made, bare_phase, bare_private}
 use Rattle.rec_mutator.specs.Private.{IsAt, IsMachine, IsValid, Private}
 use Rattle.rec_mutator.specs.declared.made.Made.{Made}
 use Rattle.rec_mutator.specs.declared.phase.Phase.{Phase}
-use Rattle.rec_mutator.specs.declared.phase.Phase.TheVariants.{Idle, Begun, Scanning, Scanned, Storing, Crossing, Swapping, Giving, Leaving, Retiring, Parting, Finished}
+use Rattle.rec_mutator.specs.declared.phase.Phase.TheVariants.{Idle, Begun, Scanning, Scanned, Storing, Crossing, Swapping, Giving, Leaving, Retiring, Parting, Finished, Passing}
 use Rattle.rec_mutator.specs.declared.work.Work.{Work}
 use Rattle.rec_mutator.specs.declared.work.Work.TheVariants as works
 
@@ -25,6 +25,7 @@ phase_bare P ends Leaving is = is
 phase_bare P ends Retiring is = is
 phase_bare P ends Parting is = is
 phase_bare P ends (Finished work made) is = ends work made is
+phase_bare P ends (Passing passage) is = is
 
 -- what is said of a phase whatever a finished work came to
 pub said_bare : {A : Type 0} (f : Phase → A) → ((work : Work) (made : Made) → f (Finished work (bare_made made)) ≡ f (Finished work made)) → (phase : Phase) → f (bare_phase phase) ≡ f phase
@@ -40,6 +41,7 @@ said_bare f ends Leaving = refl
 said_bare f ends Retiring = refl
 said_bare f ends Parting = refl
 said_bare f ends (Finished work made) = ends work made
+said_bare f ends (Passing passage) = refl
 
 pub entries_bare : (p : Private) → length (bare_private p).log.entries ≡ length p.log.entries
 entries_bare p = length-map p.log.entries (entry_by bare)
@@ -63,6 +65,7 @@ at_bare p Leaving is = is
 at_bare p Retiring is = is
 at_bare p Parting is = is
 at_bare p (Finished work made) is = is
+at_bare p (Passing passage) is = record { steps = is.steps; stays = is.stays; parked = is.parked }
 
 pub machine_bare : (p : Private) → IsMachine p → IsMachine (bare_private p)
 machine_bare p m = record {

@@ -8,7 +8,7 @@ use Rattle.rec_mutator.specs.Next.{next_of, next_at, begun_op, first_op, read_op
 use Rattle.rec_mutator.specs.Step.{IsFitting, TakesBox}
 use Rattle.rec_mutator.specs.Took.{IsFound}
 use Rattle.rec_mutator.specs.declared.phase.Phase.{Phase}
-use Rattle.rec_mutator.specs.declared.phase.Phase.TheVariants.{Begun, Crossing, Leaving}
+use Rattle.rec_mutator.specs.declared.phase.Phase.TheVariants.{Begun, Crossing, Leaving, Passing}
 use Rattle.rec_mutator.specs.declared.work.Work.{Work}
 use Rattle.rec_mutator.specs.declared.work.Work.TheVariants as works
 
@@ -49,6 +49,7 @@ unfolding next_at
 finds_at p cell (Begun work) is fits = begun_finds p cell work fits
 finds_at p cell Crossing is fits = fits.home (subst TakesBox (sym is) tt)
 finds_at p cell Leaving is fits = fits.home (subst TakesBox (sym is) tt)
+finds_at p cell (Passing passage) is fits = fits.bits passage is
 finds_at p cell _ is fits = tt
 
 -- what a step finds is what it may find

@@ -6,6 +6,8 @@ pub mod Found
 pub mod Leaving
 pub mod LogStamps
 pub mod Machines
+pub mod Parked
+pub mod Passages
 pub mod Polls
 pub mod Refusals
 pub mod Rounds

@@ -14,12 +14,14 @@ use Rattle.rec_model.specs.declared.told.Told.{Told}
 use Rattle.rec_model.specs.Asking.{allocation}
 use Rattle.rec_log.specs.declared.contents.Contents.{Contents}
 use Rattle.rec_log.specs.declared.entry.Entry.{Entry}
-use Rattle.rec_mutator.specs.Private.{Private, opened, register, HasOperands, work_of, work_at, limit_of, probe_of, HasNext, IsAt, IsMachine}
+use Rattle.rec_mutator.specs.Private.{Private, opened, register, HasOperands, work_of, work_at, command_of, limit_of, probe_of, steps_to, HasNext, IsAt, IsMachine}
 use Rattle.rec_mutator.specs.Step.{Step, Decides, GoesOn, LetsGo, HasLeft, Crosses, HasRoom}
 use Rattle.rec_mutator.specs.Took.{moved, nulls_of, IsFound}
 use Rattle.rec_mutator.specs.declared.made.Made.TheVariants as makes
+use Rattle.rec_mutator.specs.declared.passage.Passage.{Passage}
+use Rattle.rec_mutator.specs.declared.passage.Passage.TheVariants.{Parks, Holds, Deposits, Unparks, Reopens, Frees}
 use Rattle.rec_mutator.specs.declared.phase.Phase.{Phase}
-use Rattle.rec_mutator.specs.declared.phase.Phase.TheVariants.{Idle, Begun, Scanning, Scanned, Storing, Crossing, Swapping, Giving, Leaving, Retiring, Parting, Finished}
+use Rattle.rec_mutator.specs.declared.phase.Phase.TheVariants.{Idle, Begun, Scanning, Scanned, Storing, Crossing, Swapping, Giving, Leaving, Retiring, Parting, Finished, Passing}
 use Rattle.rec_mutator.specs.declared.work.Work.TheVariants as works
 use Rattle.rec_mutator.proofs.Around.{behind_below}
 use Rattle.rec_mutator.proofs.Refusals.{at_phase}
@@ -91,6 +93,19 @@ pub allocation_limit : (slots reg label : ℕ) (leaf : Bool) → limit_of slots 
 allocation_limit slots reg label true = refl
 allocation_limit slots reg label false = refl
 
+-- parking and unparking have a step left
+pub passage_left : (p : Private) (passage : Passage) → p.steps ≡ steps_to passage → p.steps < limit_of p.slots (works.Command (command_of passage))
+passage_left p Parks is = omega arith
+passage_left p Holds is = omega arith
+passage_left p Deposits is = omega arith
+passage_left p Unparks is = omega arith
+passage_left p Reopens is = omega arith
+passage_left p Frees is = omega arith
+
+-- so their steps are within the limit
+pub within_passage : (p : Private) (passage : Passage) → p.steps ≡ steps_to passage → p.steps ≤ limit_of p.slots (works.Command (command_of passage))
+within_passage p passage is = let less : p.steps < limit_of p.slots (works.Command (command_of passage)) = passage_left p passage is in omega (arith, less)
+
 -- the steps of a work that isn't over are within its limit, by phase
 within_at : (p : Private) (at : Phase) → IsAt p at → IfSome (work_at at) (λ work. p.steps ≤ limit_of p.slots work)
 within_at p (Begun work) is = omega (arith, is.1)
@@ -105,6 +120,7 @@ within_at p Retiring is = omega (arith, is.0)
 within_at p Parting is = omega (arith, is.0)
 within_at p (Finished work made) is = is
 within_at p Idle is = tt
+within_at p (Passing passage) is = within_passage p passage is.steps
 
 -- the steps of every work are
 pub within_limit : (p : Private) → IsMachine p → IfSome (work_of p) (λ work. p.steps ≤ limit_of p.slots work)
@@ -284,8 +300,8 @@ step_machine {p = p} m sized found (Step.give_box c) =
 
 -- a machine with an empty log is as it is opened
 pub opened_as : (number epoch slots fields : ℕ) {registers held : List (Option ℕ)} {log : Contents} (regs cap : ℕ) → registers ≡ held → log ≡ record { entries = []; snapshot = replicate regs None; capacity = cap; last = false; still = false }
-    → let p : Private = record { number = number; epoch = epoch; slots = slots; fields = fields; registers = registers; log = log; from = 0; phase = Idle; steps = 0; left = false; dates = false } in p ≡ opened number epoch slots fields held regs cap
-opened_as number epoch slots fields regs cap same empty i = record { number = number; epoch = epoch; slots = slots; fields = fields; registers = same i; log = empty i; from = 0; phase = Idle; steps = 0; left = false; dates = false }
+    → let p : Private = record { number = number; epoch = epoch; slots = slots; fields = fields; registers = registers; log = log; from = 0; phase = Idle; steps = 0; left = false; parked = false; dates = false } in p ≡ opened number epoch slots fields held regs cap
+opened_as number epoch slots fields regs cap same empty i = record { number = number; epoch = epoch; slots = slots; fields = fields; registers = same i; log = empty i; from = 0; phase = Idle; steps = 0; left = false; parked = false; dates = false }
 
 -- and is one
 pub opened_machine : (number epoch slots fields : ℕ) (held : List (Option ℕ)) (regs cap : ℕ) → number < 2 ^ 6 → epoch < 2 ^ 24 → 0 < slots → slots < 2 ^ 16 → cap ≤ 2 ^ 18 → All IsTarget held → regs ≡ length held

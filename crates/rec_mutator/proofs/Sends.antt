@@ -34,7 +34,7 @@ phases = search (works, mades, sendable) depth 30
 
 -- each of its fields may
 each : AllSend (fields machine.TheInside.the_type)
-each = (search sendable, (search sendable, (search sendable, (search sendable, (frames, (buffers, (search sendable, (phases, (search sendable, (search sendable, tt))))))))))
+each = (search sendable, (search sendable, (search sendable, (search sendable, (frames, (buffers, (search sendable, (phases, (search sendable, (search sendable, (search sendable, tt)))))))))))
 
 pub machine_send : IsSend machine.the_row
 machine_send = view_send _ _ _ _ _ (recorded_send _ _ _ (machine.TheInside.the_type).to_one (struct_send (shape machine.TheInside.the_type) each))

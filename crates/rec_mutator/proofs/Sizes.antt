@@ -11,7 +11,7 @@ use Rattle.rec_mutator.specs.Private.{Private, KeepsSizes, is_busy, is_busy_at, 
 use Rattle.rec_mutator.specs.Took.{IsBetween, took_of, took_at, begun_by}
 use Rattle.rec_mutator.specs.Step.{Step, Decides, GoesOn, LetsGo, HasLeft, Crosses}
 use Rattle.rec_mutator.specs.declared.phase.Phase.{Phase}
-use Rattle.rec_mutator.specs.declared.phase.Phase.TheVariants.{Begun, Crossing, Swapping, Leaving, Retiring, Parting}
+use Rattle.rec_mutator.specs.declared.phase.Phase.TheVariants.{Begun, Crossing, Swapping, Leaving, Retiring, Parting, Passing}
 use Rattle.rec_mutator.specs.declared.work.Work.{Work}
 use Rattle.rec_mutator.specs.declared.work.Work.TheVariants as works
 use Rattle.rec_mutator.proofs.Steps.{TakesNone, learnt_made}
@@ -176,6 +176,7 @@ learnt_at p word Swapping is busy between = absurd between
 learnt_at p word Leaving is busy between =
     (record { number = refl; slots = refl; fields = refl; registers = length-replicate (length p.registers) None; capacity = refl }, sym (ap work_at is), refl)
 learnt_at p word Retiring is busy between = absurd between
+learnt_at p word (Passing passage) is busy between = absurd between
 learnt_at p word at is busy between =
     let took : took_of p word ≡ took_at p word at = ap (took_at p word) is in
     let now : is_busy p ≡ true = ap is_busy_at is ∙ busy in

@@ -20,7 +20,7 @@ use Rattle.rec_mutator.specs.Next.{next_of, next_at, read_op, write_op, label_op
 use Rattle.rec_mutator.specs.Took.{took_of, took_at, moved, answered, read_by, allowed_by, written_by, label_by, new_by, leaving_by, is_uncollected_in, polled, swapped_at, swapped_of, step_of, left_at, left_of, IsBetween}
 use Rattle.rec_mutator.specs.Step.{Step, Decides, GoesOn, Crosses, HasRoom, IsStill, IsUncollected, LeavesBox, TakesBox, WholeStep}
 use Rattle.rec_mutator.specs.declared.phase.Phase.{Phase}
-use Rattle.rec_mutator.specs.declared.phase.Phase.TheVariants.{Idle, Begun, Scanning, Scanned, Storing, Crossing, Swapping, Giving, Leaving, Retiring, Parting, Finished}
+use Rattle.rec_mutator.specs.declared.phase.Phase.TheVariants.{Idle, Begun, Scanning, Scanned, Storing, Crossing, Swapping, Giving, Leaving, Retiring, Parting, Finished, Passing}
 use Rattle.rec_mutator.specs.declared.work.Work.{Work}
 use Rattle.rec_mutator.specs.declared.work.Work.TheVariants as works
 
@@ -148,12 +148,13 @@ unfolding next_at took_at
 begun_step p word box (works.Command cmd) is = command_step p word box cmd is
 begun_step p word box works.Poll is = poll_step p word box is
 
--- no mailbox is taken next, and none is held that waits to be swapped
+-- no mailbox is taken next, and none is held that waits to be swapped; nor does the mutator park or unpark
 abbrev pub TakesNone : Phase → Type 0
 TakesNone Crossing = ⊥
 TakesNone Swapping = ⊥
 TakesNone Leaving = ⊥
 TakesNone Retiring = ⊥
+TakesNone (Passing passage) = ⊥
 TakesNone _ = Unit {0}
 
 -- a step that takes no mailbox, by phase
@@ -171,6 +172,7 @@ learnt_at p word box Leaving is busy none = absurd none
 learnt_at p word box Retiring is busy none = absurd none
 learnt_at p word box Parting is busy none = Step.leave_ends (record { phase = is; operation = refl; after = refl })
 learnt_at p word box (Finished work made) is busy none = absurd (false≢true busy)
+learnt_at p word box (Passing passage) is busy none = absurd none
 
 -- a step that takes no mailbox: what comes next, and what is learnt
 pub learnt_made : (p : Private) (word : ℕ) (box : Contents) → is_busy p ≡ true → TakesNone p.phase → Step p word box (next_of p) (took_of p word)
@@ -228,6 +230,7 @@ unswapped_at : (q : Private) (box : Contents) (phase : Phase) → IsBetween phas
 unfolding swapped_at
 unswapped_at q box Swapping is = absurd is
 unswapped_at q box Retiring is = absurd is
+unswapped_at q box (Passing passage) is = absurd is
 unswapped_at q box _ is = refl
 
 pub unswapped : (q : Private) (box : Contents) → IsBetween q.phase → swapped_of q box ≡ q
@@ -260,6 +263,7 @@ step_at p word box Crossing is busy whole = crossing_made p word box is
 step_at p word box Swapping is busy whole = absurd whole
 step_at p word box Leaving is busy whole = leaving_made p word box is
 step_at p word box Retiring is busy whole = absurd whole
+step_at p word box (Passing passage) is busy whole = absurd whole
 step_at p word box _ is busy whole = here_made p word box busy (subst TakesNone (sym is) tt)
 
 -- what comes next, and what is learnt of the word found and of the mailbox that is taken, is a step
@@ -284,6 +288,7 @@ left_same q box phase is between = ap (left_at q box) is ∙ go phase between
     go Retiring b = absurd b
     go Parting b = refl
     go (Finished work made) b = refl
+    go (Passing passage) b = absurd b
 
 -- what a step leaves in the own mailbox, by phase
 leaves_box : (p : Private) (word : ℕ) (box : Contents) (phase : Phase) → p.phase ≡ phase → is_busy p ≡ true → IsBetween phase → LeavesBox p box (left_of (took_of p word) box)
@@ -306,6 +311,7 @@ leaves_box p word box phase is busy between = go phase is between
     go Retiring e b = absurd b
     go Parting e b = LeavesBox.keeps (λ n. subst TakesBox e n) (kept (subst TakesNone (sym e) tt))
     go (Finished work made) e b = LeavesBox.keeps (λ n. subst TakesBox e n) (kept (subst TakesNone (sym e) tt))
+    go (Passing passage) e b = absurd b
 
 -- a whole step
 pub whole_made : (p : Private) (word : ℕ) (box : Contents) → is_busy p ≡ true → IsBetween p.phase → WholeStep p word box (next_of p) (step_of p word box) (left_of (took_of p word) box)

@@ -7,7 +7,7 @@ use Rattle.rec_mutator.specs.Private.{Private, register, is_full, HasOperands, I
 use Rattle.rec_mutator.specs.Next.{next_of, next_at, begun_op, first_op, read_op, write_op, label_op, new_op}
 use Rattle.rec_mutator.specs.Step.{NamesWord, NamesSlots}
 use Rattle.rec_mutator.specs.declared.phase.Phase.{Phase}
-use Rattle.rec_mutator.specs.declared.phase.Phase.TheVariants.{Idle, Begun, Scanning, Scanned, Storing, Leaving, Retiring, Parting, Finished}
+use Rattle.rec_mutator.specs.declared.phase.Phase.TheVariants.{Idle, Begun, Scanning, Scanned, Storing, Leaving, Retiring, Parting, Finished, Passing}
 use Rattle.rec_mutator.specs.declared.work.Work.{Work}
 use Rattle.rec_mutator.specs.declared.work.Work.TheVariants as works
 use Rattle.rec_mutator.proofs.Around.{behind_below}
@@ -55,6 +55,7 @@ names_at p (Begun work) kept at there = begun_names p work at.0 there
 names_at p (Scanning reg label leaf before probed) kept at there = (behind_below p.slots p.from probed kept.first_slot, omega arith)
 names_at p (Scanned reg label leaf before) kept at there = tt
 names_at p (Finished work made) kept at there = tt
+names_at p (Passing passage) kept at there = tt
 names_at p (Storing src f val slot) kept at there = place_within p.slots p.fields slot f (there src slot at.0.source) at.0.operands.1
 names_at p Leaving kept at there = omega (arith, at.1)
 names_at p Retiring kept at there = omega (arith, at.1)

@@ -17,6 +17,7 @@ private inside =
       phase = inside.phase;
       steps = inside.steps;
       left = inside.left;
+      parked = inside.parked;
       dates = false;
     }
 

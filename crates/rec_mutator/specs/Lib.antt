@@ -3,6 +3,7 @@ pub mod Bare
 pub mod Causes
 pub mod Inside
 pub mod Next
+pub mod Parking
 pub mod Private
 pub mod Scans
 pub mod Step

@@ -4,11 +4,15 @@ use Rattle.rec_word.specs.Header.{header_word}
 use Rattle.rec_word.specs.Place.{place_of}
 use Rattle.rec_word.specs.declared.op.Op.{Op}
 use Rattle.rec_word.specs.declared.op.Op.TheVariants as ops
+use Rattle.rec_word.specs.declared.shift.Shift.{Shift}
+use Rattle.rec_word.specs.declared.shift.Shift.TheVariants as shifts
 use Rattle.rec_model.specs.declared.command.Cmd.{Cmd}
 use Rattle.rec_model.specs.declared.command.Cmd.TheVariants as commands
 use Rattle.rec_mutator.specs.Private.{Private, register, is_full, word_for, probe_of}
+use Rattle.rec_mutator.specs.declared.passage.Passage.{Passage}
+use Rattle.rec_mutator.specs.declared.passage.Passage.TheVariants.{Parks, Holds, Deposits, Unparks, Reopens, Frees}
 use Rattle.rec_mutator.specs.declared.phase.Phase.{Phase}
-use Rattle.rec_mutator.specs.declared.phase.Phase.TheVariants.{Idle, Begun, Scanning, Scanned, Storing, Crossing, Swapping, Giving, Leaving, Retiring, Parting, Finished}
+use Rattle.rec_mutator.specs.declared.phase.Phase.TheVariants.{Idle, Begun, Scanning, Scanned, Storing, Crossing, Swapping, Giving, Leaving, Retiring, Parting, Finished, Passing}
 use Rattle.rec_mutator.specs.declared.work.Work.{Work}
 use Rattle.rec_mutator.specs.declared.work.Work.TheVariants as works
 
@@ -55,6 +59,15 @@ abbrev pub begun_op : Private → Work → Op
 begun_op p (works.Command cmd) = first_op p cmd
 begun_op p works.Poll = ops.LoadEpoch
 
+-- the next step of a mutator that parks or unparks
+abbrev pub shift_of : Passage → Shift
+shift_of Parks = shifts.Hold
+shift_of Holds = shifts.Park
+shift_of Deposits = shifts.Park
+shift_of Unparks = shifts.Unpark
+shift_of Reopens = shifts.Free
+shift_of Frees = shifts.Free
+
 -- what comes next, by phase
 unfoldable pub next_at : Private → Phase → Op
 next_at p Idle = own_word p
@@ -69,6 +82,7 @@ next_at p Leaving = ops.TakeBox p.number (p.epoch + 1)
 next_at p Retiring = ops.GiveBox p.number (p.epoch + 1)
 next_at p Parting = ops.GiveBox p.number (p.epoch + 1)
 next_at p (Finished work made) = own_word p
+next_at p (Passing passage) = ops.ShiftBox p.number (shift_of passage)
 
 -- what comes next
 unfoldable pub next_of : Private → Op

@@ -9,14 +9,16 @@ use Rattle.rec_model.specs.Asking.{allocation}
 use Rattle.rec_model.specs.Operands as operands
 use Rattle.rec_log.specs.declared.contents.Contents.{Contents}
 use Rattle.rec_mutator.specs.declared.made.Made.{Made}
+use Rattle.rec_mutator.specs.declared.passage.Passage.{Passage}
+use Rattle.rec_mutator.specs.declared.passage.Passage.TheVariants.{Parks, Holds, Deposits, Unparks, Reopens, Frees}
 use Rattle.rec_mutator.specs.declared.phase.Phase.{Phase}
-use Rattle.rec_mutator.specs.declared.phase.Phase.TheVariants.{Idle, Begun, Scanning, Scanned, Storing, Crossing, Swapping, Giving, Leaving, Retiring, Parting, Finished}
+use Rattle.rec_mutator.specs.declared.phase.Phase.TheVariants.{Idle, Begun, Scanning, Scanned, Storing, Crossing, Swapping, Giving, Leaving, Retiring, Parting, Finished, Passing}
 use Rattle.rec_mutator.specs.declared.work.Work.{Work}
 use Rattle.rec_mutator.specs.declared.work.Work.TheVariants as works
 
 -- the mutator's number and epoch, slots of the heap and fields of an object, its registers, its log, the slot with which a scan begins,
--- how far its work has come, how many steps that took, whether it has left, and whether the words that it puts are dated: those of a
--- heap are not
+-- how far its work has come, how many steps that took, whether it has left, whether it is parked, and whether the words that it puts
+-- are dated: those of a heap are not
 pub record Private : Type 0 where
   pub number : ℕ
   pub epoch : ℕ
@@ -28,6 +30,7 @@ pub record Private : Type 0 where
   pub phase : Phase
   pub steps : ℕ
   pub left : Bool
+  pub parked : Bool
   pub dates : Bool
 
 -- a mutator as it is opened with these registers: its log is empty, and so is the snapshot of `regs` registers in it; and its words are
@@ -45,6 +48,7 @@ opened_by dates number epoch slots fields registers regs cap =
       phase = Idle;
       steps = 0;
       left = false;
+      parked = false;
       dates = dates;
     }
 
@@ -90,10 +94,20 @@ is_busy_at Leaving = true
 is_busy_at Retiring = true
 is_busy_at Parting = true
 is_busy_at (Finished work made) = false
+is_busy_at (Passing passage) = true
 
 -- whether a work was begun that isn't finished
 abbrev pub is_busy : Private → Bool
 is_busy p = is_busy_at p.phase
+
+-- the command that a mutator carries out which parks or unparks
+abbrev pub command_of : Passage → Cmd
+command_of Parks = commands.Park
+command_of Holds = commands.Park
+command_of Deposits = commands.Park
+command_of Unparks = commands.Unpark
+command_of Reopens = commands.Unpark
+command_of Frees = commands.Unpark
 
 -- the work that was begun last, by phase
 abbrev pub work_at : Phase → Option Work
@@ -109,6 +123,7 @@ work_at Leaving = Some (works.Command commands.Leave)
 work_at Retiring = Some (works.Command commands.Leave)
 work_at Parting = Some (works.Command commands.Leave)
 work_at (Finished work made) = Some work
+work_at (Passing passage) = Some (works.Command (command_of passage))
 
 -- the work that was begun last
 abbrev pub work_of : Private → Option Work
@@ -134,12 +149,14 @@ IsValid p works.Poll = Unit {0}
 
 -- the most steps that a work takes: an allocation loads the freed word, probes each slot, and loads it again; a write looks at the
 -- header of its object, and exchanges the field; a poll loads the epoch word, takes the own mailbox and gives it back, and so does
--- leaving, which loads the own crossing word
+-- leaving, which loads the own crossing word; parking and unparking take the present mailbox and give it back
 abbrev pub limit_of : (slots : ℕ) → Work → ℕ
 limit_of slots (works.Command (commands.New reg label)) = slots + 2
 limit_of slots (works.Command (commands.Leaf reg label)) = slots + 2
 limit_of slots (works.Command (commands.Put src f val)) = 2
 limit_of slots (works.Command commands.Leave) = 3
+limit_of slots (works.Command commands.Park) = 2
+limit_of slots (works.Command commands.Unpark) = 2
 limit_of slots works.Poll = 3
 limit_of slots _ = 1
 
@@ -163,6 +180,23 @@ pub record IsStore (p : Private) (src f val slot : ℕ) : Type 0 where
 abbrev pub HasNext : Private → Type 0
 HasNext p = p.epoch + 1 < 2 ^ 24
 
+-- how many steps of parking or unparking were made
+abbrev pub steps_to : Passage → ℕ
+steps_to Parks = 0
+steps_to Unparks = 0
+steps_to _ = 1
+
+-- whether the mutator is parked: only until the first step of unparking
+abbrev pub parked_at : Passage → Bool
+parked_at Unparks = true
+parked_at _ = false
+
+-- a mutator that parks or unparks hasn't left, and is so far
+pub record IsOnPassage (p : Private) (passage : Passage) : Type 0 where
+  pub steps : p.steps ≡ steps_to passage
+  pub stays : p.left ≡ false
+  pub parked : p.parked ≡ parked_at passage
+
 -- what holds in each phase
 abbrev pub IsAt : Private → Phase → Type 0
 IsAt p Idle = p.steps ≡ 0
@@ -177,6 +211,7 @@ IsAt p Leaving = (p.steps ≡ 1) × HasStamp p
 IsAt p Retiring = (p.steps ≡ 2) × HasStamp p
 IsAt p Parting = (p.steps ≡ 2) × HasStamp p
 IsAt p (Finished work made) = p.steps ≤ limit_of p.slots work
+IsAt p (Passing passage) = IsOnPassage p passage
 
 -- what every machine keeps
 pub record IsMachine (p : Private) : Type 0 where

@@ -16,10 +16,12 @@ use Rattle.rec_log.specs.declared.contents.Contents.{Contents}
 use Rattle.rec_log.specs.declared.entry.Entry.{Entry}
 use Rattle.rec_log.specs.declared.entry.Entry.TheVariants as entries
 use Rattle.rec_mutator.specs.Private.{Private, register, word_for, probe_of}
-use Rattle.rec_mutator.specs.Took.{moved, answered, nulls_of, IsRequested}
+use Rattle.rec_mutator.specs.Next.{shift_of}
+use Rattle.rec_mutator.specs.Took.{moved, answered, nulls_of, FindsShift, IsRequested}
 use Rattle.rec_mutator.specs.declared.made.Made.TheVariants as makes
+use Rattle.rec_mutator.specs.declared.passage.Passage.{Passage}
 use Rattle.rec_mutator.specs.declared.phase.Phase.{Phase}
-use Rattle.rec_mutator.specs.declared.phase.Phase.TheVariants.{Begun, Scanning, Scanned, Storing, Crossing, Giving, Leaving, Parting, Finished}
+use Rattle.rec_mutator.specs.declared.phase.Phase.TheVariants.{Begun, Scanning, Scanned, Storing, Crossing, Giving, Leaving, Parting, Finished, Passing}
 use Rattle.rec_mutator.specs.declared.work.Work.TheVariants as works
 
 -- The command is decided. In this phase the operation is this one, and the step leaves these registers and log entries and
@@ -73,7 +75,7 @@ IsStill before after = (before % 2 ≡ 0) × (before ≡ after)
 abbrev pub IsUncollected : (crossing : ℕ) → Type 0
 IsUncollected crossing = (mailbox_of crossing ≡ Retired) ⊎ (mailbox_of crossing ≡ WithCollector)
 
--- What a step may be. `word` is the word that the operation `op` finds, `box` what is in the own mailbox, `q` what the step
+-- What a step may be of a mutator that neither parks nor unparks (for these see `Parking`). `word` is the word that the operation `op` finds, `box` what is in the own mailbox, `q` what the step
 -- leaves of `p`.
 pub data Step (p : Private) (word : ℕ) (box : Contents) (op : Op) (q : Private) : Type 0 where
   null : (reg : ℕ) → DecidesAtOnce p op q (commands.Null reg) (ops.LoadCross p.number) (slice_set p.registers reg None) p.log.entries (plain answers.Done) → Step p word box op q
@@ -157,8 +159,10 @@ abbrev pub NamesSlots : Private → Type 0
 NamesSlots p = (r slot : ℕ) → register p r ≡ Some slot → slot < p.slots
 
 -- The word that each operation finds, if the heap is one whose registers name taken slots, whose epoch word is the own epoch or
--- the next one, and in which a mailbox that the mutator takes is home with a spare.
+-- the next one, in which a mailbox that the mutator takes is home with a spare, and in which its crossing word has the bits that
+-- parking and unparking want.
 pub record IsFitting (p : Private) (cell : Op → ℕ) : Type 0 where
   pub headers : (r slot : ℕ) → register p r ≡ Some slot → IsTakenHeader (cell (ops.LoadHeader slot))
   pub epoch : IsRequested p (cell ops.LoadEpoch)
   pub home : TakesBox p.phase → cell (ops.TakeBox p.number (p.epoch + 1)) ≡ crossing_word p.epoch Spare
+  pub bits : (passage : Passage) → p.phase ≡ Passing passage → FindsShift p (shift_of passage) (cell (ops.ShiftBox p.number (shift_of passage)))

@@ -2,12 +2,14 @@
 use Rattle.std.specs.Prelude.{◌≡◌, ◌⊎◌, ℕ, ◌+◌, ◌-◌, ◌%◌, ◌^◌, ◌<◌, ◌≤◌, ◌==◌, ◌&&◌, Bool, true, false, Option, None, Some, List, [], ◌∷◌, ◌++◌, if◌then◌else◌, length, replicate, slice_set}
 use Rattle.rec_word.specs.Header.{is_leaf, label_of, IsTakenHeader}
 use Rattle.rec_word.specs.Place.{place_of}
-use Rattle.rec_word.specs.Mailbox.{crossing_word, mailbox_of}
+use Rattle.rec_word.specs.Mailbox.{crossing_word, epoch_in, holds, is_parked, mailbox_of}
 use Rattle.rec_word.specs.declared.mailbox.Mailbox.{Mailbox}
 use Rattle.rec_word.specs.declared.mailbox.Mailbox.TheVariants.{Retired, Spare, WithCollector}
 use Rattle.rec_word.specs.Word.{target_of}
 use Rattle.rec_word.specs.declared.op.Op.{Op}
 use Rattle.rec_word.specs.declared.op.Op.TheVariants as ops
+use Rattle.rec_word.specs.declared.shift.Shift.{Shift}
+use Rattle.rec_word.specs.declared.shift.Shift.TheVariants as shifts
 use Rattle.rec_model.specs.declared.answer.Answer.{Answer}
 use Rattle.rec_model.specs.declared.answer.Answer.TheVariants as answers
 use Rattle.rec_model.specs.declared.command.Cmd.{Cmd}
@@ -19,8 +21,10 @@ use Rattle.rec_log.specs.declared.entry.Entry.{Entry}
 use Rattle.rec_log.specs.declared.entry.Entry.TheVariants as entries
 use Rattle.rec_mutator.specs.Private.{Private, register, is_full, word_for, probe_of}
 use Rattle.rec_mutator.specs.declared.made.Made.TheVariants as makes
+use Rattle.rec_mutator.specs.declared.passage.Passage.{Passage}
+use Rattle.rec_mutator.specs.declared.passage.Passage.TheVariants.{Parks, Holds, Deposits, Unparks, Reopens, Frees}
 use Rattle.rec_mutator.specs.declared.phase.Phase.{Phase}
-use Rattle.rec_mutator.specs.declared.phase.Phase.TheVariants.{Idle, Begun, Scanning, Scanned, Storing, Crossing, Swapping, Giving, Leaving, Retiring, Parting, Finished}
+use Rattle.rec_mutator.specs.declared.phase.Phase.TheVariants.{Idle, Begun, Scanning, Scanned, Storing, Crossing, Swapping, Giving, Leaving, Retiring, Parting, Finished, Passing}
 use Rattle.rec_mutator.specs.declared.work.Work.{Work}
 use Rattle.rec_mutator.specs.declared.work.Work.TheVariants as works
 
@@ -157,6 +161,21 @@ crossed p = moved (record p { epoch = p.epoch + 1 }) (Finished works.Poll (makes
 abbrev pub parted : Private → Private
 parted p = answered (record p { epoch = p.epoch + 1; left = true }) commands.Leave (plain answers.Done)
 
+-- unparking took the present mailbox where that still has the deposit, which is the log again next; else it is done. Either way the
+-- mutator is in the epoch that its word tells, since the collector may have crossed for it.
+abbrev pub awoken : Private → (word : ℕ) → (deposit : Bool) → Private
+awoken p word true = moved (record p { epoch = epoch_in word; parked = false }) (Passing Reopens)
+awoken p word false = answered (record p { epoch = epoch_in word; parked = false }) commands.Unpark (plain answers.Done)
+
+-- what is learnt by a mutator that parks or unparks
+abbrev pub passed : Private → (word : ℕ) → Passage → Private
+passed p word Parks = moved (record p { log = retired p }) (Passing Holds)
+passed p word Holds = moved p (Passing Holds)
+passed p word Deposits = answered (record p { parked = true }) commands.Park (plain answers.Done)
+passed p word Unparks = awoken p word (holds word)
+passed p word Reopens = moved p (Passing Reopens)
+passed p word Frees = answered p commands.Unpark (plain answers.Done)
+
 -- what is learnt, by phase
 unfoldable pub took_at : Private → (word : ℕ) → Phase → Private
 took_at p word Idle = moved p Idle
@@ -171,6 +190,7 @@ took_at p word Leaving = letting_go p
 took_at p word Retiring = moved p Retiring
 took_at p word Parting = parted p
 took_at p word (Finished work made) = moved p (Finished work made)
+took_at p word (Passing passage) = passed p word passage
 
 -- what is learnt
 unfoldable pub took_of : Private → (word : ℕ) → Private
@@ -221,20 +241,44 @@ IsSwapping Swapping = Unit {0}
 IsSwapping Retiring = Unit {0}
 IsSwapping _ = ⊥
 
--- a phase between two steps: no mailbox waits to be swapped
+-- A phase between two steps of a mutator that neither parks nor unparks: no mailbox waits to be swapped. No step of a command that was
+-- begun, and none of a poll, leads to another phase.
 abbrev pub IsBetween : Phase → Type 0
 IsBetween Swapping = ⊥
 IsBetween Retiring = ⊥
+IsBetween (Passing passage) = ⊥
 IsBetween _ = Unit {0}
 
 -- the epoch word of a heap in which this mutator stands: its own epoch, or the next one
 abbrev pub IsRequested : Private → (word : ℕ) → Type 0
 IsRequested p word = (word ≡ p.epoch) ⊎ ((word ≡ p.epoch + 1) × (word < 2 ^ 24))
 
--- what the word found has to be: the header of a taken slot; the own epoch or the next one; and the crossing word that is taken
--- says that its mailbox is home with a spare
+-- the own crossing word has these bits, and is of the own epoch
+pub record HasBits (p : Private) (held parked : Bool) (word : ℕ) : Type 0 where
+  pub own_epoch : epoch_in word ≡ p.epoch
+  pub says_held : holds word ≡ held
+  pub says_parked : is_parked word ≡ parked
+
+-- The own crossing word of a parked mutator. As long as its deposit is there the word is of the own epoch; where it isn't, the collector
+-- may have crossed for the mutator.
+pub record IsOfParked (p : Private) (word : ℕ) : Type 0 where
+  pub parked : is_parked word ≡ true
+  pub deposit : holds word ≡ true → epoch_in word ≡ p.epoch
+  pub later : p.epoch ≤ epoch_in word
+  pub stamped : epoch_in word < 2 ^ 24
+
+-- what the own crossing word has to be for each step of parking and unparking
+abbrev pub FindsShift : Private → Shift → (word : ℕ) → Type 0
+FindsShift p shifts.Hold word = HasBits p false false word
+FindsShift p shifts.Park word = HasBits p true false word
+FindsShift p shifts.Unpark word = IsOfParked p word
+FindsShift p shifts.Free word = HasBits p true false word
+
+-- what the word found has to be: the header of a taken slot; the own epoch or the next one; the crossing word that is taken
+-- says that its mailbox is home with a spare; and who parks or unparks finds the bits of its crossing word as it left them
 abbrev pub IsFound : Private → Op → ℕ → Type 0
 IsFound p (ops.LoadHeader slot) word = IsTakenHeader word
 IsFound p ops.LoadEpoch word = IsRequested p word
 IsFound p (ops.TakeBox t e) word = word ≡ crossing_word p.epoch Spare
+IsFound p (ops.ShiftBox t shift) word = FindsShift p shift word
 IsFound p _ word = Unit {0}

@@ -16,13 +16,15 @@
 mod laws;
 mod machine;
 mod made;
+mod passage;
 mod phase;
 mod telling;
 mod work;
 
 pub use laws::{
-    failed_scans_claim_each_header_once, machine_finds_fitting_words, machine_makes_steps,
-    machine_names_words, polls_have_causes, refusals_have_causes,
+    crossing_words_tell_who_is_parked, failed_scans_claim_each_header_once,
+    machine_finds_fitting_words, machine_makes_steps, machine_names_words, machine_parks_by_steps,
+    parking_changes_nothing_else, polls_have_causes, refusals_have_causes,
 };
 pub use machine::Machine;
 pub use made::Made;

@@ -2,7 +2,7 @@ ghost use Rattle.std.specs.Prelude.{◌≡◌, ◌⊎◌, ◌+◌, ◌^◌, ◌<
 ghost use Rattle.rec_word.specs.Place.{place_of};
 ghost use Rattle.rec_word.specs.Word.{IsTarget};
 ghost use Rattle.rec_mutator.specs.Private.{Private, opened, register, is_full, word_for, probe_of, is_busy, work_of, answer_of, HasOperands, IsValid, limit_of, HasStamp, IsMachine, KeepsSizes};
-ghost use Rattle.rec_mutator.specs.Next.{next_of, begun_op, first_op, own_word, write_op};
+ghost use Rattle.rec_mutator.specs.Next.{next_of, begun_op, first_op, own_word, shift_of, write_op};
 ghost use Rattle.rec_mutator.specs.Causes.{HasCause, PollHasCause};
 ghost use Rattle.rec_mutator.specs.declared.made.Made.TheVariants as makes;
 ghost use Rattle.rec_mutator.specs.declared.work.Work.TheVariants as works;
@@ -12,13 +12,15 @@ ghost use Rattle.rec_mutator.specs.Took.{begun_of, took_of, skipped_to, spare, s
 ghost use Rattle.rec_mutator.specs.declared.phase.Phase.TheVariants.{Begun};
 
 mod learning;
+mod parking;
 mod straight;
 
+use crate::passage::Passage;
 use crate::phase::Phase;
 use crate::{Made, Work};
 use rec_log::{Buffer, Entry, Frame};
 use rec_model::Cmd;
-use rec_word::{Header, Op, Stamp, pack, place};
+use rec_word::{Header, Op, Shift, Stamp, pack, place};
 use std::alloc::{AllocError as NoMemory, Global};
 use std::marker::Model;
 use std::mem;
@@ -37,6 +39,7 @@ pub struct Machine {
     phase: Phase,
     steps: u32,
     left: bool,
+    parked: bool,
 }
 
 impl Model for Machine {
@@ -88,6 +91,7 @@ impl Machine {
             phase: Phase::Idle,
             steps: 0,
             left: false,
+            parked: false,
         })
     }
 
@@ -142,6 +146,7 @@ impl Machine {
                 self.epoch + 1,
             ),
             Phase::Idle | Phase::Finished { .. } => self.own_word(),
+            Phase::Passing { passage } => Op::ShiftBox(self.number, shift(passage)),
         }
     }
 
@@ -467,5 +472,18 @@ impl Machine {
             index: self.log.entries().len() as u32,
         };
         pack(self.frame.read(r), stamp)
+    }
+}
+
+// The next step of a mutator that parks or unparks.
+#[inline(always)]
+fn shift(passage: Passage) -> Shift
+    ensures { result ≡ shift_of passage }
+{
+    match passage {
+        Passage::Parks => Shift::Hold,
+        Passage::Holds | Passage::Deposits => Shift::Park,
+        Passage::Unparks => Shift::Unpark,
+        Passage::Reopens | Passage::Frees => Shift::Free,
     }
 }

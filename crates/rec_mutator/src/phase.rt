@@ -1,3 +1,4 @@
+use crate::passage::Passage;
 use crate::{Made, Work};
 
 /// How far a mutator's work has come.
@@ -47,5 +48,9 @@ pub enum Phase {
     Finished {
         work: Work,
         made: Made,
+    },
+    /// The mutator parks or unparks, and has come so far.
+    Passing {
+        passage: Passage,
     },
 }

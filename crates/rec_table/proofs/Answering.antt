@@ -3,6 +3,8 @@ use Rattle.std.proofs.Common.{◌≡◌, ◌↔◌, ℕ, ◌+◌, ◌<◌, ◌==
 use Rattle.std.specs.Prelude.{fold}
 use Rattle.std.proofs.lemmas.List.{length-append, map-append, nil_from_length}
 use Rattle.std.proofs.lemmas.List.Sums.{fold-append}
+use Rattle.rec_mutator.specs.Private.{command_of}
+use Rattle.rec_mutator.proofs.Machines.{passage_left}
 use Rattle.rec_table.proofs.Common.{IsAt, IsBetween, IsNoLeave, IsMachine, Private, answer_at, answer_of, is_busy, is_busy_at, limit_of, work_at, work_of, begun_of, moved, spare, step_of, swapped_at, swapped_of, took_at, took_of, learnt, told, saw_all, Beat, Begins, Saw}
 use Rattle.rec_word.specs.Header.{header_word}
 use Rattle.rec_model.specs.Asking.{allocation}
@@ -32,9 +34,9 @@ is_poll (Some works.Poll) = true
 is_poll _ = false
 
 -- so no step of it does
-command_takes_none : (p : Private) (cmd : Cmd) → IsNoLeave (works.Command cmd) → work_of p ≡ Some (works.Command cmd) → TakesNone p.phase
+command_takes_none : (p : Private) (cmd : Cmd) → IsBetween p.phase → IsNoLeave (works.Command cmd) → work_of p ≡ Some (works.Command cmd) → TakesNone p.phase
 unfolding is_poll
-command_takes_none p cmd no_leave work = by p.phase refl
+command_takes_none p cmd between no_leave work = by p.phase refl
   where
     no : (phase : phases.Phase) → p.phase ≡ phase → work_at phase ≡ Some works.Poll → ⊥
     no phase is poll = true≢false (sym (ap is_poll (sym work ∙ ap work_at is ∙ poll)))
@@ -47,6 +49,7 @@ command_takes_none p cmd no_leave work = by p.phase refl
     by at.Swapping is = absurd (no at.Swapping is refl)
     by at.Leaving is = absurd (stays at.Leaving is refl)
     by at.Retiring is = absurd (stays at.Retiring is refl)
+    by (at.Passing passage) is = absurd (subst IsBetween is between)
     by _ is = subst TakesNone (sym is) tt
 
 -- a work without an answer isn't finished
@@ -65,6 +68,7 @@ busy_still p work is none = by p.phase refl
     by at.Leaving e = ap is_busy_at e
     by at.Retiring e = ap is_busy_at e
     by at.Parting e = ap is_busy_at e
+    by (at.Passing passage) e = ap is_busy_at e
     by (at.Finished w made) e = absurd (none made (ap answer_at e))
 
 begun_at : (p : Private) (work : Work) (from : ℕ) → (begun_of p work from).phase ≡ at.Begun work
@@ -121,7 +125,7 @@ path_on start p q m r log was on now ws word path busy works_on passed came went
           ∙ sym (told_both (begun_of p start.work start.from) (saw_all path.words ++ Saw path.last ∷ []) (saw_all ws))
           ∙ ap (told (begun_of p start.work start.from)) (ap (λ (l : List Beat). l ++ saw_all ws) (sym (map-append (λ (n : ℕ). Saw n) path.words (path.last ∷ []))) ∙ sym (map-append (λ (n : ℕ). Saw n) first ws));
       came = λ cmd is stays.
-          let none : TakesNone path.before.phase = command_takes_none path.before cmd stays (path.works_on ∙ ap (λ (w : Work). Some w) is) in
+          let none : TakesNone path.before.phase = command_takes_none path.before cmd path.between stays (path.works_on ∙ ap (λ (w : Work). Some w) is) in
           let so_far : q ≡ fold took_of (begun_of p start.work start.from) first = path.made ∙ here_same path.before path.last (spare (took_of path.before path.last)) path.busy none ∙ ap (λ (x : Private). took_of x path.last) (path.came cmd is stays)
           ∙ sym (fold-append took_of (begun_of p start.work start.from) path.words (path.last ∷ [])) in
           came ∙ ap (λ (x : Private). fold took_of x ws) so_far ∙ sym (fold-append took_of (begun_of p start.work start.from) first ws);
@@ -206,6 +210,7 @@ steps_left p cmd machine busy work = by p.phase refl machine.now
     by at.Retiring e now = let two : p.steps ≡ 2 = (subst (IsAt p) e now).0 in goes_on commands.Leave p.steps at.Retiring e refl (omega (arith, two))
     by at.Parting e now = let two : p.steps ≡ 2 = (subst (IsAt p) e now).0 in goes_on commands.Leave p.steps at.Parting e refl (omega (arith, two))
     by (at.Finished w made) e now = absurd (true≢false (sym busy ∙ ap is_busy_at e))
+    by (at.Passing passage) e now = goes_on (command_of passage) p.steps (at.Passing passage) e refl (passage_left p passage (subst (IsAt p) e now).steps)
 
 -- a leaf is found by the first step
 finds_first : (q : Private) (cmd : Cmd) (word : ℕ) → IsMachine q → FindsLeaf q word cmd → q.steps ≡ 0
@@ -348,6 +353,7 @@ polled p q from log log' result path begun answer = by path.before.phase refl pa
     by at.Retiring e now = absurd (no_command at.Retiring e refl)
     by at.Parting e now = absurd (no_command at.Parting e refl)
     by (at.Finished w made) e now = absurd (true≢false (sym path.busy ∙ ap is_busy_at e))
+    by (at.Passing passage) e now = absurd (no_command (at.Passing passage) e refl)
 
 -- the heap has as many slots for it still
 pub path_slots : (start : Start) (p q : Private) (log log' : List Beat) → Path start p log log' q → q.slots ≡ p.slots

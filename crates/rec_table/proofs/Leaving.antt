@@ -135,6 +135,7 @@ refused p word told between busy other work answer = by p.phase refl
     by at.Giving e = let no : ◌≡◌ {A = Option Work} (Some works.Poll) (Some (works.Command commands.Leave)) = its at.Giving e in (cc)
     by at.Leaving e = let no : ◌≡◌ {A = Option Made} None (Some (makes.Answered told)) = sym (ap answer_of (lets_go p word (spare (took_of p word)) e).after) ∙ answer in (cc)
     by at.Retiring e = absurd (subst IsBetween e between)
+    by (at.Passing passage) e = absurd (subst IsBetween e between)
     by at.Parting e = absurd (other e)
     by (at.Finished done made) e = absurd (true≢false (sym busy ∙ ap is_busy_at e))
 

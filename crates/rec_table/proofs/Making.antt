@@ -51,6 +51,7 @@ plain_phase p op is between plain_op = by p.phase between (subst IsPlainOp is pl
     by at.Leaving b o = o
     by at.Retiring b o = b
     by at.Parting b o = o
+    by (at.Passing passage) b o = b
     by _ b o = tt
 
 pub taking_phase : (p : Private) (op : Op) → op ≡ next_of p → IsBetween p.phase → IsTakeOp op → TakesBox p.phase
@@ -67,6 +68,7 @@ taking_phase p op is between take = by p.phase refl between
     by at.Leaving e b = tt
     by at.Retiring e b = absurd b
     by at.Parting e b = absurd (subst IsTakeOp (is ∙ ap (next_at p) e) take)
+    by (at.Passing passage) e b = absurd b
     by _ e b = absurd (no (subst IsPlain (sym e) tt))
 
 pub giving_phase : (p : Private) (op : Op) → op ≡ next_of p → IsBetween p.phase → IsGiveOp op → gives_back p.phase ≡ true
@@ -83,6 +85,7 @@ giving_phase p op is between give = by p.phase refl between
     by at.Leaving e b = absurd (subst IsGiveOp (is ∙ ap (next_at p) e) give)
     by at.Retiring e b = absurd b
     by at.Parting e b = refl
+    by (at.Passing passage) e b = absurd b
     by _ e b = absurd (no (subst IsPlain (sym e) tt))
 
 plain_hands : (hand : Contents) (number : ℕ) (phase : phases.Phase) → IsPlain phase → hands_at hand number phase ≡ []
@@ -220,6 +223,7 @@ takes_none at.Crossing b never = absurd (never tt)
 takes_none at.Swapping b never = b
 takes_none at.Leaving b never = absurd (never tt)
 takes_none at.Retiring b never = b
+takes_none (at.Passing passage) b never = b
 takes_none _ b never = tt
 
 none_taken : (p : Private) (word : ℕ) (phase : phases.Phase) → TakesNone phase → taken_by p word phase ≡ []
@@ -243,6 +247,7 @@ never_gives p word busy none = by p.phase refl none
     by at.Swapping e n = absurd n
     by at.Leaving e n = absurd n
     by at.Retiring e n = absurd n
+    by (at.Passing passage) e n = absurd n
     by at.Giving e n = idle_here (took_of p word).phase (back_ends p word (ap gives_back e))
     by at.Parting e n = idle_here (took_of p word).phase (back_ends p word (ap gives_back e))
     by _ e n = plain_case (subst IsPlain (sym e) tt)
@@ -263,6 +268,7 @@ same_capacity p word busy between = by p.phase refl between
     by at.Swapping e b = absurd b
     by at.Leaving e b = ap (λ (f : phases.Phase). (took_at p word f).log.capacity) e
     by at.Retiring e b = absurd b
+    by (at.Passing passage) e b = absurd b
     by _ e b = (took_keeps p word busy (subst TakesNone (sym e) tt)).0.capacity
 
 pub learnt_keeps : (p : Private) (word : ℕ) → is_busy p ≡ true → IsBetween p.phase → KeepsSizes p (learnt p (Saw word)) × (work_of (learnt p (Saw word)) ≡ work_of p)
@@ -332,22 +338,46 @@ learns_box p q r b mailbox t word takes took is_b swapped left hand same =
           ∙ sym (giving_hands t.hand r.number r.phase gives),
     )
 
--- every operation of a mutator is a load, an exchange, a claim, or one that takes its mailbox or gives it back
-pub no_else : (p : Private) (op : Op) → op ≡ next_of p → (IsLoad op → ⊥) → ((x y : ℕ) → op ≡ ops.SwapField x y → ⊥) → ((x y : ℕ) → op ≡ ops.ClaimHeader x y → ⊥)
-    → ((x y : ℕ) → op ≡ ops.TakeBox x y → ⊥) → ((x y : ℕ) → op ≡ ops.GiveBox x y → ⊥) → ⊥
-no_else p op is load swap claim take give = by op (subst (IsOwnOp p) (sym is) (own_next p)) load swap claim take give
+-- a mutator that neither parks nor unparks adds nothing to its crossing word
+abbrev IsShiftOp : Op → Type 0
+IsShiftOp (ops.ShiftBox t shift) = Unit {0}
+IsShiftOp _ = ⊥
+
+not_shift : (o : Op) → IsPlainOp o → IsShiftOp o → ⊥
+not_shift (ops.ShiftBox t shift) is adds = is
+not_shift _ is adds = adds
+
+no_shift : (p : Private) → IsBetween p.phase → IsShiftOp (next_of p) → ⊥
+unfolding next_of next_at
+no_shift p between adds = by p.phase refl between
   where
-    by : (o : Op) → IsOwnOp p o → (IsLoad o → ⊥) → ((x y : ℕ) → o ≡ ops.SwapField x y → ⊥) → ((x y : ℕ) → o ≡ ops.ClaimHeader x y → ⊥) → ((x y : ℕ) → o ≡ ops.TakeBox x y → ⊥) → ((x y : ℕ) → o ≡ ops.GiveBox x y → ⊥) → ⊥
-    by (ops.LoadField x) own l s c t g = l (inl (x, refl))
-    by (ops.SwapField x y) own l s c t g = s x y refl
-    by (ops.LoadHeader x) own l s c t g = l (inr (inl (x, refl)))
-    by ops.LoadEpoch own l s c t g = l (inr (inr (inl refl)))
-    by (ops.LoadCross x) own l s c t g = l (inr (inr (inr (inl (x, refl)))))
-    by (ops.ClaimHeader x y) own l s c t g = c x y refl
-    by ops.LoadFreed own l s c t g = l (inr (inr (inr (inr refl))))
-    by (ops.TakeBox x y) own l s c t g = t x y refl
-    by (ops.GiveBox x y) own l s c t g = g x y refl
-    by _ own l s c t g = own
+    by : (phase : phases.Phase) → p.phase ≡ phase → IsBetween phase → ⊥
+    by at.Crossing e b = subst IsShiftOp (ap (next_at p) e) adds
+    by at.Swapping e b = b
+    by at.Giving e b = subst IsShiftOp (ap (next_at p) e) adds
+    by at.Leaving e b = subst IsShiftOp (ap (next_at p) e) adds
+    by at.Retiring e b = b
+    by at.Parting e b = subst IsShiftOp (ap (next_at p) e) adds
+    by (at.Passing passage) e b = b
+    by _ e b = not_shift (next_of p) (plain_next p (subst IsPlain (sym e) tt)) adds
+
+-- every operation of such a mutator is a load, an exchange, a claim, or one that takes its mailbox or gives it back
+pub no_else : (p : Private) (op : Op) → op ≡ next_of p → IsBetween p.phase → (IsLoad op → ⊥) → ((x y : ℕ) → op ≡ ops.SwapField x y → ⊥) → ((x y : ℕ) → op ≡ ops.ClaimHeader x y → ⊥)
+    → ((x y : ℕ) → op ≡ ops.TakeBox x y → ⊥) → ((x y : ℕ) → op ≡ ops.GiveBox x y → ⊥) → ⊥
+no_else p op is between load swap claim take give = by op (subst (IsOwnOp p) (sym is) (own_next p)) (λ adds. no_shift p between (subst IsShiftOp is adds)) load swap claim take give
+  where
+    by : (o : Op) → IsOwnOp p o → (IsShiftOp o → ⊥) → (IsLoad o → ⊥) → ((x y : ℕ) → o ≡ ops.SwapField x y → ⊥) → ((x y : ℕ) → o ≡ ops.ClaimHeader x y → ⊥) → ((x y : ℕ) → o ≡ ops.TakeBox x y → ⊥) → ((x y : ℕ) → o ≡ ops.GiveBox x y → ⊥) → ⊥
+    by (ops.LoadField x) own n l s c t g = l (inl (x, refl))
+    by (ops.SwapField x y) own n l s c t g = s x y refl
+    by (ops.LoadHeader x) own n l s c t g = l (inr (inl (x, refl)))
+    by ops.LoadEpoch own n l s c t g = l (inr (inr (inl refl)))
+    by (ops.LoadCross x) own n l s c t g = l (inr (inr (inr (inl (x, refl)))))
+    by (ops.ClaimHeader x y) own n l s c t g = c x y refl
+    by ops.LoadFreed own n l s c t g = l (inr (inr (inr (inr refl))))
+    by (ops.TakeBox x y) own n l s c t g = t x y refl
+    by (ops.GiveBox x y) own n l s c t g = g x y refl
+    by (ops.ShiftBox x y) own n l s c t g = n tt
+    by _ own n l s c t g = own
 
 box_of : Op → ℕ
 box_of (ops.TakeBox t e) = t

@@ -86,6 +86,7 @@ claims p slot header is = by p.phase refl
     by at.Retiring e = no at.Retiring e (λ x. x)
     by at.Parting e = no at.Parting e (λ x. x)
     by (at.Finished work made) e = no (at.Finished work made) e (λ x. x)
+    by (at.Passing passage) e = no (at.Passing passage) e (λ x. x)
 
 pub claims_slot : (p : Private) (slot : ℕ) → IsMachine p → (k : Claims p slot) → (k.probed < p.slots) × (p.steps ≡ k.probed + 1) × (slot < p.slots)
 claims_slot p slot machine k =

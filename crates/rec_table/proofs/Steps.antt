@@ -100,6 +100,7 @@ IsPlain at.Giving = ⊥
 IsPlain at.Leaving = ⊥
 IsPlain at.Retiring = ⊥
 IsPlain at.Parting = ⊥
+IsPlain (at.Passing passage) = ⊥
 IsPlain _ = Unit {0}
 
 pub plain_next : (p : Private) → IsPlain p.phase → IsPlainOp (next_of p)
@@ -135,6 +136,7 @@ plain_next p plain = by p.phase plain
     by at.Leaving is = absurd is
     by at.Retiring is = absurd is
     by at.Parting is = absurd is
+    by (at.Passing passage) is = absurd is
     by _ is = tt
 
 pub plain_crossing : (cells : Cells) (op : Op) → IsPlainOp op → (with_cell cells op (written op (cell cells op))).crossing ≡ cells.crossing
@@ -143,6 +145,7 @@ plain_crossing cells (ops.TakeBox t e) is = absurd is
 plain_crossing cells (ops.GiveBox t e) is = absurd is
 plain_crossing cells (ops.LookBox t e) is = absurd is
 plain_crossing cells (ops.ReturnBox t e) is = absurd is
+plain_crossing cells (ops.ShiftBox t shift) is = absurd is
 plain_crossing cells _ is = refl
 
 pub plain_takes_none : (phase : phases.Phase) → IsPlain phase → TakesNone phase
@@ -151,6 +154,7 @@ plain_takes_none at.Swapping is = absurd is
 plain_takes_none at.Giving is = absurd is
 plain_takes_none at.Leaving is = absurd is
 plain_takes_none at.Retiring is = absurd is
+plain_takes_none (at.Passing passage) is = absurd is
 plain_takes_none _ is = tt
 
 -- such a step leaves every mailbox where it is
@@ -405,6 +409,7 @@ not_giving p word phase plain = by phase plain
     by at.Leaving is = absurd is
     by at.Retiring is = absurd is
     by at.Parting is = absurd is
+    by (at.Passing passage) is = absurd is
     by (at.Begun (works.Command commands.Leave)) is = leaving (is_uncollected word)
     by _ is = refl
 

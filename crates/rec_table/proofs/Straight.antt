@@ -128,6 +128,7 @@ answered_idle p made answer = by p.phase refl
     by at.Leaving e = no at.Leaving e refl
     by at.Retiring e = no at.Retiring e refl
     by at.Parting e = no at.Parting e refl
+    by (at.Passing passage) e = no (at.Passing passage) e refl
 
 -- A command that has made all its steps.
 pub carried_path : (h h' : MutatorView) (cmd : Cmd) (from : ℕ) (answer : Told) → (mutator_now h).left ≡ false → Path (record { work = works.Command cmd; from = from }) (mutator_now h) h.log h'.log (mutator_now h') → Works (works.Command cmd) h.log h'.log → h' ≡ record h { log = h'.log }

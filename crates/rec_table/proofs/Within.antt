@@ -21,6 +21,7 @@ within key t p (ops.ClaimHeader slot header) is z own names = (subst (λ n. slot
 within key t p (ops.LoadCross n) is z own names = (omega (arith, own, z.number, is.0), omega (arith, own, z.number, z.crossing))
 within key t p (ops.TakeBox n e) is z own names = (omega (arith, own, z.number, is.0), omega (arith, own, z.number, z.crossing))
 within key t p (ops.GiveBox n e) is z own names = (omega (arith, own, z.number, is.0), omega (arith, own, z.number, z.crossing))
+within key t p (ops.ShiftBox n shift) is z own names = (omega (arith, own, z.number, is.0), omega (arith, own, z.number, z.crossing))
 within key t p ops.LoadEpoch is z own names = tt
 within key t p ops.LoadFreed is z own names = tt
 within key t p _ is z own names = absurd own

@@ -33,6 +33,7 @@ IsPlainOp (ops.TakeBox t e) = ⊥
 IsPlainOp (ops.GiveBox t e) = ⊥
 IsPlainOp (ops.LookBox t e) = ⊥
 IsPlainOp (ops.ReturnBox t e) = ⊥
+IsPlainOp (ops.ShiftBox t shift) = ⊥
 IsPlainOp _ = Unit {0}
 
 -- the record that a seat's list makes up

@@ -77,6 +77,7 @@ bare_cell (ops.StoreEpoch epoch) = refl
 bare_cell (ops.LookBox t epoch) = refl
 bare_cell (ops.ReturnBox t epoch) = refl
 bare_cell ops.AddFreed = refl
+bare_cell (ops.ShiftBox t shift) = refl
 
 -- and leaves the bare word of what it leaves
 pub bare_written : (op : Op) (found : ℕ) → written (bare_op op) (bare_in (cell_of op) found) ≡ bare_in (cell_of op) (written op found)
@@ -96,3 +97,4 @@ bare_written (ops.StoreEpoch epoch) found = refl
 bare_written (ops.LookBox t epoch) found = refl
 bare_written (ops.ReturnBox t epoch) found = refl
 bare_written ops.AddFreed found = refl
+bare_written (ops.ShiftBox t shift) found = refl

@@ -5,4 +5,5 @@ pub mod Given
 pub mod Headers
 pub mod Looks
 pub mod Packing
+pub mod Shifts
 pub mod Walks

@@ -7,6 +7,7 @@ pub mod Looked
 pub mod Mailbox
 pub mod Op
 pub mod Place
+pub mod Shift
 pub mod Walk
 pub mod Wide
 pub mod Word

@@ -3,6 +3,7 @@
 ghost use Rattle.std.specs.Prelude.{◌≡◌, ℕ, ◌+◌, ◌<◌, ◌≤◌, ◌^◌, Bool, List};
 ghost use Rattle.rec_word.specs.Looked.{LooksByTable};
 ghost use Rattle.rec_word.specs.Mailbox.{TellsParts};
+ghost use Rattle.rec_word.specs.Shift.{ShiftsByTable};
 ghost use Rattle.rec_word.specs.Walk.{HasWalked};
 ghost use Rattle.rec_word.specs.declared.mailbox.Mailbox.{Mailbox as Place};
 
@@ -21,4 +22,10 @@ pub fn crossing_words_tell()
 /// takes the deposit if there is one; and any other word stays.
 pub fn looks_follow_the_table()
     ensures { (before epoch : ℕ) → before + 1 ≡ epoch → epoch ≤ 2 ^ 24 → LooksByTable before epoch }
+{}
+
+/// What parking and unparking find and leave: each step writes one of the two bits of the present mailbox, wherever the past mailbox
+/// is, and nothing else.
+pub fn shifts_follow_the_table()
+    ensures { (t epoch : ℕ) (mailbox : Place) → epoch ≤ 2 ^ 24 → ShiftsByTable t epoch mailbox }
 {}

@@ -1,6 +1,6 @@
 ghost use Rattle.std.specs.Prelude.{◌≡◌};
 
-use crate::{Atom, Cell, Mailbox, crossing};
+use crate::{Atom, Cell, Mailbox, Shift, crossing, is_held};
 use std::fmt;
 
 /// One atomic operation on one shared word: `cell` tells which word that is, and `atom` what is done to it.
@@ -39,10 +39,12 @@ pub enum Op {
     ReturnBox(u8, u32),
     /// Add one to the freed word: a sweep begins or ends.
     AddFreed,
+    /// Add to a mutator's own crossing word what this step of parking or unparking is worth.
+    ShiftBox(u8, Shift),
 }
 
 impl Op {
-    ghost use Rattle.rec_word.specs.Op.{atom_of, cell_of, mailbox_of, written};
+    ghost use Rattle.rec_word.specs.Op.{atom_of, berth_of, cell_of, mailbox_of, written};
 
     /// The word that it names.
     #[inline(always)]
@@ -63,7 +65,8 @@ impl Op {
             | Op::TakeBox(t, _)
             | Op::GiveBox(t, _)
             | Op::LookBox(t, _)
-            | Op::ReturnBox(t, _) => Cell::Crossing(t),
+            | Op::ReturnBox(t, _)
+            | Op::ShiftBox(t, _) => Cell::Crossing(t),
         }
     }
 
@@ -94,6 +97,7 @@ impl Op {
             },
             Op::ReturnBox(_, epoch) => Atom::Exchange(crossing(epoch, Mailbox::Spare)),
             Op::AddFreed => Atom::Add(1),
+            Op::ShiftBox(_, shift) => Atom::Add(shift.amount()),
         }
     }
 
@@ -105,7 +109,7 @@ impl Op {
         self.atom().leaves(found)
     }
 
-    /// The mutator whose mailbox it takes, or `None` where it takes none. A look takes it only where the word found says that
+    /// The mutator whose past mailbox it takes, or `None` where it takes none. A look takes it only where the word found says that
     /// the mailbox is home with what was retired.
     #[inline(always)]
     pub fn mailbox(self) -> Option<u8>
@@ -113,6 +117,19 @@ impl Op {
     {
         match self {
             Op::TakeBox(t, _) | Op::LookBox(t, _) => Some(t),
+            _ => None,
+        }
+    }
+
+    /// The mutator whose present mailbox it takes where it found this word, or `None` where it takes none. Whoever unparks takes it
+    /// only where the word says that its deposit is still there.
+    #[inline(always)]
+    pub fn berth(self, found: u64) -> Option<u8>
+        ensures { result ≡ berth_of self found }
+    {
+        match self {
+            Op::ShiftBox(t, Shift::Hold) => Some(t),
+            Op::ShiftBox(t, Shift::Unpark) if is_held(found) => Some(t),
             _ => None,
         }
     }

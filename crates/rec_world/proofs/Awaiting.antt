@@ -12,7 +12,7 @@ use Rattle.rec_model.specs.declared.command.Cmd.TheVariants as commands
 use Rattle.rec_mutator.specs.Causes.{IsAwaited}
 use Rattle.rec_mutator.specs.Step.{IsUncollected}
 use Rattle.rec_mutator.specs.declared.phase.Phase.{Phase}
-use Rattle.rec_mutator.specs.declared.phase.Phase.TheVariants.{Idle, Begun, Scanning, Scanned, Leaving, Retiring, Parting, Finished}
+use Rattle.rec_mutator.specs.declared.phase.Phase.TheVariants.{Idle, Begun, Scanning, Scanned, Leaving, Retiring, Parting, Finished, Passing}
 use Rattle.rec_mutator.specs.declared.work.Work.{Work}
 use Rattle.rec_mutator.specs.declared.work.Work.TheVariants as works
 use Rattle.rec_mutator.proofs.Refusals.{same_command}
@@ -57,6 +57,7 @@ at_first w t kept is busy stays work = go (mutator w t).phase refl busy stays (a
     go Retiring its busy stays between work = absurd between
     go Parting its busy stays between work = absurd stays
     go (Finished done made) its busy stays between work = absurd (false≢true busy)
+    go (Passing passage) its busy stays between work = absurd between
     go _ its busy stays between work = cc
 
 pub awaits_collector : (w : Core) (t : ℕ) (cmd : Cmd) → IsKept false w → IsMutator w.config t → is_busy (mutator w t) ≡ true → IsStayingIn (mutator w t).phase → work_of (mutator w t) ≡ Some (works.Command cmd)

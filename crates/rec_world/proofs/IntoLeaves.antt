@@ -9,8 +9,9 @@ use Rattle.rec_model.specs.declared.command.Cmd.{Cmd}
 use Rattle.rec_model.specs.declared.command.Cmd.TheVariants as commands
 use Rattle.rec_mutator.specs.Causes.{FindsLeaf}
 use Rattle.rec_mutator.specs.Step.{HasRoom}
+use Rattle.rec_mutator.specs.Took.{IsBetween}
 use Rattle.rec_mutator.specs.declared.phase.Phase.{Phase}
-use Rattle.rec_mutator.specs.declared.phase.Phase.TheVariants.{Idle, Begun, Scanning, Scanned, Storing, Finished}
+use Rattle.rec_mutator.specs.declared.phase.Phase.TheVariants.{Idle, Begun, Scanning, Scanned, Storing, Finished, Passing}
 use Rattle.rec_mutator.specs.declared.work.Work.{Work}
 use Rattle.rec_mutator.specs.declared.work.Work.TheVariants as works
 use Rattle.rec_mutator.proofs.Refusals.{at_phase, same_command}
@@ -54,6 +55,7 @@ first_step w t src f val slot kept is busy work names leaf = go (mutator w t).ph
         let unmarked : is_leaf (slice_index_or w.headers at 0) ≡ false = subst (HasLearnt w.config.slots w.headers w.freed (mutator w t).from) its (kept.learnt t is) in
         absurd (false≢true (sym unmarked ∙ ap (λ n. is_leaf (slice_index_or w.headers n 0)) same ∙ leaf))
     go (Finished done made) its busy work = absurd (false≢true busy)
+    go (Passing passage) its busy work = absurd (subst IsBetween its (actor_of w t kept is).own.between)
     go _ its busy work = cc
 
 pub into_leaf : (w : Core) (t : ℕ) (cmd : Cmd) → IsKept false w → IsMutator w.config t → is_busy (mutator w t) ≡ true → work_of (mutator w t) ≡ Some (works.Command cmd) → FindsLeaf (mutator w t) (found_by w t) cmd ↔ WritesLeaf w t cmd

@@ -2,27 +2,20 @@
 use Rattle.std.proofs.Common.{◌≡◌, ℕ, Option, None, Some, refl, sym, ap, ◌∙◌}
 use Rattle.std.specs.Option.{IsSome}
 use Rattle.std.proofs.lemmas.Bool.{false≢true}
-use Rattle.rec_world.proofs.Common.{Contents, Private, swapped_of, left_of, left_at, IsSwapping, IsBetween, held}
+use Rattle.rec_world.proofs.Common.{Contents, Private, swapped_of, left_of, left_at, IsSwapping, held}
 use Rattle.rec_mutator.specs.declared.phase.Phase as phases
 use Rattle.rec_mutator.specs.declared.phase.Phase.TheVariants as at
-use Rattle.rec_mutator.proofs.Steps.{unswapped}
+use Rattle.rec_mutator.specs.Took.{swapped_at}
 use Rattle.rec_collector.specs.Given as collector_given
 use Rattle.rec_collector.specs.Private as collectors
 use Rattle.rec_collector.specs.Took as collector_took
 use Rattle.rec_collector.specs.declared.phase.Phase.{Phase}
 use Rattle.rec_collector.specs.declared.phase.Phase.TheVariants.{Swapping}
-use Rattle.rec_core.proofs.Crossings.{left_same}
 
 -- a mailbox that is home
 pub held_some : (x : Option Contents) → IsSome x → x ≡ Some (held x)
 held_some (Some b) is = refl
 held_some None is = absurd (false≢true is)
-
--- a phase in which no mailbox waits
-between_if : (phase : phases.Phase) → (IsSwapping phase → ⊥) → IsBetween phase
-between_if at.Swapping not = not tt
-between_if at.Retiring not = not tt
-between_if _ not = tt
 
 -- where the mutator holds its mailbox, its log is left there
 pub left_log : (p : Private) (b : Contents) → IsSwapping p.phase → left_of p b ≡ p.log
@@ -36,10 +29,25 @@ left_log p b is = go p.phase is
 
 -- where it doesn't, both stay
 pub machine_stays : (p : Private) (b : Contents) → (IsSwapping p.phase → ⊥) → p ≡ swapped_of p b
-machine_stays p b not = sym (unswapped p b (between_if p.phase not))
+unfolding swapped_of swapped_at
+machine_stays p b not = go p.phase not
+  where
+    go : (phase : phases.Phase) → (IsSwapping phase → ⊥) → p ≡ swapped_at p b phase
+    go at.Swapping none = absurd (none tt)
+    go at.Retiring none = absurd (none tt)
+    go _ none = refl
+
+left_box : (p : Private) (b : Contents) → (IsSwapping p.phase → ⊥) → left_of p b ≡ b
+unfolding left_of left_at
+left_box p b not = go p.phase not
+  where
+    go : (phase : phases.Phase) → (IsSwapping phase → ⊥) → left_at p b phase ≡ b
+    go at.Swapping none = absurd (none tt)
+    go at.Retiring none = absurd (none tt)
+    go _ none = refl
 
 pub mailbox_stays : (p : Private) (x : Option Contents) → IsSome x → (IsSwapping p.phase → ⊥) → x ≡ Some (left_of p (held x))
-mailbox_stays p x home not = held_some x home ∙ ap (λ b. Some b) (sym (left_same p (held x) (between_if p.phase not)))
+mailbox_stays p x home not = held_some x home ∙ ap (λ b. Some b) (sym (left_box p (held x) not))
 
 -- where the collector holds none, it stays
 pub collector_stays : (c : collectors.Private) (b : Contents) → (collector_given.IsSwapping c.phase → ⊥) → c ≡ collector_took.swapped_of c b

@@ -7,7 +7,7 @@ use Rattle.rec_word.specs.declared.op.Op.{Op}
 use Rattle.rec_word.specs.declared.op.Op.TheVariants as ops
 use Rattle.rec_model.specs.Sight.{IsTaken}
 use Rattle.rec_mutator.specs.declared.phase.Phase.{Phase}
-use Rattle.rec_mutator.specs.declared.phase.Phase.TheVariants.{Idle, Begun, Scanning, Scanned, Storing, Crossing, Swapping, Giving, Leaving, Retiring, Parting, Finished}
+use Rattle.rec_mutator.specs.declared.phase.Phase.TheVariants.{Idle, Begun, Scanning, Scanned, Storing, Crossing, Swapping, Giving, Leaving, Retiring, Parting, Finished, Passing}
 use Rattle.rec_mutator.proofs.Around.{behind_first}
 use Rattle.rec_mutator.proofs.Skips.{skipped_next, skipped_none, skipped_further, skipped_alone, skipped_busy}
 use Rattle.rec_mutator.proofs.Refusals.{at_phase}
@@ -110,6 +110,7 @@ skip_path_at w t slot Leaving kept is phase found ahead few taken = stays w t sl
 skip_path_at w t slot Retiring kept is phase found ahead few taken = stays w t slot (ap (skipped_at (mutator w t) slot) phase)
 skip_path_at w t slot Parting kept is phase found ahead few taken = stays w t slot (ap (skipped_at (mutator w t) slot) phase)
 skip_path_at w t slot (Finished work made) kept is phase found ahead few taken = stays w t slot (ap (skipped_at (mutator w t) slot) phase)
+skip_path_at w t slot (Passing passage) kept is phase found ahead few taken = stays w t slot (ap (skipped_at (mutator w t) slot) phase)
 
 -- skips past taken slots are steps
 skip_path : (w : Core) (t slot : ℕ) → IsKept false w → IsMutator w.config t → HasFound w (mutator w t).from (mutator w t).phase → IsAhead (mutator w t).phase slot → slot ≤ w.config.slots

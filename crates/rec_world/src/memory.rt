@@ -76,6 +76,7 @@ impl Memory {
             Op::TakeBox(t, _) | Op::GiveBox(t, _) => self.exchange(Cell::Crossing(t), op),
             Op::LookBox(t, _) => self.exchange(Cell::Crossing(t), op),
             Op::ReturnBox(t, _) => self.exchange(Cell::Crossing(t), op),
+            Op::ShiftBox(t, _) => self.exchange(Cell::Crossing(t), op),
         }
     }
 

@@ -53,7 +53,11 @@ impl Machine {
             Phase::Giving => self.gave_box(),
             Phase::Leaving => self.let_go(),
             Phase::Parting => self.parted(),
-            Phase::Idle | Phase::Swapping | Phase::Retiring | Phase::Finished { .. } => {}
+            Phase::Idle
+            | Phase::Swapping
+            | Phase::Retiring
+            | Phase::Finished { .. }
+            | Phase::Passing { .. } => {}
         }
     }
 

@@ -47,7 +47,7 @@ swap-requires-in-GiveBox g c =
 pub unreachable-requires : goal.unreachable-requires
 unreachable-requires g c =
     let d = c.in_default in
-    no_else (ready g.W.Doing.actor c.args.work) c.args.op c.requires.op
+    no_else (ready g.W.Doing.actor c.args.work) c.args.op c.requires.op c.requires.between
     (λ (l : IsLoad c.args.op). ⊎_elim (λ x. d.not-LoadField x.0 x.1) (λ y. ⊎_elim (λ x. d.not-LoadHeader x.0 x.1) (λ z. ⊎_elim d.not-LoadEpoch (λ a. ⊎_elim (λ x. d.not-LoadCross x.0 x.1) d.not-LoadFreed a) z) y) l)
     d.not-SwapField d.not-ClaimHeader d.not-TakeBox d.not-GiveBox
 
