@@ -5,7 +5,7 @@
 //! is its mutator's last. A push adds one entry at the end, or answers `Full` exactly at the capacity and changes nothing. One
 //! that is retired takes the registers as its snapshot and keeps its entries, and the last one is marked too; one that is
 //! retired as still takes the snapshot of another; one that is reopened has a null snapshot, and keeps its entries; one that is
-//! cleared is as it was opened. No call but the opening takes memory.
+//! cleared is as it was opened. No call but the opening can be refused memory.
 //! The layer above may use exactly that. The snapshot of a buffer that was never retired is all null.
 //! Logging each write with the value that it replaced, and counting from the logs later, is the idea of the paper "Java
 //! without the Coffee Breaks" (2001); stamps, births as entries of their own and the fixed capacity are this project's

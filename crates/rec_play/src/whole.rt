@@ -21,7 +21,7 @@ use std::alloc::AllocError as NoMemory;
 
 /// Runs the commands of a script on a heap on which they may begin, by the playing rule with this seed and at most so many
 /// drawn turns; a turn of the collector is one step of its collection. Each mutator's journal gets its commands with what was
-/// told, and `order` the mutators, turn by turn. It takes no memory.
+/// told, and `order` the mutators, turn by turn. It can't be refused memory.
 pub fn play(
     script: &Script,
     seed: u64,

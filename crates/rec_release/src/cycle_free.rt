@@ -17,7 +17,7 @@ use rec_counts::Counts;
 use rec_word::{Member, Op, place, target};
 use std::marker::Model;
 
-/// The freeing of a set that passed both tests. It takes no memory.
+/// The freeing of a set that passed both tests. No call of it can be refused memory.
 #[derive(Drop)]
 pub struct CycleFree {
     fields: u8,

@@ -12,7 +12,7 @@ use rec_counts::Counts;
 use rec_word::{Op, place, target};
 use std::marker::Model;
 
-/// The release of the zeros. It takes no memory.
+/// The release of the zeros. No call of it can be refused memory.
 #[derive(Drop)]
 pub struct Release {
     fields: u8,

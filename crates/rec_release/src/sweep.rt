@@ -8,7 +8,7 @@ use rec_counts::Counts;
 use rec_word::Op;
 use std::marker::Model;
 
-/// The sweep of the free list. It takes no memory.
+/// The sweep of the free list. No call of it can be refused memory.
 #[derive(Drop)]
 pub struct Sweep {
     due: Option<u16>,

@@ -14,7 +14,7 @@ use rec_counts::Counts;
 use rec_word::{Member, Op, place, target};
 use std::marker::Model;
 
-/// The preparation of all sets for their tests. It takes no memory.
+/// The preparation of all sets for their tests. No call of it can be refused memory.
 #[derive(Drop)]
 pub struct Prep {
     fields: u8,

@@ -2,8 +2,8 @@
 //!
 //! `Heap::start` moves a world's words and mailboxes onto an atomic table of the kit, and gives an end for each actor: a `Mutator`
 //! for each of the world's, and the `Collector`. An end makes the steps of its machine: it looks which operation comes next, carries
-//! that out as one atomic operation of the table, and its machine learns the word found. No call of an end takes memory, a lock or
-//! a handle, or waits. `Heap::stop` takes all ends back, and gives the world that the heap has become. A mutator may leave for good
+//! that out as one atomic operation of the table, and its machine learns the word found. No call of an end can be refused memory, takes
+//! a lock or a handle, or waits. `Heap::stop` takes all ends back, and gives the world that the heap has become. A mutator may leave for good
 //! meanwhile, and nothing is asked of one that has left.
 //! The rule that the table keeps: there is one run of the core from the started world, whose last state has the table's words and
 //! mailboxes; and each end's list, of the works that it began and the words that its steps found, is its own moves in that run, each

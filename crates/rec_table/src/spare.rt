@@ -1,4 +1,4 @@
-//! What is kept of a world while it runs, so that it is put together again without taking memory.
+//! What is kept of a world while it runs, so that putting it together again can't be refused memory.
 ghost use Rattle.std.specs.Prelude.{◌≡◌, ℕ, ◌%◌, ◌<◌, [], All, map};
 ghost use Rattle.rec_core.specs.Worked.{AreIdle};
 ghost use Rattle.rec_table.specs.Ends.{Interleaves};

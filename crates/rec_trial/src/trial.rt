@@ -18,7 +18,7 @@ use rec_counts::{Colour, Counts};
 use rec_word::{Op, place, target};
 use std::marker::Model;
 
-/// Trial deletion. It takes no memory.
+/// Trial deletion. No call of it can be refused memory.
 #[derive(Drop)]
 pub struct Trial {
     fields: u8,
