@@ -169,7 +169,7 @@ int main(int count, char **words) {
     if (count != 5) {
         fail("words", (uint32_t)count);
     }
-    const recycler_config config = { SLOTS, 1, REGISTERS, MUTATORS, (uint32_t)atoi(words[2]), 1, 0 };
+    const recycler_config config = { SLOTS, 1, REGISTERS, MUTATORS, (uint32_t)atoi(words[2]), 1, 0, 0 };
     end = now() + atof(words[1]);
     sleep_every = atof(words[3]) / 1000;
     nap = atol(words[4]);

@@ -51,7 +51,7 @@ static void must(int is_so, const char *what, int line) {
 #define MUST(what) must((what), #what, __LINE__)
 
 static uint32_t open_small(recycler *r) {
-    const recycler_config config = { SLOTS, 2, 4, MUTATORS, LOG, 1, 0 };
+    const recycler_config config = { SLOTS, 2, 4, MUTATORS, LOG, 1, 0, 0 };
     return recycler_open(r, &config);
 }
 

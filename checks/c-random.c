@@ -368,7 +368,7 @@ static void wrong_handle(void) {
 }
 
 static void open_heap(void) {
-    recycler_config config = { 1 + below(SLOTS), 1 + below(FIELDS), 1 + below(REGISTERS), 1 + below(MUTATORS), 1 + below(LOG), 1, 0 };
+    recycler_config config = { 1 + below(SLOTS), 1 + below(FIELDS), 1 + below(REGISTERS), 1 + below(MUTATORS), 1 + below(LOG), 1, 0, 0 };
     if (below(10) == 0) {
         config.first_epoch = LAST_EPOCH - below(8);
     }

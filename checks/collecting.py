@@ -30,10 +30,10 @@ class Log:
 
 
 class Heap:
-    """A heap with so many slots, fields, registers and mutators, steady or not, whose trials wait for so many roots."""
+    """A heap with so many slots, fields, registers and mutators, steady or not, whose trials wait for so many roots, and are postponed so often in a row at most."""
 
-    def __init__(self, slots, fields, registers, mutators, steady, least):
-        self.steady, self.least = steady, least
+    def __init__(self, slots, fields, registers, mutators, steady, least, most):
+        self.steady, self.least, self.most, self.postponed = steady, least, most, 0
         self.slots = [Slot([None] * fields) for _ in range(slots)]
         self.registers = [[0] + [None] * (registers - 1) for _ in range(mutators)]
         self.slots[0].taken, self.slots[0].count = True, mutators
@@ -95,9 +95,11 @@ class Heap:
         self.older = newer
         self.release(False)
         self.test()
-        if len(self.roots) < self.least:
+        if len(self.roots) < self.least and self.postponed < self.most:
+            self.postponed += 1
             self.postpone()
         else:
+            self.postponed = 0
             self.trial()
         self.prepare()
         self.epoch += 1

@@ -82,9 +82,10 @@
  *             finalizers[heard.label](heard.label);           gone: its label is free for another
  *
  * Versions. The numbers below are this header's, and recycler_version returns the library's.
- * The first is raised if a program built before may no longer be linked. Before 2.0
- * recycler_config had no least_roots. Before 1.0 codes, answers and outcomes of turns had no
- * E_, A_ and W_ in their names, and recycler_open took six numbers.
+ * The first is raised if a program built before may no longer be linked. Before 3.0
+ * recycler_config had no most_postponed, and before 2.0 no least_roots. Before 1.0 codes,
+ * answers and outcomes of turns had no E_, A_ and W_ in their names, and recycler_open took six
+ * numbers.
  */
 #ifndef RECYCLER_H
 #define RECYCLER_H
@@ -93,7 +94,7 @@
 #include <stddef.h>
 #include <stdint.h>
 
-#define RECYCLER_VERSION_MAJOR 2
+#define RECYCLER_VERSION_MAJOR 3
 #define RECYCLER_VERSION_MINOR 0
 #define RECYCLER_VERSION_PATCH 0
 #define RECYCLER_VERSION \
@@ -171,17 +172,21 @@ typedef struct recycler_config {
     uint32_t first_epoch; /* 1 to 16,777,215; 1 except to test what happens after the last one */
     uint32_t least_roots; /* candidate roots that a trial waits for; 0 for a trial in each
                              collection */
+    uint32_t most_postponed; /* collections in a row that it waits at most; 0 for a trial in each
+                                collection */
 } recycler_config;
 
 /* Candidate roots. Garbage cycles are found by trials, which trace from candidate roots: objects
- * that lost a reference, and not their last one. With least_roots 0 each collection makes a
- * trial. With another number a collection makes one only once so many candidate roots wait. This
- * pays where registers walk over large live structures, since each trial traces them again
- * (bench/README.md, "When to try"). An object costs a candidate root soon after its allocation,
- * leaves excepted, so at most half of the slots that live objects leave free is a good number.
- * Until then garbage cycles keep their slots: with fewer candidate roots they are kept forever,
- * and with a number above that of the free slots a heap may fill up with them. recycler_settle
- * frees all. */
+ * that lost a reference, and not their last one. A collection makes a trial if least_roots
+ * candidate roots wait, or if most_postponed collections in a row have made none. So with 0 in
+ * either number each collection makes one, and of most_postponed + 1 collections in a row at
+ * least one does. To wait pays where registers walk over large live structures, since each trial
+ * traces them again (bench/README.md, "When to try"). An object costs a candidate root soon after
+ * its allocation, leaves excepted, so at most half of the slots that live objects leave free is a
+ * good number. Until a trial garbage cycles keep their slots, and finalizers that wait for them
+ * aren't told. Where many objects are made candidate roots come soon; where few are, collections
+ * are short. So a small most_postponed, such as 16, delays cycles little. recycler_settle frees
+ * all. */
 
 /* A good number of log entries for this many slots that live objects leave free. Each
  * allocation and each field write, null included, uses one entry; a refused command uses none.
@@ -197,7 +202,7 @@ typedef struct recycler_config {
 /* A heap of all slots for one mutator, whose objects have two fields. Change what you like:
  *     recycler_config config = RECYCLER_DEFAULTS;
  *     config.mutators = 4; */
-#define RECYCLER_DEFAULTS { 65535, 2, 16, 1, RECYCLER_LOG_ENTRIES(65535, 1), 1, 0 }
+#define RECYCLER_DEFAULTS { 65535, 2, 16, 1, RECYCLER_LOG_ENTRIES(65535, 1), 1, 0, 0 }
 
 /* The answer of a command. */
 typedef enum recycler_answer {
@@ -470,7 +475,7 @@ RECYCLER_HAS(sizeof(recycler_handle) == 64);
 RECYCLER_HAS(offsetof(recycler_handle, owned) == 8);
 RECYCLER_HAS(sizeof(recycler) == 65 * 64);
 RECYCLER_HAS(offsetof(recycler, listener) == 64 * 64);
-RECYCLER_HAS(sizeof(recycler_config) == 28);
+RECYCLER_HAS(sizeof(recycler_config) == 32);
 RECYCLER_HAS(sizeof(recycler_asked) == 24);
 RECYCLER_HAS(offsetof(recycler_asked, before) == 8);
 RECYCLER_HAS(sizeof(recycler_turned) == 16);

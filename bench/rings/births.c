@@ -76,7 +76,7 @@ static void count_births(void) {
 int main(int argc, char **argv) {
     uint32_t slots = argc > 1 ? (uint32_t)atol(argv[1]) : 0;
     uint32_t taken = 0;
-    const recycler_config config = { slots, 1, REGISTERS, 1, LOG_ENTRIES, 1, 0 };
+    const recycler_config config = { slots, 1, REGISTERS, 1, LOG_ENTRIES, 1, 0, 0 };
     must(recycler_open(&heap, &config), "open");
     must(recycler_start(&heap), "start");
     drop(FIRST);

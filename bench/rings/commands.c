@@ -75,7 +75,7 @@ static void count(void (*command)(void), const char *name) {
 
 int main(int argc, char **argv) {
     uint32_t slots = argc > 1 ? (uint32_t)atol(argv[1]) : 0;
-    const recycler_config config = { slots, 1, 2, 1, LOG_ENTRIES, 1, 0 };
+    const recycler_config config = { slots, 1, 2, 1, LOG_ENTRIES, 1, 0, 0 };
     must(recycler_open(&heap, &config), NULL, 0, "open");
     must(recycler_start(&heap), NULL, 0, "start");
     for (uint32_t taken = 1; taken < slots; taken++) {

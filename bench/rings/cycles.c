@@ -31,7 +31,7 @@ int main(int argc, char **argv) {
     uint32_t objects = argc > 1 ? (uint32_t)atol(argv[1]) : 0;
     recycler_asked told;
     recycler_settled settled;
-    const recycler_config config = { SLOTS, FIELDS, REGISTERS, 1, LOG_ENTRIES, 1, 0 };
+    const recycler_config config = { SLOTS, FIELDS, REGISTERS, 1, LOG_ENTRIES, 1, 0, 0 };
     must(recycler_open(&heap, &config), NULL, "open");
     must(recycler_start(&heap), NULL, "start");
     must(recycler_new(mutator, FIRST, 0, &told), &told, "new");

@@ -99,7 +99,7 @@ static void round_of(uint32_t rings, const char *turns) {
 int main(int argc, char **argv) {
     uint32_t slots = argc > 1 ? (uint32_t)atol(argv[1]) : 0;
     uint32_t live = argc > 2 ? (uint32_t)atol(argv[2]) : 0;
-    const recycler_config config = { slots, 1, REGISTERS, 1, LOG_ENTRIES, 1, 0 };
+    const recycler_config config = { slots, 1, REGISTERS, 1, LOG_ENTRIES, 1, 0, 0 };
     must(recycler_open(&heap, &config), NULL, "open");
     must(recycler_start(&heap), NULL, "start");
     make_list(live);

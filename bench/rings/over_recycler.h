@@ -41,7 +41,7 @@ static void open_heap(uint64_t most_bytes, bool whole) {
     (void)most_bytes;
     (void)whole;
     uint64_t before = given_out();
-    const recycler_config config = { SLOTS, FIELDS, ALL_REGISTERS, THREADS, LOG_ENTRIES, 1, 0 };
+    const recycler_config config = { SLOTS, FIELDS, ALL_REGISTERS, THREADS, LOG_ENTRIES, 1, 0, 0 };
     must(recycler_open(&heap, &config), "open");
     must(recycler_start(&heap), "start");
     taken = given_out() - before;

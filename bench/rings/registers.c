@@ -46,7 +46,7 @@ int main(int argc, char **argv) {
     const char *kind = argc > 1 ? argv[1] : "null";
     uint32_t registers = argc > 2 ? (uint32_t)atol(argv[2]) : 1;
     long collections = argc > 3 ? atol(argv[3]) : 0;
-    const recycler_config config = { SLOTS, 1, registers, 1, LOG_ENTRIES, 1, 0 };
+    const recycler_config config = { SLOTS, 1, registers, 1, LOG_ENTRIES, 1, 0, 0 };
     must(recycler_open(&heap, &config), NULL, "open");
     must(recycler_start(&heap), NULL, "start");
     for (uint32_t reg = 1; reg < registers; reg++) {

@@ -56,7 +56,7 @@ static void counted(uint32_t code, const char *call) {
 int main(int argc, char **argv) {
     uint32_t slots = argc > 1 ? (uint32_t)atol(argv[1]) : 0;
     recycler_settled settled;
-    const recycler_config config = { slots, FIELDS, REGISTERS, 1, LOG_ENTRIES, 1, 0 };
+    const recycler_config config = { slots, FIELDS, REGISTERS, 1, LOG_ENTRIES, 1, 0, 0 };
     must(recycler_open(&heap, &config), "open");
     must(recycler_start(&heap), "start");
     /* the object of the opening is the list's last one */

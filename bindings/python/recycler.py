@@ -198,11 +198,11 @@ class Collector(_Held):
 class Heap:
     """A heap, opened at rest."""
 
-    def __init__(self, slots=65535, fields=2, registers=16, mutators=1, log_entries=None, first_epoch=1, least_roots=0):
+    def __init__(self, slots=65535, fields=2, registers=16, mutators=1, log_entries=None, first_epoch=1, least_roots=0, most_postponed=0):
         entries = max(16, slots // (4 * max(1, mutators))) if log_entries is None else log_entries
         self._heap = _header.types["recycler"]()
         self._locks = [threading.Lock() for _ in range(MOST_MUTATORS + 2)]
-        config = _header.types["recycler_config"](slots, fields, registers, mutators, entries, first_epoch, least_roots)
+        config = _header.types["recycler_config"](slots, fields, registers, mutators, entries, first_epoch, least_roots, most_postponed)
         _call("recycler_open", self._heap, config)
 
     def __enter__(self):

@@ -54,7 +54,7 @@ static void want_true(int is_so, const char *what) {
 
 static uint32_t open_with(recycler *r, uint32_t slots, uint32_t fields, uint32_t registers,
                           uint32_t mutators, uint32_t log_entries, uint32_t first_epoch) {
-    const recycler_config config = { slots, fields, registers, mutators, log_entries, first_epoch, 0 };
+    const recycler_config config = { slots, fields, registers, mutators, log_entries, first_epoch, 0, 0 };
     return recycler_open(r, &config);
 }
 

@@ -27,7 +27,7 @@ use Rattle.rec_collector.specs.Zeros.{AreCounted}
 
 -- the parts that their fields make up
 abbrev pub whole : Inside → Parts
-whole inside = record { counts = inside.counts; fields = inside.fields; sets = inside.sets; offers = inside.offers; policy = inside.policy }
+whole inside = record { counts = inside.counts; fields = inside.fields; sets = inside.sets; offers = inside.offers; postponed = inside.postponed; policy = inside.policy }
 
 -- whether a machine names an operation, as its answer is looked at
 pub due : {none is : Bool} {next op : Option Op} → next ≡ op → is_some next ≡ not none → none ≡ is → is_some op ≡ not is

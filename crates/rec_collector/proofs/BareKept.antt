@@ -92,5 +92,6 @@ machine_bare p m = record {
   left = m.left ∙ sym (rows_many p.newer);
   counts = m.counts;
   told = told_bare p p.phase m.told;
+  postponed = m.postponed;
   now = at_bare p p.phase m.now;
 }

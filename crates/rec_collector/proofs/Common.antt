@@ -17,7 +17,7 @@ pub use Rattle.rec_collector.specs.Followed.{Next, going_on, gone_on, next_in, p
 unfoldable pub use Rattle.rec_collector.specs.Followed.{followed, prepared, tried}
 pub use Rattle.rec_collector.specs.Given.{IsSized, IsWork}
 unfoldable pub use Rattle.rec_collector.specs.Given.{IsGiven, IsGivenAt}
-pub use Rattle.rec_collector.specs.Kept.{AreFew, AreInPreparation, AreOnTrial, ArePrepared, AreResting, AreSized, AreSpare, AreTried, IsAt, IsAtRest, IsGathering, IsListed, IsLooking, IsMachine, IsPreparing, IsSweeping, IsTesting, IsTold, IsTrying, KeepsSizes, NoneReleased, all_fields, limit_of, swept_at, under_way}
+pub use Rattle.rec_collector.specs.Kept.{AreFew, AreInPreparation, AreOnTrial, ArePrepared, AreResting, AreSized, AreSpare, AreTried, IsAt, IsAtRest, IsGathering, IsListed, IsLooking, IsMachine, IsPreparing, IsSweeping, IsTesting, IsTold, IsTrying, KeepsSizes, NoneReleased, all_fields, least_after, limit_of, swept_at, under_way}
 pub use Rattle.rec_collector.specs.Gathering.{MayGatherBehind}
 pub use Rattle.rec_collector.specs.Parts.{Parts, new_freeing, new_release}
 pub use Rattle.rec_collector.specs.Present.{HaveLeft, IsNextPresent, has_left, next_present}

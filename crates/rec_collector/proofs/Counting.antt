@@ -26,19 +26,20 @@ counted_told Held sets = omega arith
 abbrev told_and_left : Parts → ℕ
 told_and_left w = told w.sets + length w.counts.sets
 
--- the numbers of slots and fields and the policy stay, and no set is lost
+-- the numbers of slots and fields and of postponed trials and the policy stay, and no set is lost
 pub record KeepsTold (w v : Parts) : Type 0 where
   pub slots : length v.counts.slots ≡ length w.counts.slots
   pub fields : v.fields ≡ w.fields
   pub policy : v.policy ≡ w.policy
+  pub postponed : v.postponed ≡ w.postponed
   pub told : told_and_left v ≡ told_and_left w
 
 pub told_on : {w v u : Parts} → KeepsTold w v → KeepsTold v u → KeepsTold w u
-told_on k l = record { slots = l.slots ∙ k.slots; fields = l.fields ∙ k.fields; policy = l.policy ∙ k.policy; told = l.told ∙ k.told }
+told_on k l = record { slots = l.slots ∙ k.slots; fields = l.fields ∙ k.fields; policy = l.policy ∙ k.policy; postponed = l.postponed ∙ k.postponed; told = l.told ∙ k.told }
 
 -- so it is where neither the sets nor the number of slots change
 pub same_told : (w : Parts) (t : State) → length t.slots ≡ length w.counts.slots → t.sets ≡ w.counts.sets → KeepsTold w (with_counts w t)
-same_told w t slots sets = record { slots = slots; fields = refl; policy = refl; told = ap (λ xss. told w.sets + length xss) sets }
+same_told w t slots sets = record { slots = slots; fields = refl; policy = refl; postponed = refl; told = ap (λ xss. told w.sets + length xss) sets }
 
 pub zeros_told : (lowers : Bool) (w : Parts) → KeepsTold w (zeros_released lowers w).parts
 unfolding zeros_started
@@ -72,6 +73,7 @@ last_told w some = record {
   slots = last_by (λ b. length b.parts.counts.slots ≡ length w.counts.slots) w (λ e. given_many w.counts) (λ verdict. (zeros_told true (last_refused verdict w)).slots ∙ refurbished_many w.counts);
   fields = last_by (λ b. b.parts.fields ≡ w.fields) w (λ e. refl) (λ verdict. refl);
   policy = last_by (λ b. b.parts.policy ≡ w.policy) w (λ e. refl) (λ verdict. refl);
+  postponed = last_by (λ b. b.parts.postponed ≡ w.postponed) w (λ e. refl) (λ verdict. refl);
   told = let counted : told (last_tested w).parts.sets ≡ told w.sets + 1 = last_by (λ b. told b.parts.sets ≡ told w.sets + 1) w (λ e. counted_told Passed w.sets) (λ verdict. counted_told verdict w.sets) in omega (arith, counted, last_sets w some);
 }
 

@@ -1,10 +1,10 @@
 -- Slots are released and sets tested, from a batch, which leaves the counts tidy, to the next trial: what holds after each word, and what
 -- follows it.
-use Rattle.std.proofs.Common.{◌≡◌, ℕ, ◌<◌, nat_le, if◌then◌else◌, Bool, true, false, Option, None, Some, List, [], refl, arith, sym, ◌∙◌, ap, subst, inl, inr, ◌+◌, ◌*◌, ◌^◌, ◌≤◌, length}
+use Rattle.std.proofs.Common.{◌≡◌, ℕ, ◌<◌, Bool, true, false, Option, None, Some, List, [], refl, arith, sym, ◌∙◌, ap, subst, inl, inr, ◌+◌, ◌*◌, ◌^◌, ◌≤◌, length}
 use Rattle.std.specs.List.{concat}
 use Rattle.std.proofs.lemmas.List.{get_or_past}
-use Rattle.std.proofs.lemmas.Bool.{cases_Bool, cases_lt, false≢true, leb-false}
-use Rattle.rec_collector.proofs.Common.{Contents, Slot, IsKept, State, slot_at, times, absent, times-nil, IsReady, IsTidy, HasExchanged, IsCleared, IsClearingIn, AreResting, IsAtRest, NoneReleased, IsMachine, IsTesting, MayGatherBehind, Parts, followed, makes_trial, next_in, prep_started, put_off, trial_if, AreFew, AreTried, IsListed, with_freed, with_offers, with_released, going_on, Private, parts_of, tested, told, zeros_released, Begun, batched, Phase, Releasing, Freeing}
+use Rattle.std.proofs.lemmas.Bool.{cases_Bool, cases_lt, false≢true}
+use Rattle.rec_collector.proofs.Common.{Contents, Slot, IsKept, State, slot_at, times, absent, times-nil, IsReady, IsTidy, HasExchanged, IsCleared, IsClearingIn, AreResting, IsAtRest, NoneReleased, IsMachine, IsTesting, MayGatherBehind, Parts, followed, makes_trial, next_in, prep_started, put_off, trial_if, AreFew, AreTried, least_after, IsListed, with_freed, with_offers, with_released, going_on, Private, parts_of, tested, told, zeros_released, Begun, batched, Phase, Releasing, Freeing}
 use Rattle.rec_counts.specs.Colour.{is_gray, is_white}
 use Rattle.rec_counts.specs.Rest.{KeepsRest}
 use Rattle.rec_counts.specs.Batch.{applied, AreAlike, IsApplied, IsBatch, IsCovered}
@@ -20,6 +20,8 @@ use Rattle.rec_collector.proofs.Offering.{where_keeps, where_kept, where_listed,
 use Rattle.rec_collector.proofs.Trying.{counted_on, prepared_lands, started_prepared, started_tried, still_listed, tried_lands}
 use Rattle.rec_collector.proofs.Freeing.{freed_clears}
 use Rattle.rec_collector.proofs.Goings.{still}
+use Rattle.rec_collector.proofs.Postponing.{least_postponed, put_off_where}
+use Rattle.rec_collector.specs.declared.policy.Policy.{Policy}
 use Rattle.rec_collector.proofs.Testing.{tested_clear, clear_counted, clear_listed, clear_ready, clear_uncoloured, ends_after}
 use Rattle.rec_release.specs.CycleFree as frees
 use Rattle.rec_release.specs.Release as releases
@@ -99,10 +101,10 @@ pub record HasCleared (p : Private) (b : Begun) : Type 0 where
   pub few_told : told b.parts.sets + length b.parts.counts.sets ≤ 2 ^ 16 * p.collections
 
 fits_on : {p : Private} {w v : Parts} → Fits p w → KeepsTold w v → Fits p v
-fits_on f k = record { slots = k.slots ∙ f.slots; fields = k.fields ∙ f.fields; policy = k.policy ∙ f.policy }
+fits_on {p} {w} {v} f k = record { slots = k.slots ∙ f.slots; fields = k.fields ∙ f.fields; policy = k.policy ∙ f.policy; few = omega (arith, f.few, k.postponed, ap (λ (q : Policy). q.most_postponed) k.policy) }
 
-fits_self : (p : Private) → Fits p (parts_of p)
-fits_self p = record { slots = refl; fields = refl; policy = refl }
+fits_self : (p : Private) → IsMachine p → Fits p (parts_of p)
+fits_self p k = record { slots = refl; fields = refl; policy = refl; few = k.postponed }
 
 -- the sets are tested
 tested_clears : (p : Private) (b : Begun) → HasCleared p b → HasCleared p (tested (length b.parts.counts.sets) b)
@@ -127,18 +129,13 @@ tries_next p v h none =
     started_tried p w h.wide (where_ready v.offers v.counts (clear_ready v h.counts h.clearing none)) (where_kept v.offers v.counts h.counts)
     (where_listed v.offers v.counts (clear_listed v h.counts h.clearing none)) (where_uncoloured v.offers v.counts (clear_uncoloured v h.counts h.clearing none))
     (λ x r. omega (arith, keeps.counts x, clear_counted v h.counts h.clearing none x (sym (keeps.rest.released x) ∙ r)))
-    (keeps.zeros ∙ h.clearing.zeros) (record { slots = keeps.rest.slots ∙ h.fits.slots; fields = h.fits.fields; policy = h.fits.policy })
+    (keeps.zeros ∙ h.clearing.zeros) (record { slots = keeps.rest.slots ∙ h.fits.slots; fields = h.fits.fields; policy = h.fits.policy; few = omega arith })
     (omega (arith, h.turns, few, fits_all p v h.fits)) (omega (arith, h.few_told, ap length none))
     )
 
 -- a trial that is postponed leaves too few candidate roots for one
-few_left : (v : Parts) (roots : List ℕ) → length roots ≤ length v.counts.roots → makes_trial v ≡ false → AreFew v.policy.least_roots roots
-few_left v roots fewer off = by v.offers (nat_le v.policy.least_roots (length v.counts.roots)) refl off
-  where
-    by : (offers enough : Bool) → nat_le v.policy.least_roots (length v.counts.roots) ≡ enough → (if offers then true else enough) ≡ false → AreFew v.policy.least_roots roots
-    by true enough e off = absurd (false≢true (sym off))
-    by false true e off = absurd (false≢true (sym off))
-    by false false e off = inl (omega (arith, fewer, leb-false v.policy.least_roots (length v.counts.roots) e))
+few_left : (v : Parts) (roots : List ℕ) → length roots ≤ length v.counts.roots → makes_trial v ≡ false → AreFew (least_after (v.postponed + 1) v.policy) roots
+few_left v roots fewer off = subst (λ least. AreFew least roots) (sym (least_postponed v.postponed v.policy)) (inl (omega (arith, fewer, (put_off_where v off).few)))
 
 -- no set is left, and it is
 waits_next : (p : Private) (v : Parts) → HasCleared p (still v) → v.counts.sets ≡ [] → makes_trial v ≡ false → Lands p (trial_if false v)
@@ -150,7 +147,7 @@ waits_next p v h none off =
     let is : IsPostponed s t = postponed_is s h.counts ready in
     let keeps : KeepsCounts s t = postponed_keeps s h.counts ready in
     let places : IsListed t = still_listed s t keeps h.counts is.kept (clear_listed v h.counts h.clearing none) in
-    let over : AreTried v.policy.least_roots t = record {
+    let over : AreTried (least_after (v.postponed + 1) v.policy) t = record {
       untried = record {
         marked = is.waits.marked ∙ h.clearing.untried.marked;
         no_gray = λ x. waits_field is.waits (λ (u : Slot). is_gray u.colour) (λ u. refl) x ∙ h.clearing.untried.no_gray x;
@@ -165,7 +162,7 @@ waits_next p v h none off =
       unbuffered = places.unbuffered;
     } in
     prepared_lands p (put_off v) (prep_started (put_off v)) (
-    started_prepared p (put_off v) h.wide over is.kept (record { slots = is.waits.slots ∙ h.fits.slots; fields = h.fits.fields; policy = h.fits.policy })
+    started_prepared p (put_off v) h.wide over is.kept (record { slots = is.waits.slots ∙ h.fits.slots; fields = h.fits.fields; policy = h.fits.policy; few = omega (arith, (put_off_where v off).again) })
     (omega (arith, h.turns, few, fits_all p v h.fits)) (omega (arith, h.few_told, ap length (is.waits.sets ∙ none)))
     )
 
@@ -210,7 +207,7 @@ released_has p m word k e c =
       exchanged = a.exchanged + 1;
       clears = released_clears m (parts_of p) word a.exchanged c (testing_clears p (Releasing m) k e a);
       turns = omega (arith, a.turns);
-      fits = fits_on (fits_self p) keeps;
+      fits = fits_on (fits_self p k) keeps;
       few_told = omega (arith, told_at p (Releasing m) k e, keeps.told);
     }
 
@@ -222,7 +219,7 @@ freed_has p m word k e c =
       exchanged = a.exchanged + 1;
       clears = freed_clears m (parts_of p) word a.exchanged c (testing_clears p (Freeing m) k e a);
       turns = omega (arith, a.turns);
-      fits = fits_on (fits_self p) keeps;
+      fits = fits_on (fits_self p k) keeps;
       few_told = omega (arith, told_at p (Freeing m) k e, keeps.told);
     }
 
@@ -250,6 +247,6 @@ begun_has p t k a c =
       exchanged = 0;
       clears = batch_clears p.policy.steady (parts_of p) p.newer p.older k.some_fields k.counts (rows_alike p k) c (resting_cleared (parts_of p) a.rest) (none_released a.rest) a.rest.counted;
       turns = omega (arith, a.turns, a.there);
-      fits = fits_on (fits_self p) keeps;
+      fits = fits_on (fits_self p k) keeps;
       few_told = omega (arith, a.told, keeps.told);
     }

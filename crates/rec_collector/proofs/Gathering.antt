@@ -19,6 +19,7 @@ requested_keeps p k e more = record {
   left = k.left;
   counts = k.counts;
   told = subst (λ f. IsTold (requested p) f) (sym e) (told_at p Idle k e);
+  postponed = k.postponed;
   now = subst (λ f. IsAt (requested p) f) (sym e) (now_at p Idle k e);
 }
 
@@ -41,6 +42,7 @@ noted_keeps p t k e =
       left = length-set p.left (t - 1) (buffer_at p.newer (t - 1)).last ∙ k.left;
       counts = k.counts;
       told = subst (λ f. IsTold (noted p t) f) (sym e) (told_at p (Returning t) k e);
+      postponed = k.postponed;
       now = subst (λ f. IsAt (noted p t) f) (sym e) (record { rest = a.rest; first = a.first; there = a.there; spares = a.spares; turns = a.turns });
     }
 

@@ -60,6 +60,7 @@ swap_keeps p t box z k e =
       left = k.left ∙ sym many;
       counts = k.counts;
       told = told_at p (Swapping t) k e;
+      postponed = k.postponed;
       now = record {
         rest = a.rest;
         first = a.first;
@@ -258,5 +259,6 @@ module _ (p : Private) (b : Bool) where
     left = k.left;
     counts = k.counts;
     told = told_on p.phase k.told;
+    postponed = k.postponed;
     now = at_on p.phase k.now;
   }

@@ -111,11 +111,12 @@ batch_on p = batch_phase (λ f. under_way f ≡ 1) (λ m. refl) refl refl (λ m.
 pub batch_none : (p : Private) → swept_at (batch_next p).phase ≡ 0
 batch_none p = batch_phase (λ f. swept_at f ≡ 0) (λ m. refl) refl refl (λ m. refl) (λ m. refl) (λ m. refl) p
 
--- these parts have as many slots, as many fields a slot, and the policy of the machine
+-- these parts have as many slots, as many fields a slot, and the policy of the machine, which lets trials be postponed so often
 pub record Fits (p : Private) (w : Parts) : Type 0 where
   pub slots : length w.counts.slots ≡ length p.counts.slots
   pub fields : w.fields ≡ p.fields
   pub policy : w.policy ≡ p.policy
+  pub few : w.postponed ≤ w.policy.most_postponed
 
 -- so as many fields in all
 pub fits_all : (p : Private) (w : Parts) → Fits p w → length w.counts.slots * w.fields ≡ all_fields p
@@ -143,6 +144,7 @@ landed_keeps p n k requested freed on still l = record {
   left = k.left;
   counts = l.counts;
   told = l.told;
+  postponed = l.fits.few;
   now = l.now;
 }
 
@@ -153,7 +155,7 @@ landed_sizes p q n l s = record { slots = s.slots ∙ l.fits.slots; fields = s.f
 -- a turn that leaves the buffers and the sets that were tested
 pub machine_on : (p : Private) (epoch : ℕ) (s : State) (freed : ℕ) (next : Phase) → IsMachine p → epoch < 2 ^ 24 → p.collections + under_way next ≤ epoch → freed ≤ 2 ^ 16 * p.collections + swept_at next → IsKeptCounts s →
     (let q : Private = moved (record p { epoch = epoch; counts = s; freed = freed }) next in IsTold q next → IsAt q next → IsMachine q)
-machine_on p epoch s freed next k fits under swept counts told now = record { epoch = fits; collections = under; freed = swept; some_fields = k.some_fields; few_fields = k.few_fields; rows = k.rows; left = k.left; counts = counts; told = told; now = now }
+machine_on p epoch s freed next k fits under swept counts told now = record { epoch = fits; collections = under; freed = swept; some_fields = k.some_fields; few_fields = k.few_fields; rows = k.rows; left = k.left; counts = counts; told = told; postponed = k.postponed; now = now }
 
 -- at most one collection is under way
 pub under_way_most : (phase : Phase) → under_way phase ≤ 1

@@ -21,6 +21,7 @@ pub mod Landing
 pub mod Offering
 pub mod Opening
 pub mod Outside
+pub mod Postponing
 pub mod Presence
 pub mod Rows
 pub mod Running

@@ -1,18 +1,17 @@
 -- Every slot is offered to a trial, one after another: what that leaves of the counts, and that a trial may begin.
-use Rattle.std.proofs.Common.{◌||◌, ◌≡◌, ◌≢◌, nat_le, if◌then◌else◌, ℕ, zero, suc, ◌+◌, ◌<◌, ◌≤◌, Bool, true, false, eqb, cond, List, [], ◌∷◌, length, filter, refl, arith, sym, ◌∙◌, ap, subst, inl, inr, ◌-◌, ◌++◌, map, take, drop, set, get_or}
+use Rattle.std.proofs.Common.{◌||◌, ◌≡◌, ◌≢◌, ℕ, zero, suc, ◌+◌, ◌<◌, ◌≤◌, Bool, true, false, eqb, cond, List, [], ◌∷◌, length, filter, refl, arith, sym, ◌∙◌, ap, subst, inl, inr, ◌-◌, ◌++◌, map, take, drop, set, get_or}
 use Rattle.std.specs.List.{concat, range_with_len}
-use Rattle.std.proofs.lemmas.Bool.{cases_Bool, cases_eq, cases_lt, eq-eqb, le-leb, ne_eqb}
+use Rattle.std.proofs.lemmas.Bool.{cases_Bool, cases_eq, cases_lt, eq-eqb, ne_eqb}
 use Rattle.std.proofs.lemmas.List.FromFn.{filter_of_map_range_with_len_more}
 use Rattle.std.proofs.lemmas.List.{map-id, get_or_past, length-map, append-nil, append_assoc, drop_all, get_or-append_right, get_or-drop, get_or-set_same, get_or_default, length-append, length-drop, length-take, set-set, take_all}
 use Rattle.std.proofs.lemmas.List.Edits.{map_over_more}
-use Rattle.rec_collector.proofs.Common.{Purple, Orange, Slot, State, IsKept, slot_at, with_slot, one, times, absent, is_in, times-append, times-cons, times-nil, makes_trial, with_offers, IsListed, IsMachine, Parts, Private, Idle}
+use Rattle.rec_collector.proofs.Common.{Purple, Orange, Slot, State, IsKept, slot_at, with_slot, one, times, absent, is_in, times-append, times-cons, times-nil, with_offers, IsListed, Parts}
 use Rattle.rec_counts.specs.declared.colour.Colour.{Colour}
 use Rattle.rec_counts.specs.Slot.{stays as keeps_colour}
 use Rattle.rec_counts.specs.Colour.{is_gray, is_white, is_green}
 use Rattle.rec_counts.proofs.Decrementing.{rest_same, stays_green}
 use Rattle.rec_counts.proofs.Keeping.{map_at}
 use Rattle.rec_trial.specs.Rules.{IsReady}
-use Rattle.rec_collector.proofs.Landing.{now_at}
 use Rattle.rec_collector.specs.Offered.{offered, offered_if, offered_slot, offered_where, is_missing, is_missing_if, missing, AreOffered, KeepsOffered, offered_one, rooted_if}
 
 -- a slot that is offered
@@ -202,18 +201,6 @@ all_offered s k none = record {
   green = offered_green s;
   keeps = offered_keeps s;
 }
-
--- where that was asked for, a trial is made
-pub offers_try : (w : Parts) → w.offers ≡ true → makes_trial w ≡ true
-offers_try w e = rw e refl
-
--- so it is where the policy asks for no candidate roots,
-pub always_tries : (w : Parts) → w.policy.least_roots ≡ 0 → makes_trial w ≡ true
-always_tries w e = elim w.offers as (λ o. (if o then true else nat_le w.policy.least_roots (length w.counts.roots)) ≡ true) [ true ↦ refl | false ↦ le-leb w.policy.least_roots (length w.counts.roots) (omega (arith, e)) ]
-
--- and then none waits between two collections
-pub none_waits : (p : Private) → IsMachine p → p.policy.least_roots ≡ 0 → p.phase ≡ Idle → p.counts.roots ≡ []
-none_waits p k e idle = elim (now_at p Idle k idle).0.roots [ inl few ↦ absurd (omega (arith, few, e)) | inr none ↦ none ]
 
 -- where that was asked for they are offered, and once
 pub offers_whole : (w : Parts) → w.offers ≡ true → IsKept w.counts → w.counts.sets ≡ [] → AreOffered w.counts (with_offers w).counts × ((with_offers w).offers ≡ false)

@@ -1,5 +1,5 @@
 -- A machine as it is opened.
-use Rattle.std.proofs.Common.{Bool, ◌≡◌, ℕ, ◌*◌, ◌^◌, ◌<◌, false, Option, None, List, All, length, replicate, refl, arith, sym, ap, ◌∙◌, inr}
+use Rattle.std.proofs.Common.{◌≡◌, ℕ, ◌*◌, ◌^◌, ◌<◌, false, Option, None, List, All, length, replicate, refl, arith, sym, ap, ◌∙◌, inr}
 use Rattle.std.proofs.lemmas.Bool.{false≢true}
 use Rattle.std.proofs.lemmas.List.{get_or-replicate, length-map, length-replicate}
 use Rattle.rec_counts.proofs.Opening.{each_opened, unreleased_from}
@@ -24,7 +24,7 @@ opened_keeps slots fields registers mutators capacity epoch policy counts held f
     let older : length (retired_rows registers mutators capacity held) ≡ mutators = length-map (rows_of registers mutators held) (λ own. retired own capacity) ∙ length-rows registers mutators held in
     let black : (x : ℕ) → (slot_at s x).colour ≡ Black = each_opened (λ (v : Slot). v.colour ≡ Black) (λ count. 0 < count) slots counts (λ count _. refl) refl refl some in
     let alone : (x : ℕ) → (slot_at s x).set ≡ None = each_opened (λ (v : Slot). v.set ≡ None) (λ count. 0 < count) slots counts (λ count _. refl) refl refl some in
-    let tried : AreTried policy.least_roots s = record {
+    let tried : AreTried 0 s = record {
       untried = record { marked = refl; no_gray = λ x. ap is_gray (black x); no_white = λ x. ap is_white (black x) };
       apart = λ x o. absurd (false≢true (sym (ap is_orange (black x)) ∙ ap is_orange o));
       counted = each_opened (λ (v : Slot). v.released ≡ false → 0 < v.count) (λ count. 0 < count) slots counts (λ count positive r. positive) (λ r. omega arith) (λ r. absurd (false≢true (sym r))) some;
@@ -50,6 +50,7 @@ opened_keeps slots fields registers mutators capacity epoch policy counts held f
       left = length-replicate mutators false ∙ sym newer;
       counts = k;
       told = omega arith;
+      postponed = omega arith;
       now = (
         record {
           prepared = record { tried = tried; outside = none_outside fields s refl alone };

@@ -12,7 +12,7 @@ use Rattle.rec_collector.specs.contracts.phase.Phase as phase
 
 -- each field of the parts may
 each_part : AllSend (fields parts.TheInside.the_type)
-each_part = (search (counts_send, sendable) depth 20, (search sendable depth 20, (search sendable depth 20, (search sendable, (search sendable depth 20, tt)))))
+each_part = (search (counts_send, sendable) depth 20, (search sendable depth 20, (search sendable depth 20, (search sendable, (search sendable depth 20, (search sendable depth 20, tt))))))
 
 parts_send : IsSend parts.the_row
 parts_send = view_send _ _ _ _ _ (recorded_send _ _ _ (parts.TheInside.the_type).to_one (struct_send (shape parts.TheInside.the_type) each_part))

@@ -134,6 +134,7 @@ ended_keeps p n k e =
       left = k.left ∙ sym m;
       counts = k.counts;
       told = omega (arith, told_at p (Closing n) k e);
+      postponed = k.postponed;
       now = (
         record { prepared = a.0.before; free = a.1 },
         cleared_spares p 0 k.older,

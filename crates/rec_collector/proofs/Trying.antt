@@ -4,7 +4,7 @@ use Rattle.std.proofs.Common.{Bool, ◌≡◌, ℕ, ◌+◌, ◌*◌, ◌^◌, �
 use Rattle.std.proofs.lemmas.List.{length-append, length_push}
 use Rattle.std.specs.List.{concat}
 use Rattle.std.proofs.lemmas.Bool.{cases_Bool, cases_lt, false≢true}
-use Rattle.rec_collector.proofs.Common.{Op, Slot, State, slot_at, times, one, length-once, one-le, times-append, times-nil, one-none, Orange, next_in, prep_started, prepared, prepared_at, sweep_phase, tried, tried_at, AreInPreparation, IsMachine, IsPreparing, IsSweeping, all_fields, AreOnTrial, IsListed, IsTrying, AreFew, AreTried, Parts, Private, parts_of, Phase, Preparing, Opening, Closing, Trying, told, listed}
+use Rattle.rec_collector.proofs.Common.{Op, Slot, State, slot_at, times, one, length-once, one-le, times-append, times-nil, one-none, Orange, next_in, prep_started, prepared, prepared_at, sweep_phase, tried, tried_at, AreInPreparation, IsMachine, IsPreparing, IsSweeping, all_fields, AreOnTrial, IsListed, IsTrying, AreFew, AreTried, least_after, Parts, Private, parts_of, Phase, Preparing, Opening, Closing, Trying, told, listed}
 use Rattle.rec_counts.specs.Counts.{IsKept as IsKeptCounts}
 use Rattle.rec_counts.specs.Colour.{is_black}
 use Rattle.rec_counts.specs.declared.colour.Colour.{Colour}
@@ -46,7 +46,7 @@ others_tried {least} s t o k = record {
 -- A collection has come so far in its preparation.
 pub record HasPrepared (p : Private) (w : Parts) (v : preps.Work) : Type 0 where
   pub fields : v.machine.fields ≡ w.fields
-  pub preparation : AreInPreparation w.policy.least_roots v.counts v.machine
+  pub preparation : AreInPreparation (least_after w.postponed w.policy) v.counts v.machine
   pub open preparation use *
   pub counts : IsKeptCounts v.counts
   pub fits : Fits p (record w { counts = v.counts })
@@ -54,7 +54,7 @@ pub record HasPrepared (p : Private) (w : Parts) (v : preps.Work) : Type 0 where
   pub told : told w.sets + length v.counts.sets ≤ 2 ^ 16 * (p.collections + 1)
 
 -- it has begun
-pub started_prepared : (p : Private) (w : Parts) → 0 < w.fields → AreTried w.policy.least_roots w.counts → IsKeptCounts w.counts → Fits p w → p.turns ≤ 1 + 2 * length p.newer + 4 * all_fields p
+pub started_prepared : (p : Private) (w : Parts) → 0 < w.fields → AreTried (least_after w.postponed w.policy) w.counts → IsKeptCounts w.counts → Fits p w → p.turns ≤ 1 + 2 * length p.newer + 4 * all_fields p
     → told w.sets + length w.counts.sets ≤ 2 ^ 16 * (p.collections + 1) → HasPrepared p w (prep_started w)
 unfolding preps.started_of
 started_prepared p w wide t k fits turns told =
@@ -65,7 +65,7 @@ started_prepared p w wide t k fits turns told =
       fields = refl;
       preparation = record { tried = others_tried w.counts v.counts o t; kept = c.work; before = w.counts; before_kept = k; loads = []; prepares = c.law };
       counts = others_kept w.counts _ o k;
-      fits = record { slots = o.many ∙ fits.slots; fields = fits.fields; policy = fits.policy };
+      fits = record { slots = o.many ∙ fits.slots; fields = fits.fields; policy = fits.policy; few = fits.few };
       turns = omega (arith, turns);
       told = rw o.sets told;
     }
@@ -97,7 +97,7 @@ took_prepared p m word k e =
         prepares = rw c.fields_kept c.law;
       };
       counts = others_kept p.counts _ o k.counts;
-      fits = record { slots = o.many; fields = refl; policy = refl };
+      fits = record { slots = o.many; fields = refl; policy = refl; few = k.postponed };
       turns = omega (arith, a.turns, length-append a.loads (loaded_at m.at word), loaded_one m.at word a.busy);
       told = rw o.sets (told_at p (Preparing m) k e);
     }
@@ -222,7 +222,7 @@ started_tried p w wide ready k listed none counted zeros fits turns told =
       };
       counts = counts;
       wide = wide;
-      fits = record { slots = keeps.slots ∙ fits.slots; fields = fits.fields; policy = fits.policy };
+      fits = record { slots = keeps.slots ∙ fits.slots; fields = fits.fields; policy = fits.policy; few = fits.few };
       turns = omega (arith, turns);
       few = omega arith;
       told = told;
@@ -247,14 +247,14 @@ took_tried p m word k e l =
       };
       counts = counts;
       wide = k.some_fields;
-      fits = record { slots = keeps.slots; fields = refl; policy = refl };
+      fits = record { slots = keeps.slots; fields = refl; policy = refl; few = k.postponed };
       turns = omega (arith, a.turns, more);
       few = omega (arith, more, at_work_few m p.counts a.kept a.busy, ap (λ n. length p.counts.slots * n) a.fields);
       told = told_at p (Trying m) k e;
     }
 
 -- it is over
-over_tried : (p : Private) (w : Parts) (v : Work) → HasTried p w v → IsNone (next_of v.machine) → AreTried w.policy.least_roots v.counts
+over_tried : (p : Private) (w : Parts) (v : Work) → HasTried p w v → IsNone (next_of v.machine) → AreTried (least_after w.postponed w.policy) v.counts
 over_tried p w v h n =
     let l : LeavesNothing v.counts = at_work_over v.machine v.counts h.kept n in
     record {

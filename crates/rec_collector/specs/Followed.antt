@@ -1,5 +1,5 @@
 -- What follows a word that came out of a field or was loaded from one: up to the next operation, and the phase that it is in.
-use Rattle.std.specs.Prelude.{ℕ, nat_le, if◌then◌else◌, Bool, true, false, Option, None, Some, List, [], ◌∷◌, length}
+use Rattle.std.specs.Prelude.{ℕ, ◌+◌, nat_le, if◌then◌else◌, Bool, true, false, Option, None, Some, List, [], ◌∷◌, length}
 use Rattle.rec_word.specs.declared.op.Op.{Op}
 use Rattle.rec_release.specs.CycleFree as frees
 use Rattle.rec_release.specs.Release as releases
@@ -50,17 +50,18 @@ tried_at w m None = prepared w (prep_started w)
 unfoldable pub tried : Parts → trials.Work → Next
 tried w v = tried_at (record w { counts = v.counts }) v.machine (trials.next_of v.machine)
 
--- every slot is offered where that was asked for
+-- a trial is made: every slot is offered to it where that was asked for
 abbrev pub with_offers : Parts → Parts
-with_offers w = record w { counts = offered_where w.offers w.counts; offers = false }
+with_offers w = record w { counts = offered_where w.offers w.counts; offers = false; postponed = 0 }
 
--- a trial is made where slots are offered, or where as many candidate roots wait as the policy asks for
+-- It is made where slots are offered, where as many candidate roots wait as the policy asks for, or where as many collections in a row
+-- have postponed theirs as it lets.
 abbrev pub makes_trial : Parts → Bool
-makes_trial w = if w.offers then true else nat_le w.policy.least_roots (length w.counts.roots)
+makes_trial w = if w.offers then true else if nat_le w.policy.least_roots (length w.counts.roots) then true else nat_le w.policy.most_postponed w.postponed
 
--- it is postponed
+-- it is postponed, one time more
 abbrev pub put_off : Parts → Parts
-put_off w = record w { counts = postponed w.counts }
+put_off w = record w { counts = postponed w.counts; postponed = w.postponed + 1 }
 
 -- A trial begins, once every slot was offered where that was asked for. Or it is postponed, and there are no sets to prepare.
 abbrev pub trial_if : (made : Bool) → Parts → Next

@@ -21,6 +21,7 @@ private inside =
       left = inside.left.items;
       sets = inside.parts.sets;
       offers = inside.parts.offers;
+      postponed = inside.parts.postponed;
       policy = inside.parts.policy;
     }
 

@@ -1,5 +1,5 @@
 -- What every machine keeps, by phase.
-use Rattle.std.specs.Prelude.{◌≡◌, ◌≢◌, ℕ, ◌+◌, ◌-◌, ◌*◌, ◌^◌, ◌<◌, ◌≤◌, true, false, Some, IsSome, ◌⊎◌, List, [], length, slice_get}
+use Rattle.std.specs.Prelude.{◌≡◌, ◌≢◌, ℕ, zero, suc, ◌+◌, ◌-◌, ◌*◌, ◌^◌, ◌<◌, ◌≤◌, true, false, Some, IsSome, ◌⊎◌, List, [], length, slice_get}
 use Rattle.rec_log.specs.declared.contents.Contents.{Contents}
 use Rattle.rec_counts.specs.declared.colour.Colour.TheVariants.{Orange}
 use Rattle.rec_counts.specs.Counts.{State, slot_at, IsKept as IsKeptCounts}
@@ -20,6 +20,7 @@ use Rattle.rec_collector.specs.Private.{Private, parts_of, spare, buffer_at}
 use Rattle.rec_collector.specs.Testing.{told}
 use Rattle.rec_collector.specs.Zeros.{AreCounted}
 use Rattle.rec_collector.specs.declared.phase.Phase.{Phase}
+use Rattle.rec_collector.specs.declared.policy.Policy.{Policy}
 use Rattle.rec_collector.specs.declared.phase.Phase.TheVariants.{Idle, Looking, Swapping, Returning, Releasing, Freeing, Trying, Preparing, Opening, Sweeping, Closing}
 
 -- how many fields there are in all
@@ -48,6 +49,11 @@ pub record IsListed (s : State) : Type 0 where
   pub listed : (x : ℕ) → x < length s.slots → (slot_at s x).released ≡ true → 0 < times x s.free + times x s.roots
   pub only : (x : ℕ) → 0 < times x s.free → (slot_at s x).released ≡ true
   pub unbuffered : AreUnbuffered s
+
+-- After a trial that was postponed fewer candidate roots wait than these, and after one that was made none does.
+abbrev pub least_after : (postponed : ℕ) → Policy → ℕ
+least_after zero policy = 0
+least_after (suc n) policy = policy.least_roots
 
 -- Fewer candidate roots wait than these, or none.
 abbrev pub AreFew : (least : ℕ) → (roots : List ℕ) → Type 0
@@ -78,7 +84,7 @@ pub record AreResting (least fields : ℕ) (s : State) : Type 0 where
   pub free : s.free ≡ []
 
 abbrev pub IsAtRest : Parts → Type 0
-IsAtRest w = AreResting w.policy.least_roots w.fields w.counts
+IsAtRest w = AreResting (least_after w.postponed w.policy) w.fields w.counts
 
 -- the mutators up to this number were looked at or have left; the mutator at work is there, and so many turns were made at most
 pub record IsGathering (p : Private) (t given_back made : ℕ) : Type 0 where
@@ -130,14 +136,14 @@ pub record AreInPreparation (least : ℕ) (s : State) (prep : preps.Machine) : T
 -- they are: each turn since this began took in a word
 pub record IsPreparing (p : Private) (prep : preps.Machine) : Type 0 where
   pub fields : prep.fields ≡ p.fields
-  pub preparation : AreInPreparation p.policy.least_roots p.counts prep
+  pub preparation : AreInPreparation (least_after p.postponed p.policy) p.counts prep
   pub open preparation use *
   pub busy : IsSome prep.at
   pub turns : p.turns ≤ 2 + 2 * length p.newer + 4 * all_fields p + length loads
 
 -- A sweep is at work, or about to begin or to end: so many were swept, and the others are left.
 pub record IsSweeping (p : Private) (swept made : ℕ) : Type 0 where
-  pub before : ArePrepared p.policy.least_roots p.fields p.counts
+  pub before : ArePrepared (least_after p.postponed p.policy) p.fields p.counts
   pub open before use *
   pub left : swept + length p.counts.free ≤ length p.counts.slots
   pub turns : p.turns ≤ 2 + 2 * length p.newer + 5 * all_fields p + made
@@ -201,6 +207,7 @@ pub record IsMachine (p : Private) : Type 0 where
   pub left : length p.left ≡ length p.newer
   pub counts : IsKeptCounts p.counts
   pub told : IsTold p p.phase
+  pub postponed : p.postponed ≤ p.policy.most_postponed
   pub now : IsAt p p.phase
 
 -- what no step changes: the numbers of slots, fields, registers and mutators, what a buffer can hold, and how the heap is collected

@@ -12,6 +12,7 @@ pub mod Next
 pub mod Offered
 pub mod Outside
 pub mod Parts
+pub mod Postponed
 pub mod Present
 pub mod Private
 pub mod Shown

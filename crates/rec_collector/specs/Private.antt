@@ -1,5 +1,5 @@
 -- The collector's machine as a whole: plain data.
-use Rattle.std.specs.Prelude.{ℕ, ◌-◌, Bool, false, Option, None, Some, List, [], ◌∷◌, map, replicate, slice_index_or as item_at}
+use Rattle.std.specs.Prelude.{ℕ, Bool, false, Option, None, List, [], map, replicate, slice_index_or as item_at}
 use Rattle.rec_log.specs.declared.contents.Contents.{Contents}
 use Rattle.rec_counts.specs.Counts.{State, opened as opened_counts}
 use Rattle.rec_collector.specs.Parts.{Parts, no_sets}
@@ -12,8 +12,8 @@ use Rattle.rec_collector.specs.declared.phase.Phase.TheVariants.{Idle}
 -- the requested epoch, the collections completed and the slots swept since opening, and the turns since the last collection;
 -- how far the collection has come, with the machine that is at work; the registers and the room of each buffer; how many fields a slot
 -- has; the counts; for each mutator the newer buffer, which is a spare until its mailbox was gathered, the older one, and whether it has
--- left: its last buffer was gathered; what became of the sets that were tested; whether every slot is to be offered to the next trial; and
--- how the heap is collected
+-- left: its last buffer was gathered; what became of the sets that were tested; whether every slot is to be offered to the next trial; how
+-- many collections in a row have postponed their trial by now; and how the heap is collected
 pub record Private : Type 0 where
   pub epoch : ℕ
   pub collections : ℕ
@@ -29,11 +29,12 @@ pub record Private : Type 0 where
   pub left : List Bool
   pub sets : Sets
   pub offers : Bool
+  pub postponed : ℕ
   pub policy : Policy
 
 -- a script's heap isn't steady, and makes a trial in each collection
 abbrev pub plain : Policy
-plain = record { steady = false; least_roots = 0 }
+plain = record { steady = false; least_roots = 0; most_postponed = 0 }
 
 -- a buffer without entries that has these registers as its snapshot
 abbrev pub retired : (registers : List (Option ℕ)) (capacity : ℕ) → Contents
@@ -69,6 +70,7 @@ opened slots fields registers mutators capacity first_epoch policy counts held =
       left = replicate mutators false;
       sets = no_sets;
       offers = false;
+      postponed = 0;
       policy = policy;
     }
 
@@ -78,7 +80,7 @@ buffer_at buffers place = item_at buffers place (blank 0 0)
 
 -- what the collection works on between a batch and a sweep
 abbrev pub parts_of : Private → Parts
-parts_of p = record { counts = p.counts; fields = p.fields; sets = p.sets; offers = p.offers; policy = p.policy }
+parts_of p = record { counts = p.counts; fields = p.fields; sets = p.sets; offers = p.offers; postponed = p.postponed; policy = p.policy }
 
 abbrev pub with_parts : Private → Parts → Private
-with_parts p w = record p { counts = w.counts; fields = w.fields; sets = w.sets; offers = w.offers; policy = w.policy }
+with_parts p w = record p { counts = w.counts; fields = w.fields; sets = w.sets; offers = w.offers; postponed = w.postponed; policy = w.policy }

@@ -65,8 +65,7 @@ pub data IsTested (w : Parts) (v : Begun) : Type 0 where
       → v ≡ zeros_released true (record w { counts = s; sets = counted_by Held w.sets }) → IsTested w v
 
 -- A release, or the freeing of a set, came so far. While a field is due it goes on. Then the last set is tested, and once no set is
--- left a trial
--- begins, or is postponed. It begins where slots are offered, or where as many candidate roots wait as the policy asks for.
+-- left a trial begins, or is postponed.
 pub data ClearsOn (p q : Private) (turn : Turn) : Begun → Type 0 where
   works : {b : Begun} (phase : Phase) → b.phase ≡ Some phase → GoesOn (with_parts p b.parts) q turn phase → ClearsOn p q turn b
   tests : {b : Begun} (c : Begun) → b.phase ≡ None → 0 < length b.parts.counts.sets → IsTested b.parts c → ClearsOn p q turn c → ClearsOn p q turn b

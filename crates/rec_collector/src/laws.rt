@@ -1,6 +1,6 @@
 //! What follows from the definitions alone, each law as the contract of a function that does nothing.
 
-ghost use Rattle.std.specs.Prelude.{◌≡◌, ◌↔◌, ◌+◌, ◌-◌, ℕ, false, true, List, [], IfSome, Some, length};
+ghost use Rattle.std.specs.Prelude.{◌≡◌, ◌↔◌, ◌⊎◌, ◌≤◌, ◌+◌, ◌-◌, ℕ, false, true, List, [], IfSome, Option, Some, length};
 ghost use Rattle.rec_log.specs.declared.contents.Contents.{Contents};
 ghost use Rattle.rec_counts.specs.Batch.{batch};
 ghost use Rattle.rec_counts.specs.Targets.{added, leaves, taken};
@@ -14,6 +14,7 @@ ghost use Rattle.rec_collector.specs.Next.{next_of};
 ghost use Rattle.rec_collector.specs.Offered.{AreOffered};
 ghost use Rattle.rec_collector.specs.Outside.{AreOutside, HasSets};
 ghost use Rattle.rec_collector.specs.Parts.{Parts};
+ghost use Rattle.rec_collector.specs.Postponed.{decided, postponed_behind, trial_in, Untried};
 ghost use Rattle.rec_collector.specs.Private.{Private};
 ghost use Rattle.rec_collector.specs.declared.phase.Phase.TheVariants.{Idle};
 ghost use Rattle.rec_collector.specs.Shown.{IsShownAsMade};
@@ -73,12 +74,25 @@ pub fn offers_are_whole()
     ensures { (w : Parts) → w.offers ≡ true → IsKeptCounts w.counts → w.counts.sets ≡ [] → AreOffered w.counts (with_offers w).counts × ((with_offers w).offers ≡ false) }
 {}
 
-/// A trial is made wherever slots are offered, and wherever the policy asks for no candidate roots. In the second case no root waits
-/// between two collections.
+/// A trial is made wherever slots are offered, wherever the policy asks for no candidate roots, and wherever it lets no trial be
+/// postponed. In the last two cases no root waits between two collections.
 pub fn trials_are_made_where_asked()
     ensures offered { (w : Parts) → w.offers ≡ true → makes_trial w ≡ true }
     ensures always { (w : Parts) → w.policy.least_roots ≡ 0 → makes_trial w ≡ true }
-    ensures none { (p : Private) → IsMachine p → p.policy.least_roots ≡ 0 → p.phase ≡ Idle → p.counts.roots ≡ [] }
+    ensures none_postponed { (w : Parts) → w.policy.most_postponed ≡ 0 → makes_trial w ≡ true }
+    ensures none { (p : Private) → IsMachine p → (p.policy.least_roots ≡ 0) ⊎ (p.policy.most_postponed ≡ 0) → p.phase ≡ Idle → p.counts.roots ≡ [] }
+{}
+
+/// A trial isn't postponed for ever. A step counts: a trial that it postpones comes to those that were postponed in a row before, and
+/// behind one that it makes there are none. There are never more than the policy lets, and where there are as many, a trial is made. So
+/// while no step makes a trial, as many are postponed as collections come to theirs, and no more than were left. Of one collection more
+/// than the policy lets postpone theirs, all in a row, at least one makes a trial. Behind a trial no root waits between two collections.
+pub fn trials_are_not_postponed_for_ever()
+    ensures counted { (p q : Private) (word : ℕ) (box : Contents) (op : Option Op) (turn : Turn) (s : Step p word box op q turn) → q.postponed ≡ postponed_behind (trial_in s) p.postponed }
+    ensures few { (p : Private) → IsMachine p → p.postponed ≤ p.policy.most_postponed }
+    ensures due { (w : Parts) → w.policy.most_postponed ≤ w.postponed → makes_trial w ≡ true }
+    ensures in_a_row { (p q : Private) (n : ℕ) → IsMachine p → Untried p n q → (decided q ≡ decided p + n) × (p.postponed + n ≤ p.policy.most_postponed) }
+    ensures none { (p : Private) → IsMachine p → p.postponed ≡ 0 → p.phase ≡ Idle → p.counts.roots ≡ [] }
 {}
 
 /// What a watch is shown of a step is what the step did, by whichever of the rules it was made. It was shown a batch exactly where the

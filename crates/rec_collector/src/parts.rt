@@ -33,7 +33,7 @@ use rec_trial::{Loads, Trial, postpone};
 use std::marker::Model;
 
 /// What a collection works on between a batch and a sweep: the counts, how many fields a slot has, what became of the sets,
-/// whether the next trial is offered every slot, and how the heap is collected.
+/// whether the next trial is offered every slot, how many collections in a row have postponed theirs, and how the heap is collected.
 #[derive(Drop)]
 pub(crate) struct Parts {
     pub(crate) counts: Counts,
@@ -41,6 +41,8 @@ pub(crate) struct Parts {
     pub(crate) sets: Sets,
     // Whether every slot is to be offered to the next trial.
     offers: bool,
+    // How many collections in a row have postponed their trial by now.
+    postponed: u32,
     pub(crate) policy: Policy,
 }
 
@@ -50,7 +52,7 @@ impl Model for Parts {
 
     ghost Value = { Whole };
 
-    ghost view = { λ parts. record { counts = parts.counts; fields = parts.fields; sets = parts.sets; offers = parts.offers; policy = parts.policy } };
+    ghost view = { λ parts. record { counts = parts.counts; fields = parts.fields; sets = parts.sets; offers = parts.offers; postponed = parts.postponed; policy = parts.policy } };
 
     ghost invariant = { λ parts. 0 < parts.fields };
 }
@@ -70,6 +72,7 @@ impl Parts {
                 sigma: 0,
             },
             offers: false,
+            postponed: 0,
             policy,
         }
     }
@@ -367,18 +370,22 @@ impl Parts {
         }
     }
 
-    // Whether a trial is made: slots are to be offered, or as many roots wait as the policy asks for.
+    // Whether a trial is made: slots are to be offered, as many roots wait as the policy asks for, or it was postponed as often as that lets.
     fn makes_trial(&self) -> bool
         ensures { result ≡ makes_trial self.now }
     {
-        self.offers || self.policy.least_roots as usize <= self.counts.roots().len()
+        self.offers
+            || self.policy.least_roots as usize <= self.counts.roots().len()
+            || self.policy.most_postponed <= self.postponed
     }
 
-    // The trial is postponed, and there are no sets to prepare.
+    // The trial is postponed, one time more, and there are no sets to prepare.
     fn put_off_trial(&mut self) -> Phase
         requires ready { IsReadyForTrial self.old.counts }
+        requires off { makes_trial self.old ≡ false }
         ensures { record { parts = self.new; phase = result } ≡ trial_if false self.old }
     {
+        self.postponed += 1;
         postpone(&mut self.counts);
         self.prepare()
     }
@@ -397,10 +404,11 @@ impl Parts {
         self.prepare()
     }
 
-    // Every slot is offered, where that was asked for.
+    // A trial is made: every slot is offered to it, where that was asked for.
     fn make_offers(&mut self)
         ensures { self.new ≡ with_offers self.old }
     {
+        self.postponed = 0;
         if self.offers {
             offer_slots(&mut self.counts);
             self.offers = false;

@@ -36,6 +36,7 @@ awaiting_machine p k rest turns under_way freed tested = record {
   left = k.left;
   counts = k.counts;
   told = omega (arith, tested);
+  postponed = k.postponed;
   now = record { rest = rest; first = omega (arith, k.mutators); there = omega arith; spares = λ place from l. absurd (omega (arith, from, l)); turns = turns };
 }
 

@@ -261,9 +261,9 @@ landed_still {w} {crossing} {words} v phase unreleased unfreed l = record {
   ];
 }
 
--- whether every slot is to be offered to the next trial doesn't matter to it
-landed_asked : {w : Core} {crossing words : List ℕ} {v : Parts} → HasLanded w crossing words (still v) → (offers : Bool) → HasLanded w crossing words (still (record v { offers = offers }))
-landed_asked l offers = record {
+-- whether every slot is to be offered to the next trial doesn't matter to it, nor how many trials were postponed
+landed_asked : {w : Core} {crossing words : List ℕ} {v : Parts} → HasLanded w crossing words (still v) → (offers : Bool) (postponed : ℕ) → HasLanded w crossing words (still (record v { offers = offers; postponed = postponed }))
+landed_asked l offers postponed = record {
   stands = l.stands;
   kept = l.kept;
   way = l.way;
@@ -287,7 +287,7 @@ landed_asked l offers = record {
 pub landed_offered : {w : Core} {crossing words : List ℕ} {v : Parts} → HasLanded w crossing words (still v) → HasLanded w crossing words (still (with_offers v))
 landed_offered {w} {crossing} {words} {v} l =
     let s : State = (with_offers v).counts in
-    landed_asked (landed_alike l s (offered_alike v.counts s (where_keeps v.offers v.counts) (λ x green. sym (where_green v.offers v.counts x) ∙ green)) (where_kept v.offers v.counts l.counts)) false
+    landed_asked (landed_alike l s (offered_alike v.counts s (where_keeps v.offers v.counts) (λ x green. sym (where_green v.offers v.counts x) ∙ green)) (where_kept v.offers v.counts l.counts)) false 0
 
 -- where there is no set, nothing is asked of its members
 no_member : (s : State) → s.sets ≡ [] → (node : ℕ) → is_member s node ≡ true → ⊥
@@ -555,7 +555,7 @@ module _ (w : Core) (crossing words : List ℕ) (q : collectors.Private) (machin
   trial_waits v turn l ready on =
       let s : State = postponed v.counts in
       let is : IsPostponed v.counts s = postponed_is v.counts l.counts ready in
-      let there : HasLanded w crossing words (still (put_off v)) = landed_alike l s (tried_alike v.counts s (postponed_keeps v.counts l.counts ready)) is.kept in
+      let there : HasLanded w crossing words (still (put_off v)) = landed_asked (landed_alike l s (tried_alike v.counts s (postponed_keeps v.counts l.counts ready)) is.kept) v.offers (v.postponed + 1) in
       prepares_kept (put_off v) (prep_started (put_off v)) turn (prep_lands (put_off v) there) (none_seen (put_off v) there (is.waits.sets ∙ ready.sets)) on
 
   -- once every slot was offered to it, where that was asked for

@@ -28,6 +28,7 @@ pub fn config_for(script: &Script) -> Config
         policy: Policy {
             steady: false,
             least_roots: 0,
+            most_postponed: 0,
         },
     }
 }

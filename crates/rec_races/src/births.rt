@@ -53,6 +53,7 @@ fn race_births<R: Abort + Threads + Sync>(
         policy: Policy {
             steady: false,
             least_roots: 0,
+            most_postponed: 0,
         },
     };
     let (world, seen) = race(rt, alloc, config, tasks, NO_TURNS)?;

@@ -21,6 +21,7 @@ const ONE: Config = Config {
     policy: Policy {
         steady: false,
         least_roots: 0,
+        most_postponed: 0,
     },
 };
 

@@ -24,6 +24,7 @@ const CONFIG: Config = Config {
     policy: Policy {
         steady: false,
         least_roots: 0,
+        most_postponed: 0,
     },
 };
 

@@ -113,6 +113,7 @@ fn race_leaving<R: Abort + Threads + Sync>(
         policy: Policy {
             steady: false,
             least_roots: 0,
+            most_postponed: 0,
         },
     };
     let tasks = leaving_tasks(alloc, mutators, staying)?;

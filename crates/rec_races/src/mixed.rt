@@ -101,6 +101,7 @@ fn race_drawn<R: Abort + Threads + Sync>(
         policy: Policy {
             steady: false,
             least_roots: 0,
+            most_postponed: 0,
         },
     };
     let tasks = draw_tasks(alloc, seed, mutators)?;

@@ -44,6 +44,7 @@ fn race_rings<R: Abort + Threads + Sync>(
         policy: Policy {
             steady: false,
             least_roots: 0,
+            most_postponed: 0,
         },
     };
     let left = race_and_settle(rt, alloc, config, tasks, LIMITS)?;

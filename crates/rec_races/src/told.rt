@@ -32,6 +32,7 @@ const CONFIG: Config = Config {
     policy: Policy {
         steady: false,
         least_roots: 0,
+        most_postponed: 0,
     },
 };
 

@@ -80,6 +80,7 @@ fn heap_in(alloc: Global, bytes: &[u8]) -> Result<World, Result<String, NoMemory
             let plain = Policy {
                 steady: false,
                 least_roots: 0,
+                most_postponed: 0,
             };
             let heap = restore(alloc, &image, LOG_ENTRIES, plain);
             drop(image);

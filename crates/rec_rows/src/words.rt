@@ -37,10 +37,11 @@ fn collecting(line: &[&str], first: &str, rest: &[&str]) -> Result<Action, Wrong
     }
 }
 
-/// The numbers of a heap, each preceded by its name, in their order. `least` may follow with how many roots a trial wants, and then `steady`.
+/// The numbers of a heap, each preceded by its name, in their order. Two may follow: `least` has how many roots a trial waits for, and
+/// `postponed` how many collections in a row postpone theirs at most. `steady` comes last.
 pub fn config(words: &[&str]) -> Result<Config, Wrong> {
     let (words, steady) = kind(words);
-    let (named, least_roots) = least(words)?;
+    let (named, least_roots, most_postponed) = waiting(words)?;
     if !are_named(named) {
         return Err(Wrong::Unknown);
     }
@@ -55,6 +56,7 @@ pub fn config(words: &[&str]) -> Result<Config, Wrong> {
         policy: Policy {
             steady,
             least_roots,
+            most_postponed,
         },
     })
 }
@@ -67,11 +69,13 @@ fn kind<'a, 'b>(words: &'a [&'b str]) -> (&'a [&'b str], bool) {
     }
 }
 
-// The words that name numbers, and how many roots a trial wants: none where that isn't said.
-fn least<'a, 'b>(words: &'a [&'b str]) -> Result<(&'a [&'b str], u32), Wrong> {
+// The words that name numbers, how many roots a trial waits for, and how often it is postponed: both 0 where that isn't said.
+fn waiting<'a, 'b>(words: &'a [&'b str]) -> Result<(&'a [&'b str], u32, u32), Wrong> {
     match words {
-        [named @ .., "least", roots] => Ok((named, number(roots)?)),
-        _ => Ok((words, 0)),
+        [named @ .., "least", roots, "postponed", times] => {
+            Ok((named, number(roots)?, number(times)?))
+        }
+        _ => Ok((words, 0, 0)),
     }
 }
 

@@ -150,6 +150,7 @@ fn restore_world(alloc: Global, script: &Script, image: &Image) -> Result<World,
     let plain = Policy {
         steady: false,
         least_roots: 0,
+        most_postponed: 0,
     };
     match restore(alloc, image, config_for(script).log_entries, plain) {
         Ok(world) => Ok(world),

@@ -18,7 +18,7 @@ use std::alloc::Global;
 /// The version of the library: 10,000 times the major number, 100 times the minor one, and the patch.
 #[unsafe(no_mangle)]
 pub extern "C" fn recycler_version() -> u32
-    ensures { result ≡ 20000 }
+    ensures { result ≡ 30000 }
 {
     VERSION
 }

@@ -15,6 +15,7 @@ pub struct Sizes {
     pub log_entries: u32,
     pub first_epoch: u32,
     pub least_roots: u32,
+    pub most_postponed: u32,
 }
 
 /// The heap that is asked for. It is steady: registers that didn't change touch nothing.
@@ -31,6 +32,7 @@ pub fn config(sizes: &Sizes) -> Config
         policy: Policy {
             steady: true,
             least_roots: sizes.least_roots,
+            most_postponed: sizes.most_postponed,
         },
     }
 }

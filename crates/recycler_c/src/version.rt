@@ -1,4 +1,4 @@
 //! Which library this is.
 
-/// The version, as `recycler_version` tells it: 2.0.0. `RECYCLER_VERSION` of `include/recycler.h` is the same number.
-pub const VERSION: u32 = 20_000;
+/// The version, as `recycler_version` tells it: 3.0.0. `RECYCLER_VERSION` of `include/recycler.h` is the same number.
+pub const VERSION: u32 = 30_000;

@@ -22,7 +22,8 @@ use Rattle.rec_settle.proofs.Rest.FirstTrial.{prep_rests_begun, trial_rests_begu
 use Rattle.rec_settle.proofs.Rest.QuietTurns.{awaits_gathered, awaits_way}
 use Rattle.rec_settle.proofs.Rest.RestingSeen.{comes_awaited}
 use Rattle.std.proofs.lemmas.Bool.{false≢true}
-use Rattle.rec_collector.proofs.Offering.{offers_try, where_ready}
+use Rattle.rec_collector.proofs.Offering.{where_ready}
+use Rattle.rec_collector.proofs.Postponing.{offers_try}
 use Rattle.rec_core.proofs.SetTests.{tested_lands}
 use Rattle.rec_core.proofs.Trying.{trying_lands}
 use Rattle.rec_core.proofs.Gathering.{awaits_kept}

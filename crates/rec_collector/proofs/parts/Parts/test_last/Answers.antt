@@ -20,12 +20,12 @@ refurbish-requires c =
 
 pub returns-in-Passed : goal.returns-in-Passed
 returns-in-Passed c =
-    let w : Parts = record { counts = c.self.inside.counts; fields = c.self.inside.fields; sets = c.self.inside.sets; offers = c.self.inside.offers; policy = c.self.inside.policy } in
+    let w : Parts = record { counts = c.self.inside.counts; fields = c.self.inside.fields; sets = c.self.inside.sets; offers = c.self.inside.offers; postponed = c.self.inside.postponed; policy = c.self.inside.policy } in
     let verdict : c.judge-verdict.result ≡ verdict_of w.counts (length w.counts.sets - 1) = c.judge-verdict.ensures ∙ ap (λ n. verdict_of w.counts (n - 1)) c.sets-set.ensures in
     c.free_set.ensures ∙ passed_last w c.judge-verdict.result c.count.new.self verdict c.in-Passed.is c.count.ensures ∙ ap last_tested c.self.view_is
 
 pub returns-in_default : goal.returns-in_default
 returns-in_default c =
-    let w : Parts = record { counts = c.self.inside.counts; fields = c.self.inside.fields; sets = c.self.inside.sets; offers = c.self.inside.offers; policy = c.self.inside.policy } in
+    let w : Parts = record { counts = c.self.inside.counts; fields = c.self.inside.fields; sets = c.self.inside.sets; offers = c.self.inside.offers; postponed = c.self.inside.postponed; policy = c.self.inside.policy } in
     let verdict : c.judge-verdict.result ≡ verdict_of w.counts (length w.counts.sets - 1) = c.judge-verdict.ensures ∙ ap (λ n. verdict_of w.counts (n - 1)) c.sets-set.ensures in
     c.release_zeros.ensures ∙ refused_last w c.judge-verdict.result c.refurbish.new.counts c.count.new.self verdict c.in_default.not-Passed c.refurbish.ensures.settled c.count.ensures ∙ ap last_tested c.self.view_is
