@@ -69,7 +69,7 @@ static bool is_one(mutator *m, int a, int b) {
 
 /* Register 0 of each mutator names one and the same object. */
 static void open_heap(int slots) {
-    const recycler_config config = { slots, FIELDS, REGISTERS, thread_count, 1024, 1, 0 };
+    const recycler_config config = { slots, FIELDS, REGISTERS, thread_count, 1024, 1, slots / 16, 16 };
     must(recycler_open(&heap, &config));
     must(recycler_notices(&heap, 256));
     must(recycler_start(&heap));
