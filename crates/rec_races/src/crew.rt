@@ -29,7 +29,7 @@ pub enum End {
 }
 
 // How often a mutator asks to leave, or polls for the sake of others, at most.
-const TRIES: u32 = 10_000_000;
+const TRIES: u32 = 1_000_000_000;
 
 /// When a collector ends, if its mutators don't end before.
 #[derive(Clone, Copy, Debug)]

@@ -11,9 +11,9 @@ use std::process::Abort;
 use std::test::Fail;
 use std::thread::Threads;
 
-// The collector turns as long as mutators work, and no set that it frees is enough.
+// The collector turns as long as mutators work, however long one waits for a processor, and no set that it frees is enough.
 const LIMITS: Limits = Limits {
-    turns: 10_000_000,
+    turns: 1_000_000_000,
     freed: u64::MAX,
 };
 
