@@ -31,7 +31,9 @@ impl Machine {
         ensures steps { self.new.steps ≡ 0 }
         ensures kept { IsMachine self.new }
     {
-        self.phase = Phase::Passing { passage: Passage::Parks };
+        self.phase = Phase::Passing {
+            passage: Passage::Parks,
+        };
         self.steps = 0;
     }
 
@@ -49,7 +51,9 @@ impl Machine {
         ensures steps { self.new.steps ≡ 0 }
         ensures kept { IsMachine self.new }
     {
-        self.phase = Phase::Passing { passage: Passage::Unparks };
+        self.phase = Phase::Passing {
+            passage: Passage::Unparks,
+        };
         self.steps = 0;
     }
 
@@ -89,7 +93,9 @@ impl Machine {
         ensures work { work_of self.new ≡ work_of self.old }
         ensures kept { IsMachine self.new }
     {
-        self.phase = Phase::Passing { passage: Passage::Deposits };
+        self.phase = Phase::Passing {
+            passage: Passage::Deposits,
+        };
         mem::replace(&mut self.log, buffer)
     }
 
@@ -106,7 +112,9 @@ impl Machine {
         ensures kept { IsMachine self.new }
     {
         deposit.reopen();
-        self.phase = Phase::Passing { passage: Passage::Frees };
+        self.phase = Phase::Passing {
+            passage: Passage::Frees,
+        };
         mem::replace(&mut self.log, deposit)
     }
 
@@ -122,14 +130,24 @@ impl Machine {
     pub fn is_depositing(&self) -> bool
         ensures { IsTrue result ↔ IsDepositing self.now.phase }
     {
-        matches!(self.phase, Phase::Passing { passage: Passage::Holds })
+        matches!(
+            self.phase,
+            Phase::Passing {
+                passage: Passage::Holds
+            }
+        )
     }
 
     /// Whether the present mailbox is held and its deposit waits to be swapped: then `reopen` comes next.
     pub fn is_reopening(&self) -> bool
         ensures { IsTrue result ↔ IsReopening self.now.phase }
     {
-        matches!(self.phase, Phase::Passing { passage: Passage::Reopens })
+        matches!(
+            self.phase,
+            Phase::Passing {
+                passage: Passage::Reopens
+            }
+        )
     }
 
     // The present mailbox is held: the log is the deposit, with the registers as its snapshot, and goes there next.
@@ -141,7 +159,9 @@ impl Machine {
         ensures kept { IsMachine self.new }
     {
         self.log.retire(&self.frame);
-        self.phase = Phase::Passing { passage: Passage::Holds };
+        self.phase = Phase::Passing {
+            passage: Passage::Holds,
+        };
         self.steps += 1;
     }
 
@@ -171,7 +191,9 @@ impl Machine {
         self.epoch = named_epoch(word);
         self.parked = false;
         self.phase = if is_held(word) {
-            Phase::Passing { passage: Passage::Reopens }
+            Phase::Passing {
+                passage: Passage::Reopens,
+            }
         } else {
             answered(Cmd::Unpark, only(Answer::Done))
         };
