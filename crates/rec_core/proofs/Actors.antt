@@ -39,6 +39,7 @@ own_stepped own sized found step label idle =
       between = step_between step;
       label = label;
       idle = idle;
+      awake = same.parked ∙ own.awake;
       dates = step_dates step ∙ own.dates;
     }
 

@@ -57,6 +57,7 @@ own_bare config t p o = record {
   between = phase_bare IsBetween (λ work made is. is) p.phase o.between;
   label = phase_bare HasLabelAt (λ work made is. is) p.phase o.label;
   idle = λ left. busy_bare p ∙ o.idle left;
+  awake = o.awake;
   dates = refl;
 }
 

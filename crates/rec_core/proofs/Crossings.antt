@@ -395,6 +395,7 @@ begun_kept w t work from kept is idle stays valid label there =
       between = tt;
       label = label;
       idle = λ left. absurd (false≢true (sym stays ∙ left));
+      awake = actor.own.awake;
       dates = actor.own.dates;
     } in
     quiet_kept w t q kept is stays here refl refl refl (actor_stays actor own stays here refl (λ mailbox word. tt) refl refl actor.log actor.unwritten actor.unmarked) refl refl tt

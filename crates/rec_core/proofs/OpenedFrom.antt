@@ -136,6 +136,7 @@ module _ (config : Config) (o : Objects) (is : IsConfig config) (are : AreObject
     between = tt;
     label = tt;
     idle = λ left. absurd (false≢true left);
+    awake = refl;
     dates = refl;
   }
 

@@ -64,6 +64,8 @@ pub record IsOwn (dated : Bool) (config : Config) (t : ℕ) (p : Private) : Type
   pub label : HasLabelAt p.phase
   -- one that has left does nothing
   pub idle : p.left ≡ true → is_busy p ≡ false
+  -- nobody is parked: no heap carries that out yet
+  pub awake : p.parked ≡ false
   -- whether it dates the words that it puts
   pub dates : p.dates ≡ dated
 

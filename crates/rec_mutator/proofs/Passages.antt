@@ -18,26 +18,26 @@ use Rattle.rec_mutator.specs.declared.phase.Phase.{Phase}
 use Rattle.rec_mutator.specs.declared.phase.Phase.TheVariants.{Finished, Passing}
 use Rattle.rec_mutator.specs.declared.work.Work.TheVariants as works
 
--- sizes and work stay, and the step counts
+-- sizes and work stay, whatever the mark that the mutator is parked, and the step counts
 abbrev Counts : (p q : Private) → Type 0
-Counts p q = KeepsSizes p q × (work_of q ≡ work_of p) × (q.steps ≡ p.steps + 1)
+Counts p q = KeepsSizes p (record q { parked = p.parked }) × (work_of q ≡ work_of p) × (q.steps ≡ p.steps + 1)
 
 awoken_counts : (p : Private) (word : ℕ) (deposit : Bool) → p.phase ≡ Passing Unparks → Counts p (awoken p word deposit)
-awoken_counts p word true is = (record { number = refl; slots = refl; fields = refl; registers = refl; capacity = refl }, sym (ap work_at is), refl)
-awoken_counts p word false is = (record { number = refl; slots = refl; fields = refl; registers = refl; capacity = refl }, sym (ap work_at is), refl)
+awoken_counts p word true is = (record { number = refl; slots = refl; fields = refl; registers = refl; capacity = refl; parked = refl }, sym (ap work_at is), refl)
+awoken_counts p word false is = (record { number = refl; slots = refl; fields = refl; registers = refl; capacity = refl; parked = refl }, sym (ap work_at is), refl)
 
 passed_counts : (p : Private) (word : ℕ) (passage : Passage) → p.phase ≡ Passing passage → Counts p (passed p word passage)
-passed_counts p word Parks is = (record { number = refl; slots = refl; fields = refl; registers = refl; capacity = refl }, sym (ap work_at is), refl)
-passed_counts p word Holds is = (record { number = refl; slots = refl; fields = refl; registers = refl; capacity = refl }, sym (ap work_at is), refl)
-passed_counts p word Deposits is = (record { number = refl; slots = refl; fields = refl; registers = refl; capacity = refl }, sym (ap work_at is), refl)
+passed_counts p word Parks is = (record { number = refl; slots = refl; fields = refl; registers = refl; capacity = refl; parked = refl }, sym (ap work_at is), refl)
+passed_counts p word Holds is = (record { number = refl; slots = refl; fields = refl; registers = refl; capacity = refl; parked = refl }, sym (ap work_at is), refl)
+passed_counts p word Deposits is = (record { number = refl; slots = refl; fields = refl; registers = refl; capacity = refl; parked = refl }, sym (ap work_at is), refl)
 passed_counts p word Unparks is = awoken_counts p word (holds word) is
-passed_counts p word Reopens is = (record { number = refl; slots = refl; fields = refl; registers = refl; capacity = refl }, sym (ap work_at is), refl)
-passed_counts p word Frees is = (record { number = refl; slots = refl; fields = refl; registers = refl; capacity = refl }, sym (ap work_at is), refl)
+passed_counts p word Reopens is = (record { number = refl; slots = refl; fields = refl; registers = refl; capacity = refl; parked = refl }, sym (ap work_at is), refl)
+passed_counts p word Frees is = (record { number = refl; slots = refl; fields = refl; registers = refl; capacity = refl; parked = refl }, sym (ap work_at is), refl)
 
 -- what is learnt of the word, by a step that keeps sizes and work, and counts
 pub record Learns (p : Private) (word : ℕ) (q : Private) : Type 0 where
   pub took : q ≡ took_of p word
-  pub same : KeepsSizes p q
+  pub same : KeepsSizes p (record q { parked = p.parked })
   pub work : work_of q ≡ work_of p
   pub steps : q.steps ≡ p.steps + 1
 

@@ -20,7 +20,7 @@ use Rattle.rec_mutator.proofs.Steps.{TakesNone, learnt_made}
 decided_keeps : {p : Private} {op : Op} {q : Private} {cmd : Cmd} {at : Phase} {its_op : Op} {registers : List (Option ℕ)} {entries : List Entry} {told : Told}
     → length registers ≡ length p.registers → work_at at ≡ Some (works.Command cmd) → Decides p op q cmd at its_op registers entries told → KeepsSizes p q × (work_of q ≡ work_of p)
 decided_keeps {p = p} {cmd = cmd} {registers = registers} {entries = entries} {told = told} many work d = (
-  subst (KeepsSizes p) (sym d.after) (record { number = refl; slots = refl; fields = refl; registers = many; capacity = refl }),
+  subst (KeepsSizes p) (sym d.after) (record { number = refl; slots = refl; fields = refl; registers = many; capacity = refl; parked = refl }),
   ap work_of d.after ∙ sym (ap work_at d.phase ∙ work),
 )
 
@@ -28,7 +28,7 @@ decided_keeps {p = p} {cmd = cmd} {registers = registers} {entries = entries} {t
 going_on_keeps : {p : Private} {op : Op} {q : Private} {at : Phase} {its_op : Op} {next_phase : Phase}
     → work_at at ≡ work_at next_phase → GoesOn p op q at its_op next_phase → KeepsSizes p q × (work_of q ≡ work_of p)
 going_on_keeps {p = p} work g = (
-  subst (KeepsSizes p) (sym g.after) (record { number = refl; slots = refl; fields = refl; registers = refl; capacity = refl }),
+  subst (KeepsSizes p) (sym g.after) (record { number = refl; slots = refl; fields = refl; registers = refl; capacity = refl; parked = refl }),
   ap work_of g.after ∙ sym (ap work_at g.phase ∙ work),
 )
 
@@ -36,20 +36,20 @@ going_on_keeps {p = p} work g = (
 crossing_keeps : {p : Private} {op : Op} {q : Private} {at : Phase} {its_op : Op} {epoch : ℕ} {log : Contents} {next_phase : Phase}
     → work_at at ≡ work_at next_phase → log.capacity ≡ p.log.capacity → Crosses p op q at its_op epoch log next_phase → KeepsSizes p q × (work_of q ≡ work_of p)
 crossing_keeps {p = p} work sized c = (
-  subst (KeepsSizes p) (sym c.after) (record { number = refl; slots = refl; fields = refl; registers = refl; capacity = sized }),
+  subst (KeepsSizes p) (sym c.after) (record { number = refl; slots = refl; fields = refl; registers = refl; capacity = sized; parked = refl }),
   ap work_of c.after ∙ sym (ap work_at c.phase ∙ work),
 )
 
 -- so does the step by which a mutator lets its registers go
 letting_go_keeps : {p : Private} {op : Op} {q : Private} {log : Contents} → log.capacity ≡ p.log.capacity → LetsGo p op q log → KeepsSizes p q × (work_of q ≡ work_of p)
 letting_go_keeps {p = p} sized l = (
-  subst (KeepsSizes p) (sym l.after) (record { number = refl; slots = refl; fields = refl; registers = length-replicate (length p.registers) None; capacity = sized }),
+  subst (KeepsSizes p) (sym l.after) (record { number = refl; slots = refl; fields = refl; registers = length-replicate (length p.registers) None; capacity = sized; parked = refl }),
   ap work_of l.after ∙ sym (ap work_at l.phase),
 )
 
 having_left_keeps : {p : Private} {op : Op} {q : Private} → HasLeft p op q → KeepsSizes p q × (work_of q ≡ work_of p)
 having_left_keeps {p = p} l = (
-  subst (KeepsSizes p) (sym l.after) (record { number = refl; slots = refl; fields = refl; registers = refl; capacity = refl }),
+  subst (KeepsSizes p) (sym l.after) (record { number = refl; slots = refl; fields = refl; registers = refl; capacity = refl; parked = refl }),
   ap work_of l.after ∙ sym (ap work_at l.phase),
 )
 
@@ -171,10 +171,10 @@ first_counts p q word work begun is =
 -- what is learnt of the word keeps sizes and work, and counts, by phase
 learnt_at : (p : Private) (word : ℕ) (at : Phase) → p.phase ≡ at → is_busy_at at ≡ true → IsBetween at → KeepsSizes p (took_at p word at) × (work_of (took_at p word at) ≡ work_of p) × ((took_at p word at).steps ≡ p.steps + 1)
 unfolding took_of took_at
-learnt_at p word Crossing is busy between = (record { number = refl; slots = refl; fields = refl; registers = refl; capacity = refl }, sym (ap work_at is), refl)
+learnt_at p word Crossing is busy between = (record { number = refl; slots = refl; fields = refl; registers = refl; capacity = refl; parked = refl }, sym (ap work_at is), refl)
 learnt_at p word Swapping is busy between = absurd between
 learnt_at p word Leaving is busy between =
-    (record { number = refl; slots = refl; fields = refl; registers = length-replicate (length p.registers) None; capacity = refl }, sym (ap work_at is), refl)
+    (record { number = refl; slots = refl; fields = refl; registers = length-replicate (length p.registers) None; capacity = refl; parked = refl }, sym (ap work_at is), refl)
 learnt_at p word Retiring is busy between = absurd between
 learnt_at p word (Passing passage) is busy between = absurd between
 learnt_at p word at is busy between =

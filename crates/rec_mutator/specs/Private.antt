@@ -228,10 +228,12 @@ pub record IsMachine (p : Private) : Type 0 where
   pub from : p.from < p.slots
   pub now : IsAt p p.phase
 
--- what no step and no new work changes: the numbers but for the epoch, the number of registers and what the log can hold
+-- what no step and no new work changes of a mutator that neither parks nor unparks: the numbers but for the epoch, the number of registers,
+-- what the log can hold, and that it isn't parked
 pub record KeepsSizes (p q : Private) : Type 0 where
   pub number : q.number ≡ p.number
   pub slots : q.slots ≡ p.slots
   pub fields : q.fields ≡ p.fields
   pub registers : length q.registers ≡ length p.registers
   pub capacity : q.log.capacity ≡ p.log.capacity
+  pub parked : q.parked ≡ p.parked

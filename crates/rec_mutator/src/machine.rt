@@ -101,6 +101,7 @@ impl Machine {
     pub fn begin(&mut self, work: Work, from: u16)
         requires idle { is_busy self.old ≡ false }
         requires stays { self.old.left ≡ false }
+        requires awake { self.old.parked ≡ false }
         requires valid { IsValid self.old work }
         requires from { from < self.old.slots }
 

@@ -332,6 +332,7 @@ learns_box p q r b mailbox t word takes took is_b swapped left hand same =
         fields = ap (λ (x : Private). x.fields) r_is ∙ same.fields;
         registers = ap (λ (x : Private). length x.registers) r_is ∙ same.registers;
         capacity = ap (λ (x : Private). x.log.capacity) r_is ∙ ap (λ (x : Contents). x.capacity) is_b ∙ ap (λ (x : Private). x.log.capacity) (sym took) ∙ same.capacity;
+        parked = ap (λ (x : Private). x.parked) r_is ∙ same.parked;
       },
       subst (λ (x : Private). IsBetween x.phase) (sym r_is) (given_between q.phase),
       (λ k. (sym number k - 1, (left ∙ ap (λ x. Some x) (left_log q b at_swap ∙ ap (λ (x : Private). x.log) took ∙ sym hand_is)) k) ∷ [])
@@ -488,8 +489,8 @@ ready_busy p (Some start) may = refl
 
 pub ready_keeps : (p : Private) (wk : Option Start) → KeepsSizes p (ready p wk)
 unfolding begun_of
-ready_keeps p None = record { number = refl; slots = refl; fields = refl; registers = refl; capacity = refl }
-ready_keeps p (Some start) = record { number = refl; slots = refl; fields = refl; registers = refl; capacity = refl }
+ready_keeps p None = record { number = refl; slots = refl; fields = refl; registers = refl; capacity = refl; parked = refl }
+ready_keeps p (Some start) = record { number = refl; slots = refl; fields = refl; registers = refl; capacity = refl; parked = refl }
 
 -- all of it, of a step that may begin a work first
 pub record Counted (p : Private) (wk : Option Start) (word : ℕ) : Type 0 where
@@ -508,7 +509,7 @@ counted p wk word may between =
     record {
       steps = learnt_counts q word busy b;
       work = k.1;
-      same = record { number = k.0.number ∙ r.number; slots = k.0.slots ∙ r.slots; fields = k.0.fields ∙ r.fields; registers = k.0.registers ∙ r.registers; capacity = k.0.capacity ∙ r.capacity };
+      same = record { number = k.0.number ∙ r.number; slots = k.0.slots ∙ r.slots; fields = k.0.fields ∙ r.fields; registers = k.0.registers ∙ r.registers; capacity = k.0.capacity ∙ r.capacity; parked = k.0.parked ∙ r.parked };
       told = learnt_told q word busy b;
     }
 
@@ -534,7 +535,7 @@ unfolding begun_of
 begun_work p work from = refl
 
 pub keeps_on : (a b d : Private) → KeepsSizes a b → KeepsSizes b d → KeepsSizes a d
-keeps_on a b d x y = record { number = y.number ∙ x.number; slots = y.slots ∙ x.slots; fields = y.fields ∙ x.fields; registers = y.registers ∙ x.registers; capacity = y.capacity ∙ x.capacity }
+keeps_on a b d x y = record { number = y.number ∙ x.number; slots = y.slots ∙ x.slots; fields = y.fields ∙ x.fields; registers = y.registers ∙ x.registers; capacity = y.capacity ∙ x.capacity; parked = y.parked ∙ x.parked }
 
 pub works_first : (h h' : MutatorView) (work : Work) (from word : ℕ) → h' ≡ record h { log = h.log ++ beats (Some (record { work = work; from = from })) word } → Works work h.log h'.log × (h' ≡ record h { log = h'.log })
 works_first h h' work from word e =

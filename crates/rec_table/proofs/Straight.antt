@@ -21,7 +21,7 @@ use Rattle.rec_mutator.proofs.Straight.{begun_machine, scanning, scans_is, begun
 use Rattle.rec_table.specs.Rule.{MayBegin}
 use Rattle.rec_table.specs.Straight.{Bears, Carried, CarriesIf, IsPlainOp, Polled, Stands, record_of}
 use Rattle.rec_table.specs.declared.start.Start.{Start}
-use Rattle.rec_table.proofs.Common.{Op, Private, IsMachine, KeepsSizes, IsBetween, Contents, is_busy, is_busy_at, is_full, work_of, answer_at, answer_of, begun_of, took_of, spare, IsMutator, Core, mutator, MutatorView, mutator_view, mutator_now, IsOf, Works, told, learnt, ready, MayGo, births_of, births_told, beats, longer, seated_of, hands, me_after, Saw, Beat, Seated, View, Mutates}
+use Rattle.rec_table.proofs.Common.{actor_of, world_kept, IsWorld, Op, Private, IsMachine, KeepsSizes, IsBetween, Contents, is_busy, is_busy_at, is_full, work_of, answer_at, answer_of, begun_of, took_of, spare, IsMutator, Core, mutator, MutatorView, mutator_view, mutator_now, IsOf, Works, told, learnt, ready, MayGo, births_of, births_told, beats, longer, seated_of, hands, me_after, Saw, Beat, Seated, View, Mutates}
 use Rattle.rec_table.proofs.Acting.{opened_is, told_beats}
 use Rattle.rec_table.proofs.Answering.{Path, answered, begun_slots, path_first, path_on, polled}
 use Rattle.rec_table.proofs.Leaving.{leaves, poll_stays}
@@ -87,6 +87,11 @@ owns z z' key o m me h view own seat is names same between =
         between = subst (λ (q : Private). IsBetween q.phase) machine between;
       };
     }
+
+-- and isn't parked
+pub awake : {key : Core} {o m : Private} {me : Me (Option Contents) View} {h : MutatorView} → IsWorld key → Owns key o m me h → m.parked ≡ false
+awake {key = key} {me = me} world owned =
+    ap (λ (p : Private). p.parked) owned.machine ∙ owned.stands.same.parked ∙ (actor_of key (seated_of me.0).number (world_kept key world) owned.stands.owner).own.awake
 
 -- With a work that may begin it begins so.
 pub record Begins (key : Core) (o m : Private) (me : Me (Option Contents) View) (h : MutatorView) (work : Work) (from : ℕ) : Type 0 where

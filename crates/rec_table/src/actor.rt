@@ -140,6 +140,7 @@ fn learn(
 #[inline(always)]
 fn prepare(machine: &mut Machine, work: Option<Start>)
     requires may { MayGo machine.old work }
+    requires awake { machine.old.parked ≡ false }
     ensures ready { machine.new ≡ ready machine.old work }
     ensures begun { IfSome work (λ start. machine.new.phase ≡ Begun start.work) }
     ensures busy { is_busy machine.new ≡ true }

@@ -72,7 +72,7 @@ made_on xs ys ds es a b d first then = record {
 }
 
 same_sizes : (p : Private) → KeepsSizes p p
-same_sizes p = record { number = refl; slots = refl; fields = refl; registers = refl; capacity = refl }
+same_sizes p = record { number = refl; slots = refl; fields = refl; registers = refl; capacity = refl; parked = refl }
 
 -- nothing is made
 pub made_none : (w : Worker) → HasMade [] [] w w

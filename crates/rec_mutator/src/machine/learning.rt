@@ -99,7 +99,7 @@ impl Machine {
             Cmd::Value { reg } => self.took_value(reg, word),
             Cmd::Same { a, b } => self.took_same(a, b),
             Cmd::Leave => self.took_leave(word),
-            // No work parks yet: its operands are never there.
+            // Parking and unparking begin with calls of their own. Of a work that was begun their operands are never there.
             Cmd::Park | Cmd::Unpark => unreachable!(),
         }
     }

@@ -63,7 +63,9 @@ impl Machine {
         requires found { IsFound self.old (next_of self.old) word }
 
         ensures took { self.new ≡ took_of self.old word }
-        ensures same { KeepsSizes self.old self.new }
+
+        // Sizes stay. The mark that the mutator is parked is what may change.
+        ensures same { KeepsSizes self.old (record self.new { parked = self.old.parked }) }
         ensures steps { self.new.steps ≡ self.old.steps + 1 }
         ensures work { work_of self.new ≡ work_of self.old }
         ensures limit { IfSome (work_of self.new) (λ work. self.new.steps ≤ limit_of self.new.slots work) }

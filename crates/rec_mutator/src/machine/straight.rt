@@ -23,6 +23,7 @@ impl Machine {
     pub fn got(&mut self, dst: u8, src: u8, field: u8, slot: u16, word: u64) -> Answer
         requires idle { is_busy self.old ≡ false }
         requires stays { self.old.left ≡ false }
+        requires awake { self.old.parked ≡ false }
         requires valid { HasOperands self.old (Cmd.Get dst src field) }
         requires object { register self.old src ≡ Some slot }
 
@@ -59,6 +60,7 @@ impl Machine {
     )
         requires idle { is_busy self.old ≡ false }
         requires stays { self.old.left ≡ false }
+        requires awake { self.old.parked ≡ false }
         requires valid { HasOperands self.old (Cmd.Put src field val) }
         requires object { register self.old src ≡ Some slot }
         requires room { is_full self.old ≡ false }
@@ -90,6 +92,7 @@ impl Machine {
     pub fn barred(&mut self, src: u8, field: u8, val: u8, slot: u16, header: u64)
         requires idle { is_busy self.old ≡ false }
         requires stays { self.old.left ≡ false }
+        requires awake { self.old.parked ≡ false }
         requires valid { HasOperands self.old (Cmd.Put src field val) }
         requires object { register self.old src ≡ Some slot }
         requires room { is_full self.old ≡ false }
@@ -109,6 +112,7 @@ impl Machine {
     pub fn bore(&mut self, reg: u8, label: u32, leaf: bool, from: u16, before: u64)
         requires idle { is_busy self.old ≡ false }
         requires stays { self.old.left ≡ false }
+        requires awake { self.old.parked ≡ false }
         requires valid { HasOperands self.old (allocation leaf reg label) }
         requires room { is_full self.old ≡ false }
         requires from { from < self.old.slots }
@@ -131,6 +135,7 @@ impl Machine {
     pub fn lost(&mut self, reg: u8, label: u32, leaf: bool, from: u16, before: u64, found: u64)
         requires idle { is_busy self.old ≡ false }
         requires stays { self.old.left ≡ false }
+        requires awake { self.old.parked ≡ false }
         requires valid { HasOperands self.old (allocation leaf reg label) }
         requires room { is_full self.old ≡ false }
         requires from { from < self.old.slots }
@@ -149,6 +154,7 @@ impl Machine {
     pub fn copied(&mut self, dst: u8, src: u8, word: u64)
         requires idle { is_busy self.old ≡ false }
         requires stays { self.old.left ≡ false }
+        requires awake { self.old.parked ≡ false }
         requires valid { HasOperands self.old (Cmd.Copy dst src) }
 
         ensures took { self.new ≡ took_of (begun_of self.old (works.Command (Cmd.Copy dst src)) self.old.from) word }
@@ -166,6 +172,7 @@ impl Machine {
     pub fn nulled(&mut self, reg: u8, word: u64)
         requires idle { is_busy self.old ≡ false }
         requires stays { self.old.left ≡ false }
+        requires awake { self.old.parked ≡ false }
         requires valid { HasOperands self.old (Cmd.Null reg) }
 
         ensures took { self.new ≡ took_of (begun_of self.old (works.Command (Cmd.Null reg)) self.old.from) word }
@@ -183,6 +190,7 @@ impl Machine {
     pub fn labelled(&mut self, reg: u8, slot: u16, header: u64) -> Answer
         requires idle { is_busy self.old ≡ false }
         requires stays { self.old.left ≡ false }
+        requires awake { self.old.parked ≡ false }
         requires valid { HasOperands self.old (Cmd.Value reg) }
         requires object { register self.old reg ≡ Some slot }
         requires header { IsTakenHeader header }
@@ -203,6 +211,7 @@ impl Machine {
     pub fn compared(&mut self, a: u8, b: u8, word: u64) -> Answer
         requires idle { is_busy self.old ≡ false }
         requires stays { self.old.left ≡ false }
+        requires awake { self.old.parked ≡ false }
         requires valid { HasOperands self.old (Cmd.Same a b) }
 
         ensures took { self.new ≡ took_of (begun_of self.old (works.Command (Cmd.Same a b)) self.old.from) word }
@@ -221,6 +230,7 @@ impl Machine {
     pub fn stayed(&mut self, requested: u64)
         requires idle { is_busy self.old ≡ false }
         requires stays { self.old.left ≡ false }
+        requires awake { self.old.parked ≡ false }
         requires own { requested ≡ self.old.epoch }
 
         ensures took { self.new ≡ took_of (begun_of self.old works.Poll self.old.from) requested }
@@ -237,6 +247,7 @@ impl Machine {
     pub fn summoned(&mut self, requested: u64)
         requires idle { is_busy self.old ≡ false }
         requires stays { self.old.left ≡ false }
+        requires awake { self.old.parked ≡ false }
         requires other { requested ≢ self.old.epoch }
         requires found { IsRequested self.old requested }
 

@@ -14,7 +14,7 @@ use Rattle.rec_table.specs.Straight.{Path, record_of}
 use Rattle.rec_table.specs.declared.start.Start.{Start}
 use Rattle.rec_table.proofs.Common.{Private, IsBetween, IsMachine, Contents, Core, is_full, KeepsSizes, IsTold, Works, answer_of, births_of, is_busy, work_of, begun_of, told, mutator_now, mutator_view, MutatorView, Saw, beats, MayGo, learnt, seated_of, View}
 use Rattle.rec_table.proofs.Making.{counted, keeps_on}
-use Rattle.rec_table.proofs.Straight.{Owns, answered_idle, born_first, born_last, born_mid, born_second, carried_path, carried_twice, path_twice, works_twice, kept_by, none_born, one_born, opened_on, owns, seen_on}
+use Rattle.rec_table.proofs.Straight.{awake, Owns, answered_idle, born_first, born_last, born_mid, born_second, carried_path, carried_twice, path_twice, works_twice, kept_by, none_born, one_born, opened_on, owns, seen_on}
 use Rattle.rec_table.proofs.actor.Actor.bear.Goals as goal
 use Rattle.rec_table.proofs.actor.Actor.bear.Goals.{After-pack-header}
 
@@ -98,6 +98,9 @@ perform-found-requires-clause-op c =
 pub bore-requires-clause-idle : goal.bore-requires-clause-idle
 bore-requires-clause-idle c = (may (goal.at.bore-requires-clause-idle c).After-pack-header).0
 
+pub bore-requires-clause-awake : goal.bore-requires-clause-awake
+bore-requires-clause-awake c = let a : After-pack-header = (goal.at.bore-requires-clause-awake c).After-pack-header in awake c.requires.world (owned a)
+
 pub bore-requires-clause-stays : goal.bore-requires-clause-stays
 bore-requires-clause-stays c = (may (goal.at.bore-requires-clause-stays c).After-pack-header).1
 
@@ -112,6 +115,9 @@ bore-requires-clause-from c = low (goal.at.bore-requires-clause-from c).After-pa
 
 pub lost-requires-clause-idle : goal.lost-requires-clause-idle
 lost-requires-clause-idle c = (may (goal.at.lost-requires-clause-idle c).After-pack-header).0
+
+pub lost-requires-clause-awake : goal.lost-requires-clause-awake
+lost-requires-clause-awake c = let a : After-pack-header = (goal.at.lost-requires-clause-awake c).After-pack-header in awake c.requires.world (owned a)
 
 pub lost-requires-clause-stays : goal.lost-requires-clause-stays
 lost-requires-clause-stays c = (may (goal.at.lost-requires-clause-stays c).After-pack-header).1

@@ -7,12 +7,10 @@ use Rattle.rec_model.specs.declared.answer.Answer.TheVariants as answers
 use Rattle.rec_mutator.specs.Next.{next_of, next_at}
 use Rattle.rec_mutator.specs.declared.work.Work.{Work}
 use Rattle.rec_mutator.specs.declared.work.Work.TheVariants as works
-use Rattle.rec_mutator.proofs.Straight.{begun_machine}
-use Rattle.rec_table.specs.Rule.{MayBegin}
 use Rattle.rec_table.specs.Straight.{record_of}
 use Rattle.rec_table.specs.declared.start.Start.{Start}
-use Rattle.rec_table.proofs.Common.{Private, IsBetween, IsMachine, answer_of, begun_of, beats, MayGo}
-use Rattle.rec_table.proofs.Straight.{Owns, carried_once, kept_by, learns_first, none_born, opened_on, owns, seen_on, Begins, begins}
+use Rattle.rec_table.proofs.Common.{Private, IsBetween, IsMachine, answer_of, begun_of, beats}
+use Rattle.rec_table.proofs.Straight.{awake, carried_once, kept_by, learns_first, none_born, opened_on, owns, seen_on, Begins, begins}
 use Rattle.rec_table.proofs.actor.Actor.copy.Goals as goal
 use Rattle.rec_table.proofs.actor.Actor.copy.Goals.{After-from-from}
 
@@ -52,6 +50,9 @@ perform-word-requires-clause-op c =
 
 pub copied-requires-clause-idle : goal.copied-requires-clause-idle
 copied-requires-clause-idle c = let a : After-from-from = (goal.at.copied-requires-clause-idle c).After-from-from in (starts a).may.0
+
+pub copied-requires-clause-awake : goal.copied-requires-clause-awake
+copied-requires-clause-awake c = let a : After-from-from = (goal.at.copied-requires-clause-awake c).After-from-from in awake c.requires.world (starts a).owned
 
 pub copied-requires-clause-stays : goal.copied-requires-clause-stays
 copied-requires-clause-stays c = let a : After-from-from = (goal.at.copied-requires-clause-stays c).After-from-from in (starts a).may.1

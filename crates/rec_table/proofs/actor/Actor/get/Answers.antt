@@ -6,13 +6,11 @@ use Rattle.rec_model.specs.declared.told.Told.{Told}
 use Rattle.rec_mutator.specs.Next.{next_of, next_at, read_op}
 use Rattle.rec_mutator.specs.declared.work.Work.{Work}
 use Rattle.rec_mutator.specs.declared.work.Work.TheVariants as works
-use Rattle.rec_mutator.proofs.Straight.{begun_machine}
 use Rattle.rec_word.specs.Place.{place_of}
-use Rattle.rec_table.specs.Rule.{MayBegin}
 use Rattle.rec_table.specs.Straight.{record_of}
 use Rattle.rec_table.specs.declared.start.Start.{Start}
-use Rattle.rec_table.proofs.Common.{Private, IsBetween, IsMachine, register, answer_of, begun_of, beats, MayGo}
-use Rattle.rec_table.proofs.Straight.{Owns, carried_once, kept_by, learns_first, none_born, opened_on, owns, seen_on, Begins, begins}
+use Rattle.rec_table.proofs.Common.{Private, IsBetween, IsMachine, register, answer_of, begun_of, beats}
+use Rattle.rec_table.proofs.Straight.{awake, carried_once, kept_by, learns_first, none_born, opened_on, owns, seen_on, Begins, begins}
 use Rattle.rec_table.proofs.actor.Actor.get.Goals as goal
 use Rattle.rec_table.proofs.actor.Actor.get.Goals.{After-from-from}
 
@@ -55,6 +53,9 @@ perform-word-requires-clause-op c =
 
 pub got-requires-clause-idle : goal.got-requires-clause-idle
 got-requires-clause-idle c = let a : After-from-from = (goal.at.got-requires-clause-idle c).After-from-from in (starts a).may.0
+
+pub got-requires-clause-awake : goal.got-requires-clause-awake
+got-requires-clause-awake c = let a : After-from-from = (goal.at.got-requires-clause-awake c).After-from-from in awake c.requires.world (starts a).owned
 
 pub got-requires-clause-stays : goal.got-requires-clause-stays
 got-requires-clause-stays c = let a : After-from-from = (goal.at.got-requires-clause-stays c).After-from-from in (starts a).may.1

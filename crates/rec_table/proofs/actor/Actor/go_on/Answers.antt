@@ -14,7 +14,7 @@ loop-made-init c = record {
   told = c.requires.told;
   path = λ start p log same path. path;
   grows = λ log works. works;
-  same = record { number = refl; slots = refl; fields = refl; registers = refl; capacity = refl };
+  same = record { number = refl; slots = refl; fields = refl; registers = refl; capacity = refl; parked = refl };
 }
 
 pub scan-requires-clause-busy : goal.scan-requires-clause-busy

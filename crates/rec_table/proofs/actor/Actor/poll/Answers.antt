@@ -12,7 +12,7 @@ use Rattle.rec_table.proofs.Common.{Private, IsBetween, IsFound, IsMachine, IsTo
 use Rattle.rec_table.proofs.Making.{begun_work, counted, keeps_on}
 use Rattle.rec_mutator.specs.Took.{IsRequested}
 use Rattle.atomic_table.specs.Table.{Me}
-use Rattle.rec_table.proofs.Straight.{Owns, path_once, polled_once, polled_path, kept_by, learns_first, none_born, opened_on, owns, seen_on, Begins, begins}
+use Rattle.rec_table.proofs.Straight.{awake, Owns, path_once, polled_once, polled_path, kept_by, learns_first, none_born, opened_on, owns, seen_on, Begins, begins}
 use Rattle.rec_table.proofs.actor.Actor.poll.Goals as goal
 use Rattle.rec_table.proofs.actor.Actor.poll.Goals.{After-from-from}
 
@@ -58,11 +58,17 @@ perform-requested-requires-clause-op c =
 pub stayed-requires-clause-idle : goal.stayed-requires-clause-idle
 stayed-requires-clause-idle c = let a : After-from-from = (goal.at.stayed-requires-clause-idle c).After-from-from in (starts a).may.0
 
+pub stayed-requires-clause-awake : goal.stayed-requires-clause-awake
+stayed-requires-clause-awake c = let a : After-from-from = (goal.at.stayed-requires-clause-awake c).After-from-from in awake c.requires.world (starts a).owned
+
 pub stayed-requires-clause-stays : goal.stayed-requires-clause-stays
 stayed-requires-clause-stays c = let a : After-from-from = (goal.at.stayed-requires-clause-stays c).After-from-from in (starts a).may.1
 
 pub summoned-requires-clause-idle : goal.summoned-requires-clause-idle
 summoned-requires-clause-idle c = let a : After-from-from = (goal.at.summoned-requires-clause-idle c).After-from-from in (starts a).may.0
+
+pub summoned-requires-clause-awake : goal.summoned-requires-clause-awake
+summoned-requires-clause-awake c = let a : After-from-from = (goal.at.summoned-requires-clause-awake c).After-from-from in awake c.requires.world (starts a).owned
 
 pub summoned-requires-clause-stays : goal.summoned-requires-clause-stays
 summoned-requires-clause-stays c = let a : After-from-from = (goal.at.summoned-requires-clause-stays c).After-from-from in (starts a).may.1

@@ -12,12 +12,11 @@ use Rattle.rec_mutator.specs.Next.{next_of, next_at, write_op}
 use Rattle.rec_mutator.specs.Private.{word_for}
 use Rattle.rec_mutator.specs.declared.work.Work.{Work}
 use Rattle.rec_mutator.specs.declared.work.Work.TheVariants as works
-use Rattle.rec_mutator.proofs.Straight.{begun_machine, looked_is, looked_machine, storing}
-use Rattle.rec_table.specs.Rule.{MayBegin}
+use Rattle.rec_mutator.proofs.Straight.{looked_is, looked_machine, storing}
 use Rattle.rec_table.specs.Straight.{record_of}
 use Rattle.rec_table.specs.declared.start.Start.{Start}
-use Rattle.rec_table.proofs.Common.{Private, IsBetween, IsMachine, Contents, is_full, register, answer_of, is_busy, begun_of, took_of, mutator_now, Saw, beats, MayGo, learnt, View}
-use Rattle.rec_table.proofs.Straight.{Owns, answered_idle, carried_once, carried_twice, kept_by, learns_first, learns_second, none_born, opened_on, owns, seen_on, Begins, begins}
+use Rattle.rec_table.proofs.Common.{Private, IsBetween, IsMachine, Contents, is_full, register, answer_of, is_busy, begun_of, took_of, mutator_now, Saw, beats, learnt, View}
+use Rattle.rec_table.proofs.Straight.{awake, answered_idle, carried_once, carried_twice, kept_by, learns_first, learns_second, none_born, opened_on, owns, seen_on, Begins, begins}
 use Rattle.rec_table.proofs.actor.Actor.put.Goals as goal
 use Rattle.rec_table.proofs.actor.Actor.put.Goals.{After-from-from}
 
@@ -88,6 +87,9 @@ mid_machine a me' header found learns =
 pub barred-requires-clause-idle : goal.barred-requires-clause-idle
 barred-requires-clause-idle c = let a : After-from-from = (goal.at.barred-requires-clause-idle c).After-from-from in (starts a).may.0
 
+pub barred-requires-clause-awake : goal.barred-requires-clause-awake
+barred-requires-clause-awake c = let a : After-from-from = (goal.at.barred-requires-clause-awake c).After-from-from in awake c.requires.world (starts a).owned
+
 pub barred-requires-clause-stays : goal.barred-requires-clause-stays
 barred-requires-clause-stays c = let a : After-from-from = (goal.at.barred-requires-clause-stays c).After-from-from in (starts a).may.1
 
@@ -102,6 +104,9 @@ barred-requires-clause-room c = let a : After-from-from = (goal.at.barred-requir
 
 pub wrote-requires-clause-idle : goal.wrote-requires-clause-idle
 wrote-requires-clause-idle c = let a : After-from-from = (goal.at.wrote-requires-clause-idle c).After-from-from in (starts a).may.0
+
+pub wrote-requires-clause-awake : goal.wrote-requires-clause-awake
+wrote-requires-clause-awake c = let a : After-from-from = (goal.at.wrote-requires-clause-awake c).After-from-from in awake c.requires.world (starts a).owned
 
 pub wrote-requires-clause-stays : goal.wrote-requires-clause-stays
 wrote-requires-clause-stays c = let a : After-from-from = (goal.at.wrote-requires-clause-stays c).After-from-from in (starts a).may.1

@@ -6,12 +6,10 @@ use Rattle.rec_model.specs.Asking.{plain}
 use Rattle.rec_mutator.specs.Next.{next_of, next_at}
 use Rattle.rec_mutator.specs.declared.work.Work.{Work}
 use Rattle.rec_mutator.specs.declared.work.Work.TheVariants as works
-use Rattle.rec_mutator.proofs.Straight.{begun_machine}
-use Rattle.rec_table.specs.Rule.{MayBegin}
 use Rattle.rec_table.specs.Straight.{record_of}
 use Rattle.rec_table.specs.declared.start.Start.{Start}
-use Rattle.rec_table.proofs.Common.{Private, IsBetween, IsMachine, answer_of, begun_of, beats, MayGo}
-use Rattle.rec_table.proofs.Straight.{Owns, carried_once, kept_by, learns_first, none_born, opened_on, owns, seen_on, Begins, begins}
+use Rattle.rec_table.proofs.Common.{Private, IsBetween, IsMachine, answer_of, begun_of, beats}
+use Rattle.rec_table.proofs.Straight.{awake, carried_once, kept_by, learns_first, none_born, opened_on, owns, seen_on, Begins, begins}
 use Rattle.rec_table.proofs.actor.Actor.same.Goals as goal
 use Rattle.rec_table.proofs.actor.Actor.same.Goals.{After-from-from}
 
@@ -51,6 +49,9 @@ perform-word-requires-clause-op c =
 
 pub compared-requires-clause-idle : goal.compared-requires-clause-idle
 compared-requires-clause-idle c = let a : After-from-from = (goal.at.compared-requires-clause-idle c).After-from-from in (starts a).may.0
+
+pub compared-requires-clause-awake : goal.compared-requires-clause-awake
+compared-requires-clause-awake c = let a : After-from-from = (goal.at.compared-requires-clause-awake c).After-from-from in awake c.requires.world (starts a).owned
 
 pub compared-requires-clause-stays : goal.compared-requires-clause-stays
 compared-requires-clause-stays c = let a : After-from-from = (goal.at.compared-requires-clause-stays c).After-from-from in (starts a).may.1

@@ -162,5 +162,5 @@ returns-in_default c =
       steps = omega arith;
       busy = c.requires.busy;
       work = refl;
-      same = record { number = refl; slots = refl; fields = refl; registers = refl; capacity = refl };
+      same = record { number = refl; slots = refl; fields = refl; registers = refl; capacity = refl; parked = refl };
     }

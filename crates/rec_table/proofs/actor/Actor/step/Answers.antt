@@ -64,6 +64,16 @@ learns_now c word me me' m is at learns =
 counts : (c : After-next-op) (word : ℕ) → Counted (mutator_now c.args.self.now) c.args.work word
 counts c word = counted (mutator_now c.args.self.now) c.args.work word c.requires.may (subst (λ (p : Private). IsBetween p.phase) (machine_is c ∙ sym (picked c)) c.self.invariant.4)
 
+pub prepare-requires-clause-awake : goal.prepare-requires-clause-awake
+prepare-requires-clause-awake c =
+    let k : Core = c.args.board.now.table.shared.key.value in
+    let s = c.self.inside in
+    let t = seated_of s.seat.me.0 in
+    let its : IsMutator k.config t.number = subst (λ (n : ℕ). IsMutator k.config n) (sym (ap (λ (x : MutatorView). x.number) c.self.view_is)) c.requires.own.1 in
+    c.self.invariant.3.parked
+    ∙ ap (λ (p : Private). p.parked) (opened_is c.args.board.now.table.shared.table_id s.seat.table_id k s.opened.value t c.args.self.now c.self.view_is c.requires.own)
+    ∙ (actor_of k t.number (world_kept k c.requires.world) its).own.awake
+
 pub make-word-requires-clause-seat : goal.make-word-requires-clause-seat
 make-word-requires-clause-seat c =
     let a : After-next-op = (goal.at.make-word-requires-clause-seat c).After-next-op in

@@ -7,12 +7,10 @@ use Rattle.rec_model.specs.declared.told.Told.{Told}
 use Rattle.rec_mutator.specs.Next.{next_of, next_at, label_op}
 use Rattle.rec_mutator.specs.declared.work.Work.{Work}
 use Rattle.rec_mutator.specs.declared.work.Work.TheVariants as works
-use Rattle.rec_mutator.proofs.Straight.{begun_machine}
-use Rattle.rec_table.specs.Rule.{MayBegin}
 use Rattle.rec_table.specs.Straight.{record_of}
 use Rattle.rec_table.specs.declared.start.Start.{Start}
-use Rattle.rec_table.proofs.Common.{Private, IsBetween, IsMachine, register, answer_of, begun_of, beats, MayGo}
-use Rattle.rec_table.proofs.Straight.{Owns, carried_once, kept_by, learns_first, none_born, opened_on, owns, seen_on, Begins, begins}
+use Rattle.rec_table.proofs.Common.{Private, IsBetween, IsMachine, register, answer_of, begun_of, beats}
+use Rattle.rec_table.proofs.Straight.{awake, carried_once, kept_by, learns_first, none_born, opened_on, owns, seen_on, Begins, begins}
 use Rattle.rec_table.proofs.actor.Actor.value.Goals as goal
 use Rattle.rec_table.proofs.actor.Actor.value.Goals.{After-from-from}
 
@@ -55,6 +53,9 @@ perform-header-requires-clause-op c =
 
 pub labelled-requires-clause-idle : goal.labelled-requires-clause-idle
 labelled-requires-clause-idle c = let a : After-from-from = (goal.at.labelled-requires-clause-idle c).After-from-from in (starts a).may.0
+
+pub labelled-requires-clause-awake : goal.labelled-requires-clause-awake
+labelled-requires-clause-awake c = let a : After-from-from = (goal.at.labelled-requires-clause-awake c).After-from-from in awake c.requires.world (starts a).owned
 
 pub labelled-requires-clause-stays : goal.labelled-requires-clause-stays
 labelled-requires-clause-stays c = let a : After-from-from = (goal.at.labelled-requires-clause-stays c).After-from-from in (starts a).may.1

@@ -43,6 +43,12 @@ begin-requires-clause-from c =
     subst (λ (p : Private). 0 < p.slots) (sym (mutator_read (core c.self.inside) c.args.t c.from.result c.index_mut.result.now c.self.invariant.world.shaped now.is c.from.ensures c.index_mut.ensures.value))
     (actor_of (core c.self.inside) c.args.t now.kept now.is).own.machine.first_slot
 
+pub begin-requires-clause-awake : goal.begin-requires-clause-awake
+begin-requires-clause-awake c =
+    let now : Ready c.self.inside c.args.t = ready c.self.inside c.args.self.now c.args.t c.self.invariant c.self.view_is c.requires.mutator in
+    subst (λ (p : Private). p.parked ≡ false) (sym (mutator_read (core c.self.inside) c.args.t c.from.result c.index_mut.result.now c.self.invariant.world.shaped now.is c.from.ensures c.index_mut.ensures.value))
+    (actor_of (core c.self.inside) c.args.t now.kept now.is).own.awake
+
 pub begin-requires-clause-stays : goal.begin-requires-clause-stays
 begin-requires-clause-stays c =
     let now : Ready c.self.inside c.args.t = ready c.self.inside c.args.self.now c.args.t c.self.invariant c.self.view_is c.requires.mutator in

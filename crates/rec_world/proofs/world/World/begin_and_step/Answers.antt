@@ -28,6 +28,12 @@ begin-requires-clause-from c =
     subst (λ (p : Private). 0 < p.slots) (sym (mutator_read (core c.self.inside) c.args.t c.from-own.result c.index_mut-machine.result.now c.self.invariant.world.shaped may.was.is c.from-own.ensures c.index_mut-machine.ensures.value))
     (actor_of (core c.self.inside) c.args.t may.was.kept may.was.is).own.machine.first_slot
 
+pub begin-requires-clause-awake : goal.begin-requires-clause-awake
+begin-requires-clause-awake c =
+    let may : MayBegin c.self.inside c.args.t c.args.work = may_begin c.self.inside c.args.self.now c.args.t c.args.work c.self.invariant c.self.view_is c.requires.mutator c.requires.present c.requires.work c.requires.idle c.see_label.ensures in
+    subst (λ (p : Private). p.parked ≡ false) (sym (mutator_read (core c.self.inside) c.args.t c.from-own.result c.index_mut-machine.result.now c.self.invariant.world.shaped may.was.is c.from-own.ensures c.index_mut-machine.ensures.value))
+    (actor_of (core c.self.inside) c.args.t may.was.kept may.was.is).own.awake
+
 pub begin-requires-clause-stays : goal.begin-requires-clause-stays
 begin-requires-clause-stays c =
     let may : MayBegin c.self.inside c.args.t c.args.work = may_begin c.self.inside c.args.self.now c.args.t c.args.work c.self.invariant c.self.view_is c.requires.mutator c.requires.present c.requires.work c.requires.idle c.see_label.ensures in
