@@ -309,20 +309,8 @@ impl Parts {
         Some(Phase::Releasing(release))
     }
 
-    // What follows where this was begun. Where nothing was, and no set is left to test, a trial begins or is postponed at once.
+    // What follows where this was begun: while nothing was, the next set is tested, and after the last one a trial begins or is postponed.
     fn follow(&mut self, begun: Option<Phase>) -> Phase
-        requires { IsClear (record { parts = self.old; phase = begun }) }
-        ensures { record { parts = self.new; phase = result } ≡ followed (record { parts = self.old; phase = begun }) }
-    {
-        self.counts.rules();
-        if begun.is_none() && self.counts.sets() == 0 {
-            return self.start_trial();
-        }
-        self.test_sets(begun)
-    }
-
-    // While nothing was begun, the next set is tested, and after the last one a trial begins or is postponed.
-    fn test_sets(&mut self, begun: Option<Phase>) -> Phase
         requires { IsClear (record { parts = self.old; phase = begun }) }
         ensures { record { parts = self.new; phase = result } ≡ followed (record { parts = self.old; phase = begun }) }
     {
