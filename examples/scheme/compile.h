@@ -216,6 +216,7 @@ typedef enum operation {
     CHOOSE,   /* goes on at `at` where the value is #f */
     JUMP,     /* goes on at `at` */
     CALL,     /* the procedure behind `number` operands */
+    OPERATE,  /* primitive `at` on `number` operands, in place of a LOAD. The CALL behind it is skipped */
     RETURN
 } operation;
 

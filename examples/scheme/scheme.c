@@ -309,6 +309,10 @@ static void run(mutator *m, int next) {
         case CALL:
             next = call_procedure(m, i->to, i->number, next);
             break;
+        case OPERATE:
+            operate(m, i->at, i->to, i->number);
+            next++;
+            break;
         case RETURN:
             next = go_back(m);
         }
@@ -322,6 +326,17 @@ static const char PRELUDE[] = {
 };
 static char *program; /* the text of the file */
 
+/* Where the program never sets the global of a primitive, a call of it needs no look at the global. */
+static void know_primitives(void) {
+    int stores[PRIMITIVE_COUNT + 1] = { 0 };
+    for (instruction *i = code; i < code + code_count; i++)
+        if (i->does == STORE && i->number == 0 && i->at <= PRIMITIVE_COUNT)
+            stores[i->at]++;
+    for (instruction *i = code, *call = i + 1; call < code + code_count; i = call++)
+        if (i->does == LOAD && i->number == 0 && i->at <= PRIMITIVE_COUNT && stores[i->at] == 1 && call->does == CALL)
+            *i = (instruction){ OPERATE, call->to, i->at - 1, call->number, call->line, NULL };
+}
+
 /* Each primitive is the value of a global. */
 static void compile_program(void) {
     datum *scope = pair(&nothing, &nothing);
@@ -334,6 +349,7 @@ static void compile_program(void) {
     compile_all(read_text(PRELUDE, -9999), scope, STACK); /* its lines aren't told */
     compile_all(read_text(program, 1), scope, STACK);
     emit(RETURN, STACK, 0, 0);
+    know_primitives();
     for (int item = 1; item <= global_count + thread_count; item++)
         add_item(reader, ROOT, item, NONE);
 }
