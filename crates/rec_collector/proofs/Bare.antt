@@ -1,16 +1,17 @@
 -- What the collector does next and what it learns is the same in a heap of bare words: it reads of a word where it leads, and nothing else.
-use Rattle.std.proofs.Common.{◌≡◌, Bool, true, false, ℕ, ◌+◌, ◌-◌, ◌^◌, ◌<◌, ◌≤◌, ◌==◌, if◌then◌else◌, List, [], ◌∷◌, ◌++◌, Option, None, Some, IfSome, flat_map, map, slice_set, refl, sym, ap, subst, ◌∙◌, arith}
+use Rattle.std.proofs.Common.{◌≡◌, Bool, true, false, ℕ, ◌+◌, ◌-◌, ◌^◌, ◌<◌, ◌≤◌, if◌then◌else◌, List, [], ◌∷◌, ◌++◌, Option, None, Some, IfSome, flat_map, map, slice_set, refl, sym, ap, subst, ◌∙◌, arith}
 use Rattle.std.specs.List.{sum_by}
 use Rattle.std.proofs.Math.ListN.{get_or-map}
 use Rattle.std.proofs.lemmas.List.{map-set}
 use Rattle.std.proofs.lemmas.List.Sums.{sum_by-cons}
 use Rattle.rec_word.specs.Bare.{bare, bare_in, bare_op}
-use Rattle.rec_word.specs.Mailbox.{crossing_word}
+use Rattle.rec_word.specs.Looked.{looked}
 use Rattle.rec_word.specs.Op.{cell_of}
 use Rattle.rec_word.specs.Word.{target_of}
 use Rattle.rec_word.specs.declared.cell.Cell.{Cell}
 use Rattle.rec_word.specs.declared.cell.Cell.TheVariants as cells
-use Rattle.rec_word.specs.declared.mailbox.Mailbox.TheVariants.{Retired}
+use Rattle.rec_word.specs.declared.looked.Looked.{Looked}
+use Rattle.rec_word.specs.declared.looked.Looked.TheVariants.{Takes, Crosses, Waits}
 use Rattle.rec_word.specs.declared.op.Op.{Op}
 use Rattle.rec_word.specs.declared.op.Op.TheVariants as ops
 use Rattle.rec_word.proofs.Bare.{target_of_bare}
@@ -42,9 +43,9 @@ use Rattle.rec_collector.specs.Parts.{Parts}
 use Rattle.rec_collector.specs.Present.{next_present}
 use Rattle.rec_collector.specs.Private.{Private, blank, buffer_at, parts_of, with_parts}
 use Rattle.rec_collector.specs.Testing.{with_release, zeros_released}
-use Rattle.rec_collector.specs.Took.{batch_next, behind, came, cleared, ended, ended_if, gathering_on, moved, noted, requested, step_of, swapped_at, swapped_of, took_at, took_of, turn_at, turn_of, behind_turn, came_turn, gathering_turn}
+use Rattle.rec_collector.specs.Took.{after_look, crossed_for, look_turn, stilled, batch_next, behind, came, cleared, ended, ended_if, gathering_on, moved, noted, requested, step_of, swapped_at, swapped_of, took_at, took_of, turn_at, turn_of, behind_turn, came_turn, gathering_turn}
 use Rattle.rec_collector.specs.declared.phase.Phase.{Phase}
-use Rattle.rec_collector.specs.declared.turn.Turn.TheVariants.{Moved, Waiting, EpochsSpent}
+use Rattle.rec_collector.specs.declared.turn.Turn.TheVariants.{EpochsSpent}
 use Rattle.rec_collector.specs.declared.phase.Phase.TheVariants.{Idle, Looking, Swapping, Returning, Releasing, Freeing, Trying, Preparing, Opening, Sweeping, Closing}
 
 -- ---- a batch
@@ -247,10 +248,17 @@ work_in w word phase (cells.Crossing t) = refl
 came_in : (p : Private) (word : ℕ) (phase : Phase) (cell : Cell) → came (bare_private p) (worked (parts_of p) (bare_in cell word) phase) ≡ bare_private (came p (worked (parts_of p) word phase))
 came_in p word phase cell = ap (came (bare_private p)) (work_in (parts_of p) word phase cell) ∙ came_bare p (worked (parts_of p) word phase)
 
--- a look, by whether it finds the mailbox there
-looked_bare : (p : Private) (t : ℕ) (there : Bool) → (if there then moved (bare_private p) (Swapping t) else bare_private p) ≡ bare_private (if there then moved p (Swapping t) else p)
-looked_bare p t true = refl
-looked_bare p t false = refl
+-- the collector crosses for a mutator
+pub crossed_bare : (p : Private) (t : ℕ) → crossed_for (bare_private p) t ≡ bare_private (crossed_for p t)
+crossed_bare p t =
+    (λ i. record (bare_private p) { phase = Returning t; newer = slice_set (bare_buffers p.newer) (t - 1) (stilled (buffer_bare p.newer (t - 1) i) (buffer_bare p.older (t - 1) i)) })
+    ∙ ap (λ (bs : List Contents). record (bare_private p) { phase = Returning t; newer = bs }) (sym (map-set (buffer_by bare) p.newer (t - 1) (stilled (buffer_at p.newer (t - 1)) (buffer_at p.older (t - 1)))))
+
+-- a look, by what comes of it
+looked_bare : (p : Private) (t : ℕ) (l : Looked) → after_look (bare_private p) t l ≡ bare_private (after_look p t l)
+looked_bare p t (Takes new) = refl
+looked_bare p t (Crosses new) = ap (λ (q : Private). behind q t) (crossed_bare p t) ∙ behind_bare (crossed_for p t) t
+looked_bare p t Waits = refl
 
 -- a request, by whether the epochs are spent
 requested_bare : (p : Private) (spent : Bool) → (if spent then bare_private p else behind (bare_private (requested p)) 0) ≡ bare_private (if spent then p else behind (requested p) 0)
@@ -262,8 +270,7 @@ unfolding next_at took_at sweeps.took_of
 took_at_bare p word op Idle named = requested_bare p (is_spent p)
 took_at_bare p word op (Looking t) named =
     let its : ops.LookBox t p.epoch ≡ op = cc in
-    subst (λ o. (if bare_in (cell_of o) word == crossing_word p.epoch Retired then moved (bare_private p) (Swapping t) else bare_private p) ≡ bare_private (if word == crossing_word p.epoch Retired then moved p (Swapping t) else p)) its
-    (looked_bare p t (word == crossing_word p.epoch Retired))
+    subst (λ o. after_look (bare_private p) t (looked p.epoch (bare_in (cell_of o) word)) ≡ bare_private (after_look p t (looked p.epoch word))) its (looked_bare p t (looked p.epoch word))
 took_at_bare p word op (Swapping t) named = refl
 took_at_bare p word op (Returning t) named = ap (λ (q : Private). behind q t) (noted_bare p t) ∙ behind_bare (noted p t) t
 took_at_bare p word op (Releasing m) named = came_in p word (Releasing m) (cell_of op)
@@ -312,6 +319,11 @@ requested_told : (p : Private) (spent : Bool) → (if spent then EpochsSpent els
 requested_told p true = refl
 requested_told p false = gathering_told (requested p) (next_present p.left 0)
 
+looked_told : (p : Private) (t : ℕ) (l : Looked) → look_turn (bare_private p) t l ≡ look_turn p t l
+looked_told p t (Takes new) = refl
+looked_told p t (Crosses new) = ap (λ (q : Private). behind_turn q t) (crossed_bare p t) ∙ gathering_told (crossed_for p t) (next_present p.left t)
+looked_told p t Waits = refl
+
 came_told : (p : Private) (word : ℕ) (phase : Phase) (cell : Cell) → came_turn p.epoch (worked (parts_of p) (bare_in cell word) phase).phase ≡ came_turn p.epoch (worked (parts_of p) word phase).phase
 came_told p word phase cell = ap (λ (n : Next). came_turn p.epoch n.phase) (work_in (parts_of p) word phase cell)
 
@@ -320,7 +332,7 @@ unfolding next_at turn_at
 turn_at_bare p word op Idle named = requested_told p (is_spent p)
 turn_at_bare p word op (Looking t) named =
     let its : ops.LookBox t p.epoch ≡ op = cc in
-    subst (λ o. (if bare_in (cell_of o) word == crossing_word p.epoch Retired then Moved else Waiting t) ≡ (if word == crossing_word p.epoch Retired then Moved else Waiting t)) its refl
+    subst (λ o. look_turn (bare_private p) t (looked p.epoch (bare_in (cell_of o) word)) ≡ look_turn p t (looked p.epoch word)) its (looked_told p t (looked p.epoch word))
 turn_at_bare p word op (Swapping t) named = came_told p word (Swapping t) (cell_of op)
 turn_at_bare p word op (Returning t) named = ap (λ (q : Private). behind_turn q t) (noted_bare p t) ∙ gathering_told (noted p t) (next_present (noted p t).left t)
 turn_at_bare p word op (Releasing m) named = came_told p word (Releasing m) (cell_of op)

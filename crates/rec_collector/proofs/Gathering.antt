@@ -1,7 +1,10 @@
 -- A collection goes on to the next mutator that it gathers from, or applies the batch: what holds before and after.
-use Rattle.std.proofs.Common.{◌≡◌, ◌≢◌, ℕ, ◌+◌, ◌-◌, ◌^◌, Bool, false, None, Some, set, arith, ap, subst, sym, ◌∙◌}
-use Rattle.std.proofs.lemmas.List.{length-set}
-use Rattle.rec_collector.proofs.Common.{HaveLeft, batch_next, batched, buffer_at, Idle, IsAt, IsMachine, IsNextPresent, IsTold, Looking, MayGatherBehind, moved, next_present, noted, Private, requested, Returning, zeros_released}
+use Rattle.std.proofs.Common.{◌≡◌, ◌≢◌, ℕ, ◌+◌, ◌-◌, ◌*◌, ◌^◌, ◌<◌, ◌≤◌, Bool, false, None, Some, inl, inr, length, set, refl, arith, ap, subst, sym, ◌∙◌}
+use Rattle.std.proofs.lemmas.Bool.{cases_eq}
+use Rattle.std.proofs.lemmas.List.{length-set, get_or-set_same, get_or-set_other}
+use Rattle.rec_log.specs.declared.contents.Contents.{Contents}
+use Rattle.rec_collector.specs.Took.{crossed_for, stilled}
+use Rattle.rec_collector.proofs.Common.{AreSized, blank, IsLooking, IsSized, told, HaveLeft, batch_next, batched, buffer_at, Idle, IsAt, IsMachine, IsNextPresent, IsTold, Looking, MayGatherBehind, moved, next_present, noted, Private, requested, Returning, zeros_released}
 use Rattle.rec_counts.specs.Batch.{IsCovered}
 use Rattle.rec_collector.proofs.Following.{begun_has, followed_lands}
 use Rattle.rec_collector.proofs.Landing.{batch_none, batch_on, freed_at, landed, landed_keeps, Lands, machine_on, now_at, told_at, under_way_at}
@@ -27,6 +30,64 @@ pub requested_gathers : (p : Private) → IsMachine p → p.phase ≡ Idle → (
 requested_gathers p k e covered =
     let a : IsAt p Idle = now_at p Idle k e in
     record { there = omega arith; rest = a.0; spares = a.1; turns = omega (arith, a.2); requested = omega (arith, under_way_at p Idle k e); freed = omega (arith, freed_at p Idle k e); told = omega (arith, told_at p Idle k e); covered = covered }
+
+-- a buffer joins the newer ones
+swap_sized : (p : Private) (i : ℕ) (box : Contents) → IsSized p.registers p.capacity box → AreSized p.registers p.capacity p.newer → AreSized p.registers p.capacity (set p.newer i box)
+swap_sized p i box z k = λ j l.
+    let m : j < length p.newer = omega (arith, l, length-set p.newer i box) in
+    elim (cases_eq j i) [
+      | inl q ↦ subst (λ (b : Contents). IsSized p.registers p.capacity b) (sym (ap (buffer_at (set p.newer i box)) q ∙ get_or-set_same p.newer i box (blank 0 0) (omega (arith, m, q)))) z
+      | inr q ↦ subst (λ (b : Contents). IsSized p.registers p.capacity b) (sym (get_or-set_other p.newer i j box (blank 0 0) q)) (k j m)
+    ]
+
+-- and the collection goes on behind its mutator
+pub joined_keeps : (p : Private) (t made : ℕ) (box : Contents) → IsSized p.registers p.capacity box → IsMachine p → IsLooking p t made → made ≤ 2 * t → p.collections + 1 ≤ p.epoch → p.freed ≤ 2 ^ 16 * p.collections
+    → told p.sets + length p.counts.sets ≤ 2 ^ 16 * p.collections → IsMachine (record p { phase = Returning t; newer = set p.newer (t - 1) box })
+joined_keeps p t made box z k a most requested freed tested =
+    let many : length (set p.newer (t - 1) box) ≡ length p.newer = length-set p.newer (t - 1) box in
+    record {
+      epoch = k.epoch;
+      collections = requested;
+      freed = omega (arith, freed);
+      some_fields = k.some_fields;
+      few_fields = k.few_fields;
+      rows = record { mutators = omega (arith, k.mutators, many); few = omega (arith, k.few, many); both = k.both ∙ sym many; newer = swap_sized p (t - 1) box z k.newer; older = k.older };
+      left = k.left ∙ sym many;
+      counts = k.counts;
+      told = omega (arith, tested);
+      postponed = k.postponed;
+      now = record {
+        rest = a.rest;
+        first = a.first;
+        there = omega (arith, a.there, many);
+        spares = λ j f l. get_or-set_other p.newer (t - 1) j box (blank 0 0) (λ q. absurd (omega (arith, a.first, f, q))) ∙ a.spares j (omega (arith, f)) (omega (arith, l, many));
+        turns = omega (arith, a.turns, most);
+      };
+    }
+
+-- the collector crosses for a mutator
+pub crossed_keeps : (p : Private) (t : ℕ) → IsMachine p → p.phase ≡ Looking t → IsMachine (crossed_for p t)
+crossed_keeps p t k e =
+    let a : IsAt p (Looking t) = now_at p (Looking t) k e in
+    let here : t - 1 < length p.newer = omega (arith, a.first, a.there) in
+    joined_keeps p t (2 * t - 1) (stilled (buffer_at p.newer (t - 1)) (buffer_at p.older (t - 1))) ((k.older (t - 1) (omega (arith, here, k.both))).0, (k.newer (t - 1) here).1) k a (omega arith) (under_way_at p (Looking t) k e)
+    (omega (arith, freed_at p (Looking t) k e)) (omega (arith, told_at p (Looking t) k e))
+
+pub crossed_gathers : (p : Private) (t : ℕ) → IsMachine p → p.phase ≡ Looking t → (HaveLeft p.left t → IsCovered p.counts (crossed_for p t).newer p.older) → MayGatherBehind (crossed_for p t) t
+crossed_gathers p t k e covered =
+    let q : Private = crossed_for p t in
+    let m : IsMachine q = crossed_keeps p t k e in
+    let a : IsAt q (Returning t) = now_at q (Returning t) m refl in
+    record {
+      there = a.there;
+      rest = a.rest;
+      spares = a.spares;
+      turns = a.turns;
+      requested = under_way_at q (Returning t) m refl;
+      freed = omega (arith, freed_at q (Returning t) m refl);
+      told = omega (arith, told_at q (Returning t) m refl);
+      covered = covered;
+    }
 
 -- a mutator's last buffer was gathered: it has left
 pub noted_keeps : (p : Private) (t : ℕ) → IsMachine p → p.phase ≡ Returning t → IsMachine (noted p t)

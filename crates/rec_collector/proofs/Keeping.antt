@@ -1,74 +1,35 @@
 -- What every machine keeps holds after every step, by the phase: while an epoch is requested and the buffers of the mutators are
 -- gathered, and on a turn that works on the parts.
-use Rattle.std.proofs.Common.{◌≡◌, ℕ, ◌+◌, ◌-◌, ◌^◌, ◌<◌, ◌==◌, true, false, Bool, cond, if◌then◌else◌, Option, None, Some, inl, inr, length, set, refl, arith, sym, ◌∙◌, ap, subst, List}
-use Rattle.std.proofs.lemmas.List.{length-set, get_or-set_same, get_or-set_other}
-use Rattle.std.proofs.lemmas.Bool.{eqb-false, cases_eq}
-use Rattle.rec_collector.proofs.Common.{HaveLeft, batch_next, behind, gathering_on, MayGatherBehind, next_present, noted, requested, Contents, IsWork, IsSized, IsGiven, IsGivenAt, AreSized, IsAt, IsMachine, IsTold, swept_at, under_way, KeepsSizes, IsGathering, IsSweeping, Private, blank, buffer_at, parts_of, moved, swapped_at, took_at, came, came_turn, ended_if, took_of, turn_at, turn_of, step_of, swapped_of, Phase, Idle, Looking, Swapping, Returning, Releasing, Freeing, Trying, Preparing, Sweeping, Closing, Opening, worked, Next, followed, with_freed, with_released, zeros_released, told}
-use Rattle.rec_word.specs.Mailbox.{crossing_word}
-use Rattle.rec_word.specs.declared.mailbox.Mailbox.TheVariants.{Retired}
+use Rattle.std.proofs.Common.{◌≡◌, ℕ, ◌+◌, ◌*◌, ◌^◌, true, false, Bool, cond, if◌then◌else◌, Option, None, Some, refl, arith, sym, ◌∙◌, ap, subst, List}
+use Rattle.std.proofs.lemmas.Bool.{eqb-false}
+use Rattle.rec_collector.proofs.Common.{HaveLeft, batch_next, behind, gathering_on, MayGatherBehind, next_present, noted, requested, Contents, IsWork, IsSized, IsGiven, IsGivenAt, IsAt, IsMachine, IsTold, swept_at, under_way, KeepsSizes, IsGathering, IsSweeping, Private, parts_of, moved, swapped_at, took_at, came, came_turn, ended_if, took_of, turn_at, turn_of, step_of, swapped_of, Phase, Idle, Looking, Swapping, Returning, Releasing, Freeing, Trying, Preparing, Sweeping, Closing, Opening, worked, Next, followed, with_freed, with_released, zeros_released, told}
+use Rattle.rec_word.specs.Looked.{looked}
+use Rattle.rec_word.specs.declared.looked.Looked.{Looked}
+use Rattle.rec_word.specs.declared.looked.Looked.TheVariants.{Takes, Crosses, Waits}
 use Rattle.rec_counts.specs.Batch.{applied, IsCovered}
 use Rattle.rec_release.proofs.Kept.{sweep_kept}
-use Rattle.rec_collector.specs.Given.{IsFreeingIn}
+use Rattle.rec_collector.specs.Given.{IsFreeingIn, IsLookGiven}
 use Rattle.rec_collector.specs.Works.{MayFree, MayWork}
 use Rattle.rec_collector.specs.Next.{is_spent}
+use Rattle.rec_collector.specs.Took.{after_look, crossed_for}
 use Rattle.rec_collector.specs.declared.turn.Turn.{Turn}
 use Rattle.rec_collector.specs.Step.{IsBetween}
-use Rattle.rec_collector.proofs.Gathering.{batch_keeps, next_keeps, noted_gathers, noted_keeps, requested_gathers, requested_keeps}
+use Rattle.rec_collector.proofs.Gathering.{batch_keeps, crossed_gathers, crossed_keeps, joined_keeps, next_keeps, noted_gathers, noted_keeps, requested_gathers, requested_keeps}
 use Rattle.rec_collector.proofs.Landing.{freed_at, landed, landed_keeps, landed_sizes, Lands, machine_on, now_at, told_at, under_way_at, work_none, work_on}
 use Rattle.rec_collector.proofs.Following.{followed_lands, freed_has, released_has}
 use Rattle.rec_collector.proofs.Trying.{prepared_lands, took_prepared, took_tried, tried_lands}
-use Rattle.rec_collector.proofs.Steps.{same_swapped, took_between}
+use Rattle.rec_collector.proofs.Steps.{gathers_between, same_swapped, took_between}
 use Rattle.rec_collector.proofs.Sweeping.{ended_keeps, opening_keeps, sweeping_keeps}
 use Rattle.rec_release.specs.Sweep.{swept}
 use Rattle.rec_release.specs.Sweep as sweeps
 use Rattle.rec_trial.specs.Rules.{visible}
 use Rattle.rec_trial.proofs.Visible.{visible_leads}
 
--- the mailbox of a mutator is held where it has crossed
-look_keeps : (p : Private) (word t : ℕ) → IsMachine p → p.phase ≡ Looking t → IsMachine (took_at p word (Looking t))
-unfolding took_at
-look_keeps p word t k e = go (word == crossing_word p.epoch Retired)
-  where
-    go : (b : Bool) → IsMachine (cond b (moved p (Swapping t)) p)
-    go false = k
-    go true =
-        let a : IsAt p (Looking t) = now_at p (Looking t) k e in
-        machine_on p p.epoch p.counts p.freed (Swapping t) k k.epoch (under_way_at p (Looking t) k e) (freed_at p (Looking t) k e) k.counts (told_at p (Looking t) k e)
-        (record { gathering = record { rest = a.rest; first = a.first; there = a.there; spares = a.spares; turns = omega (arith, a.turns, a.first) }; present = a.present })
-
--- a buffer joins the newer ones
-swap_sized : (p : Private) (i : ℕ) (box : Contents) → IsSized p.registers p.capacity box → AreSized p.registers p.capacity p.newer → AreSized p.registers p.capacity (set p.newer i box)
-swap_sized p i box z k = λ j l.
-    let m : j < length p.newer = omega (arith, l, length-set p.newer i box) in
-    elim (cases_eq j i) [
-      | inl q ↦ subst (λ (b : Contents). IsSized p.registers p.capacity b) (sym (ap (buffer_at (set p.newer i box)) q ∙ get_or-set_same p.newer i box (blank 0 0) (omega (arith, m, q)))) z
-      | inr q ↦ subst (λ (b : Contents). IsSized p.registers p.capacity b) (sym (get_or-set_other p.newer i j box (blank 0 0) q)) (k j m)
-    ]
-
+-- the buffer of a mailbox that is held is swapped
 pub swap_keeps : (p : Private) (t : ℕ) (box : Contents) → IsSized p.registers p.capacity box → IsMachine p → p.phase ≡ Swapping t → IsMachine (swapped_at p box (Swapping t))
 unfolding swapped_at
 swap_keeps p t box z k e =
-    let a : IsAt p (Swapping t) = now_at p (Swapping t) k e in
-    let many : length (set p.newer (t - 1) box) ≡ length p.newer = length-set p.newer (t - 1) box in
-    record {
-      epoch = k.epoch;
-      collections = under_way_at p (Swapping t) k e;
-      freed = freed_at p (Swapping t) k e;
-      some_fields = k.some_fields;
-      few_fields = k.few_fields;
-      rows = record { mutators = omega (arith, k.mutators, many); few = omega (arith, k.few, many); both = k.both ∙ sym many; newer = swap_sized p (t - 1) box z k.newer; older = k.older };
-      left = k.left ∙ sym many;
-      counts = k.counts;
-      told = told_at p (Swapping t) k e;
-      postponed = k.postponed;
-      now = record {
-        rest = a.rest;
-        first = a.first;
-        there = omega (arith, a.there, many);
-        spares = λ j f l. get_or-set_other p.newer (t - 1) j box (blank 0 0) (λ q. absurd (omega (arith, a.first, f, q))) ∙ a.spares j (omega (arith, f)) (omega (arith, l, many));
-        turns = a.turns;
-      };
-    }
+    joined_keeps p t (2 * t) box z k (now_at p (Swapping t) k e) (omega arith) (under_way_at p (Swapping t) k e) (omega (arith, freed_at p (Swapping t) k e)) (omega (arith, told_at p (Swapping t) k e))
 
 -- what follows a word that works on the parts lands
 pub work_lands : (p : Private) (word : ℕ) (phase : Phase) → IsMachine p → p.phase ≡ phase → IsGivenAt p word phase → IsWork phase → Lands p (worked (parts_of p) word phase)
@@ -195,11 +156,20 @@ idle_keeps p k e g = go (is_spent p) refl
     go true s = k
     go false s = behind_keeps (requested p) 0 (requested_keeps p k e (eqb-false (p.epoch + 1) (2 ^ 24) s)) (requested_gathers p k e g)
 
+-- a look at a mutator's crossing word: its mailbox is held, or the collector crosses for it
+look_keeps : (p : Private) (t : ℕ) (l : Looked) → IsMachine p → p.phase ≡ Looking t → IsLookGiven p t l → IsMachine (after_look p t l)
+look_keeps p t (Takes new) k e g =
+    let a : IsAt p (Looking t) = now_at p (Looking t) k e in
+    machine_on p p.epoch p.counts p.freed (Swapping t) k k.epoch (under_way_at p (Looking t) k e) (freed_at p (Looking t) k e) k.counts (told_at p (Looking t) k e)
+    (record { gathering = record { rest = a.rest; first = a.first; there = a.there; spares = a.spares; turns = omega (arith, a.turns, a.first) }; present = a.present })
+look_keeps p t (Crosses new) k e g = behind_keeps (crossed_for p t) t (crossed_keeps p t k e) (crossed_gathers p t k e g)
+look_keeps p t Waits k e g = k
+
 -- what is learnt
 took_keeps_at : (p : Private) (word : ℕ) (phase : Phase) → IsMachine p → p.phase ≡ phase → IsGivenAt p word phase → IsMachine (took_at p word phase)
 unfolding took_at IsGivenAt sweeps.took_of
 took_keeps_at p word Idle k e g = idle_keeps p k e g
-took_keeps_at p word (Looking t) k e g = look_keeps p word t k e
+took_keeps_at p word (Looking t) k e g = look_keeps p t (looked p.epoch word) k e g
 took_keeps_at p word (Swapping t) k e g = absurd g
 took_keeps_at p word (Returning t) k e g = behind_keeps (noted p t) t (noted_keeps p t k e) (noted_gathers p t k e g)
 took_keeps_at p word Opening k e g = opening_keeps p k e
@@ -209,13 +179,16 @@ took_keeps_at p word phase k e g = came_keeps p (worked (parts_of p) word phase)
 
 -- a whole step: where a mailbox is held, its buffer is swapped
 kept_at : (p : Private) (word : ℕ) (box : Contents) (phase : Phase) → IsMachine p → p.phase ≡ phase → IsBetween phase → IsGivenAt p word phase → IsSized p.registers p.capacity box → IsMachine (swapped_of (took_at p word phase) box)
-unfolding took_at swapped_of
+unfolding took_at swapped_of IsGivenAt
 kept_at p word box (Swapping t) k e b g z = absurd b
-kept_at p word box (Looking t) k e b g z =
-    (elim (word == crossing_word p.epoch Retired) as (λ c. IsMachine (cond c (moved p (Swapping t)) p) → IsMachine (swapped_of (cond c (moved p (Swapping t)) p) box)) [
-      | true ↦ λ m. swap_keeps (moved p (Swapping t)) t box z m refl
-      | false ↦ λ m. subst IsMachine (sym (same_swapped p box (Looking t) e tt)) m
-    ]) (look_keeps p word t k e)
+kept_at p word box (Looking t) k e b g z = go (looked p.epoch word) g
+  where
+    go : (l : Looked) → IsLookGiven p t l → IsMachine (swapped_of (after_look p t l) box)
+    go (Takes new) g = swap_keeps (moved p (Swapping t)) t box z (look_keeps p t (Takes new) k e g) refl
+    go (Crosses new) g =
+        let q : Private = behind (crossed_for p t) t in
+        subst IsMachine (sym (same_swapped q box q.phase refl (gathers_between (crossed_for p t) (next_present p.left t)))) (look_keeps p t (Crosses new) k e g)
+    go Waits g = subst IsMachine (sym (same_swapped p box (Looking t) e tt)) k
 kept_at p word box phase k e b g z =
     let q : Private = took_at p word phase in
     subst IsMachine (sym (same_swapped q box q.phase refl (took_between p word phase e b (λ t. λ q. cc)))) (took_keeps_at p word phase k e g)

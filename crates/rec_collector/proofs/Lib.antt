@@ -7,6 +7,7 @@ pub mod ByTurns
 pub mod Clearing
 pub mod Common
 pub mod Counting
+pub mod CrossedFor
 pub mod Exchanging
 pub mod Following
 pub mod Freeing
@@ -21,6 +22,7 @@ pub mod Landing
 pub mod Offering
 pub mod Opening
 pub mod Outside
+pub mod Plain
 pub mod Postponing
 pub mod Presence
 pub mod Rows

@@ -3,6 +3,7 @@ use Rattle.std.proofs.Common.{◌≡◌, ◌≢◌, IfSome, subst, nat_le, if◌
 use Rattle.std.proofs.lemmas.Bool.{false≢true, le-leb, leb-false}
 use Rattle.rec_collector.proofs.Common.{makes_trial, least_after, relieved_at, with_freed, IsMachine, Parts, new_release, parts_of, Private, Begun, counted_by, new_freeing, Held, Passed, Touched, freeing_at, releasing_at, with_freeing, with_release, zeros_released, batched, noted, requested, Phase, Idle, Looking, Returning, Releasing, Freeing, Trying, Preparing, Opening, Sweeping, Closing}
 use Rattle.rec_collector.proofs.Landing.{now_at}
+use Rattle.rec_collector.specs.Took.{crossed_for}
 use Rattle.rec_collector.specs.Postponed.{Does, Untried, decided, decided_in, decides, postponed_behind, trial_among, trial_in}
 use Rattle.rec_collector.specs.Step.{ClearsOn, GoesOn, IsNext, IsTested, PreparesOn, Step, TriesOn}
 use Rattle.rec_collector.specs.declared.policy.Policy.{Policy}
@@ -143,6 +144,8 @@ step_counted (Step.spent idle last is same told) = nothing (as_is same (refl, re
 step_counted (Step.request next idle more is there on) = nothing (goes_same _ on)
 step_counted (Step.request_alone idle last is alone applies) = clears_counted applies
 step_counted (Step.wait t looking waits is same told) = nothing (as_is same (refl, refl))
+step_counted (Step.cross_for t next looking crosses is there on) = nothing (goes_same _ on)
+step_counted (Step.cross_for_last t looking crosses is left applies) = clears_counted applies
 step_counted (Step.gather t looking retired is on) = nothing (goes_same _ on)
 step_counted (Step.give_back t next returning is there on) = nothing (goes_same _ on)
 step_counted (Step.apply t returning is left applies) = clears_counted applies
@@ -219,6 +222,8 @@ step_decided {p = p} {q = q} (Step.spent idle last is same told) = let e = ap de
 step_decided {p = p} {q = q} (Step.request next idle more is there on) = same_decided p q Idle idle (goes_decided _ on)
 step_decided {p = p} {q = q} (Step.request_alone idle last is alone applies) = begun_decided p q Idle (trial_among applies) idle refl (clears_decided (zeros_open false (batched (requested p))) applies)
 step_decided {p = p} {q = q} (Step.wait t looking waits is same told) = let e = ap decided same in omega (arith, e)
+step_decided {p = p} {q = q} (Step.cross_for t next looking crosses is there on) = same_decided p q (Looking t) looking (goes_decided _ on)
+step_decided {p = p} {q = q} (Step.cross_for_last t looking crosses is left applies) = begun_decided p q (Looking t) (trial_among applies) looking refl (clears_decided (zeros_open false (batched (crossed_for p t))) applies)
 step_decided {p = p} {q = q} (Step.gather t looking retired is on) = same_decided p q (Looking t) looking (goes_decided _ on)
 step_decided {p = p} {q = q} (Step.give_back t next returning is there on) = same_decided p q (Returning t) returning (goes_decided _ on)
 step_decided {p = p} {q = q} (Step.apply t returning is left applies) = begun_decided p q (Returning t) (trial_among applies) returning refl (clears_decided (zeros_open false (batched (noted p t))) applies)

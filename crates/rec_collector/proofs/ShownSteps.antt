@@ -1,7 +1,7 @@
 -- What is shown of a step is what it did.
 use Rattle.std.proofs.Common.{◌≡◌, IsSome, map, ℕ, ◌+◌, ◌-◌, ◌<◌, ◌==◌, Bool, true, false, cond, Option, None, Some, List, [], ◌∷◌, ◌++◌, refl, arith, sym, ap, subst, ◌∙◌}
 use Rattle.std.proofs.lemmas.Bool.{ne_eqb}
-use Rattle.rec_word.specs.declared.op.Op.TheVariants.{StoreEpoch, ReturnBox}
+use Rattle.rec_word.specs.declared.op.Op.TheVariants.{StoreEpoch, LookBox, ReturnBox}
 use Rattle.rec_counts.specs.Groups.{last_set}
 use Rattle.rec_word.specs.declared.member.Member.{Member}
 use Rattle.rec_word.specs.Walk.{first_in}
@@ -16,18 +16,21 @@ use Rattle.rec_trial.specs.Trial as trials
 use Rattle.rec_trial.specs.declared.phase.Phase as trial_phase
 use Rattle.rec_collector.specs.Shown.{IsShownAsMade, Batch, applied_in, applied_newer, applied_of, batch_made, batch_with, begun_at, completed_in, completed_of, epoch_told, if_passes, members_or, passed_among, passed_in, passed_of, set_passed}
 use Rattle.rec_collector.specs.Step.{ClearsOn, Ends, GoesOn, IsNext, IsTested, PreparesOn, Step, TriesOn}
+use Rattle.rec_collector.specs.Given.{IsLookGiven}
+use Rattle.rec_collector.specs.Took.{crossed_for}
 use Rattle.rec_collector.specs.declared.turn.Turn.{Turn}
 use Rattle.rec_collector.specs.declared.turn.Turn.TheVariants.{Moved}
 use Rattle.rec_collector.proofs.Common.{Begun, Contents, Freeing, Idle, IsClearingIn, IsGiven, IsGivenAt, IsMachine, Looking, MayGatherBehind, Op, Opening, Parts, Phase, Preparing, Private, Releasing, Returning, State, Trying, Held, Passed, Touched, batched, cleared, counted_by, emptied, freeing_at, listed_if, new_freeing, new_release, noted, parts_of, releasing_at, requested, slot_at, with_freed, with_freeing, with_parts, with_release, with_released, zeros_released}
 use Rattle.rec_collector.proofs.Clearing.{Clears}
 use Rattle.rec_collector.proofs.Following.{HasCleared, begun_has, freed_has, released_has}
-use Rattle.rec_collector.proofs.Gathering.{noted_gathers, noted_keeps, requested_gathers, requested_keeps}
+use Rattle.rec_collector.proofs.Gathering.{crossed_gathers, crossed_keeps, noted_gathers, noted_keeps, requested_gathers, requested_keeps}
 use Rattle.rec_collector.proofs.Goings.{freed_by, freed_listed}
 
 -- a collection is under way, and no mailbox is looked at
 abbrev IsUnder : Phase → Type 0
 IsUnder Idle = ⊥
 IsUnder (Looking t) = ⊥
+IsUnder (Returning t) = ⊥
 IsUnder _ = Unit {0}
 
 -- What is shown of a step that begins, behind a request or a mailbox that was given back, with such a record.
@@ -50,6 +53,7 @@ goes_shown p r q turn phase passed under epoch newer same on =
     go : (phase : Phase) → IsUnder phase → passed_in r phase ≡ passed → IsShownOf p (record r { phase = phase; turns = r.turns + 1 }) Moved passed
     go Idle under same = absurd under
     go (Looking t) under same = absurd under
+    go (Returning t) under same = absurd under
     go (Freeing m) under same = record { applied = ap (λ e. Some (e - 1)) epoch; newer = newer; passed_so = same; completed = refl; between = λ is. under_not_between (Freeing m) _ tt is }
     go f under same = record { applied = ap (λ e. Some (e - 1)) epoch; newer = newer; passed_so = same; completed = refl; between = λ is. under_not_between f _ under is }
 
@@ -218,18 +222,19 @@ within : {op named : Op} → ◌≡◌ {A = Option Op} (Some op) (Some named) �
 within {op} {named} is w = let same : op ≡ named = cc in subst IsWithin (sym same) w
 
 -- what is shown of a step within a collection
-inside_made : {p q : Private} {word : ℕ} {box : Contents} {turn : Turn} (op : Op) (s : Step p word box (Some op) q turn) → IsWithin op → batch_made s ≡ None → passed_of q ≡ set_passed s → completed_of q ≡ epoch_told turn → (q.phase ≡ Idle → completed_of q ≡ Some (q.epoch - 1)) → IsShownAsMade op s
-inside_made {p} {q} op s w none passed completed between = record { batch = ap (batch_with (applied_newer q)) (w q) ∙ sym none; passed = passed; completed = completed; between = between }
+inside_made : {p q : Private} {word : ℕ} {box : Contents} {turn : Turn} (op : Op) (s : Step p word box (Some op) q turn) → applied_of op q ≡ None → batch_made s ≡ None → passed_of q ≡ set_passed s → completed_of q ≡ epoch_told turn → (q.phase ≡ Idle → completed_of q ≡ Some (q.epoch - 1)) → IsShownAsMade op s
+inside_made {p} {q} op s w none passed completed between = record { batch = ap (batch_with (applied_newer q)) w ∙ sym none; passed = passed; completed = completed; between = between }
 
--- another mailbox is looked at: no batch was applied
-looking_none : (op : Op) (q : Private) (t : ℕ) → q.phase ≡ Looking t → applied_of op q ≡ None
-looking_none (StoreEpoch e) q t is = ap (applied_in q) is
-looking_none (ReturnBox u e) q t is = ap (applied_in q) is
-looking_none _ q t is = refl
+-- a mailbox is looked at, or was taken: no batch was applied
+none_applied : (op : Op) (q : Private) (phase : Phase) → q.phase ≡ phase → applied_in q phase ≡ None → applied_of op q ≡ None
+none_applied (StoreEpoch e) q phase is none = ap (applied_in q) is ∙ none
+none_applied (LookBox u e) q phase is none = ap (applied_in q) is ∙ none
+none_applied (ReturnBox u e) q phase is none = ap (applied_in q) is ∙ none
+none_applied _ q phase is none = refl
 
 looking_made : {p q : Private} {word : ℕ} {box : Contents} {turn : Turn} (op : Op) (s : Step p word box (Some op) q turn) (t : ℕ) → q.phase ≡ Looking t → batch_made s ≡ None → set_passed s ≡ None → epoch_told turn ≡ None → IsShownAsMade op s
 looking_made {p} {q} op s t is none passed told = record {
-  batch = ap (batch_with (applied_newer q)) (looking_none op q t is) ∙ sym none;
+  batch = ap (batch_with (applied_newer q)) (none_applied op q (Looking t) is refl) ∙ sym none;
   passed = ap (passed_in q) is ∙ sym passed;
   completed = ap (completed_in q) is ∙ sym told;
   between = λ idle. let no : Looking t ≡ Idle = sym is ∙ idle in absurd (cc);
@@ -247,7 +252,7 @@ applied_made {p} {q} op s r passed batch same h is made set = record {
 
 -- a step of a machine at work
 works_made : {p q : Private} {word : ℕ} {box : Contents} {turn : Turn} (op : Op) (s : Step p word box (Some op) q turn) (passed : Option (List ℕ)) → IsWithin op → IsShownOf p q turn passed → batch_made s ≡ None → set_passed s ≡ passed → IsShownAsMade op s
-works_made op s passed w h none set = inside_made op s w none (h.passed_so ∙ sym set) h.completed h.between
+works_made op s passed w h none set = inside_made op s (w _) none (h.passed_so ∙ sym set) h.completed h.between
 
 -- what the machines name
 release_within : (op : Op) (m : releases.Machine) → Some op ≡ releases.next_of m → IsWithin op
@@ -308,7 +313,14 @@ shown_as_made p q word box op turn s kept given = go s
         applied_made op (Step.request_alone idle more is alone on) (requested p) (passed_among on) (record { epoch = p.epoch; newer = p.newer }) (ap (λ o. applied_of o q) same) h
         (let less : p.epoch ≡ p.epoch + 1 - 1 = omega arith in ap (λ e. let b : Batch = record { epoch = e; newer = p.newer } in b) less) refl refl
     go (Step.wait t looks other is same answer) = looking_made op (Step.wait t looks other is same answer) t (ap (λ (x : Private). x.phase) same ∙ looks) refl refl (ap epoch_told answer)
-    go (Step.gather t looks word_is is on) = inside_made op (Step.gather t looks word_is is on) (within is (λ x. refl)) refl (ap passed_of on.after) (ap completed_of on.after ∙ sym (ap epoch_told on.answer)) (λ idle. let no : Returning t ≡ Idle = sym (ap (λ (x : Private). x.phase) on.after) ∙ idle in absurd (cc))
+    go (Step.cross_for t next looks crosses is present on) = looking_made op (Step.cross_for t next looks crosses is present on) next (ap (λ (x : Private). x.phase) on.after) refl refl (ap epoch_told on.answer)
+    go (Step.cross_for_last t looks crosses is left on) =
+        let same : op ≡ LookBox t p.epoch = cc in
+        let r : Private = crossed_for p t in
+        let gathers : MayGatherBehind r t = crossed_gathers p t kept looks (subst (IsLookGiven p t) crosses (at (Looking t) looks)) in
+        let h : IsShownOf r q turn (passed_among on) = batch_shown r q turn (begun_has r t (crossed_keeps p t kept looks) gathers (gathers.covered left)) on in
+        applied_made op (Step.cross_for_last t looks crosses is left on) r (passed_among on) (record { epoch = p.epoch - 1; newer = r.newer }) (ap (λ o. applied_of o q) same) h refl refl refl
+    go (Step.gather t looks word_is is on) = inside_made op (Step.gather t looks word_is is on) (none_applied op q (Returning t) (ap (λ (x : Private). x.phase) on.after) refl) refl (ap passed_of on.after) (ap completed_of on.after ∙ sym (ap epoch_told on.answer)) (λ idle. let no : Returning t ≡ Idle = sym (ap (λ (x : Private). x.phase) on.after) ∙ idle in absurd (cc))
     go (Step.give_back t next returning is present on) = looking_made op (Step.give_back t next returning is present on) next (ap (λ (x : Private). x.phase) on.after) refl refl (ap epoch_told on.answer)
     go (Step.apply t returning is left on) =
         let same : op ≡ ReturnBox t p.epoch = cc in

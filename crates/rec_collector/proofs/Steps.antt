@@ -1,11 +1,14 @@
 -- What comes next and what is learnt are a step, by the phase; what a step leaves in the mailbox that it looks at, and why each answer of
 -- a turn comes.
-use Rattle.std.proofs.Common.{◌≡◌, ◌≢◌, ℕ, zero, suc, ◌+◌, ◌-◌, ◌^◌, ◌<◌, ◌==◌, true, false, Bool, cond, Option, None, Some, List, [], ◌∷◌, length, refl, arith, sym, ap, subst, ◌∙◌, inl, inr, ◌≤◌, IsSome, IsNone, is_some}
-use Rattle.std.proofs.lemmas.Bool.{eqb-false, eq-eqb, eqb-true, false≢true, cases_eq, ne_eqb, cond-false}
+use Rattle.std.proofs.Common.{◌≡◌, ◌≢◌, ℕ, zero, suc, ◌+◌, ◌-◌, ◌^◌, ◌<◌, true, false, Bool, cond, Option, None, Some, List, [], ◌∷◌, length, refl, arith, sym, ap, subst, ◌∙◌, ◌≤◌, IsSome, IsNone, is_some}
+use Rattle.std.proofs.lemmas.Bool.{eqb-false, eqb-true, false≢true}
 use Rattle.std.proofs.lemmas.List.{nil_from_length}
 use Rattle.rec_collector.proofs.Common.{HaveLeft, batch_next, behind, behind_turn, gathering_on, gathering_turn, IsNextPresent, IsWork, MayGatherBehind, next_present, noted, requested, worked, Op, Contents, LastRefurbished, Next, followed, next_in, prep_started, prepared, prepared_at, sweep_phase, tried, tried_at, with_freed, with_released, going_on, gone_on, makes_trial, put_off, trial_if, with_offers, IsGiven, IsGivenAt, IsMachine, swept_at, IsAt, Parts, Private, parts_of, with_parts, last_tested, tested, tested_as, verdict_of, zeros_released, Begun, batched, came, came_turn, moved, step_of, swapped_of, swapped_at, swept_phase, took_at, took_of, turn_at, turn_of, ended_if, left_at, left_of, Phase, Idle, Looking, Swapping, Returning, Releasing, Freeing, Trying, Preparing, Opening, Sweeping, Closing, Passed, Touched, Held, IsClearingIn}
-use Rattle.rec_word.specs.Mailbox.{crossing_word}
-use Rattle.rec_word.specs.declared.mailbox.Mailbox.TheVariants.{Retired}
+use Rattle.rec_word.specs.Looked.{looked}
+use Rattle.rec_word.specs.declared.looked.Looked.{Looked}
+use Rattle.rec_word.specs.declared.looked.Looked.TheVariants.{Takes, Crosses, Waits}
+use Rattle.rec_collector.specs.Given.{IsLookGiven}
+use Rattle.rec_collector.specs.Took.{after_look, crossed_for, look_turn}
 use Rattle.rec_word.specs.declared.op.Op.TheVariants.{StoreEpoch, LookBox}
 use Rattle.rec_release.specs.Sweep.{next_of as sweep_next}
 use Rattle.rec_sigma.specs.Settling.{refurbished_of}
@@ -20,7 +23,7 @@ use Rattle.rec_collector.specs.declared.verdict.Verdict.{Verdict}
 use Rattle.rec_collector.specs.Causes.{HasCause}
 use Rattle.rec_collector.proofs.Clearing.{Clears}
 use Rattle.rec_collector.proofs.Following.{HasCleared, begun_has, freed_has, released_has}
-use Rattle.rec_collector.proofs.Gathering.{noted_gathers, noted_keeps, requested_gathers, requested_keeps}
+use Rattle.rec_collector.proofs.Gathering.{crossed_gathers, crossed_keeps, noted_gathers, noted_keeps, requested_gathers, requested_keeps}
 use Rattle.rec_collector.proofs.Goings.{last_sets, still}
 use Rattle.rec_collector.proofs.Judging.{Says, verdict_says, last_refusable}
 use Rattle.rec_collector.proofs.Landing.{batch_none, batch_phase, landed, now_at, under_way_at, work_none, worked_phase}
@@ -166,13 +169,17 @@ idle_step p word box k is covered = go (is_spent p) refl
           | Gathers.batch_now gone a ↦ Step.request_alone is more refl gone a
         ]
 
-look_step : (p : Private) (word : ℕ) (box : Contents) (t : ℕ) → p.phase ≡ Looking t → Step p word box (next_at p (Looking t)) (swapped_of (took_at p word (Looking t)) box) (turn_at p word (Looking t))
+look_step : (p : Private) (word : ℕ) (box : Contents) (t : ℕ) → IsMachine p → p.phase ≡ Looking t → IsLookGiven p t (looked p.epoch word) → Step p word box (next_at p (Looking t)) (swapped_of (took_at p word (Looking t)) box) (turn_at p word (Looking t))
 unfolding next_at took_at turn_at swapped_of swapped_at
-look_step p word box t is = go (word == crossing_word p.epoch Retired) refl
+look_step p word box t k is given = go (looked p.epoch word) refl given
   where
-    go : (b : Bool) → (word == crossing_word p.epoch Retired) ≡ b → Step p word box (Some (LookBox t p.epoch)) (swapped_of (cond b (moved p (Swapping t)) p) box) (cond b Moved (Waiting t))
-    go true e = Step.gather t is (eqb-true word (crossing_word p.epoch Retired) e) refl (record { after = refl; answer = refl })
-    go false e = Step.wait t is (eqb-false word (crossing_word p.epoch Retired) e) refl (same_swapped p box (Looking t) is tt) refl
+    go : (l : Looked) → looked p.epoch word ≡ l → IsLookGiven p t l → Step p word box (Some (LookBox t p.epoch)) (swapped_of (after_look p t l) box) (look_turn p t l)
+    go (Takes new) e g = Step.gather t is e refl (record { after = refl; answer = refl })
+    go (Crosses new) e g = elim (gathers (crossed_for p t) t box (crossed_keeps p t k is) (crossed_gathers p t k is g)) [
+      | Gathers.next_one next n on ↦ Step.cross_for t next is e refl n on
+      | Gathers.batch_now gone a ↦ Step.cross_for_last t is e refl gone a
+    ]
+    go Waits e g = Step.wait t is e refl (same_swapped p box (Looking t) is tt) refl
 
 -- a mailbox was given back
 return_step : (p : Private) (word : ℕ) (box : Contents) (t : ℕ) → IsMachine p → p.phase ≡ Returning t → (HaveLeft p.left t → IsCovered p.counts p.newer p.older) → Step p word box (next_at p (Returning t)) (swapped_of (took_at p word (Returning t)) box) (turn_at p word (Returning t))
@@ -192,7 +199,7 @@ swept_step p word box first n w is e (Some x) d = Step.sweep first n w (Sweeping
 step_at : (p : Private) (word : ℕ) (box : Contents) (phase : Phase) → IsMachine p → p.phase ≡ phase → IsBetween phase → IsGivenAt p word phase → Step p word box (next_at p phase) (swapped_of (took_at p word phase) box) (turn_at p word phase)
 unfolding next_at took_at turn_at swapped_of swapped_at IsGivenAt
 step_at p word box Idle k is b g = idle_step p word box k is g
-step_at p word box (Looking t) k is b g = look_step p word box t is
+step_at p word box (Looking t) k is b g = look_step p word box t k is g
 step_at p word box (Swapping t) k is b g = absurd b
 step_at p word box (Returning t) k is b g = return_step p word box t k is g
 step_at p word box (Releasing m) k is b g = Step.release m is refl (cleared_on p (with_released m (parts_of p) word) box (released_has p m word k is g))
@@ -222,7 +229,7 @@ came_between p n b = go n.phase b
     go (Closing m) b = tt
     go _ b = b
 
-gathers_between : (p : Private) (next : Option ℕ) → IsBetween (gathering_on p next).phase
+pub gathers_between : (p : Private) (next : Option ℕ) → IsBetween (gathering_on p next).phase
 gathers_between p None = came_between p (batch_next p) (batch_between p)
 gathers_between p (Some next) = tt
 
@@ -248,39 +255,43 @@ left_between q box b = go q.phase b
 -- by phase
 leaves_at : (p : Private) (word : ℕ) (box : Contents) (phase : Phase) → p.phase ≡ phase → IsBetween phase → LeavesBox p word box (left_of (took_at p word phase) box)
 unfolding took_at left_of left_at
-leaves_at p word box (Looking t) is between = elim (cases_eq word (crossing_word p.epoch Retired)) [
-  | inl e ↦ LeavesBox.empties t is e (ap (λ b. left_of (cond b (moved p (Swapping t)) p) box) (eq-eqb word (crossing_word p.epoch Retired) e))
-  | inr e ↦ LeavesBox.keeps (λ u looks same. e same) (ap (λ b. left_of (cond b (moved p (Swapping t)) p) box) (ne_eqb word (crossing_word p.epoch Retired) e) ∙ ap (left_at p box) is)
-]
+leaves_at p word box (Looking t) is between = go (looked p.epoch word) refl
+  where
+    go : (l : Looked) → looked p.epoch word ≡ l → LeavesBox p word box (left_of (after_look p t l) box)
+    go (Takes new) e = LeavesBox.empties t is e refl
+    go (Crosses new) e = LeavesBox.keeps (λ u n looks takes. let q : Crosses new ≡ Takes n = sym e ∙ takes in absurd (cc)) (left_between (behind (crossed_for p t) t) box (gathers_between (crossed_for p t) (next_present p.left t)))
+    go Waits e = LeavesBox.keeps (λ u n looks takes. let q : Waits ≡ Takes n = sym e ∙ takes in absurd (cc)) (left_between p box (subst IsBetween (sym is) tt))
 leaves_at p word box (Swapping t) is between = absurd between
-leaves_at p word box phase is between = LeavesBox.keeps (λ t looks. let q : phase ≡ Looking t = sym is ∙ looks in absurd (cc)) (left_between (took_at p word phase) box (took_between p word phase is between (λ t. λ e. cc)))
+leaves_at p word box phase is between = LeavesBox.keeps (λ t n looks. let q : phase ≡ Looking t = sym is ∙ looks in absurd (cc)) (left_between (took_at p word phase) box (took_between p word phase is between (λ t. λ e. cc)))
 
 -- a whole step
 pub whole_made : (p : Private) (word : ℕ) (box : Contents) → IsMachine p → IsBetween p.phase → IsGiven p word → WholeStep p word box (next_of p) (step_of p word box) (turn_of p word) (left_of (took_of p word) box)
 unfolding took_of
 whole_made p word box k between given = record { own = step_made p word box k between given; mailbox = leaves_at p word box p.phase refl between }
 
--- a turn that came to these parts and this phase, from a phase that has swept nothing; the epoch and who has left may have changed
-module _ (p : Private) (word : ℕ) (epoch : ℕ) (left : List Bool) (some : 1 ≤ epoch) (z : swept_at p.phase ≡ 0) where
-  came_cause : (n : Next) → swept_at n.phase ≡ 0 → HasCause p word (came (record p { epoch = epoch; left = left }) n) (came_turn epoch n.phase)
+-- a turn that came to these parts and this phase, from a phase that has swept nothing; the epoch, who has left and the newer buffers may
+-- have changed
+module _ (p : Private) (word : ℕ) (epoch : ℕ) (left : List Bool) (newer : List Contents) (at : Phase) (some : 1 ≤ epoch) (z : swept_at p.phase ≡ 0) where
+  came_cause : (n : Next) → swept_at n.phase ≡ 0 → HasCause p word (came (record p { epoch = epoch; left = left; newer = newer; phase = at }) n) (came_turn epoch n.phase)
   came_cause n none = go n.phase none
     where
-      go : (phase : Phase) → swept_at phase ≡ 0 → HasCause p word (ended_if phase (landed (record p { epoch = epoch; left = left }) (record { parts = n.parts; phase = phase }))) (came_turn epoch phase)
+      go : (phase : Phase) → swept_at phase ≡ 0 → HasCause p word (ended_if phase (landed (record p { epoch = epoch; left = left; newer = newer; phase = at }) (record { parts = n.parts; phase = phase }))) (came_turn epoch phase)
       go (Sweeping due m) none = (refl, refl, omega (arith, z, none))
       go (Closing m) none = (omega (arith, some), omega (arith, z, none), refl, refl, refl, refl)
       go _ none = (refl, refl, ap (λ m. p.freed + m) z)
 
-  gathers_cause : (next : Option ℕ) → (let q : Private = record p { epoch = epoch; left = left } in HasCause p word (gathering_on q next) (gathering_turn q next))
-  gathers_cause None = let q : Private = record p { epoch = epoch; left = left } in came_cause (batch_next q) (batch_none q)
+  gathers_cause : (next : Option ℕ) → (let q : Private = record p { epoch = epoch; left = left; newer = newer; phase = at } in HasCause p word (gathering_on q next) (gathering_turn q next))
+  gathers_cause None = let q : Private = record p { epoch = epoch; left = left; newer = newer; phase = at } in came_cause (batch_next q) (batch_none q)
   gathers_cause (Some next) = (refl, refl, ap (λ m. p.freed + m) z)
 
 idle_cause : (p : Private) (word : ℕ) (b : Bool) → is_spent p ≡ b → p.phase ≡ Idle → HasCause p word (cond b p (behind (requested p) 0)) (cond b EpochsSpent (behind_turn (requested p) 0))
 idle_cause p word true e is = (is, eqb-true (p.epoch + 1) (2 ^ 24) e, refl)
-idle_cause p word false e is = gathers_cause p word (p.epoch + 1) p.left (omega arith) (ap swept_at is) (next_present p.left 0)
+idle_cause p word false e is = gathers_cause p word (p.epoch + 1) p.left p.newer p.phase (omega arith) (ap swept_at is) (next_present p.left 0)
 
-look_cause : (p : Private) (word t : ℕ) (b : Bool) → (word == crossing_word p.epoch Retired) ≡ b → p.phase ≡ Looking t → HasCause p word (cond b (moved p (Swapping t)) p) (cond b Moved (Waiting t))
-look_cause p word t true e is = (refl, refl, ap (λ f. p.freed + swept_at f) is)
-look_cause p word t false e is = (is, (eqb-false word (crossing_word p.epoch Retired) e), refl)
+look_cause : (p : Private) (word t : ℕ) (l : Looked) → looked p.epoch word ≡ l → p.phase ≡ Looking t → 1 ≤ p.epoch → HasCause p word (after_look p t l) (look_turn p t l)
+look_cause p word t (Takes new) e is some = (refl, refl, ap (λ f. p.freed + swept_at f) is)
+look_cause p word t (Crosses new) e is some = gathers_cause p word p.epoch p.left (crossed_for p t).newer (Returning t) some (ap swept_at is) (next_present p.left t)
+look_cause p word t Waits e is some = (is, e, refl)
 
 sweep_cause : (p : Private) (first : Option ℕ) (n : ℕ) (due : Option ℕ) → p.phase ≡ Sweeping first n → p.freed + 1 + swept_at p.phase ≡ p.freed + swept_at (swept_phase (n + 1) due)
 sweep_cause p first n None is = omega (arith, ap swept_at is)
@@ -289,23 +300,23 @@ sweep_cause p first n (Some x) is = omega (arith, ap swept_at is)
 cause_at : (p : Private) (word : ℕ) (phase : Phase) → p.phase ≡ phase → IsMachine p → HasCause p word (took_at p word phase) (turn_at p word phase)
 unfolding took_at turn_at
 cause_at p word Idle is k = idle_cause p word (is_spent p) refl is
-cause_at p word (Looking t) is k = look_cause p word t (word == crossing_word p.epoch Retired) refl is
+cause_at p word (Looking t) is k = look_cause p word t (looked p.epoch word) refl is (omega (arith, under_way_at p (Looking t) k is))
 cause_at p word (Swapping t) is k = (refl, refl, ap (λ f. p.freed + swept_at f) is)
-cause_at p word (Returning t) is k = gathers_cause p word p.epoch (noted p t).left (omega (arith, under_way_at p (Returning t) k is)) (ap swept_at is) (next_present (noted p t).left t)
+cause_at p word (Returning t) is k = gathers_cause p word p.epoch (noted p t).left p.newer p.phase (omega (arith, under_way_at p (Returning t) k is)) (ap swept_at is) (next_present (noted p t).left t)
 cause_at p word Opening is k = (refl, refl, ap (λ f. p.freed + swept_at f) is)
 cause_at p word (Sweeping due n) is k = (refl, refl, sweep_cause p due n _ is)
 cause_at p word (Closing n) is k = (omega (arith, under_way_at p (Closing n) k is), sym (ap swept_at is), refl, refl, refl, refl)
-cause_at p word phase is k = came_cause p word p.epoch p.left (omega (arith, under_way_at p phase k is)) (ap swept_at is) (worked (parts_of p) word phase) (work_none (parts_of p) word phase tt)
+cause_at p word phase is k = came_cause p word p.epoch p.left p.newer p.phase (omega (arith, under_way_at p phase k is)) (ap swept_at is) (worked (parts_of p) word phase) (work_none (parts_of p) word phase tt)
 
 -- why an answer comes
 pub has_cause : (p : Private) (word : ℕ) → IsMachine p → HasCause p word (took_of p word) (turn_of p word)
 unfolding took_of turn_of
 has_cause p word k = cause_at p word p.phase refl k
 
--- a mutator that has not crossed is waited for
-pub waits : (p : Private) (word t : ℕ) → p.phase ≡ Looking t → word ≢ crossing_word p.epoch Retired → turn_of p word ≡ Waiting t
+-- a mutator is waited for where the look leaves its crossing word
+pub waits : (p : Private) (word t : ℕ) → p.phase ≡ Looking t → looked p.epoch word ≡ Waits → turn_of p word ≡ Waiting t
 unfolding turn_of turn_at
-waits p word t is other = ap (turn_at p word) is ∙ cond-false (word == crossing_word p.epoch Retired) _ _ (ne_eqb word (crossing_word p.epoch Retired) other)
+waits p word t is stays = ap (turn_at p word) is ∙ ap (look_turn p t) stays
 
 -- a machine has a next step where it is at a field
 pub release_next : (m : releases.Machine) → is_some (releases.next_of m) ≡ is_some m.at

@@ -2,16 +2,19 @@
 use Rattle.std.proofs.Common.{◌≡◌, ◌⊎◌, ℕ, ◌+◌, ◌-◌, ◌^◌, ◌<◌, ◌==◌, ◌&&◌, not, Bool, true, false, Option, None, Some, IfSome, IsSome, List, refl, sym, ap, subst, ◌∙◌, arith, inl, inr}
 use Rattle.std.proofs.lemmas.Bool.{cond-false, cond-true, eq-eqb, ne_eqb}
 use Rattle.std.proofs.lemmas.Bool.Decides.{eqb_tells}
-use Rattle.rec_collector.proofs.Common.{Op, Contents, Orange, Slot, State, slot_at, one, emptied, next_from, prep_started, with_freed, with_released, relieved_at, IsGiven, IsGivenAt, Idle, IsAt, IsAtRest, IsMachine, buffer_at, next_present, noted, under_way, Parts, new_freeing, new_release, Private, parts_of, zeros_released, Begun, counted_by, freeing_at, releasing_at, tested, step_of, swapped_of, took_at, took_of, turn_of, Phase, Returning, Releasing, Freeing, Trying, Preparing, Held, Touched}
+use Rattle.rec_collector.proofs.Common.{Looking, Op, Contents, Orange, Slot, State, slot_at, one, emptied, next_from, prep_started, with_freed, with_released, relieved_at, IsGiven, IsGivenAt, Idle, IsAt, IsAtRest, IsMachine, buffer_at, next_present, noted, under_way, Parts, new_freeing, new_release, Private, parts_of, zeros_released, Begun, counted_by, freeing_at, releasing_at, tested, step_of, swapped_of, took_at, took_of, turn_of, Phase, Returning, Releasing, Freeing, Trying, Preparing, Held, Touched}
 use Rattle.rec_word.specs.Word.{target_of}
 use Rattle.rec_counts.specs.Batch.{applied, AreAlike, IsApplied, IsCovered, touches}
 use Rattle.rec_counts.proofs.Touching.{decremented_touched, touched_orange}
 use Rattle.rec_counts.proofs.Whole.{is_applied}
 use Rattle.rec_release.specs.TakenOff.{down_if, IsApart, is_lowered, taken_off}
 use Rattle.rec_word.specs.Load.{Load}
+use Rattle.rec_collector.specs.Given.{IsLookGiven}
+use Rattle.rec_collector.specs.Took.{crossed_for}
+use Rattle.rec_collector.proofs.Gathering.{crossed_keeps}
 use Rattle.rec_collector.specs.Outside.{HasSets, IsOutside}
 use Rattle.rec_collector.specs.Step.{Step, GoesOn, PreparesOn, TriesOn, ClearsOn, IsNext, IsTested, IsBetween}
-use Rattle.rec_collector.specs.Touched.{decrements, IsOrangeIn, named_at, named_behind, named_by, tried_at, WasUntouched}
+use Rattle.rec_collector.specs.Touched.{named_looking, decrements, IsOrangeIn, named_at, named_behind, named_by, tried_at, WasUntouched}
 use Rattle.rec_collector.specs.declared.turn.Turn.{Turn}
 use Rattle.rec_collector.proofs.Following.{none_released, rows_alike}
 use Rattle.rec_collector.proofs.Goings.{emptied_same, freed_by, freed_off, released_by, released_off, freed_listed}
@@ -206,8 +209,16 @@ module _ (p q : Private) (word x : ℕ) (turn : Turn) (k : IsMachine p) (same : 
       let w : Parts = record (parts_of p) { counts = applied p.policy.steady p.counts p.newer p.older } in
       clears (zeros_setting false w) on (ap (λ f. tried_at p.epoch f + 1) at) (spares_then (batched_spares p x (now_at p Idle k at).0 (rows_alike p k) (subst (IsGivenAt p word) at given gone)) (zeros_spares false w x))
       (named_as at ∙ cond-false (is_spent p) 0 (named_behind p x (next_present p.left 0)) (ne_eqb (p.epoch + 1) (2 ^ 24) more) ∙ ap (named_behind p x) (none_is p.left 0 gone))
-  step_leaves given has (Step.wait t at other is kept answers) = leaves (ap (λ (r : Private). r.counts) kept) refl (ap (λ (r : Private). r.phase) kept) has (named_as at)
-  step_leaves given has (Step.gather t at crossed is g) = goes g refl tt (named_as at)
+  step_leaves given has (Step.wait t at other is kept answers) = leaves (ap (λ (r : Private). r.counts) kept) refl (ap (λ (r : Private). r.phase) kept) has (named_as at ∙ ap (named_looking p x t) other)
+  step_leaves given has (Step.gather t at takes is g) = goes g refl tt (named_as at ∙ ap (named_looking p x t) takes)
+  step_leaves given has (Step.cross_for t next at crosses is n g) = goes g refl tt (named_as at ∙ ap (named_looking p x t) crosses ∙ ap (named_behind (crossed_for p t) x) (next_is p.left t next n))
+  step_leaves given has (Step.cross_for_last t at crosses is gone on) =
+      let r : Private = crossed_for p t in
+      let w : Parts = record (parts_of p) { counts = applied p.policy.steady p.counts r.newer p.older } in
+      let a : IsAt p (Looking t) = now_at p (Looking t) k at in
+      clears (zeros_setting false w) on (trying_before (ap under_way at) (ap (tried_at p.epoch) at))
+      (spares_then (batched_spares r x a.rest (rows_alike r (crossed_keeps p t k at)) (subst (IsLookGiven p t) crosses (subst (IsGivenAt p word) at given) gone)) (zeros_spares false w x))
+      (named_as at ∙ ap (named_looking p x t) crosses ∙ ap (named_behind r x) (none_is p.left t gone))
   step_leaves given has (Step.give_back t next at is n g) = goes g refl tt (named_as at ∙ ap (named_behind p x) (next_is (noted p t).left t next n))
   step_leaves given has (Step.apply t at is gone on) =
       let w : Parts = record (parts_of p) { counts = applied p.policy.steady p.counts p.newer p.older } in

@@ -1,14 +1,23 @@
 -- What a machine may be given: the word that a step finds, and the buffer of a mailbox.
 use Rattle.std.specs.Prelude.{◌≡◌, ℕ, ◌<◌, Option, None, Some, IfSome, length}
+use Rattle.rec_word.specs.Looked.{looked}
 use Rattle.rec_word.specs.Word.{target_of}
+use Rattle.rec_word.specs.declared.looked.Looked.{Looked}
+use Rattle.rec_word.specs.declared.looked.Looked.TheVariants.{Crosses}
 use Rattle.rec_log.specs.declared.contents.Contents.{Contents}
 use Rattle.rec_counts.specs.Counts.{slot_at}
 use Rattle.rec_counts.specs.Batch.{IsCovered}
 use Rattle.rec_trial.specs.Rules.{LeadsToUnreleased}
 use Rattle.rec_collector.specs.Present.{HaveLeft}
 use Rattle.rec_collector.specs.Private.{Private}
+use Rattle.rec_collector.specs.Took.{crossed_for}
 use Rattle.rec_collector.specs.declared.phase.Phase.{Phase}
-use Rattle.rec_collector.specs.declared.phase.Phase.TheVariants.{Idle, Swapping, Returning, Releasing, Freeing, Trying, Preparing, Sweeping}
+use Rattle.rec_collector.specs.declared.phase.Phase.TheVariants.{Idle, Looking, Swapping, Returning, Releasing, Freeing, Trying, Preparing, Sweeping}
+
+-- where the collector crosses for a mutator behind which all have left, the batch is covered, with the newer buffer that it writes
+abbrev pub IsLookGiven : Private → (t : ℕ) → Looked → Type 0
+IsLookGiven p t (Crosses new) = HaveLeft p.left t → IsCovered p.counts (crossed_for p t).newer p.older
+IsLookGiven p t _ = Unit {0}
 
 -- what the word found has to be, by phase: where all mutators have left that are still to be gathered from, the batch is covered, with
 -- the last mailbox given back or, if there is none, with the request; what comes out of a field
@@ -16,6 +25,7 @@ use Rattle.rec_collector.specs.declared.phase.Phase.TheVariants.{Idle, Swapping,
 -- is held was swapped
 unfoldable pub IsGivenAt : Private → (word : ℕ) → Phase → Type 0
 IsGivenAt p word Idle = HaveLeft p.left 0 → IsCovered p.counts p.newer p.older
+IsGivenAt p word (Looking t) = IsLookGiven p t (looked p.epoch word)
 IsGivenAt p word (Swapping t) = ⊥
 IsGivenAt p word (Returning t) = HaveLeft p.left t → IsCovered p.counts p.newer p.older
 IsGivenAt p word (Releasing release) = IfSome (target_of word) (λ slot. 0 < (slot_at p.counts slot).count)

@@ -2,6 +2,7 @@
 pub mod Bare
 pub mod Causes
 pub mod Clearing
+pub mod CrossedFor
 pub mod Followed
 pub mod Gathering
 pub mod Given

@@ -25,6 +25,7 @@ trial_among (ClearsOn.waits none empty off on) = Does.postpones
 -- by the rule of a step
 abbrev pub trial_in : {p q : Private} {word : ℕ} {box : Contents} {op : Option Op} {turn : Turn} → Step p word box op q turn → Does
 trial_in (Step.request_alone idle last is alone applies) = trial_among applies
+trial_in (Step.cross_for_last t looking crosses is left applies) = trial_among applies
 trial_in (Step.apply t returning is left applies) = trial_among applies
 trial_in (Step.release m releasing is clears) = trial_among clears
 trial_in (Step.freeing m freeing is clears) = trial_among clears

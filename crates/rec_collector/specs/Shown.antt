@@ -2,7 +2,7 @@
 -- behind the step. And what the step did, read off the rule by which it was made.
 use Rattle.std.specs.Prelude.{◌≡◌, ℕ, ◌+◌, ◌-◌, ◌==◌, if◌then◌else◌, Option, None, Some, List, [], ◌∷◌}
 use Rattle.rec_word.specs.declared.op.Op.{Op}
-use Rattle.rec_word.specs.declared.op.Op.TheVariants.{StoreEpoch, ReturnBox}
+use Rattle.rec_word.specs.declared.op.Op.TheVariants.{StoreEpoch, LookBox, ReturnBox}
 use Rattle.rec_log.specs.declared.contents.Contents.{Contents}
 use Rattle.rec_counts.specs.Groups.{last_set}
 use Rattle.rec_word.specs.declared.member.Member.{Member}
@@ -12,8 +12,9 @@ use Rattle.rec_collector.specs.Parts.{Parts}
 use Rattle.rec_collector.specs.Private.{Private}
 use Rattle.rec_collector.specs.Step.{ClearsOn, IsTested, Step}
 use Rattle.rec_collector.specs.Testing.{Begun}
+use Rattle.rec_collector.specs.Took.{crossed_for}
 use Rattle.rec_collector.specs.declared.phase.Phase.{Phase}
-use Rattle.rec_collector.specs.declared.phase.Phase.TheVariants.{Idle, Looking, Freeing}
+use Rattle.rec_collector.specs.declared.phase.Phase.TheVariants.{Idle, Looking, Returning, Freeing}
 use Rattle.rec_collector.specs.declared.turn.Turn.{Turn}
 use Rattle.rec_collector.specs.declared.turn.Turn.TheVariants.{Collected}
 
@@ -39,15 +40,17 @@ applied_newer_in p _ = p.newer
 abbrev pub applied_newer : Private → List Contents
 applied_newer p = applied_newer_in p p.phase
 
--- Behind a request, or a mailbox that was given back, the batch is applied unless another mailbox is looked at. Its entries are those of
--- the epoch before the requested one.
+-- Behind a request, a look, or a mailbox that was given back, the batch is applied unless another mailbox is looked at or this one is still
+-- to be given back. Its entries are those of the epoch before the requested one.
 abbrev pub applied_in : Private → Phase → Option ℕ
 applied_in p (Looking t) = None
+applied_in p (Returning t) = None
 applied_in p phase = Some (p.epoch - 1)
 
 -- the epoch of the batch that the step of this operation applied, if it applied one
 abbrev pub applied_of : Op → Private → Option ℕ
 applied_of (StoreEpoch e) p = applied_in p p.phase
+applied_of (LookBox t e) p = applied_in p p.phase
 applied_of (ReturnBox t e) p = applied_in p p.phase
 applied_of op p = None
 
@@ -90,6 +93,7 @@ shown_of op word p = record { op = op; word = word; batch = batch_of op p; passe
 -- the batch that a step applied, by its rule: the one whose zeros it released
 abbrev pub batch_made : {p q : Private} {word : ℕ} {box : Contents} {op : Option Op} {turn : Turn} → Step p word box op q turn → Option Batch
 batch_made {p} (Step.request_alone idle last is alone applies) = Some (record { epoch = p.epoch; newer = p.newer })
+batch_made {p} (Step.cross_for_last t looking crosses is left applies) = Some (record { epoch = p.epoch - 1; newer = (crossed_for p t).newer })
 batch_made {p} (Step.apply t returning is left applies) = Some (record { epoch = p.epoch - 1; newer = p.newer })
 batch_made _ = None
 
@@ -111,6 +115,7 @@ passed_among _ = None
 -- the set that passed both tests in a step, by its rule
 abbrev pub set_passed : {p q : Private} {word : ℕ} {box : Contents} {op : Option Op} {turn : Turn} → Step p word box op q turn → Option (List ℕ)
 set_passed (Step.request_alone idle last is alone applies) = passed_among applies
+set_passed (Step.cross_for_last t looking crosses is left applies) = passed_among applies
 set_passed (Step.apply t returning is left applies) = passed_among applies
 set_passed (Step.release m releasing is clears) = passed_among clears
 set_passed (Step.freeing m freeing is clears) = passed_among clears

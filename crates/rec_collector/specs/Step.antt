@@ -1,7 +1,7 @@
 -- What a step of the collector may be: the rules of its phases.
 use Rattle.std.specs.Prelude.{◌≡◌, ◌≢◌, ℕ, ◌+◌, ◌-◌, ◌*◌, ◌^◌, ◌<◌, ◌≤◌, false, true, Option, None, Some, [], length, replicate, map, slice_set}
-use Rattle.rec_word.specs.Mailbox.{crossing_word}
-use Rattle.rec_word.specs.declared.mailbox.Mailbox.TheVariants.{Retired}
+use Rattle.rec_word.specs.Looked.{looked}
+use Rattle.rec_word.specs.declared.looked.Looked.TheVariants.{Takes, Crosses, Waits}
 use Rattle.rec_word.specs.declared.op.Op.{Op}
 use Rattle.rec_word.specs.declared.op.Op.TheVariants.{StoreEpoch, LookBox, ReturnBox, LoadChild, ClearField, FreeHeader, AddFreed}
 use Rattle.rec_log.specs.declared.contents.Contents.{Contents}
@@ -23,7 +23,7 @@ use Rattle.rec_collector.specs.Parts.{Parts, new_freeing}
 use Rattle.rec_collector.specs.Present.{HaveLeft, IsNextPresent}
 use Rattle.rec_collector.specs.Private.{Private, parts_of, with_parts}
 use Rattle.rec_collector.specs.Testing.{Begun, counted_by, with_freeing, zeros_released}
-use Rattle.rec_collector.specs.Took.{cleared, noted, requested}
+use Rattle.rec_collector.specs.Took.{cleared, crossed_for, noted, requested}
 use Rattle.rec_collector.specs.declared.verdict.Verdict.TheVariants.{Passed, Touched, Held}
 use Rattle.rec_collector.specs.declared.phase.Phase.{Phase}
 use Rattle.rec_collector.specs.declared.phase.Phase.TheVariants.{Idle, Looking, Swapping, Returning, Releasing, Freeing, Trying, Preparing, Opening, Sweeping, Closing}
@@ -89,10 +89,14 @@ pub data Step (p : Private) (word : ℕ) (box : Contents) (op : Option Op) (q : 
       → GoesOn (requested p) q turn (Looking next) → Step p word box op q turn
   request_alone : p.phase ≡ Idle → p.epoch + 1 ≢ 2 ^ 24 → op ≡ Some (StoreEpoch (p.epoch + 1)) → HaveLeft p.left 0
       → Applies (requested p) q turn → Step p word box op q turn
-  wait : (t : ℕ) → p.phase ≡ Looking t → word ≢ crossing_word p.epoch Retired → op ≡ Some (LookBox t p.epoch)
+  wait : (t : ℕ) → p.phase ≡ Looking t → looked p.epoch word ≡ Waits → op ≡ Some (LookBox t p.epoch)
       → q ≡ p → turn ≡ Waiting t → Step p word box op q turn
-  gather : (t : ℕ) → p.phase ≡ Looking t → word ≡ crossing_word p.epoch Retired → op ≡ Some (LookBox t p.epoch)
+  gather : (t : ℕ) {new : ℕ} → p.phase ≡ Looking t → looked p.epoch word ≡ Takes new → op ≡ Some (LookBox t p.epoch)
       → GoesOn (record p { newer = slice_set p.newer (t - 1) box }) q turn (Returning t) → Step p word box op q turn
+  cross_for : (t next : ℕ) {new : ℕ} → p.phase ≡ Looking t → looked p.epoch word ≡ Crosses new → op ≡ Some (LookBox t p.epoch) → IsNextPresent p.left t next
+      → GoesOn (crossed_for p t) q turn (Looking next) → Step p word box op q turn
+  cross_for_last : (t : ℕ) {new : ℕ} → p.phase ≡ Looking t → looked p.epoch word ≡ Crosses new → op ≡ Some (LookBox t p.epoch) → HaveLeft p.left t
+      → Applies (crossed_for p t) q turn → Step p word box op q turn
   give_back : (t next : ℕ) → p.phase ≡ Returning t → op ≡ Some (ReturnBox t p.epoch) → IsNextPresent (noted p t).left t next
       → GoesOn (noted p t) q turn (Looking next) → Step p word box op q turn
   apply : (t : ℕ) → p.phase ≡ Returning t → op ≡ Some (ReturnBox t p.epoch) → HaveLeft (noted p t).left t
@@ -112,9 +116,9 @@ pub data Step (p : Private) (word : ℕ) (box : Contents) (op : Option Op) (q : 
 -- What a step leaves in the mailbox that it looks at, which held `box`: where it takes the buffer there, a buffer without entries, with
 -- a null snapshot; else what was there.
 pub data LeavesBox (p : Private) (word : ℕ) (box left : Contents) : Type 0 where
-  empties : (t : ℕ) → p.phase ≡ Looking t → word ≡ crossing_word p.epoch Retired
+  empties : (t : ℕ) {new : ℕ} → p.phase ≡ Looking t → looked p.epoch word ≡ Takes new
       → left ≡ record { entries = []; snapshot = replicate p.registers None; capacity = p.capacity; last = false; still = false } → LeavesBox p word box left
-  keeps : ((t : ℕ) → p.phase ≡ Looking t → word ≢ crossing_word p.epoch Retired) → left ≡ box → LeavesBox p word box left
+  keeps : ((t new : ℕ) → p.phase ≡ Looking t → looked p.epoch word ≢ Takes new) → left ≡ box → LeavesBox p word box left
 
 -- A whole step: what it leaves of the private record and answers, and what it leaves in the mailbox.
 pub record WholeStep (p : Private) (word : ℕ) (box : Contents) (op : Option Op) (q : Private) (turn : Turn) (left : Contents) : Type 0 where

@@ -1,7 +1,8 @@
 -- What is learnt, and what a turn answers: functions of the private record and of the word found.
-use Rattle.std.specs.Prelude.{ℕ, ◌+◌, ◌-◌, ◌==◌, false, Option, None, Some, [], if◌then◌else◌, length, map, replicate, slice_set}
-use Rattle.rec_word.specs.Mailbox.{crossing_word}
-use Rattle.rec_word.specs.declared.mailbox.Mailbox.TheVariants.{Retired}
+use Rattle.std.specs.Prelude.{ℕ, ◌+◌, ◌-◌, false, true, Option, None, Some, [], if◌then◌else◌, length, map, replicate, slice_set}
+use Rattle.rec_word.specs.Looked.{looked}
+use Rattle.rec_word.specs.declared.looked.Looked.{Looked}
+use Rattle.rec_word.specs.declared.looked.Looked.TheVariants.{Takes, Crosses, Waits}
 use Rattle.rec_log.specs.declared.contents.Contents.{Contents}
 use Rattle.rec_counts.specs.Batch.{applied}
 use Rattle.rec_release.specs.Sweep as sweeps
@@ -62,6 +63,21 @@ requested p = record p { epoch = p.epoch + 1 }
 abbrev pub noted : Private → (t : ℕ) → Private
 noted p t = record p { left = slice_set p.left (t - 1) (buffer_at p.newer (t - 1)).last }
 
+-- the newer buffer of a mutator that is parked, and whose registers have stood since the older one was retired: it has them as its
+-- snapshot too, and is marked as still
+abbrev pub stilled : (newer older : Contents) → Contents
+stilled newer older = record newer { snapshot = older.snapshot; still = true }
+
+-- the collector crossed for a parked mutator that left no deposit: no mailbox is to be given back
+abbrev pub crossed_for : Private → (t : ℕ) → Private
+crossed_for p t = record p { phase = Returning t; newer = slice_set p.newer (t - 1) (stilled (buffer_at p.newer (t - 1)) (buffer_at p.older (t - 1))) }
+
+-- what comes of a look at a mutator's crossing word: its mailbox is held, or the collector crosses for it and goes on behind it, or waits
+abbrev pub after_look : Private → (t : ℕ) → Looked → Private
+after_look p t (Takes left) = moved p (Swapping t)
+after_look p t (Crosses left) = behind (crossed_for p t) t
+after_look p t Waits = p
+
 -- after so many slots the sweep goes on, or ends
 abbrev pub swept_phase : (swept : ℕ) → Option ℕ → Phase
 swept_phase swept None = Closing swept
@@ -74,7 +90,7 @@ swept_one p swept w = moved (record p { counts = w.counts; freed = p.freed + 1 }
 -- what is learnt, by phase
 unfoldable pub took_at : Private → (word : ℕ) → Phase → Private
 took_at p word Idle = if is_spent p then p else behind (requested p) 0
-took_at p word (Looking t) = if word == crossing_word p.epoch Retired then moved p (Swapping t) else p
+took_at p word (Looking t) = after_look p t (looked p.epoch word)
 took_at p word (Swapping t) = moved p (Swapping t)
 took_at p word (Returning t) = behind (noted p t) t
 took_at p word Opening = let w : sweeps.Work = sweeps.started_of p.counts in moved (record p { counts = w.counts }) (Sweeping w.due 0)
@@ -122,10 +138,16 @@ gathering_turn p (Some t) = Moved
 abbrev pub behind_turn : Private → (t : ℕ) → Turn
 behind_turn p t = gathering_turn p (next_present p.left t)
 
+-- what a turn answers that looked at a mutator's crossing word
+abbrev pub look_turn : Private → (t : ℕ) → Looked → Turn
+look_turn p t (Takes left) = Moved
+look_turn p t (Crosses left) = behind_turn (crossed_for p t) t
+look_turn p t Waits = Waiting t
+
 -- what a turn answers, by phase
 unfoldable pub turn_at : Private → (word : ℕ) → Phase → Turn
 turn_at p word Idle = if is_spent p then EpochsSpent else behind_turn (requested p) 0
-turn_at p word (Looking t) = if word == crossing_word p.epoch Retired then Moved else Waiting t
+turn_at p word (Looking t) = look_turn p t (looked p.epoch word)
 turn_at p word (Returning t) = behind_turn (noted p t) t
 turn_at p word (Closing swept) = Collected (p.epoch - 1) swept
 turn_at p word phase = came_turn p.epoch (worked (parts_of p) word phase).phase

@@ -1,6 +1,9 @@
 -- What names a slot from one step to the next: a batch, and what is taken off afterwards.
 use Rattle.std.specs.Prelude.{◌≡◌, ℕ, ◌+◌, ◌-◌, ◌&&◌, not, if◌then◌else◌, Bool, true, Option, None, Some}
+use Rattle.rec_word.specs.Looked.{looked}
 use Rattle.rec_word.specs.Word.{target_of, is_slot}
+use Rattle.rec_word.specs.declared.looked.Looked.{Looked}
+use Rattle.rec_word.specs.declared.looked.Looked.TheVariants.{Crosses}
 use Rattle.rec_counts.specs.Batch.{touches}
 use Rattle.rec_counts.specs.declared.colour.Colour.TheVariants.{Orange}
 use Rattle.rec_counts.specs.Counts.{State, slot_at}
@@ -9,7 +12,7 @@ use Rattle.rec_release.specs.TakenOff.{is_lowered}
 use Rattle.rec_collector.specs.Next.{is_spent}
 use Rattle.rec_collector.specs.Present.{next_present}
 use Rattle.rec_collector.specs.Private.{Private}
-use Rattle.rec_collector.specs.Took.{noted}
+use Rattle.rec_collector.specs.Took.{crossed_for, noted}
 use Rattle.rec_collector.specs.declared.phase.Phase.{Phase}
 use Rattle.rec_collector.specs.declared.phase.Phase.TheVariants.{Idle, Looking, Swapping, Returning, Releasing, Freeing}
 
@@ -34,9 +37,15 @@ abbrev pub named_behind : Private → (x : ℕ) → Option ℕ → ℕ
 named_behind p x None = touches p.policy.steady x p.newer p.older
 named_behind p x (Some t) = 0
 
+-- how often a look names it: where the collector crosses for a mutator, as often as the turn that goes on behind it
+abbrev pub named_looking : Private → (x t : ℕ) → Looked → ℕ
+named_looking p x t (Crosses new) = named_behind (crossed_for p t) x (next_present p.left t)
+named_looking p x t _ = 0
+
 -- how often a step names the slot, by phase: what a batch names, or one decrement
 abbrev pub named_at : Private → (word x : ℕ) → Phase → ℕ
 named_at p word x Idle = if is_spent p then 0 else named_behind p x (next_present p.left 0)
+named_at p word x (Looking t) = named_looking p x t (looked p.epoch word)
 named_at p word x (Returning t) = named_behind p x (next_present (noted p t).left t)
 named_at p word x (Releasing release) = decrements release.lowers p.counts (target_of word) x
 named_at p word x (Freeing freeing) = decrements true p.counts (target_of word) x

@@ -1,12 +1,13 @@
 //! What follows from the definitions alone, each law as the contract of a function that does nothing.
 
-ghost use Rattle.std.specs.Prelude.{◌≡◌, ◌↔◌, ◌⊎◌, ◌≤◌, ◌+◌, ◌-◌, ℕ, false, true, List, [], IfSome, Option, Some, length};
+ghost use Rattle.std.specs.Prelude.{◌≡◌, ◌≢◌, ◌↔◌, ◌⊎◌, ◌≤◌, ◌+◌, ◌-◌, ℕ, Bool, false, true, slice_set, List, [], IfSome, Option, Some, length};
 ghost use Rattle.rec_log.specs.declared.contents.Contents.{Contents};
 ghost use Rattle.rec_counts.specs.Batch.{batch};
 ghost use Rattle.rec_counts.specs.Targets.{added, leaves, taken};
 ghost use Rattle.rec_counts.specs.declared.colour.Colour.TheVariants.{Orange};
 ghost use Rattle.rec_counts.specs.Counts.{slot_at, IsKept as IsKeptCounts, State};
 ghost use Rattle.rec_sigma.specs.Prepared.{seen};
+ghost use Rattle.rec_collector.specs.CrossedFor.{IsCrossedFor};
 ghost use Rattle.rec_collector.specs.Followed.{makes_trial, with_offers};
 ghost use Rattle.rec_collector.specs.Given.{IsGiven, IsSized};
 ghost use Rattle.rec_collector.specs.Kept.{IsMachine};
@@ -16,13 +17,16 @@ ghost use Rattle.rec_collector.specs.Outside.{AreOutside, HasSets};
 ghost use Rattle.rec_collector.specs.Parts.{Parts};
 ghost use Rattle.rec_collector.specs.Postponed.{decided, postponed_behind, trial_in, Untried};
 ghost use Rattle.rec_collector.specs.Private.{Private};
-ghost use Rattle.rec_collector.specs.declared.phase.Phase.TheVariants.{Idle};
+ghost use Rattle.rec_collector.specs.declared.phase.Phase.TheVariants.{Idle, Looking, Returning};
 ghost use Rattle.rec_collector.specs.Shown.{IsShownAsMade};
 ghost use Rattle.rec_collector.specs.Step.{IsBetween, NamesWord, Step, WholeStep};
 ghost use Rattle.rec_collector.specs.Took.{left_of, step_of, took_of, turn_of};
 ghost use Rattle.rec_collector.specs.Touched.{IsOrangeIn, named_by, tried_at, WasUntouched};
 ghost use Rattle.rec_collector.specs.Zeros.{AreTheZeros};
 ghost use Rattle.rec_collector.specs.declared.turn.Turn.{Turn};
+ghost use Rattle.rec_collector.specs.declared.turn.Turn.TheVariants.{Waiting};
+ghost use Rattle.rec_word.specs.Mailbox.{crossing_with};
+ghost use Rattle.rec_word.specs.declared.mailbox.Mailbox.TheVariants.{Spare};
 ghost use Rattle.rec_word.specs.declared.op.Op.{Op};
 
 /// What comes next, what is learnt, what is answered and what is left in the mailbox is one of the steps of the collector, whatever the word found and
@@ -93,6 +97,15 @@ pub fn trials_are_not_postponed_for_ever()
     ensures due { (w : Parts) → w.policy.most_postponed ≤ w.postponed → makes_trial w ≡ true }
     ensures in_a_row { (p q : Private) (n : ℕ) → IsMachine p → Untried p n q → (decided q ≡ decided p + n) × (p.postponed + n ≤ p.policy.most_postponed) }
     ensures none { (p : Private) → IsMachine p → p.postponed ≡ 0 → p.phase ≡ Idle → p.counts.roots ≡ [] }
+{}
+
+/// The collector waits for no parked mutator: of a word that says that its mutator is parked in the epoch before, a turn makes more than a
+/// wait. Where the mutator left a deposit, it is taken in place of a log. Where it left none, one turn crosses for it: its newer buffer has
+/// no entries then, and as its snapshot the registers that it had at its last crossing.
+pub fn parked_mutators_are_crossed_for()
+    ensures waits_for_none { (p : Private) (t u before : ℕ) (held : Bool) → IsMachine p → p.phase ≡ Looking t → before + 1 ≡ p.epoch → turn_of p (crossing_with before Spare held true) ≢ Waiting u }
+    ensures takes_deposits { (p : Private) (t before : ℕ) (deposit : Contents) → IsMachine p → p.phase ≡ Looking t → before + 1 ≡ p.epoch → step_of p (crossing_with before Spare true true) deposit ≡ record p { phase = Returning t; turns = p.turns + 1; newer = slice_set p.newer (t - 1) deposit } }
+    ensures crosses { (p : Private) (t before : ℕ) (box : Contents) → IsMachine p → p.phase ≡ Looking t → before + 1 ≡ p.epoch → IsCrossedFor p (step_of p (crossing_with before Spare false true) box) t }
 {}
 
 /// What a watch is shown of a step is what the step did, by whichever of the rules it was made. It was shown a batch exactly where the

@@ -40,7 +40,7 @@ pub use kind::Kind;
 pub use laws::{
     batches_colour_what_they_name, machine_makes_steps, machine_names_words,
     machines_stay_machines, offers_are_whole, orange_members_are_untouched,
-    orange_members_have_outside_counts, trials_are_made_where_asked,
+    orange_members_have_outside_counts, parked_mutators_are_crossed_for, trials_are_made_where_asked,
     trials_are_not_postponed_for_ever, what_is_shown_was_done, zeros_are_exact,
 };
 pub use machine::Machine;

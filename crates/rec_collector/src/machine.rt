@@ -1,6 +1,6 @@
 ghost use Rattle.std.specs.Prelude.{◌≡◌, ◌≢◌, ◌+◌, ◌*◌, ◌^◌, ◌<◌, ◌≤◌, ◌↔◌, ℕ, None, All, length, IfOk, IsNone, true};
-ghost use Rattle.rec_word.specs.Mailbox.{crossing_word};
-ghost use Rattle.rec_word.specs.declared.mailbox.Mailbox.TheVariants.{Retired};
+ghost use Rattle.rec_word.specs.Looked.{looked};
+ghost use Rattle.rec_word.specs.declared.looked.Looked.TheVariants.{Waits};
 ghost use Rattle.rec_counts.specs.Counts.{slot_at};
 ghost use Rattle.rec_collector.specs.Causes.{HasCause};
 ghost use Rattle.rec_counts.specs.Batch.{IsCovered};
@@ -12,7 +12,7 @@ ghost use Rattle.rec_collector.specs.Next.{next_of};
 ghost use Rattle.rec_collector.specs.Present.{HaveLeft};
 ghost use Rattle.rec_collector.specs.Private.{Private, opened};
 ghost use Rattle.rec_collector.specs.declared.turn.Turn.{Turn};
-ghost use Rattle.rec_collector.specs.Took.{behind, behind_turn, came_turn, ended_if, left_of, swapped_of, took_at, took_of, turn_at, turn_of};
+ghost use Rattle.rec_collector.specs.Took.{behind, behind_turn, came_turn, crossed_for, ended_if, left_of, swapped_of, took_at, took_of, turn_at, turn_of};
 
 mod runs;
 
@@ -27,7 +27,7 @@ use crate::turn::Turn;
 use rec_counts::Counts;
 use rec_log::{Buffer, Frame};
 use rec_release::Sweep;
-use rec_word::{Mailbox, Op, crossing};
+use rec_word::{Looked, Op};
 use std::alloc::{AllocError as NoMemory, Global};
 use std::marker::Model;
 use std::mem;
@@ -147,10 +147,10 @@ impl Machine {
         ensures turn { result ≡ turn_of self.old word }
         ensures same { KeepsSizes self.old self.new }
 
-        // Why each answer comes. Waiting for a mutator comes exactly where its crossing word was looked at and says that it
-        // hasn't crossed, and the epochs are spent exactly where no step comes next.
+        // Why each answer comes. Waiting for a mutator comes exactly where its crossing word was looked at and stays as it is, and
+        // the epochs are spent exactly where no step comes next.
         ensures cause { HasCause self.old word self.new result }
-        ensures waiting { (t : ℕ) → self.old.phase ≡ Phase.Looking t → word ≢ crossing_word self.old.epoch Retired → result ≡ Turn.Waiting t }
+        ensures waiting { (t : ℕ) → self.old.phase ≡ Phase.Looking t → looked self.old.epoch word ≡ Waits → result ≡ Turn.Waiting t }
         ensures spent { IsNone (next_of self.old) → result ≡ Turn.EpochsSpent }
 
         // No collection takes more turns than this, beside those in which it waits.
@@ -188,10 +188,10 @@ impl Machine {
         ensures turn { result ≡ turn_of self.old word }
         ensures same { KeepsSizes self.old self.new }
 
-        // Why each answer comes. Waiting for a mutator comes exactly where its crossing word was looked at and says that it
-        // hasn't crossed, and the epochs are spent exactly where no step comes next.
+        // Why each answer comes. Waiting for a mutator comes exactly where its crossing word was looked at and stays as it is, and
+        // the epochs are spent exactly where no step comes next.
         ensures cause { HasCause self.old word self.new result }
-        ensures waiting { (t : ℕ) → self.old.phase ≡ Phase.Looking t → word ≢ crossing_word self.old.epoch Retired → result ≡ Turn.Waiting t }
+        ensures waiting { (t : ℕ) → self.old.phase ≡ Phase.Looking t → looked self.old.epoch word ≡ Waits → result ≡ Turn.Waiting t }
         ensures spent { IsNone (next_of self.old) → result ≡ Turn.EpochsSpent }
 
         // No collection takes more turns than this, beside those in which it waits.
@@ -383,22 +383,45 @@ impl Machine {
         self.gather_behind(0)
     }
 
-    // The mailbox of a mutator is held where it has crossed.
+    // The mailbox of a mutator is held where it has crossed, or is parked and left a deposit there. For one that is parked and left none
+    // the collector crosses.
     #[tactic(auto, unfolding(crate::specs::Took::took_at, crate::specs::Took::turn_at))]
     fn took_look(&mut self, mutator: u8, word: u64) -> Turn
         requires phase { self.old.phase ≡ Phase.Looking mutator }
+        requires given { IsGivenAt self.old word (Phase.Looking mutator) }
 
         ensures took { self.new ≡ took_at self.old word (Phase.Looking mutator) }
         ensures turn { result ≡ turn_at self.old word (Phase.Looking mutator) }
         ensures same { KeepsSizes self.old self.new }
         ensures kept { IsMachine self.new }
     {
-        if word != crossing(self.epoch, Mailbox::Retired) {
-            return Turn::Waiting { mutator };
+        match Looked::at(self.epoch, word) {
+            Looked::Takes(_) => {
+                self.phase = Phase::Swapping { mutator };
+                self.turns += 1;
+                Turn::Moved
+            }
+            Looked::Crosses(_) => self.cross_for(mutator),
+            Looked::Waits => Turn::Waiting { mutator },
         }
-        self.phase = Phase::Swapping { mutator };
-        self.turns += 1;
-        Turn::Moved
+    }
+
+    // The collector crosses for a parked mutator without a deposit: its registers stood since its last crossing, and it logged nothing.
+    #[inline(never)]
+    fn cross_for(&mut self, mutator: u8) -> Turn
+        requires phase { self.old.phase ≡ Phase.Looking mutator }
+        requires covered { HaveLeft self.old.left mutator → IsCovered self.old.counts (crossed_for self.old mutator).newer self.old.older }
+
+        ensures took { self.new ≡ behind (crossed_for self.old mutator) mutator }
+        ensures turn { result ≡ behind_turn (crossed_for self.old mutator) mutator }
+        ensures same { KeepsSizes self.old self.new }
+        ensures kept { IsMachine self.new }
+    {
+        self.rules();
+        let place = usize::from(mutator) - 1;
+        self.phase = Phase::Returning { mutator };
+        self.newer[place].retire_still(&self.older[place]);
+        self.gather_behind(mutator)
     }
 
     // A mailbox was given back, from which the last buffer of a mutator may have come: then it has left.

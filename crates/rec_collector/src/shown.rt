@@ -28,9 +28,9 @@ impl Machine {
         ensures made { (word : ℕ) (taken : HasTaken op word self.now) → batch_of op self.now ≡ batch_made taken.step }
     {
         let newer = match (op, self.phase()) {
-            (_, Phase::Looking { .. }) => return None,
-            (Op::StoreEpoch(_) | Op::ReturnBox(..), Phase::Idle) => self.older(),
-            (Op::StoreEpoch(_) | Op::ReturnBox(..), _) => self.newer(),
+            (_, Phase::Looking { .. } | Phase::Returning { .. }) => return None,
+            (Op::StoreEpoch(_) | Op::LookBox(..) | Op::ReturnBox(..), Phase::Idle) => self.older(),
+            (Op::StoreEpoch(_) | Op::LookBox(..) | Op::ReturnBox(..), _) => self.newer(),
             _ => return None,
         };
         let epoch = self.epoch().saturating_sub(1);

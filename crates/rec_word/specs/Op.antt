@@ -3,10 +3,10 @@ use Rattle.std.specs.Prelude.{ℕ, ◌-◌, ◌^◌, Option, None, Some, if◌th
 use Rattle.rec_word.specs.Atom.{leaves}
 use Rattle.rec_word.specs.Mailbox.{crossing_word, holds}
 use Rattle.rec_word.specs.declared.atom.Atom.{Atom}
-use Rattle.rec_word.specs.declared.atom.Atom.TheVariants.{Load, Exchange, CompareExchange, Add}
+use Rattle.rec_word.specs.declared.atom.Atom.TheVariants.{Load, Exchange, CompareExchange, Add, Look}
 use Rattle.rec_word.specs.declared.cell.Cell.{Cell}
 use Rattle.rec_word.specs.declared.cell.Cell.TheVariants.{Field, Header, Epoch, Freed, Crossing}
-use Rattle.rec_word.specs.declared.mailbox.Mailbox.TheVariants.{Spare, WithMutator, Retired, WithCollector}
+use Rattle.rec_word.specs.declared.mailbox.Mailbox.TheVariants.{WithMutator, Retired}
 use Rattle.rec_word.specs.declared.op.Op.{Op}
 use Rattle.rec_word.specs.declared.op.Op.TheVariants.{LoadField, SwapField, LoadHeader, LoadEpoch, LoadCross, ClaimHeader, LoadFreed, LoadChild, ClearField, FreeHeader, TakeBox, GiveBox, StoreEpoch, LookBox, ReturnBox, AddFreed, ShiftBox}
 use Rattle.rec_word.specs.declared.shift.Shift.{Shift}
@@ -41,7 +41,8 @@ amount_of Unpark = 2 ^ 64 - 2 ^ 33
 amount_of Free = 2 ^ 64 - 2 ^ 32
 
 -- what it does there: a claim takes a header that is 0; what clears leaves 0; a crossing word tells where its mailbox is
--- then, and a look changes it only where the mailbox is home with what was retired
+-- then, a look changes it only where it takes a mailbox or crosses for a parked mutator, and giving the mailbox back goes from 3 to 0
+-- in bits 0 and 1, and leaves all others
 abbrev pub atom_of : Op → Atom
 atom_of (LoadField place) = Load
 atom_of (SwapField place word) = Exchange word
@@ -56,8 +57,8 @@ atom_of (FreeHeader slot) = Exchange 0
 atom_of (TakeBox t epoch) = Exchange (crossing_word epoch WithMutator)
 atom_of (GiveBox t epoch) = Exchange (crossing_word epoch Retired)
 atom_of (StoreEpoch epoch) = Exchange epoch
-atom_of (LookBox t epoch) = CompareExchange (crossing_word epoch Retired) (crossing_word epoch WithCollector)
-atom_of (ReturnBox t epoch) = Exchange (crossing_word epoch Spare)
+atom_of (LookBox t epoch) = Look epoch
+atom_of (ReturnBox t epoch) = Add (2 ^ 64 - 3)
 atom_of AddFreed = Add 1
 atom_of (ShiftBox t shift) = Add (amount_of shift)
 

@@ -3,6 +3,9 @@ ghost use Rattle.std.specs.Prelude.{◌≡◌};
 use crate::{Atom, Cell, Mailbox, Shift, crossing, is_held};
 use std::fmt;
 
+// What is added to a crossing word to bring its past mailbox home from the collector, from 3 to 0 in bits 0 and 1.
+const RETURNS: u64 = u64::MAX - 2;
+
 /// One atomic operation on one shared word: `cell` tells which word that is, and `atom` what is done to it.
 #[derive(Clone, Copy, PartialEq, Eq)]
 pub enum Op {
@@ -32,10 +35,10 @@ pub enum Op {
     GiveBox(u8, u32),
     /// Store this epoch in the epoch word: it is requested.
     StoreEpoch(u32),
-    /// Compare a mutator's crossing word with what says that it is in this epoch and its mailbox is home with what it
-    /// retired, and where it says so, take the mailbox.
+    /// Look at a mutator's crossing word, in the collection of this epoch: take the mailbox if it is home with what the mutator
+    /// retired, or cross for the mutator if it is parked and still has to cross.
     LookBox(u8, u32),
-    /// Store in a mutator's crossing word that it is in this epoch, and that its mailbox is home with a spare.
+    /// Let a mutator's crossing word, which is of this epoch, say that its past mailbox is home with a spare. Its other parts stay.
     ReturnBox(u8, u32),
     /// Add one to the freed word: a sweep begins or ends.
     AddFreed,
@@ -91,11 +94,8 @@ impl Op {
             Op::TakeBox(_, epoch) => Atom::Exchange(crossing(epoch, Mailbox::WithMutator)),
             Op::GiveBox(_, epoch) => Atom::Exchange(crossing(epoch, Mailbox::Retired)),
             Op::StoreEpoch(epoch) => Atom::Exchange(u64::from(epoch)),
-            Op::LookBox(_, epoch) => Atom::CompareExchange {
-                expected: crossing(epoch, Mailbox::Retired),
-                new: crossing(epoch, Mailbox::WithCollector),
-            },
-            Op::ReturnBox(_, epoch) => Atom::Exchange(crossing(epoch, Mailbox::Spare)),
+            Op::LookBox(_, epoch) => Atom::Look { epoch },
+            Op::ReturnBox(_, _) => Atom::Add(RETURNS),
             Op::AddFreed => Atom::Add(1),
             Op::ShiftBox(_, shift) => Atom::Add(shift.amount()),
         }

@@ -7,6 +7,9 @@ pub took_request-requires-clause-covered : goal.took_request-requires-clause-cov
 unfolding IsGivenAt
 took_request-requires-clause-covered c = asked _ _ _ _ c.self.view_is c.in-Idle.is c.requires
 
+pub took_look-requires-clause-given : goal.took_look-requires-clause-given
+took_look-requires-clause-given c = asked _ _ _ _ c.self.view_is c.in-Looking.is c.requires
+
 pub took_return-requires-clause-covered : goal.took_return-requires-clause-covered
 unfolding IsGivenAt
 took_return-requires-clause-covered c = asked _ _ _ _ c.self.view_is c.in-Returning.is c.requires
