@@ -8,7 +8,6 @@ use Rattle.rec_word.specs.declared.mailbox.Mailbox.TheVariants.{Retired, WithCol
 use Rattle.rec_word.proofs.Looks.{plain_looked}
 use Rattle.rec_collector.specs.Given.{IsLookGiven}
 use Rattle.rec_collector.specs.Took.{after_look, look_turn}
-use Rattle.rec_collector.specs.declared.turn.Turn.{Turn}
 use Rattle.rec_collector.specs.declared.turn.Turn.TheVariants.{Moved, Waiting}
 use Rattle.rec_collector.proofs.Common.{Looking, moved, Private, Swapping, took_at, turn_at}
 

@@ -2,23 +2,28 @@
 -- dated words that stands behind it.
 use Rattle.std.proofs.Common.{◌≡◌, Bool, true, false, ℕ, ◌<◌, List, [], ◌∷◌, Option, Some, IfSome, length, refl, sym, ap, subst, ◌∙◌}
 use Rattle.rec_word.specs.Bare.{bare_in, bare_op}
+use Rattle.rec_word.specs.Looked.{looked}
 use Rattle.rec_word.specs.Op.{cell_of}
+use Rattle.rec_word.specs.declared.looked.Looked.{Looked}
+use Rattle.rec_word.specs.declared.looked.Looked.TheVariants.{Takes, Crosses, Waits}
 use Rattle.rec_word.specs.Word.{target_of}
 use Rattle.rec_word.specs.declared.cell.Cell.{Cell}
 use Rattle.rec_word.specs.declared.cell.Cell.TheVariants as words
 use Rattle.rec_word.specs.declared.op.Op.{Op}
+use Rattle.rec_word.specs.declared.op.Op.TheVariants as ops
 use Rattle.rec_word.proofs.Bare.{target_of_bare}
 use Rattle.rec_log.specs.declared.contents.Contents.{Contents}
 use Rattle.rec_model.specs.Sight.{IsTaken, Reaches}
 use Rattle.rec_mutator.specs.Private.{is_busy}
+use Rattle.rec_counts.specs.Batch.{IsCovered}
 use Rattle.rec_counts.specs.Counts.{slot_at}
 use Rattle.rec_collector.specs.Bare as collectors_bare
-use Rattle.rec_collector.specs.Given.{IsGiven, IsGivenAt}
-use Rattle.rec_collector.specs.Next.{next_of}
+use Rattle.rec_collector.specs.Given.{IsGiven, IsGivenAt, IsLookGiven}
+use Rattle.rec_collector.specs.Next.{next_at, next_of}
 use Rattle.rec_collector.specs.Private as collectors
 use Rattle.rec_collector.specs.Shown.{HasTaken, Shown}
 use Rattle.rec_collector.specs.Step.{Step}
-use Rattle.rec_collector.specs.Took.{step_of, turn_of}
+use Rattle.rec_collector.specs.Took.{crossed_for, step_of, turn_of}
 use Rattle.rec_collector.specs.declared.phase.Phase.{Phase}
 use Rattle.rec_collector.specs.declared.phase.Phase.TheVariants.{Idle, Looking, Swapping, Returning, Releasing, Freeing, Trying, Preparing, Opening, Sweeping, Closing}
 use Rattle.rec_collector.proofs.Bare as collecting
@@ -102,23 +107,31 @@ target_in words.Epoch word = refl
 target_in words.Freed word = refl
 target_in (words.Crossing t) word = refl
 
-given_at : (c : collectors.Private) (word : ℕ) (op : Op) (phase : Phase) → IsGivenAt c word phase → IsGivenAt (collectors_bare.bare_private c) (bare_in (cell_of op) word) phase
-unfolding IsGivenAt
-given_at c word op Idle is = λ gone. collecting.covered_bare c.counts c.newer c.older (is gone)
-given_at c word op (Swapping t) is = is
-given_at c word op (Returning t) is = λ gone. collecting.covered_bare c.counts c.newer c.older (is gone)
-given_at c word op (Releasing m) is = subst (λ x. IfSome x (λ slot. 0 < (slot_at c.counts slot).count)) (sym (target_in (cell_of op) word)) is
-given_at c word op (Freeing m) is = subst (λ x. IfSome x (λ slot. 0 < (slot_at c.counts slot).count)) (sym (target_in (cell_of op) word)) is
-given_at c word op (Trying m) is = subst (λ x. IfSome x (λ slot. (slot_at c.counts slot).released ≡ false)) (sym (target_in (cell_of op) word)) is
-given_at c word op (Preparing m) is = subst (λ x. IfSome x (λ slot. slot < length c.counts.slots)) (sym (target_in (cell_of op) word)) is
-given_at c word op (Looking t) is = tt
-given_at c word op Opening is = tt
-given_at c word op (Sweeping due swept) is = tt
-given_at c word op (Closing swept) is = tt
+look_given : (c : collectors.Private) (t : ℕ) (l : Looked) → IsLookGiven c t l → IsLookGiven (collectors_bare.bare_private c) t l
+look_given c t (Takes new) is = tt
+look_given c t (Crosses new) is = λ gone.
+    subst (λ (q : collectors.Private). IsCovered c.counts q.newer (collectors_bare.bare_buffers c.older)) (sym (collecting.crossed_bare c t)) (collecting.covered_bare c.counts (crossed_for c t).newer c.older (is gone))
+look_given c t Waits is = tt
 
-given_bare : (c : collectors.Private) (word : ℕ) (op : Op) → IsGiven c word → IsGiven (collectors_bare.bare_private c) (bare_in (cell_of op) word)
-unfolding IsGiven
-given_bare c word op is = given_at c word op c.phase is
+given_at : (c : collectors.Private) (word : ℕ) (op : Op) (phase : Phase) → ◌≡◌ {A = Option Op} (next_at c phase) (Some op) → IsGivenAt c word phase → IsGivenAt (collectors_bare.bare_private c) (bare_in (cell_of op) word) phase
+unfolding IsGivenAt next_at
+given_at c word op Idle named is = λ gone. collecting.covered_bare c.counts c.newer c.older (is gone)
+given_at c word op (Swapping t) named is = is
+given_at c word op (Returning t) named is = λ gone. collecting.covered_bare c.counts c.newer c.older (is gone)
+given_at c word op (Releasing m) named is = subst (λ x. IfSome x (λ slot. 0 < (slot_at c.counts slot).count)) (sym (target_in (cell_of op) word)) is
+given_at c word op (Freeing m) named is = subst (λ x. IfSome x (λ slot. 0 < (slot_at c.counts slot).count)) (sym (target_in (cell_of op) word)) is
+given_at c word op (Trying m) named is = subst (λ x. IfSome x (λ slot. (slot_at c.counts slot).released ≡ false)) (sym (target_in (cell_of op) word)) is
+given_at c word op (Preparing m) named is = subst (λ x. IfSome x (λ slot. slot < length c.counts.slots)) (sym (target_in (cell_of op) word)) is
+given_at c word op (Looking t) named is =
+    let its : ops.LookBox t c.epoch ≡ op = cc in
+    subst (λ o. IsLookGiven (collectors_bare.bare_private c) t (looked c.epoch (bare_in (cell_of o) word))) its (look_given c t (looked c.epoch word) is)
+given_at c word op Opening named is = tt
+given_at c word op (Sweeping due swept) named is = tt
+given_at c word op (Closing swept) named is = tt
+
+given_bare : (c : collectors.Private) (word : ℕ) (op : Op) → ◌≡◌ {A = Option Op} (next_of c) (Some op) → IsGiven c word → IsGiven (collectors_bare.bare_private c) (bare_in (cell_of op) word)
+unfolding IsGiven next_of
+given_bare c word op named is = given_at c word op c.phase named is
 
 -- the word that the collector finds is one that it may be given
 pub given_is : {dated : Bool} → (w : Core) (op : Op) → IsKept dated w → ◌≡◌ {A = Option Op} (next_of w.collector) (Some op) → IsGiven w.collector (cell (cells_of w) op)
@@ -129,7 +142,7 @@ given_is {dated = false} w op kept named =
     let none : bare_op op ≡ op = collecting.puts_none v.collector op its in
     let finds : cell (cells_of (bare_core v)) op ≡ bare_in (cell_of op) (cell (cells_of v) op) = ap (cell (cells_of (bare_core v))) (sym none) ∙ found_bare (cells_of v) op in
     subst (λ (u : Core). IsGiven u.collector (cell (cells_of u) op)) e.bare
-    (subst (IsGiven (collectors_bare.bare_private v.collector)) (sym finds) (given_bare v.collector (cell (cells_of v) op) op (dated_runs.given_is v op e.kept its)))
+    (subst (IsGiven (collectors_bare.bare_private v.collector)) (sym finds) (given_bare v.collector (cell (cells_of v) op) op its (dated_runs.given_is v op e.kept its)))
 
 -- an operation of the collector is carried out by the rules of its step
 pub rule_of : {dated : Bool} → (w : Core) (op : Op) → IsKept dated w → ◌≡◌ {A = Option Op} (next_of w.collector) (Some op)

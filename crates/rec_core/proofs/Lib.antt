@@ -38,6 +38,7 @@ pub mod OpenedFromSeen
 pub mod Outside
 pub mod Phases
 pub mod Places
+pub mod PlainWords
 pub mod Preparing
 pub mod Reach
 pub mod Releasing

@@ -3,7 +3,9 @@ use Rattle.std.proofs.Common.{◌≡◌, ◌≢◌, ℕ, ◌+◌, ◌-◌, ◌^�
 use Rattle.std.proofs.lemmas.Bool.{cond-true, cond-false, eq-eqb, eqb-false, ne_eqb}
 use Rattle.std.proofs.lemmas.Grind.{flat_map-append}
 use Rattle.std.proofs.lemmas.List.{get_or-set_other, length-set}
+use Rattle.rec_collector.proofs.Plain.{plain_given}
 use Rattle.rec_core.proofs.Common.{IsConfig, place_of, target_of, Op, Contents, slot_at, At, Member, LeadsToUnreleased, begun_of, IsBetween, step_of, turn_of, buffer_at, noted, HaveLeft, Phase, Idle, Looking, Swapping, Returning, Releasing, Freeing, Trying, Preparing, cell, IsMutator, Core, cells_of, box, mutator, nobody, opened, IsKept, looked_at, found_by, turned, Move, after_move, after_moves, Fits, AllFit, EndsRun, RunsFrom, Config}
+use Rattle.rec_core.proofs.PlainWords.{found_small}
 use Rattle.rec_word.specs.declared.op.Op.TheVariants as ops
 use Rattle.rec_release.specs.CycleFree.{op_at as freeing_op_at, next_of as freeing_next}
 use Rattle.rec_release.specs.Release.{op_at as release_op_at, next_of as release_next}
@@ -94,6 +96,8 @@ given_at w op (Preparing m) kept is named =
     let its : op ≡ ops.LoadChild place = due ∙ ap (λ n. ops.LoadChild (place_of a.member.slot a.member.field n)) fields in
     let found : cell (cells_of w) op ≡ slice_index_or w.words place 0 = ap (cell (cells_of w)) its in
     subst (λ n. IfSome (target_of n) (λ slot. slot < length w.collector.counts.slots)) (sym found) (seen_there w m kept is a at)
+given_at w op (Looking t) kept is named =
+    plain_given w.collector (cell (cells_of w) op) t (found_small w t kept is op (cell (cells_of w) op) (sym named) refl)
 given_at w op _ kept is named = tt
 
 pub given_is : (w : Core) (op : Op) → IsKept true w → ◌≡◌ {A = Option Op} (next_of w.collector) (Some op) → IsGiven w.collector (cell (cells_of w) op)

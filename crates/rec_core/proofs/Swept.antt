@@ -16,6 +16,7 @@ use Rattle.rec_collector.specs.Next.{next_of}
 use Rattle.rec_collector.specs.Private.{Private}
 use Rattle.rec_collector.specs.Step.{Step}
 use Rattle.rec_core.specs.Swept.{SweepsNothing, IsSweep}
+use Rattle.rec_core.proofs.PlainWords.{crosses_none}
 use Rattle.rec_core.proofs.Preparing.{loads_due}
 use Rattle.rec_core.proofs.Reach.{released_unreached}
 use Rattle.rec_core.proofs.Runs.{rule_of}
@@ -128,6 +129,8 @@ rule_sweeps w op word q turn left kept names found (Step.wait t looking other na
     rests_by w op (ops.LookBox t w.collector.epoch) word q left (some_op op (ops.LookBox t w.collector.epoch) named) refl refl (none_told w q (ap (λ c. swept_at c.phase) same ∙ ap swept_at looking)) names tt
 rule_sweeps w op word q turn left kept names found (Step.gather t looking crossed named g) =
     rests_by w op (ops.LookBox t w.collector.epoch) word q left (some_op op (ops.LookBox t w.collector.epoch) named) refl refl (none_told w q (ap (λ c. swept_at c.phase) g.after)) names tt
+rule_sweeps w op word q turn left kept names found (Step.cross_for t next looking crosses named n g) = absurd (crosses_none w t kept looking op word named found crosses)
+rule_sweeps w op word q turn left kept names found (Step.cross_for_last t looking crosses named gone on) = absurd (crosses_none w t kept looking op word named found crosses)
 rule_sweeps w op word q turn left kept names found (Step.give_back t next returning named n g) =
     rests_by w op (ops.ReturnBox t w.collector.epoch) word q left (some_op op (ops.ReturnBox t w.collector.epoch) named) refl refl (none_told w q (ap (λ c. swept_at c.phase) g.after)) names tt
 rule_sweeps w op word q turn left kept names found (Step.apply t returning named gone on) =

@@ -4,6 +4,7 @@ use Rattle.rec_core.proofs.Common.{noted, requested, Op, Contents, is_busy, Begu
 use Rattle.rec_release.specs.Sweep as sweeps
 use Rattle.rec_collector.specs.Private as collectors
 use Rattle.rec_collector.specs.Step as collectors_step
+use Rattle.rec_collector.specs.Took.{crossed_for}
 use Rattle.rec_collector.specs.Touched.{tried_at}
 use Rattle.rec_collector.proofs.Touched.{prepares_late, tries_late}
 use Rattle.rec_core.specs.Loads.{IsSameTrial, tried_in}
@@ -52,6 +53,8 @@ step_rises {p} (collectors_step.Step.request next at more is n g) = omega (arith
 step_rises {p} {q} (collectors_step.Step.request_alone at more is gone on) = omega (arith, ap (tried_at p.epoch) at, clears_tried (requested p) q _ on)
 step_rises (collectors_step.Step.wait t at other is same turn) = omega (arith, ap (λ (x : collectors.Private). tried_at x.epoch x.phase) same)
 step_rises {p} (collectors_step.Step.gather t at crossed is g) = omega (arith, ap (tried_at p.epoch) at, goes_tried g)
+step_rises {p} (collectors_step.Step.cross_for t next at crosses is n g) = omega (arith, ap (tried_at p.epoch) at, goes_tried g)
+step_rises {p} {q} (collectors_step.Step.cross_for_last t at crosses is gone on) = omega (arith, ap (tried_at p.epoch) at, clears_tried (crossed_for p t) q _ on)
 step_rises {p} (collectors_step.Step.give_back t next at is n g) = omega (arith, ap (tried_at p.epoch) at, goes_tried g)
 step_rises {p} {q} (collectors_step.Step.apply t at is gone on) = omega (arith, ap (tried_at p.epoch) at, clears_tried (noted p t) q _ on)
 step_rises {p} {q} (collectors_step.Step.release m at is on) = omega (arith, ap (tried_at p.epoch) at, clears_tried p q _ on)

@@ -1,9 +1,14 @@
 -- A turn of a heap that keeps what every heap keeps is one, with the answer that its machine gives.
-use Rattle.std.proofs.Common.{◌≡◌, ◌≢◌, ℕ, ◌+◌, ◌-◌, ◌^◌, ◌≤◌, ◌==◌, if◌then◌else◌, List, Option, None, Some, Bool, false, IsNone, map, slice_set, refl, sym, ap, subst, ◌∙◌, arith, true}
+use Rattle.std.proofs.Common.{◌≡◌, ◌≢◌, ℕ, ◌+◌, ◌-◌, ◌^◌, ◌<◌, ◌≤◌, ◌==◌, if◌then◌else◌, List, Option, None, Some, Bool, false, IsNone, map, slice_set, refl, sym, ap, subst, ◌∙◌, arith, true}
 use Rattle.std.proofs.lemmas.Bool.{eq-eqb, ne_eqb}
 use Rattle.std.proofs.lemmas.List.{set-get_or}
 use Rattle.rec_core.proofs.Common.{crossing_word, Retired, WithCollector, Op, Contents, step_of, turn_of, turn_at, Phase, Idle, Looking, Swapping, Turn, cell, IsMutator, Core, cells_of, box, crossing_of, sight, IsKept, Move, looked_at, left_by, collected, turned, turned_at, EndsRun, Config}
+use Rattle.rec_word.specs.Looked.{looked}
 use Rattle.rec_word.specs.Op.{written}
+use Rattle.rec_word.specs.declared.looked.Looked.TheVariants.{Waits}
+use Rattle.rec_word.proofs.Looks.{plain_look_leaves, plain_waits}
+use Rattle.rec_collector.proofs.Plain.{plain_took, plain_turn}
+use Rattle.rec_core.proofs.PlainWords.{looked_small}
 use Rattle.rec_word.specs.declared.op.Op.TheVariants as ops
 use Rattle.rec_collector.specs.Causes.{HasCause}
 use Rattle.rec_collector.specs.Kept.{swept_at, under_way}
@@ -66,16 +71,16 @@ looked_word : (w : Core) (t : ℕ) (op : Op) → w.collector.phase ≡ Looking t
 looked_word w t op is named = ap (cell (cells_of w)) (looks w t op is named)
 
 -- a turn that waits changes nothing
-waits_same : (w : Core) (t : ℕ) (op : Op) → w.collector.phase ≡ Looking t → ◌≡◌ {A = Option Op} (next_of w.collector) (Some op) → crossing_of w t ≢ crossing_word w.collector.epoch Retired → turned w ≡ w
-unfolding step_of swapped_of swapped_at took_of took_at next_of next_at
-waits_same w t op is named other =
+waits_same : (w : Core) (t : ℕ) (op : Op) → w.collector.phase ≡ Looking t → ◌≡◌ {A = Option Op} (next_of w.collector) (Some op) → crossing_of w t ≢ crossing_word w.collector.epoch Retired → crossing_of w t < 2 ^ 32 → turned w ≡ w
+unfolding step_of swapped_of swapped_at took_of next_of next_at
+waits_same w t op is named other small =
     let c : collectors.Private = w.collector in
     let word : ℕ = crossing_of w t in
     let no : (word == crossing_word c.epoch Retired) ≡ false = ne_eqb word (crossing_word c.epoch Retired) other in
     let named_so : ◌≡◌ {A = Option Op} (next_of c) (Some (ops.LookBox t c.epoch)) = ap (next_at c) is in
-    let kept_word : written (ops.LookBox t c.epoch) word ≡ word = ap (λ b. if b then crossing_word c.epoch WithCollector else word) no in
+    let kept_word : written (ops.LookBox t c.epoch) word ≡ word = plain_look_leaves t c.epoch word small ∙ ap (λ b. if b then crossing_word c.epoch WithCollector else word) no in
     let same_words : slice_set w.crossing (t - 1) (written (ops.LookBox t c.epoch) word) ≡ w.crossing = ap (slice_set w.crossing (t - 1)) kept_word ∙ set-get_or w.crossing (t - 1) 0 in
-    let learnt : took_of c word ≡ c = ap (took_at c word) is ∙ ap (λ (b : Bool). let d : collectors.Private = (if b then record c { phase = Swapping t; turns = c.turns + 1 } else c) in d) no in
+    let learnt : took_of c word ≡ c = ap (took_at c word) is ∙ plain_took c word t small ∙ ap (λ (b : Bool). let d : collectors.Private = (if b then record c { phase = Swapping t; turns = c.turns + 1 } else c) in d) no in
     let stays : step_of c word (box w t) ≡ c = ap (λ x. swapped_of x (box w t)) learnt ∙ ap (swapped_at c (box w t)) is in
     let left : left_by c word (box w t) (Looking t) ≡ box w t = ap (λ (b : Bool). if b then collectors.spare c else box w t) no in
     let boxes : slice_set w.boxes (t - 1) (left_by c word (box w t) (Looking t)) ≡ w.boxes = ap (slice_set w.boxes (t - 1)) left ∙ same_boxes w t in
@@ -109,8 +114,10 @@ caused w op taken turns.Moved kept later named learns cause none =
     let keeps : KeepsNumbers taken (turned w).collector = subst (KeepsNumbers taken) (sym left) (swapped_keeps taken b) in
     (keeps.turns ∙ cause.0, keeps.collections ∙ cause.1, ap (λ n. n + swept_at w.collector.phase) keeps.freed ∙ cause.2 ∙ ap (λ n. w.collector.freed + n) (sym keeps.swept))
 caused w op taken (turns.Waiting t) kept later named learns cause none =
-    let other : crossing_of w t ≢ crossing_word w.collector.epoch Retired = λ is. cause.1 (looked_word w t op cause.0 named ∙ is) in
-    (cause.0, λ is. other (is ∙ ap (λ n. crossing_word n Retired) (sym kept.collector.epoch)), waits_same w t op cause.0 named other)
+    let small : crossing_of w t < 2 ^ 32 = looked_small w t kept cause.0 in
+    let stays : looked w.collector.epoch (crossing_of w t) ≡ Waits = ap (looked w.collector.epoch) (sym (looked_word w t op cause.0 named)) ∙ cause.1 in
+    let other : crossing_of w t ≢ crossing_word w.collector.epoch Retired = plain_waits w.collector.epoch (crossing_of w t) small stays in
+    (cause.0, λ is. other (is ∙ ap (λ n. crossing_word n Retired) (sym kept.collector.epoch)), waits_same w t op cause.0 named other small)
 caused w op taken (turns.Collected epoch freed) kept later named learns cause none =
     let b : Contents = box w (looked_at w.collector.phase) in
     let left : (turned w).collector ≡ taken = collector_left w op named ∙ ap (λ x. swapped_of x b) (sym learns) ∙ swapped_idle taken b cause.2 in
@@ -158,11 +165,11 @@ told_cause w kept later = go (next_of w.collector) refl
 
 -- who hasn't crossed is waited for
 told_waiting : (w : Core) (t : ℕ) → IsKept true w → w.collector.phase ≡ Looking t → crossing_of w t ≢ crossing_word w.epoch Retired → turn_told w ≡ turns.Waiting t
-unfolding next_of next_at turn_of turn_at
+unfolding next_of next_at turn_of
 told_waiting w t kept looks other =
     let c : collectors.Private = w.collector in
     let no : (crossing_of w t == crossing_word c.epoch Retired) ≡ false = ne_eqb (crossing_of w t) (crossing_word c.epoch Retired) (λ is. other (is ∙ ap (λ n. crossing_word n Retired) kept.collector.epoch)) in
-    ap (λ (phase : Phase). told_at w (next_at c phase)) looks ∙ ap (turn_at c (crossing_of w t)) looks ∙ ap (λ (b : Bool). if b then turns.Moved else turns.Waiting t) no
+    ap (λ (phase : Phase). told_at w (next_at c phase)) looks ∙ ap (turn_at c (crossing_of w t)) looks ∙ plain_turn c (crossing_of w t) t (looked_small w t kept looks) ∙ ap (λ (b : Bool). if b then turns.Moved else turns.Waiting t) no
 
 -- where the epochs are spent, that is told
 told_spent : (w : Core) → IsKept true w → w.collector.phase ≡ Idle → w.epoch + 1 ≡ 2 ^ 24 → turn_told w ≡ turns.EpochsSpent

@@ -1,9 +1,13 @@
 -- Every turn of the collector keeps what every heap keeps, rule by rule; and so does every run.
-use Rattle.std.proofs.Common.{◌≡◌, ℕ, ◌+◌, ◌-◌, ◌*◌, ◌%◌, ◌^◌, ◌<◌, ◌≤◌, ◌==◌, Bool, true, List, Option, None, Some, length, slice_index_or, slice_set, refl, sym, ap, subst, ◌∙◌, arith}
+use Rattle.std.proofs.Common.{◌≡◌, ◌≢◌, ℕ, ◌+◌, ◌-◌, ◌*◌, ◌%◌, ◌^◌, ◌<◌, ◌≤◌, ◌==◌, Bool, true, List, Option, None, Some, length, slice_index_or, slice_set, refl, sym, ap, subst, ◌∙◌, arith}
 use Rattle.std.proofs.lemmas.Bool.{eq-eqb, ne_eqb, cond-true, cond-false}
 use Rattle.std.proofs.lemmas.List.{set-get_or}
 use Rattle.rec_core.proofs.Common.{crossing_word, Retired, Spare, WithCollector, place_of, Op, Contents, At, Member, with_freed, with_released, parts_of, ClearsOn, TriesOn, PreparesOn, IsNext, Phase, Idle, Looking, Returning, Releasing, Freeing, Trying, Preparing, Opening, Sweeping, Closing, Turn, cell, IsMutator, Core, cells_of, box, crossing_of, one_if_sweeping, IsKept, looked_at, left_by, step_of, collected, turned, turned_at, turned_by, visible}
+use Rattle.rec_word.specs.Looked as looks
 use Rattle.rec_word.specs.Op.{written}
+use Rattle.rec_word.specs.declared.looked.Looked.{Looked}
+use Rattle.rec_word.proofs.Looks.{plain_look_leaves}
+use Rattle.rec_core.proofs.PlainWords.{crosses_none, found_small, gives_home, takes_retired, waits_other}
 use Rattle.rec_word.specs.declared.op.Op.TheVariants as ops
 use Rattle.rec_release.specs.CycleFree.{next_of as freeing_next, op_at as freeing_op_at}
 use Rattle.rec_release.specs.Release.{next_of as release_next, op_at as release_op_at}
@@ -100,16 +104,20 @@ rule_kept w op word q turn m (Step.request_alone idle more named gone on) =
     let whole = clears_kept u u.crossing u.words q m.machine turn (applied_lands u (length w.collector.newer) home refl) (clears_in u.collector.phase on) in
     subst (IsKept true) (sym (plain_left w op word q Idle idle refl))
     (subst (λ o. IsKept true (record (collected w o word q (box w 1)) { boxes = w.boxes })) (sym its) (subst (λ n. IsKept true (record w { epoch = n; collector = q })) (sym epoch) whole))
-rule_kept w op word q turn m (Step.wait t looking other named same answer) =
+rule_kept w op word q turn m (Step.cross_for t next looking crosses named found g) = absurd (crosses_none w t m.kept looking op word named m.found crosses)
+rule_kept w op word q turn m (Step.cross_for_last t looking crosses named gone on) = absurd (crosses_none w t m.kept looking op word named m.found crosses)
+rule_kept w op word q turn m (Step.wait t looking stays named same answer) =
+    let other : word ≢ crossing_word w.collector.epoch Retired = waits_other w t m.kept looking op word named m.found stays in
     let its : op ≡ ops.LookBox t w.collector.epoch = some_op op (ops.LookBox t w.collector.epoch) named in
     let at : word ≡ slice_index_or w.crossing (t - 1) 0 = m.found ∙ ap (cell (cells_of w)) its in
     let left : left_by w.collector word (box w t) (Looking t) ≡ box w t = cond-false (word == crossing_word w.collector.epoch Retired) (collectors.spare w.collector) (box w t) (ne_eqb word (crossing_word w.collector.epoch Retired) other) in
-    let stays : written (ops.LookBox t w.collector.epoch) word ≡ word = cond-false (word == crossing_word w.collector.epoch Retired) (crossing_word w.collector.epoch WithCollector) word (ne_eqb word (crossing_word w.collector.epoch Retired) other) in
-    let crossing : slice_set w.crossing (t - 1) (written (ops.LookBox t w.collector.epoch) word) ≡ w.crossing = ap (slice_set w.crossing (t - 1)) (stays ∙ at) ∙ set-get_or w.crossing (t - 1) 0 in
+    let same_word : written (ops.LookBox t w.collector.epoch) word ≡ word = ap (λ (l : Looked). looks.left_by l word) stays in
+    let crossing : slice_set w.crossing (t - 1) (written (ops.LookBox t w.collector.epoch) word) ≡ w.crossing = ap (slice_set w.crossing (t - 1)) (same_word ∙ at) ∙ set-get_or w.crossing (t - 1) 0 in
     subst (IsKept true) (sym (plain_left w op word q (Looking t) looking left))
     (subst (λ o. IsKept true (record (collected w o word q (box w 1)) { boxes = w.boxes })) (sym its)
     (subst (λ cs. IsKept true (record w { crossing = cs; collector = q })) (sym crossing) (subst (λ x. IsKept true (record w { collector = x })) (sym same) m.kept)))
-rule_kept w op word q turn m (Step.gather t looking crossed named g) =
+rule_kept w op word q turn m (Step.gather t looking takes named g) =
+    let crossed : word ≡ crossing_word w.collector.epoch Retired = takes_retired w t m.kept looking op word named m.found takes in
     let its : op ≡ ops.LookBox t w.collector.epoch = some_op op (ops.LookBox t w.collector.epoch) named in
     let at : word ≡ slice_index_or w.crossing (t - 1) 0 = m.found ∙ ap (cell (cells_of w)) its in
     let epoch : w.collector.epoch ≡ w.epoch = m.kept.collector.epoch in
@@ -118,7 +126,7 @@ rule_kept w op word q turn m (Step.gather t looking crossed named g) =
     let has : crossing_of w t ≡ crossing_word w.epoch Retired = sym at ∙ crossed ∙ ap (λ n. crossing_word n Retired) epoch in
     let b : Bool = word == crossing_word w.collector.epoch Retired in
     let yes : b ≡ true = eq-eqb word (crossing_word w.collector.epoch Retired) crossed in
-    let next : written (ops.LookBox t w.collector.epoch) word ≡ crossing_word w.epoch WithCollector = cond-true b (crossing_word w.collector.epoch WithCollector) word yes ∙ ap (λ n. crossing_word n WithCollector) epoch in
+    let next : written (ops.LookBox t w.collector.epoch) word ≡ crossing_word w.epoch WithCollector = plain_look_leaves t w.collector.epoch word (found_small w t m.kept looking op word named m.found) ∙ cond-true b (crossing_word w.collector.epoch WithCollector) word yes ∙ ap (λ n. crossing_word n WithCollector) epoch in
     let after : q ≡ record w.collector { newer = slice_set w.collector.newer (t - 1) (box w t); phase = Returning t; turns = w.collector.turns + 1 }
     = g.after ∙ ap (λ (phase : Phase). record w.collector { newer = slice_set w.collector.newer (t - 1) (box w (looked_at phase)); phase = Returning t; turns = w.collector.turns + 1 }) looking in
     let whole = gathered_kept w t m.kept looking is has (subst collector_kept.IsMachine after m.machine) in
@@ -133,22 +141,24 @@ rule_kept w op word q turn m (Step.give_back t next returning named found g) =
     let epoch : w.collector.epoch ≡ w.epoch = m.kept.collector.epoch in
     let now = now_at w (Returning t) m.kept returning in
     let is : IsMutator w.config t = mutator_at w t (Returning t) m.kept returning (now.first, now.there) in
+    let home : written (ops.ReturnBox t w.collector.epoch) word ≡ crossing_word w.collector.epoch Spare = gives_home w t op word m.kept returning is named m.found in
     let whole = next_kept (giving_back w t) t (giving_back_kept w t m.kept returning is) (length w.collector.newer) refl next found (subst collector_kept.IsMachine g.after m.machine) in
     subst (IsKept true) (sym (plain_left w op word q (Returning t) returning refl))
     (subst (λ o. IsKept true (record (collected w o word q (box w 1)) { boxes = w.boxes })) (sym its)
-    (subst (λ n. IsKept true (record w { crossing = slice_set w.crossing (t - 1) (crossing_word n Spare); collector = q })) (sym epoch)
+    (subst (λ n. IsKept true (record w { crossing = slice_set w.crossing (t - 1) n; collector = q })) (sym (home ∙ ap (λ n. crossing_word n Spare) epoch))
     (subst (λ x. IsKept true (record w { crossing = slice_set w.crossing (t - 1) (crossing_word w.epoch Spare); collector = x })) (sym g.after) whole)))
 rule_kept w op word q turn m (Step.apply t returning named gone on) =
     let its : op ≡ ops.ReturnBox t w.collector.epoch = some_op op (ops.ReturnBox t w.collector.epoch) named in
     let epoch : w.collector.epoch ≡ w.epoch = m.kept.collector.epoch in
     let now = now_at w (Returning t) m.kept returning in
     let is : IsMutator w.config t = mutator_at w t (Returning t) m.kept returning (now.first, now.there) in
+    let returned : written (ops.ReturnBox t w.collector.epoch) word ≡ crossing_word w.collector.epoch Spare = gives_home w t op word m.kept returning is named m.found in
     let u : Core = giving_back w t in
     let home = awaits_kept w u m.kept (Awaits.last t is returning gone) in
     let whole = clears_kept u u.crossing u.words q m.machine turn (applied_lands u (length w.collector.newer) home refl) (clears_in u.collector.phase on) in
     subst (IsKept true) (sym (plain_left w op word q (Returning t) returning refl))
     (subst (λ o. IsKept true (record (collected w o word q (box w 1)) { boxes = w.boxes })) (sym its)
-    (subst (λ n. IsKept true (record w { crossing = slice_set w.crossing (t - 1) (crossing_word n Spare); collector = q })) (sym epoch) whole))
+    (subst (λ n. IsKept true (record w { crossing = slice_set w.crossing (t - 1) n; collector = q })) (sym (returned ∙ ap (λ n. crossing_word n Spare) epoch)) whole))
 rule_kept w op word q turn m (Step.release release releasing named on) = go release.at refl
   where
     go : (x : Option At) → release.at ≡ x → IsKept true (collected w op word q (left_by w.collector word (box w (looked_at w.collector.phase)) w.collector.phase))
