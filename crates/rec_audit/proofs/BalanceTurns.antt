@@ -4,6 +4,7 @@ use Rattle.std.specs.List.{Contains, sum_by}
 use Rattle.std.proofs.lemmas.Bool.Decides.{nat_tests}
 use Rattle.std.proofs.lemmas.List.Elements.{Contains-append_right}
 use Rattle.std.proofs.lemmas.List.Sums.{sum_by-append, sum_by-cons, sum_by-le-sum_by}
+use Rattle.rec_core.proofs.PlainWords.{none_crossed}
 use Rattle.rec_core.proofs.Common.{only_if, epoch_of, sum_at, Write, Contents, Entry, buffer_at, Phase, Idle, Looking, Swapping, Returning, Op, cell, IsMutator, Core, cells_of, box, IsKept, looked_at, turned_by, writes_in, applied_at}
 use Rattle.rec_word.specs.declared.op.Op.TheVariants as ops
 use Rattle.rec_log.specs.declared.entry.Entry.TheVariants as entries
@@ -250,7 +251,7 @@ module _ (ls : List Line) (w : Core) (op : Op) (kept : IsKept true w) (named : �
 
   module _ (x : Batch) (is : batch_of op q ≡ Some x) where
     next_epoch : applied_in v ≡ applied_in w + 1
-    next_epoch = (let its : IsBatchOf w.collector x = step_batch (begun w kept) s x (sym shown ∙ is) in omega (arith, at_w, at_v, (placed (Some x) is).next, its.next))
+    next_epoch = (let its : IsBatchOf w.collector x = step_batch (begun w kept) (none_crossed w op kept named) s x (sym shown ∙ is) in omega (arith, at_w, at_v, (placed (Some x) is).next, its.next))
 
     last_is : last_batch v.collector ≡ x.newer
     last_is = (placed (Some x) is).last

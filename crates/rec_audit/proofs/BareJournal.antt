@@ -171,10 +171,12 @@ newer_bare q _ = refl
 
 applied_bare : (q : Private) (phase : Phase) → applied_in (bare_private q) phase ≡ applied_in q phase
 applied_bare q (Looking t) = refl
+applied_bare q (Returning t) = refl
 applied_bare q _ = refl
 
 epoch_bare : (op : Op) (q : Private) → applied_of op (bare_private q) ≡ applied_of op q
 epoch_bare (ops.StoreEpoch e) q = applied_bare q q.phase
+epoch_bare (ops.LookBox t e) q = applied_bare q q.phase
 epoch_bare (ops.ReturnBox t e) q = applied_bare q q.phase
 epoch_bare _ q = refl
 

@@ -39,6 +39,7 @@ use Rattle.rec_core.specs.Pending.{Filed, applied_at, births_in, births_of, buff
 use Rattle.rec_core.specs.Shown.{shown_behind, turn_shown}
 use Rattle.rec_core.specs.Turn.{seen_at}
 use Rattle.rec_core.specs.declared.config.Config.{Config}
+use Rattle.rec_core.proofs.PlainWords.{none_crossed}
 use Rattle.rec_core.proofs.BareSeen.{turned_behind}
 use Rattle.rec_core.proofs.Batches.{none_of}
 use Rattle.rec_core.proofs.Dated.{Explains, moves_explained}
@@ -316,7 +317,7 @@ module _ (w : Core) (op : Op) (kept : IsKept true w) (named : ◌≡◌ {A = Opt
   turned_applies d is =
       let made : batch_made s ≡ Some d = sym shown ∙ is in
       let placed : Placed w.collector (Some d) q = subst (λ (x : Option Batch). Placed w.collector x q) made (step_placed (begun w kept) s) in
-      let its : IsBatchOf w.collector d = step_batch (begun w kept) s d made in
+      let its : IsBatchOf w.collector d = step_batch (begun w kept) (none_crossed w op kept named) s d made in
       let at_v : applied_at q.epoch q.phase ≡ applied_in v = ap (λ e. applied_at e q.phase) still.collector.epoch in
       (omega (arith, at_v, placed.next, its.next), placed.last)
 

@@ -32,6 +32,7 @@ use Rattle.rec_word.specs.declared.stamps.Stamp.{Stamp}
 use Rattle.rec_mutator.proofs.LogStamps.{word_stamp}
 use Rattle.rec_core.proofs.Rules.{epoch_of_put}
 use Rattle.rec_core.proofs.Runs.{rule_of}
+use Rattle.rec_core.proofs.PlainWords.{crosses_none, takes_retired, waits_other}
 use Rattle.rec_core.proofs.Turning.{turn_case, parts_of_turn}
 use Rattle.rec_core.proofs.Actors.{busy_stays}
 use Rattle.rec_core.proofs.Steps.{actor_of, in_list}
@@ -407,8 +408,10 @@ module _ (w : Core) (op : Op) (kept : IsKept true w) (named : ◌≡◌ {A = Opt
   writes_keep (collectors_step.Step.spent at last none is turn) = let n : ◌≡◌ {A = Option Op} (Some op) None = none in absurd (cc)
   writes_keep (collectors_step.Step.request next at more is n g) = rows_keep (boxes_stay at refl) (Rows.kept_rows (ap (λ (x : collectors.Private). x.newer) g.after) (ap (λ (x : collectors.Private). x.older) g.after))
   writes_keep (collectors_step.Step.request_alone at more is gone on) = rows_keep (boxes_stay at refl) (rows_as refl refl (clears_rows (requested c) q _ on))
-  writes_keep (collectors_step.Step.wait t at other is same turn) = rows_keep (boxes_stay at (cond-false (found == crossing_word c.epoch Retired) _ _ (ne_eqb found (crossing_word c.epoch Retired) other))) (Rows.kept_rows (ap (λ (x : collectors.Private). x.newer) same) (ap (λ (x : collectors.Private). x.older) same))
-  writes_keep (collectors_step.Step.gather t at crossed is g) = λ weight early. gathered_keep t at crossed (ap (λ (x : collectors.Private). x.newer) g.after) (ap (λ (x : collectors.Private). x.older) g.after) weight
+  writes_keep (collectors_step.Step.cross_for t next at crosses is n g) = absurd (crosses_none w t kept at op found is refl crosses)
+  writes_keep (collectors_step.Step.cross_for_last t at crosses is gone on) = absurd (crosses_none w t kept at op found is refl crosses)
+  writes_keep (collectors_step.Step.wait t at stays is same turn) = rows_keep (boxes_stay at (cond-false (found == crossing_word c.epoch Retired) _ _ (ne_eqb found (crossing_word c.epoch Retired) (waits_other w t kept at op found is refl stays)))) (Rows.kept_rows (ap (λ (x : collectors.Private). x.newer) same) (ap (λ (x : collectors.Private). x.older) same))
+  writes_keep (collectors_step.Step.gather t at takes is g) = λ weight early. gathered_keep t at (takes_retired w t kept at op found is refl takes) (ap (λ (x : collectors.Private). x.newer) g.after) (ap (λ (x : collectors.Private). x.older) g.after) weight
   writes_keep (collectors_step.Step.give_back t next at is n g) = rows_keep (boxes_stay at refl) (Rows.kept_rows (ap (λ (x : collectors.Private). x.newer) g.after) (ap (λ (x : collectors.Private). x.older) g.after))
   writes_keep (collectors_step.Step.apply t at is gone on) = rows_keep (boxes_stay at refl) (rows_as refl refl (clears_rows (noted c t) q _ on))
   writes_keep (collectors_step.Step.release m at is on) = rows_keep (boxes_stay at refl) (clears_rows c q _ on)
@@ -448,8 +451,10 @@ module _ (w : Core) (op : Op) (kept : IsKept true w) (named : ◌≡◌ {A = Opt
   writes_less (collectors_step.Step.spent at last none is turn) = let n : ◌≡◌ {A = Option Op} (Some op) None = none in absurd (cc)
   writes_less (collectors_step.Step.request next at more is n g) = rows_less (boxes_stay at refl) (Rows.kept_rows (ap (λ (x : collectors.Private). x.newer) g.after) (ap (λ (x : collectors.Private). x.older) g.after))
   writes_less (collectors_step.Step.request_alone at more is gone on) = rows_less (boxes_stay at refl) (rows_as refl refl (clears_rows (requested c) q _ on))
-  writes_less (collectors_step.Step.wait t at other is same turn) = rows_less (boxes_stay at (cond-false (found == crossing_word c.epoch Retired) _ _ (ne_eqb found (crossing_word c.epoch Retired) other))) (Rows.kept_rows (ap (λ (x : collectors.Private). x.newer) same) (ap (λ (x : collectors.Private). x.older) same))
-  writes_less (collectors_step.Step.gather t at crossed is g) = λ weight. gathered_less t at crossed (ap (λ (x : collectors.Private). x.newer) g.after) (ap (λ (x : collectors.Private). x.older) g.after) weight
+  writes_less (collectors_step.Step.cross_for t next at crosses is n g) = absurd (crosses_none w t kept at op found is refl crosses)
+  writes_less (collectors_step.Step.cross_for_last t at crosses is gone on) = absurd (crosses_none w t kept at op found is refl crosses)
+  writes_less (collectors_step.Step.wait t at stays is same turn) = rows_less (boxes_stay at (cond-false (found == crossing_word c.epoch Retired) _ _ (ne_eqb found (crossing_word c.epoch Retired) (waits_other w t kept at op found is refl stays)))) (Rows.kept_rows (ap (λ (x : collectors.Private). x.newer) same) (ap (λ (x : collectors.Private). x.older) same))
+  writes_less (collectors_step.Step.gather t at takes is g) = λ weight. gathered_less t at (takes_retired w t kept at op found is refl takes) (ap (λ (x : collectors.Private). x.newer) g.after) (ap (λ (x : collectors.Private). x.older) g.after) weight
   writes_less (collectors_step.Step.give_back t next at is n g) = rows_less (boxes_stay at refl) (Rows.kept_rows (ap (λ (x : collectors.Private). x.newer) g.after) (ap (λ (x : collectors.Private). x.older) g.after))
   writes_less (collectors_step.Step.apply t at is gone on) = rows_less (boxes_stay at refl) (rows_as refl refl (clears_rows (noted c t) q _ on))
   writes_less (collectors_step.Step.release m at is on) = rows_less (boxes_stay at refl) (clears_rows c q _ on)

@@ -20,6 +20,7 @@ use Rattle.rec_audit.specs.Logged.{HasOwnBuffers, IsFieldWord, IsOwnBuffer}
 use Rattle.rec_audit.proofs.Logged.{WritesWord, blank_own, each_set, null_word, stepped_own, written_words}
 use Rattle.rec_core.proofs.Opened.{mutator_opened, words_opened}
 use Rattle.rec_core.proofs.BareRuns.{move_kept, rule_of}
+use Rattle.rec_core.proofs.PlainWords.{CrossesNone, none_crossed}
 use Rattle.rec_core.proofs.Runs.{looked_is}
 use Rattle.rec_core.proofs.Turning.{turn_case}
 
@@ -55,21 +56,23 @@ data HasNewer (p q : collectors.Private) (b : Contents) : Type 0 where
   keeps : KeepsNewer p q → HasNewer p q b
   gathers : (t : ℕ) → p.phase ≡ Looking t → q.newer ≡ slice_set p.newer (t - 1) b → HasNewer p q b
 
-step_newer : {p q : collectors.Private} {word : ℕ} {b : Contents} {op : Option Op} {turn : Turn} → Step p word b op q turn → HasNewer p q b
-step_newer {p} (Step.spent idle last is same answer) = HasNewer.keeps (inl (ap (λ (x : collectors.Private). x.newer) same))
-step_newer {p} {q} (Step.request next idle more is present g) = HasNewer.keeps (going_newer p refl g)
-step_newer {p} {q} (Step.request_alone idle more is alone on) = HasNewer.keeps (clears_newer (collector_took.requested p) q _ _ on)
-step_newer {p} (Step.wait t looks other is same answer) = HasNewer.keeps (inl (ap (λ (x : collectors.Private). x.newer) same))
-step_newer {p} (Step.gather t looks word_is is g) = HasNewer.gathers t looks (ap (λ (x : collectors.Private). x.newer) g.after)
-step_newer {p} (Step.give_back t next returning is present g) = HasNewer.keeps (going_newer p refl g)
-step_newer {p} {q} (Step.apply t returning is left on) = HasNewer.keeps (clears_newer (collector_took.noted p t) q _ _ on)
-step_newer {p} {q} (Step.release m releasing is on) = HasNewer.keeps (clears_newer p q _ _ on)
-step_newer {p} {q} (Step.freeing m freeing is on) = HasNewer.keeps (clears_newer p q _ _ on)
-step_newer {p} {q} (Step.trial m trying is on) = HasNewer.keeps (tries_newer p q _ _ _ on)
-step_newer {p} {q} (Step.preparation m preparing is on) = HasNewer.keeps (prepares_newer p q _ _ _ on)
-step_newer {p} (Step.begin_sweep opening is g) = HasNewer.keeps (going_newer p refl g)
-step_newer {p} (Step.sweep due swept w phase sweeping is which next g) = HasNewer.keeps (going_newer p refl g)
-step_newer {p} (Step.end_sweep swept closing is e) = HasNewer.keeps (ending_newer p refl e)
+step_newer : {p q : collectors.Private} {word : ℕ} {b : Contents} {op : Option Op} {turn : Turn} → CrossesNone p word → Step p word b op q turn → HasNewer p q b
+step_newer {p} none (Step.spent idle last is same answer) = HasNewer.keeps (inl (ap (λ (x : collectors.Private). x.newer) same))
+step_newer {p} {q} none (Step.request next idle more is present g) = HasNewer.keeps (going_newer p refl g)
+step_newer {p} {q} none (Step.request_alone idle more is alone on) = HasNewer.keeps (clears_newer (collector_took.requested p) q _ _ on)
+step_newer {p} none (Step.wait t looks other is same answer) = HasNewer.keeps (inl (ap (λ (x : collectors.Private). x.newer) same))
+step_newer {p} none (Step.gather t looks word_is is g) = HasNewer.gathers t looks (ap (λ (x : collectors.Private). x.newer) g.after)
+step_newer none (Step.cross_for t next looks crosses is present g) = absurd (none t _ looks crosses)
+step_newer none (Step.cross_for_last t looks crosses is left on) = absurd (none t _ looks crosses)
+step_newer {p} none (Step.give_back t next returning is present g) = HasNewer.keeps (going_newer p refl g)
+step_newer {p} {q} none (Step.apply t returning is left on) = HasNewer.keeps (clears_newer (collector_took.noted p t) q _ _ on)
+step_newer {p} {q} none (Step.release m releasing is on) = HasNewer.keeps (clears_newer p q _ _ on)
+step_newer {p} {q} none (Step.freeing m freeing is on) = HasNewer.keeps (clears_newer p q _ _ on)
+step_newer {p} {q} none (Step.trial m trying is on) = HasNewer.keeps (tries_newer p q _ _ _ on)
+step_newer {p} {q} none (Step.preparation m preparing is on) = HasNewer.keeps (prepares_newer p q _ _ _ on)
+step_newer {p} none (Step.begin_sweep opening is g) = HasNewer.keeps (going_newer p refl g)
+step_newer {p} none (Step.sweep due swept w phase sweeping is which next g) = HasNewer.keeps (going_newer p refl g)
+step_newer {p} none (Step.end_sweep swept closing is e) = HasNewer.keeps (ending_newer p refl e)
 
 -- a cleared buffer is a spare
 cleared_own : (config : Config) (t : ℕ) (b : Contents) → IsOwnBuffer config t (cleared b)
@@ -127,7 +130,7 @@ turned_own w kept own = turn_case w (λ o v. IfSome o (NamesWord (length w.colle
           words = written_words w.config (cells_of w) op (writes_none w.config _ _ _ op names) own.words;
           logs = own.logs;
           boxes = each_set (λ s (x : Contents). IsOwnBuffer w.config s x) w.config w.boxes t (left_by c word b c.phase) (blank 0 0) is kept.mutators.mailboxes own.boxes (left_own word t c.phase (own.boxes t is));
-          newer = gathered word (collector_took.step_of c word b) (step_newer (rule_of w op kept named));
+          newer = gathered word (collector_took.step_of c word b) (step_newer (none_crossed w op kept named) (rule_of w op kept named));
         }
 
 -- ---- moves

@@ -17,6 +17,7 @@ use Rattle.rec_audit.specs.Logged.{works_in}
 use Rattle.rec_audit.proofs.Journalled.{StandsIn}
 use Rattle.rec_audit.proofs.Newborn.{IsUntold, none_in}
 use Rattle.rec_core.proofs.Runs.{looked_is}
+use Rattle.rec_core.proofs.PlainWords.{crosses_none, waits_other}
 use Rattle.rec_core.proofs.Turns.{now_at}
 use Rattle.rec_core.proofs.Turning.{parts_of_turn}
 
@@ -107,7 +108,9 @@ module _ {dated : Bool} (w : Core) (op : Op) (kept : IsKept dated w) where
   turned_told (Step.spent idle last is same answer) slot u = absurd (let no : ◌≡◌ {A = Option Op} (Some op) None = is in cc)
   turned_told (Step.request next idle more is present g) slot u = waits_on None slot (ap (λ (x : collectors.Private). x.newer) g.after) (ap (λ (x : collectors.Private). works_in x.phase) g.after) (unlooked Idle idle (λ t e. cc)) u
   turned_told (Step.request_alone idle more is alone on) slot u = applies_it c.epoch slot (unlooked Idle idle (λ t e. cc)) u
-  turned_told (Step.wait t looks other is same answer) slot u = waits_on None slot (ap (λ (x : collectors.Private). x.newer) same) (ap (λ (x : collectors.Private). works_in x.phase) same ∙ ap works_in looks) (λ s takes. other takes.1) u
+  turned_told (Step.cross_for t next looks crosses is present g) slot u = absurd (crosses_none w t kept looks op found is refl crosses)
+  turned_told (Step.cross_for_last t looks crosses is left on) slot u = absurd (crosses_none w t kept looks op found is refl crosses)
+  turned_told (Step.wait t looks stays is same answer) slot u = waits_on None slot (ap (λ (x : collectors.Private). x.newer) same) (ap (λ (x : collectors.Private). works_in x.phase) same ∙ ap works_in looks) (λ s takes. waits_other w t kept looks op found is refl stays takes.1) u
   turned_told (Step.gather t looks word_is is g) slot u = gathers_it t slot looks (ap (λ (x : collectors.Private). x.newer) g.after) (ap (λ (x : collectors.Private). works_in x.phase) g.after) u
   turned_told (Step.give_back t next returning is present g) slot u = waits_on None slot (ap (λ (x : collectors.Private). x.newer) g.after) (ap (λ (x : collectors.Private). works_in x.phase) g.after) (unlooked (Returning t) returning (λ s e. cc)) u
   turned_told (Step.apply t returning is left on) slot u = applies_it (c.epoch - 1) slot (unlooked (Returning t) returning (λ s e. cc)) u

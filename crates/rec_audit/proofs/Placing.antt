@@ -22,6 +22,7 @@ use Rattle.rec_collector.specs.declared.phase.Phase.{Phase}
 use Rattle.rec_collector.specs.declared.phase.Phase.TheVariants.{Freeing, Idle, Looking, Opening, Preparing, Releasing, Returning, Swapping, Trying}
 use Rattle.rec_collector.specs.declared.turn.Turn.{Turn}
 use Rattle.rec_audit.specs.Logged.{last_batch, works_in}
+use Rattle.rec_collector.specs.Took.{crossed_for}
 use Rattle.rec_core.specs.Pending.{applied_at}
 use Rattle.rec_audit.specs.Keeping.{with_batch}
 use Rattle.rec_audit.specs.Runs.{place_of}
@@ -131,11 +132,11 @@ works p q is done = record {
 }
 
 -- the step that applies one
-applies : (p r q : Private) (epoch : ℕ) → r.epoch ≡ epoch + 1 → r.newer ≡ p.newer → Worked r q → Placed p (Some (record { epoch = epoch; newer = p.newer })) q
-applies p r q epoch is newer done = record {
+applies : (p r q : Private) (epoch : ℕ) → r.epoch ≡ epoch + 1 → Worked r q → Placed p (Some (record { epoch = epoch; newer = r.newer })) q
+applies p r q epoch is done = record {
   next = (let same : q.epoch - 1 ≡ epoch = omega (arith, done.epoch, is) in ap (λ e. e + 1) (sym same ∙ sym (applied_worked q.epoch q.phase done.phase)));
   working = sym done.phase;
-  last = done.last ∙ newer;
+  last = done.last;
 }
 
 -- a step in a gathering
@@ -166,20 +167,27 @@ step_placed {p} {q} begun (Step.request next idle more is present g) =
     gathers p q (ap works_in idle) (ap worked_in phase)
     (ap (applied_at q.epoch) phase ∙ (let same : q.epoch - 2 ≡ p.epoch - 1 = omega (arith, epoch) in same) ∙ sym (ap (applied_at p.epoch) idle))
     (ap (λ (x : Private). x.older) g.after)
-step_placed {p} {q} begun (Step.request_alone idle more is alone on) = applies p (requested p) q p.epoch refl refl (clears (requested p) q _ _ (zeros_begun false p.fields (batched (requested p)).counts) on)
+step_placed {p} {q} begun (Step.request_alone idle more is alone on) = applies p (requested p) q p.epoch refl (clears (requested p) q _ _ (zeros_begun false p.fields (batched (requested p)).counts) on)
 step_placed {p} {q} begun (Step.wait t looks other is same answer) =
     let phase : q.phase ≡ Looking t = ap (λ (x : Private). x.phase) same ∙ looks in
     gathers p q (ap works_in looks) (ap worked_in phase) (ap (λ (x : Private). applied_at x.epoch x.phase) same) (ap (λ (x : Private). x.older) same)
 step_placed {p} {q} begun (Step.gather t looks word_is is g) =
     let phase : q.phase ≡ Returning t = ap (λ (x : Private). x.phase) g.after in
     gathers p q (ap works_in looks) (ap worked_in phase) (ap (λ (x : Private). applied_at x.epoch x.phase) g.after ∙ sym (ap (applied_at p.epoch) looks)) (ap (λ (x : Private). x.older) g.after)
+step_placed {p} {q} begun (Step.cross_for t next looks crosses is present g) =
+    let phase : q.phase ≡ Looking next = ap (λ (x : Private). x.phase) g.after in
+    gathers p q (ap works_in looks) (ap worked_in phase) (ap (λ (x : Private). applied_at x.epoch x.phase) g.after ∙ sym (ap (applied_at p.epoch) looks)) (ap (λ (x : Private). x.older) g.after)
+step_placed {p} {q} begun (Step.cross_for_last t looks crosses is left on) =
+    let some : 1 + under_way p.phase ≤ p.epoch = begun in
+    let one : under_way p.phase ≡ 1 = ap under_way looks in
+    applies p (crossed_for p t) q (p.epoch - 1) (omega arith) (clears (crossed_for p t) q _ _ (zeros_begun false p.fields (batched (crossed_for p t)).counts) on)
 step_placed {p} {q} begun (Step.give_back t next returning is present g) =
     let phase : q.phase ≡ Looking next = ap (λ (x : Private). x.phase) g.after in
     gathers p q (ap works_in returning) (ap worked_in phase) (ap (λ (x : Private). applied_at x.epoch x.phase) g.after ∙ sym (ap (applied_at p.epoch) returning)) (ap (λ (x : Private). x.older) g.after)
 step_placed {p} {q} begun (Step.apply t returning is left on) =
     let some : 1 + under_way p.phase ≤ p.epoch = begun in
     let one : under_way p.phase ≡ 1 = ap under_way returning in
-    applies p (noted p t) q (p.epoch - 1) (omega arith) refl (clears (noted p t) q _ _ (zeros_begun false p.fields (batched (noted p t)).counts) on)
+    applies p (noted p t) q (p.epoch - 1) (omega arith) (clears (noted p t) q _ _ (zeros_begun false p.fields (batched (noted p t)).counts) on)
 step_placed {p} {q} {word} begun (Step.release m releasing is on) = works p q (ap works_in releasing) (let v : releases.Work = releases.took_of (record { machine = m; counts = p.counts }) word in clears p q _ _ (release_begun v.machine v.machine.at) on)
 step_placed {p} {q} {word} begun (Step.freeing m freeing is on) = works p q (ap works_in freeing) (clears p q _ _ (freed_begun m (parts_of p) word) on)
 step_placed {p} {q} begun (Step.trial m trying is on) = works p q (ap works_in trying) (tries p q _ _ _ on)
@@ -209,6 +217,8 @@ step_unswept (Step.spent idle last is same answer) none still = let no : ◌≡�
 step_unswept (Step.request next idle more is present g) none still = absurd (false≢true (sym (ap (λ (x : Private). is_unswept x.phase) g.after) ∙ still))
 step_unswept (Step.request_alone idle more is alone on) none still = absurd (cc)
 step_unswept (Step.wait t looks other is same answer) none still = absurd (false≢true (sym (ap (λ (x : Private). is_unswept x.phase) same ∙ ap is_unswept looks) ∙ still))
+step_unswept (Step.cross_for t next looks crosses is present g) none still = absurd (false≢true (sym (ap (λ (x : Private). is_unswept x.phase) g.after) ∙ still))
+step_unswept (Step.cross_for_last t looks crosses is left on) none still = absurd (cc)
 step_unswept (Step.gather t looks word_is is g) none still = absurd (false≢true (sym (ap (λ (x : Private). is_unswept x.phase) g.after) ∙ still))
 step_unswept (Step.give_back t next returning is present g) none still = absurd (false≢true (sym (ap (λ (x : Private). is_unswept x.phase) g.after) ∙ still))
 step_unswept (Step.apply t returning is left on) none still = absurd (cc)

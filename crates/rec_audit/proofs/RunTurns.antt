@@ -38,6 +38,7 @@ use Rattle.rec_audit.proofs.NewbornTurns.{IsTold, turned_taken, turned_told}
 use Rattle.rec_audit.proofs.Newly.{home_taken, put_lasts}
 use Rattle.rec_collector.proofs.ShownSteps.{shown_as_made}
 use Rattle.rec_core.proofs.Runs.{given_is}
+use Rattle.rec_core.proofs.PlainWords.{CrossesNone, none_crossed}
 use Rattle.rec_core.proofs.Turns.{now_at}
 use Rattle.rec_audit.specs.Form.{heap_of, number}
 use Rattle.rec_audit.specs.Graph.{has_target, is_dead, is_put, is_taken, opens, this_block}
@@ -88,30 +89,32 @@ pub record IsBatchOf (p : Private) (x : Batch) : Type 0 where
   pub next : x.epoch ≡ (place_of p).next
   pub newer : x.newer ≡ p.newer
 
-pub step_batch : {p q : Private} {word : ℕ} {b : Buffer} {op : Op} {turn : Turn} → HasBegun p → (s : Step p word b (Some op) q turn) → (x : Batch) → batch_made s ≡ Some x → IsBatchOf p x
-step_batch begun (Step.spent idle last is same answer) x made = absurd (cc)
-step_batch begun (Step.request next idle more is present g) x made = absurd (cc)
-step_batch {p} begun (Step.request_alone idle more is alone on) x made =
+pub step_batch : {p q : Private} {word : ℕ} {b : Buffer} {op : Op} {turn : Turn} → HasBegun p → CrossesNone p word → (s : Step p word b (Some op) q turn) → (x : Batch) → batch_made s ≡ Some x → IsBatchOf p x
+step_batch begun none (Step.spent idle last is same answer) x made = absurd (cc)
+step_batch begun none (Step.request next idle more is present g) x made = absurd (cc)
+step_batch {p} begun none (Step.request_alone idle more is alone on) x made =
     let y : Batch = record { epoch = p.epoch; newer = p.newer } in
     let same : y ≡ x = cc in
     let epoch : p.epoch ≡ p.epoch - 1 + 1 = omega (arith, begun) in
     subst (IsBatchOf p) same (record { waits = ap works_in idle; next = epoch ∙ ap (λ f. applied_at p.epoch f + 1) (sym idle); newer = refl })
-step_batch begun (Step.wait t looks other is same answer) x made = absurd (cc)
-step_batch begun (Step.gather t looks word_is is g) x made = absurd (cc)
-step_batch begun (Step.give_back t next returning is present g) x made = absurd (cc)
-step_batch {p} begun (Step.apply t returning is left on) x made =
+step_batch begun none (Step.wait t looks other is same answer) x made = absurd (cc)
+step_batch begun none (Step.gather t looks word_is is g) x made = absurd (cc)
+step_batch begun none (Step.cross_for t next looks crosses is present g) x made = absurd (cc)
+step_batch begun none (Step.cross_for_last t looks crosses is left on) x made = absurd (none t _ looks crosses)
+step_batch begun none (Step.give_back t next returning is present g) x made = absurd (cc)
+step_batch {p} begun none (Step.apply t returning is left on) x made =
     let y : Batch = record { epoch = p.epoch - 1; newer = p.newer } in
     let same : y ≡ x = cc in
     let one : under_way p.phase ≡ 1 = ap under_way returning in
     let epoch : p.epoch - 1 ≡ p.epoch - 2 + 1 = omega (arith, begun, one) in
     subst (IsBatchOf p) same (record { waits = ap works_in returning; next = epoch ∙ ap (λ f. applied_at p.epoch f + 1) (sym returning); newer = refl })
-step_batch begun (Step.release m releasing is on) x made = absurd (cc)
-step_batch begun (Step.freeing m freeing is on) x made = absurd (cc)
-step_batch begun (Step.trial m trying is on) x made = absurd (cc)
-step_batch begun (Step.preparation m preparing is on) x made = absurd (cc)
-step_batch begun (Step.begin_sweep opening is g) x made = absurd (cc)
-step_batch begun (Step.sweep due swept w phase sweeping is which next g) x made = absurd (cc)
-step_batch begun (Step.end_sweep swept closing is e) x made = absurd (cc)
+step_batch begun none (Step.release m releasing is on) x made = absurd (cc)
+step_batch begun none (Step.freeing m freeing is on) x made = absurd (cc)
+step_batch begun none (Step.trial m trying is on) x made = absurd (cc)
+step_batch begun none (Step.preparation m preparing is on) x made = absurd (cc)
+step_batch begun none (Step.begin_sweep opening is g) x made = absurd (cc)
+step_batch begun none (Step.sweep due swept w phase sweeping is which next g) x made = absurd (cc)
+step_batch begun none (Step.end_sweep swept closing is e) x made = absurd (cc)
 
 -- ---- what was replaced
 
@@ -218,7 +221,7 @@ module _ (lines : List Line) (w : Core) (op : Op) (kept : IsKept true w) (named 
     placed : Placed w.collector batch q
 
   its_batch : (x : Batch) → Applied (Some x) → IsBatchOf w.collector x
-  its_batch x a = step_batch (begun w kept) s x a.made
+  its_batch x a = step_batch (begun w kept) (none_crossed w op kept named) s x a.made
 
   -- the epoch of the last batch rises by one with a batch
   applied_none : Applied None → applied_in v ≡ applied_in w

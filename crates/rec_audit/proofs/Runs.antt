@@ -40,6 +40,7 @@ use Rattle.rec_core.specs.Pending.{applied_at}
 use Rattle.rec_core.specs.Shown.{Shows, shown_behind, shown_in, shown_over, turn_shown}
 use Rattle.rec_core.specs.Turn.{seen_at}
 use Rattle.rec_core.specs.declared.config.Config.{Config}
+use Rattle.rec_core.proofs.PlainWords.{CrossesNone, none_crossed}
 use Rattle.rec_core.proofs.Freed.{shown_is_within}
 use Rattle.rec_audit.proofs.LoggedTurns.{move_own, opened_own}
 use Rattle.rec_core.proofs.BareRuns.{explained, given_is, move_kept, opened_kept, rule_of}
@@ -144,8 +145,8 @@ begun w kept =
     let same : w.collector.epoch ≡ w.epoch = kept.collector.epoch in
     omega arith
 
-batch_keeps : (w : Core) (q : Private) (word : ℕ) (b : Contents) (op : Op) (turn : Turn) → IsKept false w → HasOwnBuffers w → (s : Step w.collector word b (Some op) q turn) → KeepsBatch (heap_for w.config) (place_of w.collector) (batch_made s)
-batch_keeps w q word b op turn kept own = go
+batch_keeps : (w : Core) (q : Private) (word : ℕ) (b : Contents) (op : Op) (turn : Turn) → IsKept false w → HasOwnBuffers w → CrossesNone w.collector word → (s : Step w.collector word b (Some op) q turn) → KeepsBatch (heap_for w.config) (place_of w.collector) (batch_made s)
+batch_keeps w q word b op turn kept own none = go
   where
     some : 1 + under_way w.collector.phase ≤ w.collector.epoch
     some = begun w kept
@@ -164,6 +165,8 @@ batch_keeps w q word b op turn kept own = go
         (ap works_in idle, of w.collector.epoch (next ∙ ap (λ f. applied_at w.collector.epoch f + 1) (sym idle)) last)
     go (Step.wait t looks other is same answer) = tt
     go (Step.gather t looks word_is is g) = tt
+    go (Step.cross_for t next looks crosses is present g) = tt
+    go (Step.cross_for_last t looks crosses is left on) = absurd (none t _ looks crosses)
     go (Step.give_back t next returning is present g) = tt
     go (Step.apply t returning is left on) =
         let one : under_way w.collector.phase ≡ 1 = ap under_way returning in
@@ -226,8 +229,8 @@ stamped_buffer w t epoch b kept is own buffer made index d below = go (get_or b.
         (ap (λ e. stamp_number e (stamp_of new).writer (stamp_of new).index) at ∙ ap (λ n. stamp_number epoch n (stamp_of new).index) o.writer ∙ ap (stamp_number epoch t) o.number, few)
     go (entries.Born slot leaf) here o = tt
 
-batch_stamped : (w v : Core) (q : Private) (word : ℕ) (b : Contents) (op : Op) (turn : Turn) → IsKept false w → HasOwnBuffers w → Explains v w → IsStamped v → (s : Step w.collector word b (Some op) q turn) → IsStampedIn (batch_made s)
-batch_stamped w v q word b op turn kept own e stamped = go
+batch_stamped : (w v : Core) (q : Private) (word : ℕ) (b : Contents) (op : Op) (turn : Turn) → IsKept false w → HasOwnBuffers w → Explains v w → IsStamped v → CrossesNone w.collector word → (s : Step w.collector word b (Some op) q turn) → IsStampedIn (batch_made s)
+batch_stamped w v q word b op turn kept own e stamped none = go
   where
     many : length w.collector.newer ≤ 63
     many = (let all : length w.collector.newer ≡ w.config.mutators = kept.collector.mutators in let most : w.config.mutators ≤ 63 = kept.config.few_mutators in omega arith)
@@ -259,6 +262,8 @@ batch_stamped w v q word b op turn kept own e stamped = go
     go (Step.request_alone idle more is alone on) = (idle_ones idle, many)
     go (Step.wait t looks other is same answer) = tt
     go (Step.gather t looks word_is is g) = tt
+    go (Step.cross_for t next looks crosses is present g) = tt
+    go (Step.cross_for_last t looks crosses is left on) = absurd (none t _ looks crosses)
     go (Step.give_back t next returning is present g) = tt
     go (Step.apply t returning is left on) = (gathered, many)
     go (Step.release m releasing is on) = tt
@@ -321,14 +326,14 @@ turn_keeps w behind kept own e stamped =
         record {
           keep = (
             record {
-              batch = subst (KeepsBatch (heap_for w.config) (place_of w.collector)) (sym made.batch) (batch_keeps w q word b op (turn_of w.collector word) kept own s);
+              batch = subst (KeepsBatch (heap_for w.config) (place_of w.collector)) (sym made.batch) (batch_keeps w q word b op (turn_of w.collector word) kept own (none_crossed w op kept named) s);
               op = op_keeps w q op kept own named names;
               passed = passed_keeps (turned_by w op word) at still placed.working (passed_of q) refl;
               completed = end.0;
             },
             tt,
           );
-          stamped = (subst IsStampedIn (sym made.batch) (batch_stamped w behind q word b op (turn_of w.collector word) kept own e stamped s), tt);
+          stamped = (subst IsStampedIn (sym made.batch) (batch_stamped w behind q word b op (turn_of w.collector word) kept own e stamped (none_crossed w op kept named) s), tt);
           ends = end.1;
         }
 

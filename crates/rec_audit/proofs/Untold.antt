@@ -26,6 +26,7 @@ use Rattle.rec_core.specs.Pending.{births_of}
 use Rattle.rec_core.proofs.Reach.{steps_keep_taken}
 use Rattle.rec_core.proofs.Steps.{in_list}
 use Rattle.rec_core.proofs.Sums.{box_share, buffers_sum, log_share, share}
+use Rattle.rec_core.proofs.PlainWords.{crosses_none, none_crossed}
 use Rattle.rec_core.proofs.Turns.{now_at}
 use Rattle.rec_mutator.specs.Private.{is_busy}
 use Rattle.rec_audit.specs.Graph.{is_taken, taken_by, tells}
@@ -306,6 +307,8 @@ module _ (ls : List Line) (w : Core) (op : Op) (kept : IsKept true w) (named_is 
     by_rule (Step.spent idle last none same answer) p = absurd (let no : ◌≡◌ {A = Option Op} (Some op) None = none in cc)
     by_rule (Step.request next idle more its present g) p = same_newer (ap works_in idle) (ap (λ (x : collectors.Private). x.newer) g.after)
     by_rule (Step.request_alone idle more its alone on) p = applied _ p
+    by_rule (Step.cross_for u next looks crosses its present g) p = absurd (crosses_none w u kept looks op found its refl crosses)
+    by_rule (Step.cross_for_last u looks crosses its left on) p = absurd (crosses_none w u kept looks op found its refl crosses)
     by_rule (Step.wait u looks other its same answer) p = same_newer (ap works_in looks) (ap (λ (x : collectors.Private). x.newer) same)
     by_rule (Step.gather u looks word_is its g) p = gathers u looks (ap (λ (x : collectors.Private). x.newer) g.after)
     by_rule (Step.give_back u next returning its present g) p = same_newer (ap works_in returning) (ap (λ (x : collectors.Private). x.newer) g.after)
@@ -326,7 +329,7 @@ module _ (ls : List Line) (w : Core) (op : Op) (kept : IsKept true w) (named_is 
   -- what the batch told is not untold, nor free
   module _ (x : Batch) (applies : batch_of op q ≡ Some x) where
     its_batch : IsBatchOf c x
-    its_batch = step_batch (begun w kept) s x (sym shown ∙ applies)
+    its_batch = step_batch (begun w kept) (none_crossed w op kept named_is) s x (sym shown ∙ applies)
 
     of_newer : (slot : ℕ) (leaf : Bool) → StandsIn x.newer (entries.Born slot leaf) → StandsIn c.newer (entries.Born slot leaf)
     of_newer slot leaf there = subst (λ row. StandsIn row (entries.Born slot leaf)) its_batch.newer there

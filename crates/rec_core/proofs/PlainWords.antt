@@ -1,5 +1,5 @@
 -- Nobody parks: a crossing word has no bit of parking, so that the collector takes what was retired or waits, and crosses for nobody.
-use Rattle.std.proofs.Common.{◌≡◌, ◌≢◌, ℕ, ◌+◌, ◌^◌, ◌<◌, ◌≤◌, Option, Some, Bool, length, inl, inr, sym, ap, subst, ◌∙◌, arith}
+use Rattle.std.proofs.Common.{◌≡◌, ◌≢◌, ℕ, ◌+◌, ◌^◌, ◌<◌, ◌≤◌, Option, Some, Bool, length, inl, inr, refl, sym, ap, subst, ◌∙◌, arith}
 use Rattle.rec_core.proofs.Common.{crossing_word, Retired, Spare, WithMutator, WithCollector, Op, Contents, Private, Looking, Returning, cell, Config, IsMutator, Core, cells_of, mutator, box, crossing_of, Handshake, IsHandshake, IsKept}
 use Rattle.rec_word.specs.Looked.{looked}
 use Rattle.rec_word.specs.declared.looked.Looked.TheVariants.{Takes, Crosses, Waits}
@@ -7,6 +7,8 @@ use Rattle.rec_word.specs.declared.mailbox.Mailbox.{Mailbox}
 use Rattle.rec_word.specs.declared.op.Op.TheVariants as ops
 use Rattle.rec_word.proofs.Looks.{plain_crosses, plain_returned, plain_takes, plain_waits}
 use Rattle.rec_word.specs.Op.{written}
+use Rattle.rec_collector.specs.Next.{next_at, next_of}
+use Rattle.rec_collector.specs.Private as collectors
 use Rattle.rec_core.proofs.Crossings.{held_stands}
 use Rattle.rec_core.proofs.Turns.{now_at}
 
@@ -68,3 +70,19 @@ gives_home w t op word kept returning is named found =
     let at : word ≡ crossing_word w.collector.epoch WithCollector = found ∙ ap (cell (cells_of w)) its ∙ held.0.word ∙ ap (λ n. crossing_word n WithCollector) (sym kept.collector.epoch) in
     let few : w.collector.epoch < 2 ^ 24 = kept.collector.machine.epoch in
     ap (written (ops.ReturnBox t w.collector.epoch)) at ∙ plain_returned t w.collector.epoch (omega (arith, few))
+
+-- a step that finds this word crosses for nobody
+abbrev pub CrossesNone : collectors.Private → (word : ℕ) → Type 0
+CrossesNone c word = (t new : ℕ) → c.phase ≡ Looking t → looked c.epoch word ≡ Crosses new → ⊥
+
+pub none_crossed : {dated : Bool} → (w : Core) (op : Op) → IsKept dated w → ◌≡◌ {A = Option Op} (next_of w.collector) (Some op) → CrossesNone w.collector (cell (cells_of w) op)
+unfolding next_of next_at
+none_crossed w op kept named = λ t new looks crosses. crosses_none w t kept looks op (cell (cells_of w) op) (sym named ∙ ap (next_at w.collector) looks) refl crosses
+
+-- a look finds a word of 32 bits
+abbrev pub FindsPlain : collectors.Private → (word : ℕ) → Type 0
+FindsPlain c word = (t : ℕ) → c.phase ≡ Looking t → word < 2 ^ 32
+
+pub finds_plain : {dated : Bool} → (w : Core) (op : Op) → IsKept dated w → ◌≡◌ {A = Option Op} (next_of w.collector) (Some op) → FindsPlain w.collector (cell (cells_of w) op)
+unfolding next_of next_at
+finds_plain w op kept named = λ t looks. found_small w t kept looks op (cell (cells_of w) op) (sym named ∙ ap (next_at w.collector) looks) refl

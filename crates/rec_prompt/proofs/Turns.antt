@@ -22,6 +22,7 @@ use Rattle.rec_core.proofs.Actors.{crossed_here}
 use Rattle.rec_core.proofs.Gathering.{looked_due}
 use Rattle.rec_core.proofs.Runs.{rule_of, turned_kept}
 use Rattle.rec_core.proofs.Shapes.{same_boxes}
+use Rattle.rec_core.proofs.PlainWords.{crosses_none, takes_retired}
 use Rattle.rec_core.proofs.Turning.{mutator_at, some_op, turn_case}
 use Rattle.rec_core.proofs.Turns.{now_at}
 use Rattle.rec_prompt.specs.Prompt.{freed_by}
@@ -217,8 +218,11 @@ module _ (late : ℕ) (first : Core) (lost : ℕ → Type 0) (v : Core) (op : Op
   clean (step.Step.spent at last none is turn) = let n : ◌≡◌ {A = Option Op} (Some op) None = none in absurd (cc)
   clean (step.Step.request next at more is n g) = rows_clean (Rows.kept_rows (ap (λ (x : collectors.Private). x.newer) g.after) (ap (λ (x : collectors.Private). x.older) g.after) (ap (λ (x : collectors.Private). x.collections) g.after))
   clean (step.Step.request_alone at more is gone on) = rows_clean (rows_as refl refl refl (clears_rows (requested c) q _ on))
+  clean (step.Step.cross_for t next at crosses is n g) = absurd (crosses_none v t kept at op found is refl crosses)
+  clean (step.Step.cross_for_last t at crosses is gone on) = absurd (crosses_none v t kept at op found is refl crosses)
   clean (step.Step.wait t at other is same turn) = rows_clean (Rows.kept_rows (ap (λ (x : collectors.Private). x.newer) same) (ap (λ (x : collectors.Private). x.older) same) (ap (λ (x : collectors.Private). x.collections) same))
-  clean (step.Step.gather t at crossed is g) =
+  clean (step.Step.gather t at takes is g) =
+      let crossed : found ≡ crossing_word c.epoch Retired = takes_retired v t kept at op found is refl takes in
       let epoch : c.epoch ≡ v.epoch = kept.collector.epoch in
       let word : crossing_of v t ≡ found = sym (ap (cell (cells_of v)) (some_op op (ops.LookBox t c.epoch) is)) in
       gathered_clean t at (word ∙ crossed ∙ ap (λ n. crossing_word n Retired) epoch) (ap (λ (x : collectors.Private). x.newer) g.after) (ap (λ (x : collectors.Private). x.older) g.after) (ap (λ (x : collectors.Private). x.collections) g.after)

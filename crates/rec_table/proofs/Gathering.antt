@@ -1,5 +1,5 @@
 -- The calls of the collector's turn.
-use Rattle.std.proofs.Common.{◌≡◌, ℕ, ◌+◌, ◌-◌, ◌<◌, arith, Bool, true, false, cond, if◌then◌else◌, eq-eqb, ne_eqb, [], ◌∷◌, length, slice_set, length-set, Option, Some, None, refl, sym, ap, ◌∙◌, subst}
+use Rattle.std.proofs.Common.{◌≡◌, ℕ, ◌+◌, ◌-◌, ◌^◌, ◌<◌, arith, Bool, true, false, cond, if◌then◌else◌, eq-eqb, ne_eqb, [], ◌∷◌, length, slice_set, length-set, Option, Some, None, refl, sym, ap, ◌∙◌, subst}
 use Rattle.std.specs.Option.{IfSome}
 use Rattle.atomic_table.specs.Table.{Me, Step, rest}
 use Rattle.rec_word.specs.Mailbox.{crossing_word}
@@ -33,7 +33,8 @@ use Rattle.rec_core.proofs.Trying.{loads_child}
 use Rattle.rec_core.proofs.Turning.{some_op}
 use Rattle.rec_table.specs.Operations.{Kind as OperationKind}
 use Rattle.rec_table.proofs.Steps.{IsPlainOp}
-use Rattle.rec_table.proofs.Turns.{turns, looks, glances, returns_box}
+use Rattle.rec_table.proofs.Turns.{turns, looks, glances, returns_box, tried}
+use Rattle.rec_collector.proofs.Plain.{plain_given, plain_took}
 
 -- an operation of a turn that moves no mailbox
 abbrev pub IsLoneOp : Op → Type 0
@@ -245,19 +246,19 @@ made_return p op word me me' is between named ret now =
     now ∙ (λ k. (records (is k).0 (Saw word), rest (is k).1)) ∙ (λ k. (Collects (collecting_more c (Saw word)), rest (boxes_at p ((returns_at p op between named ret).1 k))))
 
 -- A look at a mailbox.
-pub given_looking : (p : Private) (t word : ℕ) → p.phase ≡ Looking t → IsGiven p word
+pub given_looking : (p : Private) (t word : ℕ) → p.phase ≡ Looking t → word < 2 ^ 32 → IsGiven p word
 unfolding IsGiven IsGivenAt
-given_looking p t word is = subst (λ (x : Phase). IsGivenAt p word x) (sym is) tt
+given_looking p t word is plain = subst (λ (x : Phase). IsGivenAt p word x) (sym is) (plain_given p word t plain)
 
 module _ (key : Core) (slots id i : ℕ) (me : Me (Option Contents) View) (t epoch number : ℕ) (p : Private) (st : Step (Option Contents)) (is : me ≡ (Collects (collecting_of me.0), [])) (n_is : number ≡ t) (is_p : p ≡ gathered_all key.collector (collecting_of me.0).log)
     (phase : p.phase ≡ Looking t) (e_is : p.epoch ≡ epoch) (at : i ≡ index_of (length key.words) (length key.headers) (ops.LookBox t epoch)) where
   its : i ≡ index_of (length key.words) (length key.headers) (ops.LookBox t p.epoch)
   its = at ∙ ap (λ (e : ℕ). index_of (length key.words) (length key.headers) (ops.LookBox t e)) (sym e_is)
 
-  pub allows_look : (f : ℕ → ℕ) → ((n : ℕ) → f n ≡ written (ops.LookBox t epoch) n) → Operates key OperationKind.Turns slots id me i f (LookedBy p number st me)
+  pub allows_look : (f : ℕ → ℕ) → ((n : ℕ) → f n ≡ tried epoch n) → Operates key (OperationKind.Tries (crossing_word p.epoch Retired)) slots id me i f (LookedBy p number st me)
   allows_look f does =
-      let all = looks key slots id t (collecting_of me.0) p f st is_p phase (λ n. does n ∙ ap (λ (e : ℕ). written (ops.LookBox t e) n) (sym e_is)) in
-      subst (λ (y : Me (Option Contents) View × ℕ × ℕ). Operates key OperationKind.Turns slots id y.0 y.1 f (LookedBy p y.2 st y.0)) (λ k. (sym is k, sym its k, sym n_is k)) all
+      let all = looks key slots id t (collecting_of me.0) p f st is_p phase (λ n. does n ∙ ap (λ (e : ℕ). tried e n) (sym e_is)) in
+      subst (λ (y : Me (Option Contents) View × ℕ × ℕ). Operates key (OperationKind.Tries (crossing_word p.epoch Retired)) slots id y.0 y.1 f (LookedBy p y.2 st y.0)) (λ k. (sym is k, sym its k, sym n_is k)) all
 
   pub allows_glance : Operates key OperationKind.Glances slots id me i (λ n. n) (GlancedBy p number st me)
   allows_glance =
@@ -278,17 +279,17 @@ pub look_misses : (p actor : Private) (t number epoch word : ℕ) (me me' : Me (
 look_misses p actor t number epoch word me me' is a_is e_is miss by =
     by.1 (λ e. miss (e ∙ ap (λ (x : ℕ). crossing_word x Retired) (ap (λ (x : Private). x.epoch) a_is ∙ e_is))) ∙ (λ k. (records (is k).0 (Saw word), (is k).1))
 
-took_hit : (p : Private) (t word : ℕ) → p.phase ≡ Looking t → word ≡ crossing_word p.epoch Retired → took_of p word ≡ moved p (Swapping t)
-unfolding took_of took_at
-took_hit p t word is hit = ap (took_at p word) is ∙ ap (λ (x : Bool). cond x (moved p (Swapping t)) p) (eq-eqb word (crossing_word p.epoch Retired) hit)
+took_hit : (p : Private) (t word : ℕ) → word < 2 ^ 32 → p.phase ≡ Looking t → word ≡ crossing_word p.epoch Retired → took_of p word ≡ moved p (Swapping t)
+unfolding took_of
+took_hit p t word plain is hit = ap (took_at p word) is ∙ plain_took p word t plain ∙ ap (λ (x : Bool). cond x (moved p (Swapping t)) p) (eq-eqb word (crossing_word p.epoch Retired) hit)
 
-took_miss : (p : Private) (t word : ℕ) → p.phase ≡ Looking t → (word ≡ crossing_word p.epoch Retired → ⊥) → took_of p word ≡ p
-unfolding took_of took_at
-took_miss p t word is miss = ap (took_at p word) is ∙ ap (λ (x : Bool). cond x (moved p (Swapping t)) p) (ne_eqb word (crossing_word p.epoch Retired) miss)
+took_miss : (p : Private) (t word : ℕ) → word < 2 ^ 32 → p.phase ≡ Looking t → (word ≡ crossing_word p.epoch Retired → ⊥) → took_of p word ≡ p
+unfolding took_of
+took_miss p t word plain is miss = ap (took_at p word) is ∙ plain_took p word t plain ∙ ap (λ (x : Bool). cond x (moved p (Swapping t)) p) (ne_eqb word (crossing_word p.epoch Retired) miss)
 
 -- a mailbox that is home with what was retired is held, and waits to be swapped
-pub hit_swaps : (p q : Private) (t word : ℕ) → p.phase ≡ Looking t → word ≡ crossing_word p.epoch Retired → q ≡ took_of p word → IsSwapping q.phase
-hit_swaps p q t word is hits took = subst (λ (r : Private). IsSwapping r.phase) (sym (took ∙ took_hit p t word is hits)) tt
+pub hit_swaps : (p q : Private) (t word : ℕ) → word < 2 ^ 32 → p.phase ≡ Looking t → word ≡ crossing_word p.epoch Retired → q ≡ took_of p word → IsSwapping q.phase
+hit_swaps p q t word plain is hits took = subst (λ (r : Private). IsSwapping r.phase) (sym (took ∙ took_hit p t word plain is hits)) tt
 
 swapped_out : (q : Private) (b : Contents) (t : ℕ) → q.phase ≡ Swapping t → swapped_of q b ≡ record q { phase = Returning t; newer = slice_set q.newer (t - 1) b }
 unfolding swapped_of swapped_at
@@ -301,10 +302,10 @@ step_is p word b = refl
 pub hit_sized : (p q : Private) (b : Contents) (m : Option Contents) → KeepsSizes p q → m ≡ Some b → IsSized p.registers p.capacity b → IsSized q.registers q.capacity (held m)
 hit_sized p q b m same is sized = subst (λ (y : ℕ × ℕ × Contents). IsSized y.0 y.1 y.2) (λ k. (sym same.registers k, sym same.capacity k, held (sym is k))) sized
 
-pub hit_turn : (p q r : Private) (t word : ℕ) (b : Contents) (m m' : Option Contents) → p.phase ≡ Looking t → word ≡ crossing_word p.epoch Retired → q ≡ took_of p word → m ≡ Some b → r ≡ swapped_of q (held m) → m' ≡ Some (left_of q (held m))
+pub hit_turn : (p q r : Private) (t word : ℕ) (b : Contents) (m m' : Option Contents) → word < 2 ^ 32 → p.phase ≡ Looking t → word ≡ crossing_word p.epoch Retired → q ≡ took_of p word → m ≡ Some b → r ≡ swapped_of q (held m) → m' ≡ Some (left_of q (held m))
     → (r ≡ step_of p word b) × ((t - 1, m') ∷ [] ≡ boxes_out r) × KeepsSizes p r × IsBetween r.phase
-hit_turn p q r t word b m m' is hit took is_m swapped left =
-    let q_is : q ≡ moved p (Swapping t) = took ∙ took_hit p t word is hit in
+hit_turn p q r t word b m m' plain is hit took is_m swapped left =
+    let q_is : q ≡ moved p (Swapping t) = took ∙ took_hit p t word plain is hit in
     let at_swap : q.phase ≡ Swapping t = ap (λ (x : Private). x.phase) q_is in
     let r_is : r ≡ record p { phase = Returning t; turns = p.turns + 1; newer = slice_set p.newer (t - 1) (held m) } = swapped ∙ swapped_out q (held m) t at_swap ∙ (λ k. record (q_is k) { phase = Returning t; newer = slice_set (q_is k).newer (t - 1) (held m) }) in
     let m_is : m' ≡ Some (spare r) = left ∙ ap (λ (x : Contents). Some x) (leaves_spare q (held m) t at_swap) ∙ (λ k. Some (spare (q_is k))) ∙ (λ k. Some (spare (sym r_is k))) in (
@@ -321,9 +322,9 @@ hit_turn p q r t word b m m' is hit took is_m swapped left =
       subst (λ (x : Private). IsBetween x.phase) (sym r_is) tt,
     )
 
-pub miss_turn : (p q : Private) (t word : ℕ) → p.phase ≡ Looking t → (word ≡ crossing_word p.epoch Retired → ⊥) → q ≡ took_of p word → (boxes_out q ≡ []) × IsBetween q.phase
-miss_turn p q t word is miss took =
-    let at_look : q.phase ≡ Looking t = ap (λ (x : Private). x.phase) (took ∙ took_miss p t word is miss) ∙ is in
+pub miss_turn : (p q : Private) (t word : ℕ) → word < 2 ^ 32 → p.phase ≡ Looking t → (word ≡ crossing_word p.epoch Retired → ⊥) → q ≡ took_of p word → (boxes_out q ≡ []) × IsBetween q.phase
+miss_turn p q t word plain is miss took =
+    let at_look : q.phase ≡ Looking t = ap (λ (x : Private). x.phase) (took ∙ took_miss p t word plain is miss) ∙ is in
     (ap (boxes_at q) at_look, subst IsBetween (sym at_look) tt)
 
 pub no_else_turn : (p : Private) (op : Op) → IsBetween p.phase → NotLooking p.phase → ◌≡◌ {A = Option Op} (next_of p) (Some op) → ((x : ℕ) → op ≡ ops.LoadChild x → ⊥) → ((x : ℕ) → op ≡ ops.ClearField x → ⊥) → ((x : ℕ) → op ≡ ops.FreeHeader x → ⊥)

@@ -1,5 +1,5 @@
 -- What an operation makes of the run, and that it keeps the rule.
-use Rattle.std.proofs.Common.{◌≡◌, ◌≢◌, ℕ, if◌then◌else◌, Bool, eq-eqb, ne_eqb, Option, None, List, [], ◌∷◌, ◌++◌, get_or, refl, sym, ap, ◌∙◌, subst, append-nil}
+use Rattle.std.proofs.Common.{◌≡◌, ◌≢◌, ℕ, ◌==◌, if◌then◌else◌, Bool, eq-eqb, ne_eqb, Option, None, List, [], ◌∷◌, ◌++◌, get_or, refl, sym, ap, ◌∙◌, subst, append-nil}
 use Rattle.atomic_table.specs.Table.{State, Me, Allows}
 use Rattle.rec_table.proofs.Common.{written, Op, Contents, Core, Move, after_moves, Kind, Operation, Adds, AreMade, Grows, Operates, Ran, Runs, Stays, actor_at, moves_made, operation, steps_in, View}
 use Rattle.rec_word.specs.Mailbox.{crossing_word}
@@ -49,9 +49,17 @@ module _ (key : Core) (v : View) (i found : ℕ) where
   pub glances_due : (run : List Move) → found ≡ crossing_word (after_moves key run).collector.epoch Retired → Grows key (operation v Kind.Glances i (λ n. n) found) run run
   glances_due run due = grows key (operation v Kind.Glances i (λ n. n) found) run run [] (ap (λ (b : Bool). if b then [] else Move.Turns ∷ []) (eq-eqb found (crossing_word (after_moves key run).collector.epoch Retired) due)) (sym (append-nil run)) refl
 
-  pub glances_early : (op : Op) (run run' : List Move) → found ≢ crossing_word (after_moves key run).collector.epoch Retired → written op found ≡ found → Grows key (operation v Kind.Turns i (written op) found) run run'
-      → Grows key (operation v Kind.Glances i (λ n. n) found) run run'
-  glances_early op run run' early same g =
+  -- a look by comparing makes the look's turn
+  pub tries_look : (expected : ℕ) (f : ℕ → ℕ) (op : Op) (run run' : List Move) → ((n : ℕ) → f n ≡ (if n == expected then written op expected else n)) → f found ≡ written op found
+      → Grows key (operation v Kind.Turns i (written op) found) run run' → Grows key (operation v (Kind.Tries expected) i f found) run run'
+  tries_look expected f op run run' tries same g =
       let (its, more, (at, does)) = g.steps in
+      grows key (operation v (Kind.Tries expected) i f found) run run' (Move.Turns ∷ []) refl g.moves
+      (its, more, (at, ((λ n. tries n ∙ ap (λ (x : ℕ). if n == expected then x else n) (does expected)), same ∙ does found)))
+
+  pub glances_early : (expected : ℕ) (f : ℕ → ℕ) (run run' : List Move) → found ≢ crossing_word (after_moves key run).collector.epoch Retired → f found ≡ found → Grows key (operation v (Kind.Tries expected) i f found) run run'
+      → Grows key (operation v Kind.Glances i (λ n. n) found) run run'
+  glances_early expected f run run' early same g =
+      let (its, more, (at, (tries, does))) = g.steps in
       grows key (operation v Kind.Glances i (λ n. n) found) run run' (Move.Turns ∷ []) (ap (λ (b : Bool). if b then [] else Move.Turns ∷ []) (ne_eqb found (crossing_word (after_moves key run).collector.epoch Retired) early)) g.moves
-      (its, more, (at, ((λ n. refl), sym (does found) ∙ same)))
+      (its, more, (at, ((λ n. refl), sym does ∙ same)))

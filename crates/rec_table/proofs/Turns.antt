@@ -1,5 +1,5 @@
 -- A turn of the collector keeps the rule.
-use Rattle.std.proofs.Common.{◌≡◌, ◌≢◌, ⊎_elim, ℕ, ◌+◌, ◌-◌, ◌%◌, ◌<◌, ◌≤◌, true, false, true≢false, cond, eqb, eq-eqb, ne_eqb, List, [], ◌∷◌, ◌++◌, length, get_or, set, Option, Some, IfSome, refl, sym, ap, ◌∙◌, subst, arith, append-nil, get_or-set_other}
+use Rattle.std.proofs.Common.{◌≡◌, ◌≢◌, ⊎_elim, ℕ, ◌+◌, ◌-◌, ◌*◌, ◌%◌, ◌^◌, ◌<◌, ◌≤◌, ◌==◌, if◌then◌else◌, Bool, true, false, true≢false, cond, eqb, eq-eqb, ne_eqb, List, [], ◌∷◌, ◌++◌, length, get_or, set, Option, Some, IfSome, refl, sym, ap, ◌∙◌, subst, arith, append-nil, get_or-set_other}
 use mathlib.Core.Logic.{dite}
 use native.Mathlib.Decide.{ℕ_discrete}
 use mathlib.Core.Option as maybe
@@ -25,7 +25,9 @@ use Rattle.rec_core.specs.Kept.{HasCrossed}
 use Rattle.rec_core.specs.Preconditions.{MayTurn}
 use Rattle.rec_core.specs.declared.config.Config.{Config}
 use Rattle.rec_core.proofs.Actors.{giving_crosses}
+use Rattle.rec_word.proofs.Looks.{plain_look_leaves, plain_returned}
 use Rattle.rec_core.proofs.Crossings.{held_stands}
+use Rattle.rec_core.proofs.PlainWords.{looked_small}
 use Rattle.rec_core.proofs.Steps.{stand_of, stays_here}
 use Rattle.rec_core.proofs.Turning.{some_op}
 use Rattle.rec_core.proofs.Turns.{its_spare}
@@ -41,7 +43,7 @@ use Rattle.std.proofs.lemmas.List.Elements.{All-get_or}
 use Rattle.rec_table.proofs.Beats.{beats_both, world_after}
 use Rattle.rec_table.proofs.Boxes.{homes_set, homes_at, home_even, home_odd, even_zero, even_two, odd_three}
 use Rattle.rec_table.proofs.Collects.{collector_after}
-use Rattle.rec_table.proofs.Operations.{glances_due, glances_early}
+use Rattle.rec_table.proofs.Operations.{glances_due, glances_early, tries_look}
 use Rattle.rec_table.proofs.Steps.{IsPlainOp, plain_crossing, places_after, slots_after, fits_set}
 
 looks_op : (c : Private) (t : ℕ) → c.phase ≡ Looking t → ◌≡◌ {A = Option Op} (next_of c) (Some (ops.LookBox t c.epoch))
@@ -242,10 +244,20 @@ pub held_so : (w : Core) (t : ℕ) → IsKept false w → IsMutator w.config t �
 held_so w t kept is at_phase =
     subst (IsHandshake w.config w.epoch (mutator w t) (crossing_of w t) (box w t)) (held_stands w t kept at_phase) (actor_of w t kept is).handshake
 
+-- what a compare-exchange for a mailbox that is home with what was retired leaves
+abbrev pub tried : (epoch n : ℕ) → ℕ
+tried epoch n = if n == crossing_word epoch Retired then crossing_word epoch WithCollector else n
+
+-- it leaves what the look leaves of the word compared with
+due_left : (t epoch : ℕ) → epoch < 2 ^ 24 → crossing_word epoch WithCollector ≡ written (ops.LookBox t epoch) (crossing_word epoch Retired)
+due_left t epoch few =
+    let small : crossing_word epoch Retired < 2 ^ 32 = omega (arith, few) in
+    sym (plain_look_leaves t epoch (crossing_word epoch Retired) small ∙ ap (λ (b : Bool). cond b (crossing_word epoch WithCollector) (crossing_word epoch Retired)) (eq-eqb (crossing_word epoch Retired) (crossing_word epoch Retired) refl))
+
 -- a look at the mailbox of mutator t
 pub looks : (key : Core) (slots id t : ℕ) (c : CollectorSeat) (p : Private) (f : ℕ → ℕ) (st : Step (Option Contents))
-    → p ≡ gathered_all key.collector c.log → p.phase ≡ Looking t → ((n : ℕ) → f n ≡ written (ops.LookBox t p.epoch) n)
-    → Operates key Kind.Turns slots id (Collects c, []) (index_of (length key.words) (length key.headers) (ops.LookBox t p.epoch)) f (LookedBy p t st (Collects c, []))
+    → p ≡ gathered_all key.collector c.log → p.phase ≡ Looking t → ((n : ℕ) → f n ≡ tried p.epoch n)
+    → Operates key (Kind.Tries (crossing_word p.epoch Retired)) slots id (Collects c, []) (index_of (length key.words) (length key.headers) (ops.LookBox t p.epoch)) f (LookedBy p t st (Collects c, []))
 looks key slots id t c p f st is_p phase does s h len at_id fit =
     let op : Op = ops.LookBox t p.epoch in
     let here : Here key s h c p op = here_at key s h id c p op at_id is_p (looks_op p t phase) in
@@ -259,11 +271,16 @@ looks key slots id t c p f st is_p phase does s h len at_id fit =
     let boxes_many = kept.mutators.mailboxes in
     let low : t - 1 < length now.crossing = omega (arith, here.may.within.0, here.may.within.1) in
     let low_box : t - 1 < length now.boxes = omega (arith, low, words_many, boxes_many) in
+    let plain_word : word < 2 ^ 32 = looked_small now t kept at_phase in
+    let plain : n < 2 ^ 32 = subst (λ (k : ℕ). k < 2 ^ 32) (sym here.found) plain_word in
+    let few : p.epoch < 2 ^ 24 = subst (λ (q : Private). q.epoch < 2 ^ 24) here.is kept.collector.machine.epoch in
+    let does_found : f n ≡ written op n = does n ∙ sym (plain_look_leaves t p.epoch n plain) in
+    let tries : (k : ℕ) → f k ≡ (if k == crossing_word p.epoch Retired then written op (crossing_word p.epoch Retired) else k) = λ k. does k ∙ ap (λ (x : ℕ). if k == crossing_word p.epoch Retired then x else k) (due_left t p.epoch few) in
     dite (ℕ_discrete n (crossing_word p.epoch Retired))
     (λ (hit : n ≡ crossing_word p.epoch Retired).
     let b : Contents = box now t in
     let hits : eqb word (crossing_word now.collector.epoch Retired) ≡ true = eq-eqb word (crossing_word now.collector.epoch Retired) (sym here.found ∙ hit ∙ ap (λ e. crossing_word e Retired) (sym epoch)) in
-    let writes : written op word ≡ crossing_word p.epoch WithCollector = ap (λ x. cond x (crossing_word p.epoch WithCollector) word) (eq-eqb word (crossing_word p.epoch Retired) (sym here.found ∙ hit)) in
+    let writes : written op word ≡ crossing_word p.epoch WithCollector = plain_look_leaves t p.epoch word plain_word ∙ ap (λ x. cond x (crossing_word p.epoch WithCollector) word) (eq-eqb word (crossing_word p.epoch Retired) (sym here.found ∙ hit)) in
     let left : left_by now.collector word b (Looking t) ≡ spare now.collector = ap (λ x. cond x (spare now.collector) b) hits in
     let boxes : (turned_at now (Some op)).boxes ≡ set now.boxes (t - 1) (spare now.collector) =
     ap (λ (g : Phase). set now.boxes (looked_at g - 1) (left_by now.collector word (box now (looked_at g)) g)) at_phase ∙ ap (set now.boxes (t - 1)) left in
@@ -277,28 +294,28 @@ looks key slots id t c p f st is_p phase does s h len at_id fit =
     ∙ (λ j. homes_of (set now.crossing (t - 1) (sym writes j)) (sym boxes j)) in
     let beat : Took n b ≡ looked now word now.collector.phase = sym (ap (looked now word) at_phase ∙ ap (λ x. cond x (Took word b) (Saw word)) hits ∙ ap (λ k. Took k b) (sym here.found)) in
     let sized : IsSized p.registers p.capacity b = subst (λ (q : Private). IsSized q.registers q.capacity b) here.is (subst (λ (g : Phase). IsSized now.collector.registers now.collector.capacity (box now (looked_at g))) at_phase here.may.sized) in
-    let after = turns_on key s h id c p op (f n) (set s.homes (t - 1) none) (Took n b) at_id here (does n) homes' beat in (
+    let after = turns_on key s h id c p op (f n) (set s.homes (t - 1) none) (Took n b) at_id here does_found homes' beat in (
       Collects (record c { log = c.log ++ Took n b ∷ [] }),
       takes (t - 1) (Some b),
       home,
       after.0,
-      grows_by key s h c p op f after.0.run here does after.1,
-      ((λ e. (b, refl, sized)), (λ ne. absurd (ne hit))),
+      tries_look key (Collects c) (index_of (length key.words) (length key.headers) op) n (crossing_word p.epoch Retired) f op h.run after.0.run tries does_found (grows_by key s h c p op (written op) after.0.run here (λ k. refl) after.1),
+      ((λ e. (b, refl, sized)), (λ ne. absurd (ne hit)), plain),
     ))
     (λ (miss : n ≢ crossing_word p.epoch Retired).
     let misses : eqb word (crossing_word now.collector.epoch Retired) ≡ false = ne_eqb word (crossing_word now.collector.epoch Retired) (λ e. miss (here.found ∙ e ∙ ap (λ x. crossing_word x Retired) epoch)) in
-    let writes : written op word ≡ word = ap (λ x. cond x (crossing_word p.epoch WithCollector) word) (ne_eqb word (crossing_word p.epoch Retired) (λ e. miss (here.found ∙ e))) in
+    let writes : written op word ≡ word = plain_look_leaves t p.epoch word plain_word ∙ ap (λ x. cond x (crossing_word p.epoch WithCollector) word) (ne_eqb word (crossing_word p.epoch Retired) (λ e. miss (here.found ∙ e))) in
     let boxes : (turned_at now (Some op)).boxes ≡ now.boxes =
     ap (λ (g : Phase). set now.boxes (looked_at g - 1) (left_by now.collector word (box now (looked_at g)) g)) at_phase ∙ ap (λ x. set now.boxes (t - 1) (cond x (spare now.collector) (box now t))) misses ∙ same_boxes now t in
     let crossing : (turned_at now (Some op)).crossing ≡ now.crossing = ap (set now.crossing (t - 1)) writes ∙ set-get_or now.crossing (t - 1) 0 in
     let beat : Saw n ≡ looked now word now.collector.phase = sym (ap (looked now word) at_phase ∙ ap (λ x. cond x (Took word (box now t)) (Saw word)) misses ∙ ap (λ k. Saw k) (sym here.found)) in
-    let after = turns_on key s h id c p op (f n) s.homes (Saw n) at_id here (does n) (h.homes ∙ (λ j. homes_of (sym crossing j) (sym boxes j))) beat in (
+    let after = turns_on key s h id c p op (f n) s.homes (Saw n) at_id here does_found (h.homes ∙ (λ j. homes_of (sym crossing j) (sym boxes j))) beat in (
       Collects (record c { log = c.log ++ Saw n ∷ [] }),
       keeps,
       tt,
       after.0,
-      grows_by key s h c p op f after.0.run here does after.1,
-      ((λ e. absurd (miss e)), (λ ne. refl)),
+      tries_look key (Collects c) (index_of (length key.words) (length key.headers) op) n (crossing_word p.epoch Retired) f op h.run after.0.run tries does_found (grows_by key s h c p op (written op) after.0.run here (λ k. refl) after.1),
+      ((λ e. absurd (miss e)), (λ ne. refl), plain),
     ))
 
 -- A glance is a load: a look that takes no mailbox, or no turn at all.
@@ -321,9 +338,9 @@ glances key slots id t c p st is_p phase s h len at_id fit =
       ((λ ne. absurd (ne hit)), (λ e. refl)),
     ))
     (λ (miss : n ≢ crossing_word p.epoch Retired).
-    let all = looks key slots id t c p (written op) st is_p phase (λ k. refl) s h len at_id fit in
-    let same : written op n ≡ n = ap (λ b. cond b (crossing_word p.epoch WithCollector) n) (ne_eqb n (crossing_word p.epoch Retired) miss) in
-    let after = subst (λ z. (h' : Holds key (stepped s i z id [] all.0 all.1)) × Grows key (operation (Collects c) Kind.Glances i (λ k. k) n) h.run h'.run) same (all.3, glances_early key (Collects c) i n op h.run all.3.run (λ e. miss (e ∙ sym epoch)) same all.4) in (
+    let all = looks key slots id t c p (tried p.epoch) st is_p phase (λ k. refl) s h len at_id fit in
+    let same : tried p.epoch n ≡ n = ap (λ b. cond b (crossing_word p.epoch WithCollector) n) (ne_eqb n (crossing_word p.epoch Retired) miss) in
+    let after = subst (λ z. (h' : Holds key (stepped s i z id [] all.0 all.1)) × Grows key (operation (Collects c) Kind.Glances i (λ k. k) n) h.run h'.run) same (all.3, glances_early key (Collects c) i n (crossing_word p.epoch Retired) (tried p.epoch) h.run all.3.run (λ e. miss (e ∙ sym epoch)) same all.4) in (
       all.0,
       all.1,
       all.2,
@@ -346,14 +363,18 @@ returns_box key slots id t c p f st is_p phase does s h len at_id fit =
     let at_phase : now.collector.phase ≡ Returning t = ap (λ (q : Private). q.phase) here.is ∙ phase in
     let words_many = kept.mutators.words in
     let is : IsMutator now.config t = (here.may.within.0, omega (arith, here.may.within.1, words_many)) in
-    let b_is : box now t ≡ spare p = (held_so now t kept is at_phase).1 ∙ sym (its_spare kept.collector) ∙ ap spare here.is in
+    let held = held_so now t kept is at_phase in
+    let epoch : now.epoch ≡ p.epoch = sym kept.collector.epoch ∙ ap (λ (q : Private). q.epoch) here.is in
+    let few : p.epoch < 2 ^ 24 = subst (λ (q : Private). q.epoch < 2 ^ 24) here.is kept.collector.machine.epoch in
+    let writes : written op word ≡ crossing_word p.epoch Spare = ap (written op) (held.0.word ∙ ap (λ e. crossing_word e WithCollector) epoch) ∙ plain_returned t p.epoch (omega (arith, few)) in
+    let b_is : box now t ≡ spare p = held.1 ∙ sym (its_spare kept.collector) ∙ ap spare here.is in
     let boxes : (turned_at now (Some op)).boxes ≡ set now.boxes (t - 1) (spare p) =
     ap (λ (g : Phase). set now.boxes (looked_at g - 1) (left_by now.collector word (box now (looked_at g)) g)) at_phase ∙ same_boxes now 1 ∙ sym (same_boxes now t) ∙ ap (set now.boxes (t - 1)) b_is in
     let homes' : set s.homes (t - 1) (some (Some (spare p))) ≡ homes_of (turned_at now (Some op)).crossing (turned_at now (Some op)).boxes =
     ap (λ l. set l (t - 1) (some (Some (spare p)))) h.homes
     ∙ ap (set (homes_of now.crossing now.boxes) (t - 1)) (sym (home_even (crossing_word p.epoch Spare) (spare p) (even_zero p.epoch)))
     ∙ sym (homes_set now.crossing now.boxes (t - 1) (crossing_word p.epoch Spare) (spare p))
-    ∙ ap (homes_of (set now.crossing (t - 1) (crossing_word p.epoch Spare))) (sym boxes) in
+    ∙ (λ j. homes_of (set now.crossing (t - 1) (sym writes j)) (sym boxes j)) in
     let beat : Saw n ≡ looked now word now.collector.phase = sym (ap (looked now word) at_phase ∙ ap (λ k. Saw k) (sym here.found)) in
     let after = turns_on key s h id c p op (f n) (set s.homes (t - 1) (some (Some (spare p)))) (Saw n) at_id here (does n) homes' beat in (
       Collects (record c { log = c.log ++ Saw n ∷ [] }),

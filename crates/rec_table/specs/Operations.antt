@@ -21,12 +21,14 @@ use Rattle.rec_table.specs.declared.views.View.{View}
 use Rattle.rec_table.specs.declared.views.View.TheVariants.{Mutates}
 
 -- The kinds of a seat's atomic operation: its mutator's next step, with which a work may begin; a load of the header that its scan
--- would claim next; a turn of the collector; and a load of the crossing word that the collector looks at next.
+-- would claim next; a turn of the collector; a load of the crossing word that the collector looks at next; and a look by comparing that
+-- crossing word with this one.
 pub data Kind : Type 0 where
   Steps : Option Start → Kind
   Passes : Kind
   Turns : Kind
   Glances : Kind
+  Tries : (expected : ℕ) → Kind
 
 -- an operation: who makes it, mutators being numbered from 1 and the collector 0; its kind; the index of its word; what it leaves of
 -- the word that it finds; and that word
@@ -69,6 +71,7 @@ abbrev moves_by : Core → (actor found : ℕ) → Kind → List Move
 moves_by w actor found (Kind.Steps work) = moves_of actor work
 moves_by w actor found Kind.Passes = if found == 0 then [] else Move.Steps actor ∷ []
 moves_by w actor found Kind.Turns = Move.Turns ∷ []
+moves_by w actor found (Kind.Tries expected) = Move.Turns ∷ []
 moves_by w actor found Kind.Glances = if found == crossing_word w.collector.epoch Retired then [] else Move.Turns ∷ []
 
 -- What an operation makes of the run in this state: a step, with the begin of its work or without; or a turn. A load that finds a
@@ -79,11 +82,13 @@ moves_made w o = moves_by w o.actor o.found o.kind
 abbrev LeavesAs : (leaves : ℕ → ℕ) → (found : ℕ) → Op → Kind → Type 0
 LeavesAs leaves found op (Kind.Steps work) = (n : ℕ) → leaves n ≡ written op n
 LeavesAs leaves found op Kind.Turns = (n : ℕ) → leaves n ≡ written op n
+LeavesAs leaves found op (Kind.Tries expected) = ((n : ℕ) → leaves n ≡ (if n == expected then written op expected else n)) × (leaves found ≡ written op found)
 LeavesAs leaves found op Kind.Passes = ((n : ℕ) → leaves n ≡ n) × (written op found ≡ found)
 LeavesAs leaves found op Kind.Glances = ((n : ℕ) → leaves n ≡ n) × (written op found ≡ found)
 
 -- An operation on the table is this one of the core: it stands at its word, and leaves what it leaves of every word. A load may stand
--- for one that leaves the word found as it is.
+-- for one that leaves the word found as it is. A look is a compare-exchange: it puts what the look leaves of the word expected, and
+-- leaves any other word. Of the word found it leaves what the look leaves.
 abbrev CarriesOut : (key : Core) → Operation → Op → Type 0
 CarriesOut key o op = (o.index ≡ index_of (length key.words) (length key.headers) op) × LeavesAs o.leaves o.found op o.kind
 

@@ -1,5 +1,5 @@
 -- The rule of the table, and what each step of a mutator tells.
-use Rattle.std.specs.Prelude.{◌≡◌, ◌≢◌, ℕ, ◌+◌, ◌-◌, ◌<◌, ◌≤◌, false, true, Option, Some, None, IfSome, List, [], ◌∷◌, ◌++◌, length, slice_index_or}
+use Rattle.std.specs.Prelude.{◌≡◌, ◌≢◌, ℕ, ◌+◌, ◌-◌, ◌^◌, ◌<◌, ◌≤◌, false, true, Option, Some, None, IfSome, List, [], ◌∷◌, ◌++◌, length, slice_index_or}
 use mathlib.Core.Option.{some}
 use lib.ListN.{get_elem?}
 use Rattle.atomic_table.specs.Table.{State, Me, Step, rest}
@@ -136,11 +136,12 @@ FindsHeader c word = (slot : ℕ) → turning_next.next_of c ≡ Some (ops.FreeH
 abbrev pub TurnedBy : collectors.Private → Step (Option Contents) → Me (Option Contents) View → ℕ → Me (Option Contents) View → Type 0
 TurnedBy c st me word me' = (me' ≡ (records me.0 (Saw word), me.1)) × IsGiven c word × FindsHeader c word
 
--- a look at the mailbox of mutator t: where it is home with what was retired, it is taken
+-- a look at the mailbox of mutator t: where it is home with what was retired, it is taken; the word found has no bit of parking
 abbrev pub Looks : collectors.Private → (t : ℕ) → Me (Option Contents) View → (word : ℕ) → Me (Option Contents) View → Type 0
 Looks c t me word me' =
     (word ≡ crossing_word c.epoch Retired → (b : Contents) × (me' ≡ (records me.0 (Took word b), (t - 1, Some b) ∷ me.1)) × IsSized c.registers c.capacity b)
     × (word ≢ crossing_word c.epoch Retired → me' ≡ (records me.0 (Saw word), me.1))
+    × (word < 2 ^ 32)
 
 abbrev pub LookedBy : collectors.Private → (t : ℕ) → Step (Option Contents) → Me (Option Contents) View → ℕ → Me (Option Contents) View → Type 0
 LookedBy c t st me word me' = Looks c t me word me'

@@ -38,7 +38,7 @@ use rec_collector::{Kind, Machine, Sets, Turn};
 use rec_log::Buffer;
 use rec_mutator::Machine as Mutators;
 use rec_notice::{Teller, Tube};
-use rec_word::{Header, Mailbox, Op, crossing};
+use rec_word::{Header, Mailbox, Op, RETURNS, crossing};
 use rec_world::swap_gathered;
 use std::marker::{Brand, Model};
 use std::snapshot::Snapshot;
@@ -91,12 +91,7 @@ pub(crate) fn make_turn<W: Turning>(
         Op::ClearField(_) | Op::FreeHeader(_) => swap::<Turned<W>>(board, seat, word, 0),
         Op::StoreEpoch(epoch) => swap::<Turned<W>>(board, seat, word, u64::from(epoch)),
         Op::AddFreed => fetch_add::<Turned<W>>(board, seat, word, 1),
-        Op::ReturnBox(_, epoch) => swap::<Returned<W>>(
-            board,
-            seat,
-            word,
-            crossing(epoch, Mailbox::Spare),
-        ),
+        Op::ReturnBox(_, _) => fetch_add::<Returned<W>>(board, seat, word, RETURNS),
         _ => unreachable!(),
     }
 }

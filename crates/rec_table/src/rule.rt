@@ -155,9 +155,11 @@ impl<W: Turning> Play<Option<Buffer>, View> for Looked<W> {
 }
 
 impl<W: Turning> Operating for Looked<W> {
+    ghost use Rattle.rec_word.specs.Mailbox.{crossing_word};
+    ghost use Rattle.rec_word.specs.declared.mailbox.Mailbox.TheVariants.{Retired};
     ghost use Rattle.rec_table.specs.Operations.{Kind};
 
-    ghost kind = { Kind.Turns };
+    ghost kind = { Kind.Tries (crossing_word W.actor.epoch Retired) };
 }
 
 pub struct Glanced<W: Turning> {

@@ -1,6 +1,10 @@
 -- A turn requests at most one epoch more.
 use Rattle.std.proofs.Common.{◌≡◌, ℕ, ◌+◌, ◌≤◌, ◌==◌, Bool, true, false, if◌then◌else◌, [], ◌∷◌, ◌++◌, Option, None, Some, inl, inr, length, refl, sym, ap, ◌∙◌, arith, append_assoc}
 use Rattle.std.proofs.lemmas.List.{append-nil, length-append}
+use Rattle.rec_word.specs.Looked.{looked}
+use Rattle.rec_word.specs.declared.looked.Looked.{Looked}
+use Rattle.rec_word.specs.declared.looked.Looked.TheVariants.{Takes, Crosses, Waits}
+use Rattle.rec_collector.specs.Took.{after_look, crossed_for}
 use Rattle.rec_collector.specs.Followed.{Next, worked}
 use Rattle.rec_collector.specs.Next.{is_spent, next_of}
 use Rattle.rec_collector.specs.Private.{Private, parts_of, with_parts}
@@ -27,10 +31,15 @@ either_rises : (b : Bool) (p q r : Private) → q.epoch ≤ p.epoch + 1 → r.ep
 either_rises true p q r x y = x
 either_rises false p q r x y = y
 
+look_rises : (p : Private) (t : ℕ) (l : Looked) → (after_look p t l).epoch ≤ p.epoch + 1
+look_rises p t (Takes new) = omega arith
+look_rises p t (Crosses new) = let e : (behind (crossed_for p t) t).epoch ≡ p.epoch = behind_epoch (crossed_for p t) t in omega (arith, e)
+look_rises p t Waits = omega arith
+
 took_rises : (p : Private) (word : ℕ) (phase : Phase) → (took_at p word phase).epoch ≤ p.epoch + 1
 unfolding took_at
 took_rises p word Idle = let e : (behind (requested p) 0).epoch ≡ p.epoch + 1 = behind_epoch (requested p) 0 in either_rises (is_spent p) p p (behind (requested p) 0) (omega arith) (omega (arith, e))
-took_rises p word (Looking t) = either_rises (word == crossing_word p.epoch Retired) p (moved p (Swapping t)) p (omega arith) (omega arith)
+took_rises p word (Looking t) = look_rises p t (looked p.epoch word)
 took_rises p word (Swapping t) = omega arith
 took_rises p word (Returning t) = let e : (behind (noted p t) t).epoch ≡ p.epoch = behind_epoch (noted p t) t in omega (arith, e)
 took_rises p word Opening = omega arith

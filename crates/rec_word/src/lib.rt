@@ -38,7 +38,7 @@ pub use laws::{
 pub use looked::Looked;
 pub use mailbox::{Mailbox, crossing, crossing_of, is_held, named_epoch, past_part, says_parked};
 pub use member::Member;
-pub use op::Op;
+pub use op::{Op, RETURNS};
 pub use places::place;
 pub use shift::Shift;
 pub use stamps::Stamp;

@@ -3,8 +3,8 @@ ghost use Rattle.std.specs.Prelude.{◌≡◌};
 use crate::{Atom, Cell, Mailbox, Shift, crossing, is_held};
 use std::fmt;
 
-// What is added to a crossing word to bring its past mailbox home from the collector, from 3 to 0 in bits 0 and 1.
-const RETURNS: u64 = u64::MAX - 2;
+/// What is added to a crossing word to bring its past mailbox home from the collector, from 3 to 0 in bits 0 and 1.
+pub const RETURNS: u64 = u64::MAX - 2;
 
 /// One atomic operation on one shared word: `cell` tells which word that is, and `atom` what is done to it.
 #[derive(Clone, Copy, PartialEq, Eq)]

@@ -5,16 +5,22 @@ use Rattle.std.proofs.lemmas.List.{get_or_default, map-set, set-get_or}
 use Rattle.rec_world.proofs.Common.{Contents, Cells, cell, with_cell, Core, cells_of, box, looked_at, left_by, turned, turned_at, turned_by, held, held_by, gathered_by, gathered_from}
 use Rattle.rec_word.specs.Mailbox.{crossing_word}
 use Rattle.rec_word.specs.declared.mailbox.Mailbox.TheVariants.{Retired}
+use Rattle.rec_word.specs.Looked.{looked}
 use Rattle.rec_word.specs.Op.{written}
+use Rattle.rec_word.specs.declared.looked.Looked.{Looked}
+use Rattle.rec_word.specs.declared.looked.Looked.TheVariants.{Takes, Crosses, Waits}
 use Rattle.rec_word.specs.declared.op.Op.{Op}
 use Rattle.rec_collector.specs.Given.{IsSwapping, swapping_for}
 use Rattle.rec_collector.specs.Next.{next_of}
 use Rattle.rec_collector.specs.Private as collectors
 use Rattle.rec_collector.specs.Step.{IsBetween}
-use Rattle.rec_collector.specs.Took.{left_at, left_of, took_of, took_at, step_of, swapped_of}
+use Rattle.rec_collector.specs.Took.{after_look, crossed_for, left_at, left_of, took_of, took_at, step_of, swapped_of}
 use Rattle.rec_collector.specs.declared.phase.Phase.{Phase}
 use Rattle.rec_collector.specs.declared.phase.Phase.TheVariants.{Looking, Swapping}
-use Rattle.rec_collector.proofs.Steps.{took_between}
+use Rattle.rec_collector.proofs.Steps.{gathers_between, took_between}
+use Rattle.rec_collector.proofs.Plain.{plain_took}
+use Rattle.rec_collector.specs.Present.{next_present}
+use Rattle.rec_core.proofs.PlainWords.{FindsPlain}
 use Rattle.rec_world.proofs.Calls.{box_read, home_again}
 use Rattle.rec_world.proofs.Mailboxes.{collector_leaves, collector_stays, gathered_stays}
 
@@ -44,41 +50,46 @@ pub holds_looked : (c : collectors.Private) (word : ℕ) → IsBetween c.phase �
 unfolding took_of took_at
 holds_looked c word between = go c.phase refl
   where
-    looked : (t : ℕ) → c.phase ≡ Looking t → (held_ : Bool) → IfSome (swapping_for (if held_ then record c { phase = Swapping t; turns = c.turns + 1 } else c).phase) (λ u. u ≡ t)
-    looked t is true = refl
-    looked t is false = subst (λ f. IfSome (swapping_for f) (λ u. u ≡ t)) (sym is) tt
+    unswapped : (t : ℕ) (phase : Phase) → IsBetween phase → IfSome (swapping_for phase) (λ u. u ≡ t)
+    unswapped t (Swapping u) between = absurd between
+    unswapped t _ between = tt
+
+    after : (t : ℕ) → c.phase ≡ Looking t → (l : Looked) → IfSome (swapping_for (after_look c t l).phase) (λ u. u ≡ t)
+    after t is (Takes new) = refl
+    after t is (Crosses new) = unswapped t (after_look c t (Crosses new)).phase (gathers_between (crossed_for c t) (next_present c.left t))
+    after t is Waits = subst (λ f. IfSome (swapping_for f) (λ u. u ≡ t)) (sym is) tt
 
     none : (phase : Phase) → (IsSwapping phase → ⊥) → IfSome (swapping_for phase) (λ t. t ≡ looked_at c.phase)
     none (Swapping t) not = absurd (not tt)
     none _ not = tt
 
     go : (phase : Phase) → c.phase ≡ phase → IfSome (swapping_for (took_of c word).phase) (λ t. t ≡ looked_at c.phase)
-    go (Looking t) is = subst (λ f. IfSome (swapping_for (took_at c word f).phase) (λ u. u ≡ looked_at f)) (sym is) (looked t is (word == crossing_word c.epoch Retired))
+    go (Looking t) is = subst (λ f. IfSome (swapping_for (took_at c word f).phase) (λ u. u ≡ looked_at f)) (sym is) (after t is (looked c.epoch word))
     go _ is = none (took_of c word).phase (none_swaps c word between (ap looks_for is))
 
 -- what the mailbox that was looked at holds after the turn, by phase
-gathers : (c : collectors.Private) (word : ℕ) (b : Contents) (phase : Phase) → c.phase ≡ phase → IsBetween phase → left_of (took_of c word) b ≡ left_by c word b phase
-unfolding took_of took_at left_of left_at
-gathers c word b (Looking t) is between = ap (λ f. left_of (took_at c word f) b) is ∙ go (word == crossing_word c.epoch Retired)
+gathers : (c : collectors.Private) (word : ℕ) (b : Contents) (phase : Phase) → c.phase ≡ phase → IsBetween phase → FindsPlain c word → left_of (took_of c word) b ≡ left_by c word b phase
+unfolding took_of left_of left_at
+gathers c word b (Looking t) is between plain = ap (λ f. left_of (took_at c word f) b) is ∙ ap (λ q. left_of q b) (plain_took c word t (plain t is)) ∙ go (word == crossing_word c.epoch Retired)
   where
     go : (held_ : Bool) → (let d : collectors.Private = (if held_ then record c { phase = Swapping t; turns = c.turns + 1 } else c) in left_at d b d.phase) ≡ (if held_ then collectors.spare c else b)
     go true = refl
     go false = ap (left_at c b) is
-gathers c word b (Swapping t) is between = absurd between
-gathers c word b phase is between = collector_leaves (took_of c word) b (none_swaps c word (subst IsBetween (sym is) between) (ap looks_for is))
+gathers c word b (Swapping t) is between plain = absurd between
+gathers c word b phase is between plain = collector_leaves (took_of c word) b (none_swaps c word (subst IsBetween (sym is) between) (ap looks_for is))
 
-pub gathers_so : (c : collectors.Private) (word : ℕ) (b : Contents) → IsBetween c.phase → left_of (took_of c word) b ≡ left_by c word b c.phase
-gathers_so c word b between = gathers c word b c.phase refl between
+pub gathers_so : (c : collectors.Private) (word : ℕ) (b : Contents) → IsBetween c.phase → FindsPlain c word → left_of (took_of c word) b ≡ left_by c word b c.phase
+gathers_so c word b between plain = gathers c word b c.phase refl between plain
 
 -- what a turn leaves, with the mailbox that is looked at named
 turned_with : (w : Core) (boxes : List (Option Contents)) (op : Op) (found i : ℕ) (mailbox left : Option Contents) (taken new : collectors.Private) (cells : Cells)
-    → IsBetween w.collector.phase → w.boxes ≡ map held boxes → looked_at w.collector.phase - 1 < length boxes
+    → IsBetween w.collector.phase → FindsPlain w.collector found → w.boxes ≡ map held boxes → looked_at w.collector.phase - 1 < length boxes
     → ◌≡◌ {A = Option Op} (next_of w.collector) (Some op) → i ≡ looked_at w.collector.phase → mailbox ≡ slice_index_or boxes (i - 1) mailbox
     → found ≡ cell (cells_of w) op → cells ≡ with_cell (cells_of w) op (written op found)
     → taken ≡ took_of w.collector found → new ≡ swapped_of taken (held mailbox) → left ≡ Some (left_of taken (held mailbox))
     → ◌≡◌ {A = Core} (record w { headers = cells.headers; words = cells.words; epoch = cells.epoch; freed = cells.freed; crossing = cells.crossing; boxes = map held (slice_set boxes (i - 1) left); collector = new }) (turned w)
 unfolding next_of step_of
-turned_with w boxes op found i mailbox left taken new cells between same there named number its_box finds leaves learns swaps gives =
+turned_with w boxes op found i mailbox left taken new cells between plain same there named number its_box finds leaves learns swaps gives =
     let c : collectors.Private = w.collector in
     let t : ℕ = looked_at c.phase in
     let make : ℕ → Cells → List Contents → collectors.Private → Core
@@ -86,7 +97,7 @@ turned_with w boxes op found i mailbox left taken new cells between same there n
     let was : held mailbox ≡ box w t = box_read boxes t i mailbox number there its_box ∙ ap (λ (bs : List Contents). slice_index_or bs (t - 1) (collectors.blank 0 0)) (sym same) in
     let its_new : new ≡ step_of c found (box w t) = swaps ∙ ap (λ x. swapped_of x (held mailbox)) learns ∙ ap (swapped_of (took_of c found)) was in
     let its_left : left ≡ Some (left_by c found (box w t) c.phase)
-    = gives ∙ ap (λ (x : collectors.Private). Some (left_of x (held mailbox))) learns ∙ ap (λ b. Some (left_of (took_of c found) b)) was ∙ ap (λ b. Some b) (gathers_so c found (box w t) between) in
+    = gives ∙ ap (λ (x : collectors.Private). Some (left_of x (held mailbox))) learns ∙ ap (λ b. Some (left_of (took_of c found) b)) was ∙ ap (λ b. Some b) (gathers_so c found (box w t) between plain) in
     let boxed : map held (slice_set boxes (i - 1) left) ≡ slice_set w.boxes (t - 1) (left_by c found (box w t) c.phase)
     = ap (λ n. map held (slice_set boxes (n - 1) left)) number ∙ ap (λ x. map held (slice_set boxes (t - 1) x)) its_left ∙ map-set held boxes (t - 1) (Some (left_by c found (box w t) c.phase))
     ∙ ap (λ bs. slice_set bs (t - 1) (left_by c found (box w t) c.phase)) (sym same) in
@@ -98,11 +109,11 @@ turned_with w boxes op found i mailbox left taken new cells between same there n
 
 -- what a turn leaves
 pub turned_is : (w : Core) (boxes left : List (Option Contents)) (op : Op) (found : ℕ) (taken new : collectors.Private) (cells : Cells)
-    → IsBetween w.collector.phase → w.boxes ≡ map held boxes → looked_at w.collector.phase - 1 < length boxes → ((i : ℕ) → i < length boxes → IsSome (slice_index_or boxes i None))
+    → IsBetween w.collector.phase → FindsPlain w.collector found → w.boxes ≡ map held boxes → looked_at w.collector.phase - 1 < length boxes → ((i : ℕ) → i < length boxes → IsSome (slice_index_or boxes i None))
     → ◌≡◌ {A = Option Op} (next_of w.collector) (Some op) → found ≡ cell (cells_of w) op → cells ≡ with_cell (cells_of w) op (written op found)
     → taken ≡ took_of w.collector found → new ≡ gathered_by taken boxes (swapping_for taken.phase) → left ≡ gathered_from taken boxes (swapping_for taken.phase)
     → ◌≡◌ {A = Core} (record w { headers = cells.headers; words = cells.words; epoch = cells.epoch; freed = cells.freed; crossing = cells.crossing; boxes = map held left; collector = new }) (turned w)
-turned_is w boxes left op found taken new cells between same there home named finds leaves learns swaps gives = go (swapping_for taken.phase) refl
+turned_is w boxes left op found taken new cells between plain same there home named finds leaves learns swaps gives = go (swapping_for taken.phase) refl
   where
     at : ℕ
     at = looked_at w.collector.phase
@@ -114,7 +125,7 @@ turned_is w boxes left op found taken new cells between same there home named fi
     made bs c = record w { headers = cells.headers; words = cells.words; epoch = cells.epoch; freed = cells.freed; crossing = cells.crossing; boxes = map held bs; collector = c }
 
     with : (left_there : Option Contents) (q : collectors.Private) → q ≡ swapped_of taken (held its) → left_there ≡ Some (left_of taken (held its)) → made (slice_set boxes (at - 1) left_there) q ≡ turned w
-    with left_there q = turned_with w boxes op found at its left_there taken q cells between same there named refl (get_or_default boxes (at - 1) None its there) finds leaves learns
+    with left_there q = turned_with w boxes op found at its left_there taken q cells between plain same there named refl (get_or_default boxes (at - 1) None its there) finds leaves learns
 
     none : swapping_for taken.phase ≡ None → made left new ≡ turned w
     none un =

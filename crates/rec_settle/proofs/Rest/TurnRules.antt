@@ -1,5 +1,5 @@
 -- Every turn of the collector is one of its rules.
-use Rattle.std.proofs.Common.{◌≡◌, ◌⊎◌, inl, inr, ℕ, ◌+◌, ◌-◌, ◌%◌, ◌^◌, ◌==◌, Bool, true, Option, None, Some, List, IsNone, drop, length, slice_get, slice_index_or, slice_set, refl, sym, ap, subst, ◌∙◌}
+use Rattle.std.proofs.Common.{◌≡◌, ◌≢◌, ◌⊎◌, inl, inr, ℕ, ◌+◌, ◌-◌, ◌%◌, ◌^◌, ◌==◌, Bool, true, Option, None, Some, List, IsNone, drop, length, slice_get, slice_index_or, slice_set, refl, sym, ap, subst, ◌∙◌}
 use Rattle.std.proofs.lemmas.Bool.{eq-eqb, ne_eqb, cond-true, cond-false}
 use Rattle.std.proofs.lemmas.List.{set-get_or}
 use Rattle.rec_core.proofs.Common.{crossing_word, Retired, Spare, WithCollector, place_of, Op, Contents, At, Member, with_freed, with_released, parts_of, ClearsOn, TriesOn, PreparesOn, IsNext, step_of, turn_of, moved, Phase, Idle, Looking, Returning, Releasing, Freeing, Trying, Preparing, Opening, Sweeping, Closing, Turn, cell, IsMutator, Core, cells_of, box, crossing_of, IsKept, looked_at, left_by, collected, turned, visible}
@@ -17,6 +17,10 @@ use Rattle.rec_collector.specs.Private.{Private}
 use Rattle.rec_collector.specs.Step.{Step}
 use Rattle.rec_collector.specs.Took.{took_of}
 use Rattle.rec_collector.proofs.Steps.{has_cause, spends}
+use Rattle.rec_word.specs.Looked as looks
+use Rattle.rec_word.specs.declared.looked.Looked.{Looked}
+use Rattle.rec_word.proofs.Looks.{plain_look_leaves}
+use Rattle.rec_core.proofs.PlainWords.{crosses_none, found_small, gives_home, takes_retired, waits_other}
 use Rattle.rec_core.proofs.TurnCases.{Awaits, TurnCase, crossing_with, giving_back, requesting, word_at, swept_by}
 use Rattle.rec_core.proofs.Phases.{clears_in}
 use Rattle.rec_core.proofs.Preparing.{loads_due}
@@ -38,10 +42,11 @@ requests_as w op word q idle kept its =
     ∙ ap (λ (n : ℕ). let v : Core = record w { epoch = n + 1; collector = q } in v) kept.collector.epoch
 
 -- one that gives a mailbox back
-returns_as : {dated : Bool} → (w : Core) (t : ℕ) (op : Op) (word : ℕ) (q : Private) → w.collector.phase ≡ Returning t → IsKept dated w → op ≡ ops.ReturnBox t w.collector.epoch
+returns_as : {dated : Bool} → (w : Core) (t : ℕ) (op : Op) (word : ℕ) (q : Private) → w.collector.phase ≡ Returning t → IsKept dated w → IsMutator w.config t → op ≡ ops.ReturnBox t w.collector.epoch → word ≡ cell (cells_of w) op
     → collected w op word q (left_by w.collector word (box w (looked_at w.collector.phase)) w.collector.phase) ≡ record w { crossing = crossing_with w t Spare; collector = q }
-returns_as w t op word q returning kept its =
+returns_as w t op word q returning kept is its found =
     plain w op (ops.ReturnBox t w.collector.epoch) word q (Returning t) returning refl its
+    ∙ ap (λ (n : ℕ). let v : Core = record w { crossing = slice_set w.crossing (t - 1) n; collector = q } in v) (gives_home w t op word kept returning is (ap (λ (o : Op). Some o) its) found)
     ∙ ap (λ (n : ℕ). let v : Core = record w { crossing = slice_set w.crossing (t - 1) (crossing_word n Spare); collector = q } in v) kept.collector.epoch
 
 -- each rule
@@ -58,19 +63,23 @@ rule_is w op word q turn kept found (Step.request next idle more named present g
 rule_is w op word q turn kept found (Step.request_alone idle more named left on) =
     let its : op ≡ ops.StoreEpoch (w.collector.epoch + 1) = some_op op (ops.StoreEpoch (w.collector.epoch + 1)) named in
     TurnCase.applies (requesting w) q turn (Awaits.alone idle (λ last. more (ap (λ n. n + 1) kept.collector.epoch ∙ last)) left) (clears_in (Returning (length w.collector.newer)) on) (requests_as w op word q idle kept its)
-rule_is w op word q turn kept found (Step.wait t looking other named same answer) =
+rule_is w op word q turn kept found (Step.cross_for t next looking crosses named present g) = absurd (crosses_none w t kept looking op word named found crosses)
+rule_is w op word q turn kept found (Step.cross_for_last t looking crosses named left on) = absurd (crosses_none w t kept looking op word named found crosses)
+rule_is w op word q turn kept found (Step.wait t looking stays named same answer) =
+    let other : word ≢ crossing_word w.collector.epoch Retired = waits_other w t kept looking op word named found stays in
     let its : op ≡ ops.LookBox t w.collector.epoch = some_op op (ops.LookBox t w.collector.epoch) named in
     let at : word ≡ slice_index_or w.crossing (t - 1) 0 = found ∙ ap (cell (cells_of w)) its in
     let now = now_at w (Looking t) kept looking in
     let left : left_by w.collector word (box w t) (Looking t) ≡ box w t = cond-false (word == crossing_word w.collector.epoch Retired) (collectors.spare w.collector) (box w t) (ne_eqb word (crossing_word w.collector.epoch Retired) other) in
-    let stays : written (ops.LookBox t w.collector.epoch) word ≡ word = cond-false (word == crossing_word w.collector.epoch Retired) (crossing_word w.collector.epoch WithCollector) word (ne_eqb word (crossing_word w.collector.epoch Retired) other) in
-    let crossing : slice_set w.crossing (t - 1) (written (ops.LookBox t w.collector.epoch) word) ≡ w.crossing = ap (slice_set w.crossing (t - 1)) (stays ∙ at) ∙ set-get_or w.crossing (t - 1) 0 in
+    let same_word : written (ops.LookBox t w.collector.epoch) word ≡ word = ap (λ (l : Looked). looks.left_by l word) stays in
+    let crossing : slice_set w.crossing (t - 1) (written (ops.LookBox t w.collector.epoch) word) ≡ w.crossing = ap (slice_set w.crossing (t - 1)) (same_word ∙ at) ∙ set-get_or w.crossing (t - 1) 0 in
     TurnCase.waits t (mutator_at w t (Looking t) kept looking (now.first, now.there)) looking (λ has. other (at ∙ has ∙ ap (λ n. crossing_word n Retired) (sym kept.collector.epoch))) (
     plain w op (ops.LookBox t w.collector.epoch) word q (Looking t) looking left its
     ∙ ap (λ (cs : List ℕ). let v : Core = record w { crossing = cs; collector = q } in v) crossing
     ∙ ap (λ (c : Private). let v : Core = record w { collector = c } in v) same
     )
-rule_is w op word q turn kept found (Step.gather t looking crossed named g) =
+rule_is w op word q turn kept found (Step.gather t looking takes named g) =
+    let crossed : word ≡ crossing_word w.collector.epoch Retired = takes_retired w t kept looking op word named found takes in
     let its : op ≡ ops.LookBox t w.collector.epoch = some_op op (ops.LookBox t w.collector.epoch) named in
     let at : word ≡ slice_index_or w.crossing (t - 1) 0 = found ∙ ap (cell (cells_of w)) its in
     let epoch : w.collector.epoch ≡ w.epoch = kept.collector.epoch in
@@ -78,7 +87,7 @@ rule_is w op word q turn kept found (Step.gather t looking crossed named g) =
     let has : crossing_of w t ≡ crossing_word w.epoch Retired = sym at ∙ crossed ∙ ap (λ n. crossing_word n Retired) epoch in
     let b : Bool = word == crossing_word w.collector.epoch Retired in
     let yes : b ≡ true = eq-eqb word (crossing_word w.collector.epoch Retired) crossed in
-    let next : written (ops.LookBox t w.collector.epoch) word ≡ crossing_word w.epoch WithCollector = cond-true b (crossing_word w.collector.epoch WithCollector) word yes ∙ ap (λ n. crossing_word n WithCollector) epoch in
+    let next : written (ops.LookBox t w.collector.epoch) word ≡ crossing_word w.epoch WithCollector = plain_look_leaves t w.collector.epoch word (found_small w t kept looking op word named found) ∙ cond-true b (crossing_word w.collector.epoch WithCollector) word yes ∙ ap (λ n. crossing_word n WithCollector) epoch in
     let after : q ≡ moved (record w.collector { newer = slice_set w.collector.newer (t - 1) (box w t) }) (Returning t)
     = g.after ∙ ap (λ (phase : Phase). moved (record w.collector { newer = slice_set w.collector.newer (t - 1) (box w (looked_at phase)) }) (Returning t)) looking in
     let leaves : Phase → Core = λ f. collected (record w { collector = record w.collector { phase = f } }) op word q (left_by w.collector word (box w (looked_at f)) f) in
@@ -92,15 +101,16 @@ rule_is w op word q turn kept found (Step.gather t looking crossed named g) =
 rule_is w op word q turn kept found (Step.give_back t next returning named present g) =
     let its : op ≡ ops.ReturnBox t w.collector.epoch = some_op op (ops.ReturnBox t w.collector.epoch) named in
     let now = now_at w (Returning t) kept returning in
-    TurnCase.gives_back t next (mutator_at w t (Returning t) kept returning (now.first, now.there)) returning present (
-    returns_as w t op word q returning kept its
+    let is : IsMutator w.config t = mutator_at w t (Returning t) kept returning (now.first, now.there) in
+    TurnCase.gives_back t next is returning present (
+    returns_as w t op word q returning kept is its found
     ∙ ap (λ (c : Private). let v : Core = record w { crossing = slice_set w.crossing (t - 1) (crossing_word w.epoch Spare); collector = c } in v) g.after
     )
 rule_is w op word q turn kept found (Step.apply t returning named left on) =
     let its : op ≡ ops.ReturnBox t w.collector.epoch = some_op op (ops.ReturnBox t w.collector.epoch) named in
     let now = now_at w (Returning t) kept returning in
     let is : IsMutator w.config t = mutator_at w t (Returning t) kept returning (now.first, now.there) in
-    TurnCase.applies (giving_back w t) q turn (Awaits.last t is returning left) (clears_in (Returning (length w.collector.newer)) on) (returns_as w t op word q returning kept its)
+    TurnCase.applies (giving_back w t) q turn (Awaits.last t is returning left) (clears_in (Returning (length w.collector.newer)) on) (returns_as w t op word q returning kept is its found)
 rule_is w op word q turn kept found (Step.release m releasing named on) = go m.at refl
   where
     go : (x : Option At) → m.at ≡ x → TurnCase w (collected w op word q (left_by w.collector word (box w (looked_at w.collector.phase)) w.collector.phase))

@@ -1,5 +1,5 @@
 -- The contract of `make_turn`: makes the operation of a turn that looks at no mailbox, and no more.
-use Rattle.std.proofs.Common.{◌+◌, ◌%◌, ◌^◌, ◌<◌, ℕ, ⊎_elim, sym, ap, ◌∙◌, subst}
+use Rattle.std.proofs.Common.{◌+◌, ◌-◌, ◌%◌, ◌^◌, ◌<◌, ℕ, ⊎_elim, sym, ap, ◌∙◌, subst}
 use mathlib.Core.Option.{none}
 use Rattle.atomic_table.specs.Table.{step}
 use Rattle.rec_table.proofs.Common.{written, Op, IsReturnOp}
@@ -40,12 +40,12 @@ fetch_add-requires g c = (
       c.requires.seat c.requires.actor c.requires.between c.requires.op (subst IsLoneOp (sym c.in-AddFreed.is) tt) c.index-word.ensures (λ n. ap (λ (o : Op). written o n) (sym c.in-AddFreed.is)),
 )
 
-pub swap-requires-in-ReturnBox : goal.swap-requires-in-ReturnBox
-swap-requires-in-ReturnBox g c = (
+pub fetch_add-requires-in-ReturnBox : goal.fetch_add-requires-in-ReturnBox
+fetch_add-requires-in-ReturnBox g c = (
   c.requires.table,
   subst (λ (i : ℕ). i < c.args.board.now.table.shared.table_id.words) (sym c.index-word.ensures) c.requires.there,
-  allows_return c.args.board.now.table.shared.key.value _ _ c.index-word.result c.args.seat.now.me c.args.op g.W.Turning.actor (λ _. c.crossing.result) (step c.args.board.now.table.shared.table_id.slots c.index-word.result c.crossing.result 0 none)
-      c.requires.seat c.requires.actor c.requires.between c.requires.op (subst IsReturnOp (sym c.in-ReturnBox.is) tt) c.index-word.ensures (λ n. c.crossing.ensures ∙ ap (λ (o : Op). written o n) (sym c.in-ReturnBox.is)),
+  allows_return c.args.board.now.table.shared.key.value _ _ c.index-word.result c.args.seat.now.me c.args.op g.W.Turning.actor (λ n. (n + (2 ^ 64 - 3)) % 2 ^ 64) (step c.args.board.now.table.shared.table_id.slots c.index-word.result (2 ^ 64 - 3) 0 none)
+      c.requires.seat c.requires.actor c.requires.between c.requires.op (subst IsReturnOp (sym c.in-ReturnBox.is) tt) c.index-word.ensures (λ n. ap (λ (o : Op). written o n) (sym c.in-ReturnBox.is)),
 )
 
 pub unreachable-requires : goal.unreachable-requires
@@ -71,7 +71,7 @@ returns-in-AddFreed-clause-view g c =
 
 pub returns-in-ReturnBox-clause-view : goal.returns-in-ReturnBox-clause-view
 returns-in-ReturnBox-clause-view g c =
-    made_return g.W.Turning.actor c.args.op c.swap-in-ReturnBox.result c.args.seat.now.me c.swap-in-ReturnBox.new.seat.me c.requires.seat c.requires.between c.requires.op (subst IsReturnOp (sym c.in-ReturnBox.is) tt) c.swap-in-ReturnBox.ensures.2.0
+    made_return g.W.Turning.actor c.args.op c.fetch_add-in-ReturnBox.result c.args.seat.now.me c.fetch_add-in-ReturnBox.new.seat.me c.requires.seat c.requires.between c.requires.op (subst IsReturnOp (sym c.in-ReturnBox.is) tt) c.fetch_add-in-ReturnBox.ensures.2.0
 
 pub returns-in-ReturnBox-clause-header : goal.returns-in-ReturnBox-clause-header
 returns-in-ReturnBox-clause-header g c = λ slot frees.

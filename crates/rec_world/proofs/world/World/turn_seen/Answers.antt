@@ -1,5 +1,5 @@
 -- The collector names an operation, the memory carries it out, the collector learns: the core is that of the definitions.
-use Rattle.std.proofs.Common.{◌≡◌, ℕ, ◌-◌, ◌<◌, ◌≤◌, List, Option, None, Some, map, length, slice_index_or, refl, sym, ap, subst, ◌∙◌}
+use Rattle.std.proofs.Common.{◌≡◌, ℕ, ◌-◌, ◌^◌, ◌<◌, ◌≤◌, List, Option, None, Some, map, length, slice_index_or, refl, sym, ap, subst, ◌∙◌}
 use Rattle.std.specs.Option.{IfSome, IsSome}
 use Rattle.std.proofs.lemmas.List.{get_or_default}
 use Rattle.rec_world.proofs.Common.{Contents, Core, box, Move, looked_at, turned, turned_at, core, held, held_by, IsWorld}
@@ -15,6 +15,7 @@ use Rattle.rec_core.specs.Preconditions.{MayTurn}
 use Rattle.rec_core.specs.Turn.{IsTurn, seen_at, step_seen, told_at, turn_told}
 use Rattle.rec_core.proofs.Turn.{turn_is_one}
 use Rattle.rec_core.proofs.BareRuns.{may_turn, turn_taken}
+use Rattle.rec_core.proofs.PlainWords.{finds_plain}
 use Rattle.rec_world.proofs.Calls.{ReadyToTurn, ready_to_turn, box_read, moved_world}
 use Rattle.rec_world.proofs.Turnings.{holds_looked, home_still, turned_is}
 use Rattle.rec_world.proofs.world.World.turn_seen.Goals as goal
@@ -98,7 +99,7 @@ its_op c = sym c.next.ensures.next ∙ c.in-Some.is
 left : (c : After-gather) → after c ≡ turned (core c.self.inside)
 left c =
     turned_is (core c.self.inside) c.self.inside.boxes.items c.gather.new.boxes.items c.in-Some.op c.perform-found.result c.took_as-turn.new.self c.gather.new.collector c.perform-found.new.self
-    (ends c).kept.collector.between refl (ends c).boxed c.self.invariant.home (its_op c) c.perform-found.ensures.found c.perform-found.ensures.left c.took_as-turn.ensures.took c.gather.ensures.collector c.gather.ensures.boxes
+    (ends c).kept.collector.between (λ t looks. subst (λ n. n < 2 ^ 32) (sym c.perform-found.ensures.found) (finds_plain (core c.self.inside) c.in-Some.op (ends c).kept (its_op c) t looks)) refl (ends c).boxed c.self.invariant.home (its_op c) c.perform-found.ensures.found c.perform-found.ensures.left c.took_as-turn.ensures.took c.gather.ensures.collector c.gather.ensures.boxes
 
 world : (c : After-gather) → IsWorld (after c)
 world c = subst IsWorld (sym (left c)) (moved_world (core c.self.inside) Move.Turns c.self.invariant.world tt)
