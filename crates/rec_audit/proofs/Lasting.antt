@@ -410,7 +410,7 @@ module _ (w : Core) (op : Op) (kept : IsKept true w) (named : ◌≡◌ {A = Opt
   writes_keep (collectors_step.Step.request_alone at more is gone on) = rows_keep (boxes_stay at refl) (rows_as refl refl (clears_rows (requested c) q _ on))
   writes_keep (collectors_step.Step.cross_for t next at crosses is n g) = absurd (crosses_none w t kept at op found is refl crosses)
   writes_keep (collectors_step.Step.cross_for_last t at crosses is gone on) = absurd (crosses_none w t kept at op found is refl crosses)
-  writes_keep (collectors_step.Step.wait t at stays is same turn) = rows_keep (boxes_stay at (cond-false (found == crossing_word c.epoch Retired) _ _ (ne_eqb found (crossing_word c.epoch Retired) (waits_other w t kept at op found is refl stays)))) (Rows.kept_rows (ap (λ (x : collectors.Private). x.newer) same) (ap (λ (x : collectors.Private). x.older) same))
+  writes_keep (collectors_step.Step.wait t at unmoved is same turn) = rows_keep (boxes_stay at (cond-false (found == crossing_word c.epoch Retired) _ _ (ne_eqb found (crossing_word c.epoch Retired) (waits_other w t kept at op found is refl unmoved)))) (Rows.kept_rows (ap (λ (x : collectors.Private). x.newer) same) (ap (λ (x : collectors.Private). x.older) same))
   writes_keep (collectors_step.Step.gather t at takes is g) = λ weight early. gathered_keep t at (takes_retired w t kept at op found is refl takes) (ap (λ (x : collectors.Private). x.newer) g.after) (ap (λ (x : collectors.Private). x.older) g.after) weight
   writes_keep (collectors_step.Step.give_back t next at is n g) = rows_keep (boxes_stay at refl) (Rows.kept_rows (ap (λ (x : collectors.Private). x.newer) g.after) (ap (λ (x : collectors.Private). x.older) g.after))
   writes_keep (collectors_step.Step.apply t at is gone on) = rows_keep (boxes_stay at refl) (rows_as refl refl (clears_rows (noted c t) q _ on))
@@ -453,7 +453,7 @@ module _ (w : Core) (op : Op) (kept : IsKept true w) (named : ◌≡◌ {A = Opt
   writes_less (collectors_step.Step.request_alone at more is gone on) = rows_less (boxes_stay at refl) (rows_as refl refl (clears_rows (requested c) q _ on))
   writes_less (collectors_step.Step.cross_for t next at crosses is n g) = absurd (crosses_none w t kept at op found is refl crosses)
   writes_less (collectors_step.Step.cross_for_last t at crosses is gone on) = absurd (crosses_none w t kept at op found is refl crosses)
-  writes_less (collectors_step.Step.wait t at stays is same turn) = rows_less (boxes_stay at (cond-false (found == crossing_word c.epoch Retired) _ _ (ne_eqb found (crossing_word c.epoch Retired) (waits_other w t kept at op found is refl stays)))) (Rows.kept_rows (ap (λ (x : collectors.Private). x.newer) same) (ap (λ (x : collectors.Private). x.older) same))
+  writes_less (collectors_step.Step.wait t at unmoved is same turn) = rows_less (boxes_stay at (cond-false (found == crossing_word c.epoch Retired) _ _ (ne_eqb found (crossing_word c.epoch Retired) (waits_other w t kept at op found is refl unmoved)))) (Rows.kept_rows (ap (λ (x : collectors.Private). x.newer) same) (ap (λ (x : collectors.Private). x.older) same))
   writes_less (collectors_step.Step.gather t at takes is g) = λ weight. gathered_less t at (takes_retired w t kept at op found is refl takes) (ap (λ (x : collectors.Private). x.newer) g.after) (ap (λ (x : collectors.Private). x.older) g.after) weight
   writes_less (collectors_step.Step.give_back t next at is n g) = rows_less (boxes_stay at refl) (Rows.kept_rows (ap (λ (x : collectors.Private). x.newer) g.after) (ap (λ (x : collectors.Private). x.older) g.after))
   writes_less (collectors_step.Step.apply t at is gone on) = rows_less (boxes_stay at refl) (rows_as refl refl (clears_rows (noted c t) q _ on))
