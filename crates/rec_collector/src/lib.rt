@@ -1,8 +1,9 @@
 //! The collector's machine: it decides which atomic step of a collection comes next, and learns the word that the step
 //! found.
 //!
-//! A collection requests the next epoch, and gathers from each mutator that hasn't left the buffer that it retired on crossing. One
-//! whose buffer was its last is passed over from then on. With the last buffer the batch is applied, and its zeros are released. Then
+//! A collection requests the next epoch, and gathers from each mutator that hasn't left the buffer that it retired on crossing. For a
+//! parked mutator it crosses itself: it takes the deposit, or, if there is none, writes a buffer without entries. A mutator whose buffer
+//! was its last is passed over from then on. With the last buffer the batch is applied, and its zeros are released. Then
 //! the sets that the last collection found are tested, the last one first, and freed or refurbished; a trial is made from the roots,
 //! the sets that it finds are prepared for their tests, and what is free is swept. The trial is postponed while fewer roots wait than the
 //! policy asks for. Where `offer_all` has asked for that, the next trial
@@ -40,8 +41,9 @@ pub use kind::Kind;
 pub use laws::{
     batches_colour_what_they_name, machine_makes_steps, machine_names_words,
     machines_stay_machines, offers_are_whole, orange_members_are_untouched,
-    orange_members_have_outside_counts, parked_mutators_are_crossed_for, trials_are_made_where_asked,
-    trials_are_not_postponed_for_ever, what_is_shown_was_done, zeros_are_exact,
+    orange_members_have_outside_counts, parked_mutators_are_crossed_for,
+    trials_are_made_where_asked, trials_are_not_postponed_for_ever, what_is_shown_was_done,
+    zeros_are_exact,
 };
 pub use machine::Machine;
 pub use phase::Phase;

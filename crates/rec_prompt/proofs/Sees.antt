@@ -1,6 +1,8 @@
 -- What a step of a mutator does to its registers, its log, its mailbox and the words, told case by case.
 use Rattle.std.proofs.Common.{◌≡◌, ◌⊎◌, inl, inr, ℕ, ◌+◌, ◌<◌, false, Bool, List, [], ◌∷◌, ◌++◌, Option, None, Some, slice_set, refl, sym, ap, subst, ◌∙◌, arith}
-use Rattle.rec_core.proofs.Common.{place_of, target_of, Op, Contents, Private, IsMachine, IsStore, HasRoom, probe_of, register, word_for, Decides, GoesOn, LeavesBox, Step, epoch_at, header_word}
+use Rattle.std.proofs.lemmas.List.{set-get_or}
+use Rattle.rec_core.proofs.Common.{place_of, target_of, Op, Contents, Private, IsMachine, IsStore, HasRoom, probe_of, register, word_for, Decides, GoesOn, LeavesBox, Step, Cells, cell, with_cell, epoch_at, header_word}
+use Rattle.rec_word.specs.Op.{written}
 use Rattle.rec_word.specs.declared.op.Op.TheVariants as ops
 use Rattle.rec_log.specs.declared.entry.Entry.TheVariants as entries
 use Rattle.rec_model.specs.declared.command.Cmd.{Cmd}

@@ -1,5 +1,5 @@
 -- The steps by which a mutator parks and unparks, by the parts of the crossing word.
-use Rattle.std.proofs.Common.{◌≡◌, ℕ, ◌^◌, ◌≤◌, Bool, true, false, arith}
+use Rattle.std.proofs.Common.{◌≡◌, ℕ, ◌+◌, ◌*◌, ◌-◌, ◌%◌, ◌^◌, ◌<◌, ◌≤◌, Bool, true, false, arith}
 use Rattle.rec_word.specs.Mailbox.{crossing_with, mailbox_bits}
 use Rattle.rec_word.specs.Op.{written}
 use Rattle.rec_word.specs.Shift.{ShiftsByTable}
