@@ -67,6 +67,11 @@ impl Watch for Auditor {
     ghost refused = { λ auditor. auditor.refused };
 
     #[inline(always)]
+    fn watches(&self) -> bool {
+        self.audit.is_some()
+    }
+
+    #[inline(always)]
     fn after(&mut self, world: &World, op: Op, word: u64) -> Result<(), NoMemory> {
         let Some(audit) = &mut self.audit else {
             return Ok(());

@@ -1,5 +1,6 @@
 -- What a turn of settling comes to, made or refused.
-use Rattle.std.proofs.Common.{◌≡◌, ℕ, ◌-◌, List, slice_index_or, Result, Ok, Err, IfErr, Option, None, Some, IfSome, IsNone, false, ◌<◌, ◌++◌, refl, sym, ap, subst, ◌∙◌}
+use Rattle.std.proofs.Common.{◌≡◌, ℕ, ◌-◌, List, slice_index_or, Result, Ok, Err, IfErr, Option, None, Some, is_some, Bool, false, [], ◌++◌, append_assoc, refl, sym, ap, subst, ◌∙◌}
+use Rattle.std.proofs.lemmas.Bool.{false≢true}
 use Rattle.std.proofs.lemmas.List.{append-nil}
 use Rattle.rec_word.specs.declared.op.Op.{Op}
 use Rattle.rec_mutator.specs.Private.{Private, is_busy}
@@ -13,8 +14,7 @@ use Rattle.rec_core.specs.Turn.{IsTurn, step_seen}
 use Rattle.rec_core.specs.declared.config.Config.{Config}
 use Rattle.rec_world.specs.World.{IsWorld}
 use Rattle.rec_settle.specs.Collecting.{Anyone, AreIdle, HasStepped, IsSettling}
-use Rattle.rec_settle.specs.Left.{left_in}
-use Rattle.rec_settle.specs.Shown.{Goes, IsShownTo, told_shown}
+use Rattle.rec_settle.specs.Shown.{Goes, HasGone, Leads, told_shown}
 use Rattle.rec_settle.specs.Stages.{HasCome, Settles, begun, offered, stage_turned}
 use Rattle.rec_settle.specs.declared.turns.Settling.{Settling}
 use Rattle.rec_settle.specs.declared.turns.Settling.TheVariants.{Finishing, Offering, Trying, Freeing, Settled}
@@ -73,27 +73,31 @@ offered_idle Trying w idle = idle
 offered_idle Freeing w idle = idle
 offered_idle Settled w idle = idle
 
--- a turn leaves fewer to come
-pub fewer_left : (first : Core) (stage next : Settling) (before after : Core) (told : Option (Turn × Option (Op × ℕ))) (some : Turn × Option (Op × ℕ)) → told ≡ Some some → HasCome first stage before → Goes stage before told next after
-    → left_in next after < left_in stage before
-fewer_left first stage next before after told some is come goes =
-    subst (λ t. IfSome t (λ _. (first : Core) → HasCome first stage before → left_in next after < left_in stage before)) is goes.nearer first come
+-- so much of settling was gone through by a turn, if one was left
+pub turn_gone : (stage next : Settling) (before after : Core) (told : Option (Turn × Option (Op × ℕ))) (more : Bool) → more ≡ is_some told → Goes stage before told next after → HasGone stage before (told_shown stage before told) more next after
+turn_gone stage next before after None more is goes =
+    let stays = goes.stays (goes.ended refl) in
+    record {
+      leads = subst (λ s. Leads stage before [] s after) (sym stays.1) (subst (Leads stage before [] stage) (sym stays.2) Leads.none);
+      comes = goes.comes;
+      nearer = λ some. absurd (false≢true (sym is ∙ some));
+      ended = λ none. (goes.ended refl, stays.1, stays.2);
+    }
+turn_gone stage next before after (Some told) more is goes = record {
+  leads = subst (λ s. Leads stage before (turn_shown (offered stage before)) s after) (sym goes.stage_so) (Leads.turns [] stage before after told.0 Leads.none goes.on goes.stepped);
+  comes = goes.comes;
+  nearer = λ some. goes.nearer;
+  ended = λ none. absurd (false≢true (sym none ∙ is));
+}
+
+-- turns of settling behind others
+pub leads_both : (from : Settling) (first : Core) (stage : Settling) (w : Core) (next : Settling) (v : Core) (shown later : List Shown) → Leads from first shown stage w → Leads stage w later next v → Leads from first (shown ++ later) next v
+leads_both from first stage w _ _ shown _ before Leads.none = subst (λ xs. Leads from first xs stage w) (sym (append-nil shown)) before
+leads_both from first stage w _ v shown _ before (Leads.turns later s u _ turn so on steps) =
+    subst (λ xs. Leads from first xs (stage_turned (begun s) turn v.epoch) v) (append_assoc shown later (turn_shown (offered s u))) (Leads.turns (shown ++ later) s u v turn (leads_both from first stage w s u shown later before so) on steps)
 
 -- settling has ended where no turn was left
-pub ended_stage : (stage next : Settling) (before after : Core) (told : Option (Turn × Option (Op × ℕ))) → told ≡ None → Goes stage before told next after → next ≡ Settled
-ended_stage stage next before after told none goes =
-    let ended : stage ≡ Settled = goes.ended (subst IsNone (sym none) refl) in
-    (goes.stays ended).1 ∙ ended
-
-pub came_settled : (first : Core) (stage next : Settling) (before after : Core) (told : Option (Turn × Option (Op × ℕ))) → told ≡ None → HasCome first stage before → Goes stage before told next after → IsSettling first after
-came_settled first stage next before after told none come goes =
-    subst (λ s. Settles s first after) (ended_stage stage next before after told none goes) (goes.comes first come).settles
-
--- what was shown of the turns so far
-pub shown_on : (first : Core) (shown : List Shown) (stage next : Settling) (before after : Core) (told : Option (Turn × Option (Op × ℕ))) → IsShownTo first shown stage before → Goes stage before told next after
-    → IsShownTo first (shown ++ told_shown stage before told) next after
-shown_on first shown stage next before after None so goes =
-    let stays = goes.stays (goes.ended refl) in
-    subst (λ xs. IsShownTo first xs next after) (sym (append-nil shown)) (subst (λ s. IsShownTo first shown s after) (sym stays.1) (subst (IsShownTo first shown stage) (sym stays.2) so))
-shown_on first shown stage next before after (Some told) so goes =
-    subst (λ s. IsShownTo first (shown ++ turn_shown (offered stage before)) s after) (sym goes.stage_so) (IsShownTo.turns shown stage before after told.0 so goes.on goes.stepped)
+pub came_settled : (first : Core) (stage next : Settling) (before after : Core) (shown : List Shown) (more : Bool) → more ≡ false → HasCome first stage before → HasGone stage before shown more next after → IsSettling first after
+came_settled first stage next before after shown more none come gone =
+    let ended = gone.ended none in
+    subst (λ s. Settles s first after) (ended.1 ∙ ended.0) (gone.comes first come).settles

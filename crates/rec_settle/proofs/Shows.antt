@@ -14,7 +14,7 @@ use Rattle.rec_core.proofs.Gathering.{awaited_stays}
 use Rattle.rec_core.proofs.Shows.{shows_none, shows_one, shows_then}
 use Rattle.rec_world.proofs.Shows.{shows_worked}
 use Rattle.rec_settle.specs.Collecting.{Anyone, AreIdle, Follows}
-use Rattle.rec_settle.specs.Shown.{IsShownTo}
+use Rattle.rec_settle.specs.Shown.{Leads}
 use Rattle.rec_settle.specs.Stages.{offered}
 use Rattle.rec_settle.specs.declared.turns.Settling.{Settling}
 use Rattle.rec_settle.specs.declared.turns.Settling.TheVariants.{Finishing, Offering, Trying, Freeing, Settled}
@@ -57,10 +57,10 @@ pub record ShowsTo (first : Core) (shown : List Shown) (w : Core) : Type 0 where
   pub shows : Shows first shown w
   pub idle : AreIdle w
 
-pub shows_to : (first : Core) (shown : List Shown) (stage : Settling) (w : Core) → IsKept false first → AreIdle first → IsShownTo first shown stage w → ShowsTo first shown w
-shows_to first _ _ _ kept idle IsShownTo.begins = record { shows = shows_none first; idle = idle }
-shows_to first _ _ _ kept idle (IsShownTo.turns shown stage before after turn so on steps) =
-    let h : ShowsTo first shown before = shows_to first shown stage before kept idle so in
+pub shows_to : (from : Settling) (first : Core) (shown : List Shown) (stage : Settling) (w : Core) → IsKept false first → AreIdle first → Leads from first shown stage w → ShowsTo first shown w
+shows_to from first _ _ _ kept idle Leads.none = record { shows = shows_none first; idle = idle }
+shows_to from first _ _ _ kept idle (Leads.turns shown stage before after turn so on steps) =
+    let h : ShowsTo first shown before = shows_to from first shown stage before kept idle so in
     let offers : Shows before [] (offered stage before) = offered_shows stage before in
     let was : IsKept false (offered stage before) = shows_kept before (offered stage before) [] (shows_kept first before shown kept h.shows) offers in
     let step : ShowsStep (offered stage before) after = shows_step Anyone (offered stage before) after was (offered_idle stage before h.idle) steps.follows in

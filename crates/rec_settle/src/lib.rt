@@ -5,8 +5,9 @@
 //! trial found. So it takes three collections, or four where one was under way.
 //! The rule that this crate keeps: from every state of a run, in the middle of a collection too, just the slots that registers
 //! reach hold objects afterwards, and the count of each is the number of fields and registers that hold it.
-//! Settling is made turn by turn (`Settling`), and `settle` drains it; `settle_watched` shows each of these turns to a watch. What turns and two whole collections make of a heap at rest is
-//! shown of the core alone, in `rec_core`; here is what the turns make up.
+//! Settling is made turn by turn (`Settling::next`), or by runs of turns (`Settling::run`), which `settle` drains; `settle_watched` shows
+//! each turn to a watch that asks for it. What turns and two whole collections make of a heap at rest is shown of the core alone, in
+//! `rec_core`; here is what the turns make up.
 //! The layer above may use the contracts of `settle`, of `settle_watched` and of `Settling`, the definitions of `specs/` and of `rec_core`'s `Settled`.
 //! Collections, trial deletion and the two tests are those of the paper "Java without the Coffee Breaks" (2001); that every slot
 //! is offered to a trial is this project's profile (`docs/PROFILE.md`).

@@ -15,6 +15,8 @@ ghost use Rattle.rec_settle.specs.Shown.{Goes, told_shown};
 ghost use Rattle.rec_settle.specs.Stages.{HasCome, begun, offered, stage_after, stage_turned};
 ghost use Rattle.rec_settle.specs.declared.turns.Settling as stages;
 
+mod runs;
+
 use rec_collector::Turn;
 use rec_word::{LAST_EPOCH, Op};
 use rec_world::{Unwatched, Watch, World};

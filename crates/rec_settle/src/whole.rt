@@ -45,8 +45,8 @@ pub fn settle(world: &mut World) -> Result<Settled, EpochsSpent>
     }
 }
 
-/// Settles the heap, as `settle` does, and shows the watch every step of the collector, once, in order, and right behind it. Where the
-/// watch refuses one, the heap is as that step left it.
+/// Settles the heap, as `settle` does, and shows the watch every step of the collector, once, in order, and right behind it, if that asks
+/// to be shown steps at all. Where the watch refuses one, the heap is as that step left it.
 pub fn settle_watched<W: Watch>(
     world: &mut World,
     watch: &mut W,
@@ -75,7 +75,7 @@ pub fn settle_watched<W: Watch>(
     };
     let collections = world.collections();
     let swept = world.freed();
-    while let Some(_) = settling.next_watched(world, watch)? {}
+    while settling.go_on(world, watch)? {}
     Ok(Ok(Settled {
         epochs: world.collections() - collections,
         freed: (world.freed() - swept) as u32,

@@ -19,5 +19,6 @@ pub mod Row
 pub mod Shows
 pub mod Skipping
 pub mod Step
+pub mod TurnRuns
 pub mod Turnings
 pub mod Sends

@@ -25,12 +25,12 @@ use Rattle.rec_world.proofs.Calls.{box_read, home_again}
 use Rattle.rec_world.proofs.Mailboxes.{collector_leaves, collector_stays, gathered_stays}
 
 -- the mailbox that the collector looks at, by phase, if it looks at one
-abbrev looks_for : Phase → Option ℕ
+abbrev pub looks_for : Phase → Option ℕ
 looks_for (Looking t) = Some t
 looks_for _ = None
 
 -- A turn that looks at no mailbox holds none, so nothing is to be swapped then.
-none_swaps : (c : collectors.Private) (word : ℕ) → IsBetween c.phase → looks_for c.phase ≡ None → IsSwapping (took_of c word).phase → ⊥
+pub none_swaps : (c : collectors.Private) (word : ℕ) → IsBetween c.phase → looks_for c.phase ≡ None → IsSwapping (took_of c word).phase → ⊥
 unfolding took_of
 none_swaps c word between none = between_holds (took_at c word c.phase).phase (took_between c word c.phase refl between looks_not)
   where

@@ -9,6 +9,7 @@ pub mod Order
 pub mod Parts
 pub mod Step
 pub mod Stepping
+pub mod Turning
 pub mod World
 pub use Rattle.rec_core.specs.RunAnswers
 pub use Rattle.rec_core.specs.Cells

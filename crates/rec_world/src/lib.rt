@@ -12,6 +12,7 @@
 //! A `Numbering` lists the slots that registers reach, in the order of a listing. Its list is the one list of the reached slots
 //! in that order.
 //! A world as plain data is a `Core` (`rec_core`), which says its moves, its runs and what holds over them; here these are code.
+//! Many turns in one call (`World::turns`) are as many single turns, made in the loops that the collector's machine has for phases.
 //! A `Watch` is shown the steps of the collector, each by an entry, right behind it; `World::turn_watched` makes such a turn.
 //! The layer above may use the contracts of `World`, `Watch`, `Journal`, `Order` and `Numbering`, those of the exchange of a mailbox's
 //! buffer (`swap_own`, `swap_gathered`), the definitions of `specs/`, and all of `rec_core`, which is exported again: its

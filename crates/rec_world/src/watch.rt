@@ -1,5 +1,5 @@
 //! Who watches a collector, and a turn of the collector that is watched.
-ghost use Rattle.std.specs.Prelude.{◌≡◌, ℕ, ◌≤◌, List, [], ◌∷◌, ◌++◌, IfOk, IfErr};
+ghost use Rattle.std.specs.Prelude.{◌≡◌, ℕ, ◌≤◌, false, List, [], ◌∷◌, ◌++◌, IfOk, IfErr};
 ghost use Rattle.rec_io.specs.Faults.{Rose};
 ghost use Rattle.rec_collector.specs.Shown.{HasTaken, Shown, shown_of};
 ghost use Rattle.rec_collector.specs.declared.turn.Turn as answers;
@@ -20,6 +20,10 @@ pub trait Watch {
 
     // How many entries it refused, up to the last value of a `u64`.
     ghost refused: { Self → ℕ };
+
+    /// Whether steps have to be shown to it, one by one. To a watch that keeps nothing of them, any steps count as shown.
+    fn watches(&self) -> bool
+        ensures { result ≡ false → (shown : List Shown) → WasShown self.now shown self.now };
 
     /// Is shown a step of the world's collector, right behind it: its operation, and the word that this found.
     fn after(&mut self, world: &World, op: Op, word: u64) -> Result<(), NoMemory>
@@ -49,6 +53,11 @@ impl Watch for Unwatched {
     ghost WasShown = { λ before shown after. Unit {0} };
 
     ghost refused = { λ watch. 0 };
+
+    #[inline(always)]
+    fn watches(&self) -> bool {
+        false
+    }
 
     fn after(&mut self, world: &World, op: Op, word: u64) -> Result<(), NoMemory>
         ensures shown { IfOk result (λ done. Unit {0}) }

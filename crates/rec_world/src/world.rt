@@ -27,6 +27,7 @@ ghost use Rattle.rec_world.specs.Stepping.{MakesStep};
 ghost use Rattle.rec_world.specs.World.{IsWorld, MayAsk, label_of, Refuses, Changes, Stays, IsFinished, IsPolled};
 
 mod opening;
+mod runs;
 
 use crate::mailbox::{gather, swap_own};
 use crate::memory::Memory;

@@ -13,17 +13,13 @@ use Rattle.rec_collector.specs.declared.turn.Turn.{Turn}
 use Rattle.rec_collector.specs.declared.turn.Turn.TheVariants as turns
 use Rattle.rec_core.specs.Preconditions.{MayTurn}
 use Rattle.rec_core.specs.Turn.{IsTurn, seen_at, step_seen, told_at, turn_told}
-use Rattle.rec_core.proofs.Turn.{turn_is_one}
 use Rattle.rec_core.proofs.BareRuns.{may_turn, turn_taken}
 use Rattle.rec_core.proofs.PlainWords.{finds_plain}
 use Rattle.rec_world.proofs.Calls.{ReadyToTurn, ready_to_turn, box_read, moved_world}
+use Rattle.rec_world.proofs.TurnRuns.{turn_of_world}
 use Rattle.rec_world.proofs.Turnings.{holds_looked, home_still, turned_is}
 use Rattle.rec_world.proofs.world.World.turn_seen.Goals as goal
 use Rattle.rec_world.proofs.world.World.turn_seen.Goals.{In_default, In-Some, After-gather}
-
--- what a world's turn is
-turn_of_world : (w : Core) → IsWorld w → IsTurn w (turned w) (turn_told w)
-turn_of_world w world = turn_is_one w world.shaped.config world.run
 
 -- where no operation comes next, the epochs are spent
 pub returns-in_default-clause-turn : goal.returns-in_default-clause-turn
