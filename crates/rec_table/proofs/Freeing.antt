@@ -1,18 +1,25 @@
 -- What a turn frees.
-use Rattle.std.proofs.Common.{◌≡◌, ℕ, List, [], ◌∷◌, ◌++◌, length, take, Option, None, Some, refl, sym, ap, ◌∙◌, subst, arith, append_assoc, append-nil, length-append}
+use Rattle.std.proofs.Common.{◌≡◌, ℕ, ◌+◌, ◌≤◌, List, [], ◌∷◌, ◌++◌, length, take, Option, None, Some, refl, sym, ap, ◌∙◌, subst, arith, append_assoc, append-nil, length-append}
 use Rattle.std.proofs.Math.Seq.{take-append_seam}
-use Rattle.rec_table.proofs.Common.{Op, gathered, gathered_all, CollectorView, collector_now, collecting_more, word_of, Beat, Saw}
+use Rattle.rec_table.proofs.Common.{Core, Op, gathered, gathered_all, CollectorView, collector_now, collecting_more, word_of, Beat, Saw}
 use Rattle.rec_word.specs.Header.{IsTakenHeader, label_of}
 use Rattle.rec_word.specs.declared.op.Op.TheVariants as ops
 use Rattle.rec_collector.specs.Next.{next_of}
-use Rattle.rec_collector.specs.Private.{Private}
+use Rattle.rec_collector.specs.Followed.{Next, worked}
+use Rattle.rec_collector.specs.Given.{IsLooped}
+use Rattle.rec_collector.specs.Private.{Private, parts_of, with_parts}
+use Rattle.rec_collector.specs.Took.{came, ended_if, moved, took_at, took_of}
+use Rattle.rec_collector.specs.declared.phase.Phase.{Phase}
+use Rattle.rec_collector.specs.declared.phase.Phase.TheVariants.{Closing, Freeing, Trying, Preparing, Sweeping}
 use Rattle.rec_collector.specs.declared.turn.Turn.{Turn}
+use Rattle.rec_core.proofs.Freed.{frees_while_sweeping}
 use Rattle.rec_core.proofs.Turning.{some_op}
 use mathlib.Core.List.{IsPrefix}
 use Rattle.rec_notice.specs.Telling.{as_list, told}
 use Rattle.rec_notice.specs.declared.teller.Teller.{Teller}
 use Rattle.rec_table.specs.Telling.{Frees, IsFreeOp, TellsTurn, TellsTurns, freed_by, freed_by_all, freed_labels}
 use Rattle.rec_table.specs.Turn.{MakesTurn}
+use Rattle.rec_table.specs.TurnRuns.{FreesBySweeps}
 
 -- the operation frees this slot
 abbrev FreesSlot : Op → Type 0
@@ -51,7 +58,8 @@ freed_more p (x ∷ log) b =
     ap (λ l. freed_by (next_of p) (word_of x) ++ l) (freed_more (gathered p x) log b)
     ∙ sym (append_assoc (freed_by (next_of p) (word_of x)) (freed_by_all (gathered p x) log) (freed_by (next_of (gathered_all (gathered p x) log)) (word_of b)))
 
-labels_more : (g g' : CollectorView) (answer : Turn) (b : Beat) → MakesTurn g g' answer → g'.collecting ≡ collecting_more g.collecting b → freed_labels g' ≡ freed_labels g ++ freed_by (next_of (collector_now g)) (word_of b)
+-- the list of a turn's beats is one longer
+pub labels_more : (g g' : CollectorView) (answer : Turn) (b : Beat) → MakesTurn g g' answer → g'.collecting ≡ collecting_more g.collecting b → freed_labels g' ≡ freed_labels g ++ freed_by (next_of (collector_now g)) (word_of b)
 labels_more g g' answer b turn more =
     (λ k. freed_by_all ((turn.same k).opened) (more k).log) ∙ freed_more g.opened g.collecting.log b
 
@@ -92,6 +100,51 @@ sent_then sent old mid now label same more = by now.kept (more ∙ ap (λ l. l +
         let many : length (sent now.tube) ≡ length (told sent old) = omega (arith, ap length is, length-append (sent now.tube) (other ∷ []), length-append (told sent old) (label ∷ [])) in
         ([], append-nil (told sent old) ∙ sym (take-append_seam (told sent old) (label ∷ [])) ∙ ap (take (length (told sent old))) (sym is) ∙ ap (λ n. take n (sent now.tube ++ other ∷ [])) (sym many) ∙ take-append_seam (sent now.tube) (other ∷ []))
 
+-- a collection that comes to an end sweeps nothing by that
+ended_sweeps : (phase : Phase) (p : Private) → (ended_if phase p).freed ≡ p.freed
+ended_sweeps (Closing swept) p = refl
+ended_sweeps _ p = refl
+
+came_sweeps : (p : Private) (n : Next) → (came p n).freed ≡ p.freed
+came_sweeps p n = ended_sweeps n.phase (moved (with_parts p n.parts) n.phase)
+
+-- no turn of a loop sweeps fewer slots
+loop_sweeps : (p : Private) (word : ℕ) → IsLooped p.phase → p.freed ≤ (took_of p word).freed
+unfolding took_of took_at
+loop_sweeps p word l = go p.phase l
+  where
+    go : (phase : Phase) → IsLooped phase → p.freed ≤ (took_at p word phase).freed
+    go (Freeing m) l = omega (arith, came_sweeps p (worked (parts_of p) word (Freeing m)))
+    go (Trying m) l = omega (arith, came_sweeps p (worked (parts_of p) word (Trying m)))
+    go (Preparing m) l = omega (arith, came_sweeps p (worked (parts_of p) word (Preparing m)))
+    go (Sweeping due n) l = omega arith
+    go _ l = absurd l
+
+-- and a turn that frees a slot sweeps it
+free_sweeps : (key : Core) (p : Private) (word : ℕ) (op : Op) → ◌≡◌ {A = Option Op} (next_of p) (Some op) → IsFreeOp op → (took_of p word).freed ≡ p.freed + 1
+unfolding took_of took_at
+free_sweeps key p word op named frees =
+    let s = frees_slot op frees in
+    let (due, n, is) = frees_while_sweeping (record key { collector = p }) s.0 (named ∙ ap (λ (o : Op). Some o) s.1) in
+    ap (λ (phase : Phase). (took_at p word phase).freed) is
+
+pub frees_on : (key : Core) (first u v : CollectorView) (answer : Turn) (p : Private) (op : Op) (word : ℕ) → FreesBySweeps first u → MakesTurn u v answer → v.collecting ≡ collecting_more u.collecting (Saw word) → p ≡ collector_now u → took_of p word ≡ collector_now v → IsLooped p.phase → ◌≡◌ {A = Option Op} (next_of p) (Some op) → FreesBySweeps first v
+frees_on key first u v answer p op word frees turn more is now l named =
+    let was : p.freed ≡ (collector_now u).freed = ap (λ (x : Private). x.freed) is in
+    let then : (took_of p word).freed ≡ (collector_now v).freed = ap (λ (x : Private). x.freed) now in
+    let grows : p.freed ≤ (took_of p word).freed = loop_sweeps p word l in
+    record {
+      grows = omega (arith, frees.grows, was, then, grows);
+      none = λ same.
+          let stays : (collector_now u).freed ≡ (collector_now first).freed = omega (arith, frees.grows, was, then, grows, same) in
+          let other : IsFreeOp op → ⊥ = λ f. absurd (omega (arith, free_sweeps key p word op named f, frees.grows, was, then, same)) in
+          labels_more u v answer (Saw word) turn more
+          ∙ ap (λ (o : Option Op). freed_labels u ++ freed_by o word) (ap next_of (sym is) ∙ named)
+          ∙ ap (λ ls. freed_labels u ++ ls) (freed_others op word other)
+          ∙ append-nil (freed_labels u)
+          ∙ frees.none stays;
+    }
+
 -- no turn tells nothing
 pub tells_none : (g : CollectorView) (was : List ℕ) → TellsTurns g g was was
 tells_none g was = record { labels = []; told = sym (append-nil was); all = sym (append-nil (freed_labels g)) }
@@ -102,6 +155,14 @@ tells_more a b c was mid now some one = record {
   labels = some.labels ++ as_list one.label;
   told = one.told ∙ ap (λ l. l ++ as_list one.label) some.told ∙ append_assoc was some.labels (as_list one.label);
   all = one.all ∙ ap (λ l. l ++ as_list one.label) some.all ∙ append_assoc (freed_labels a) some.labels (as_list one.label);
+}
+
+-- turns behind others
+pub tells_both : (a b c : CollectorView) (was mid now : List ℕ) → TellsTurns a b was mid → TellsTurns b c mid now → TellsTurns a c was now
+tells_both a b c was mid now some others = record {
+  labels = some.labels ++ others.labels;
+  told = others.told ∙ ap (λ l. l ++ others.labels) some.told ∙ append_assoc was some.labels others.labels;
+  all = others.all ∙ ap (λ l. l ++ others.labels) some.all ∙ append_assoc (freed_labels a) some.labels others.labels;
 }
 
 -- what was told before all turns is sent, where what was told before the last one is

@@ -19,7 +19,7 @@ use Rattle.rec_mutator.proofs.Around.{behind_near}
 use Rattle.rec_mutator.proofs.Steps.{TakesNone, here_same}
 use Rattle.rec_mutator.proofs.Straight.{begun_machine, scanning, scans_is, begun_busy}
 use Rattle.rec_table.specs.Rule.{MayBegin}
-use Rattle.rec_table.specs.Straight.{Bears, Carried, CarriesIf, IsPlainOp, Polled, Stands, record_of}
+use Rattle.rec_table.specs.Straight.{Bears, Carried, IsPlainOp, Polled, Stands, record_of}
 use Rattle.rec_table.specs.declared.start.Start.{Start}
 use Rattle.rec_table.proofs.Common.{actor_of, world_kept, IsWorld, Op, Private, IsMachine, KeepsSizes, IsBetween, Contents, is_busy, is_busy_at, is_full, work_of, answer_at, answer_of, begun_of, took_of, spare, IsMutator, Core, mutator, MutatorView, mutator_view, mutator_now, IsOf, Works, told, learnt, ready, MayGo, births_of, births_told, beats, longer, seated_of, hands, me_after, Saw, Beat, Seated, View, Mutates}
 use Rattle.rec_table.proofs.Acting.{opened_is, told_beats}

@@ -15,8 +15,9 @@ use Rattle.rec_collector.specs.declared.turn.Turn.TheVariants as turns
 use Rattle.rec_collector.proofs.ByTurns.{loop_keeps}
 use Rattle.rec_table.proofs.Common.{Op, Contents, Core, CollectorView, collector_view, collecting_of, collecting_more, boxes_at, boxes_out, NotLooking, Saw, CollectorSeat, View, Collects}
 use Rattle.rec_table.specs.TurnRuns.{Made, Stands}
-use Rattle.rec_table.specs.Turn.{MakesSome, MakesTurn, MovesTo}
+use Rattle.rec_table.specs.Turn.{MakesSome, MakesTurn, MakesTurns, MovesTo}
 use Rattle.rec_table.proofs.Gathering.{turn_log, turn_end, lone_out}
+use Rattle.rec_table.proofs.Freeing.{frees_on}
 use Rattle.rec_table.proofs.Turn.{makes_one}
 
 -- turns that all moved
@@ -36,6 +37,16 @@ pub made_ended : (first u v : CollectorView) (from n most : ℕ) (turn : Turn) �
 made_ended first u v from n most turn before Made.none other few = absurd (other refl)
 made_ended first u v from n most turn before (Made.more m a b t moves makes) other few =
     subst (λ k. MakesSome first v (from + k) most turn) (omega arith) (MakesSome.ended a (omega (arith, few)) (moves_both first u a from m before moves) makes other)
+
+-- turns that moved
+pub some_moved : (first after : CollectorView) (moves most : ℕ) (answer : Turn) → MakesSome first after moves most answer → answer ≡ turns.Moved → MovesTo first moves after × (moves ≤ most)
+some_moved first after moves most answer (MakesSome.moved e few m) is = (m, few)
+some_moved first after moves most answer (MakesSome.ended last fewer m t other) is = absurd (other is)
+
+-- turns behind which one came to something else
+pub some_ended : (first after : CollectorView) (moves most : ℕ) (answer : Turn) → MakesSome first after moves most answer → answer ≢ turns.Moved → MakesTurns first after most answer
+some_ended first after moves most answer (MakesSome.moved e few m) other = absurd (other e)
+some_ended first after moves most answer (MakesSome.ended last fewer m t o) other = MakesTurns.ended moves last fewer m t other
 
 -- in a phase with a loop no mailbox is looked at, and none is held
 pub loops_look : (phase : Phase) → IsLooped phase → NotLooking phase
@@ -74,6 +85,7 @@ module _ (z : TableId) (key : Core) (start : CollectorSeat) (table : TableId) (m
       let u : CollectorView = collector_view z key.collector c in
       let v : CollectorView = collector_view z key.collector (collecting_of me'.0) in
       let e = turn_end z z key.collector p q c (Saw word) me' u refl refl s.is refl seated in
+      let makes = makes_one u v op (Saw word) (turn_of p word) (subst IsMachine s.is s.kept) (ap next_of (sym s.is) ∙ named) e.0 e.1 (ap (λ (x : Private). turn_of x word) s.is) in
       record {
         world = s.world;
         table = t ∙ s.table;
@@ -83,6 +95,7 @@ module _ (z : TableId) (key : Core) (start : CollectorSeat) (table : TableId) (m
         kept = next.0;
         sizes = sizes_on key.collector p q s.sizes next.1;
         between = out.1;
-        made = Made.more n u v (turn_of p word) (made_moves (collector_view z key.collector start) u n turns.Moved s.made refl)
-            (makes_one u v op (Saw word) (turn_of p word) (subst IsMachine s.is s.kept) (ap next_of (sym s.is) ∙ named) e.0 e.1 (ap (λ (x : Private). turn_of x word) s.is));
+        made = Made.more n u v (turn_of p word) (made_moves (collector_view z key.collector start) u n turns.Moved s.made refl) makes;
+        frees = frees_on key (collector_view z key.collector start) u v (turn_of p word) p op word s.frees makes (λ k. collecting_of (view k).0) s.is
+            (turn_log key.collector p q c (Saw word) me' s.is refl seated) l named;
       }

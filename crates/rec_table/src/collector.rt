@@ -1,5 +1,5 @@
 //! The collector on the table.
-ghost use Rattle.std.specs.Prelude.{◌≡◌, ◌+◌, ◌%◌, ◌^◌, ◌<◌, ◌≤◌, ◌↔◌, IsTrue, [], ◌∷◌, ◌++◌, false, length, None, Some, Option, IfNone, IfSome, IsSome};
+ghost use Rattle.std.specs.Prelude.{◌≡◌, ◌≢◌, ◌+◌, ◌%◌, ◌^◌, ◌<◌, ◌≤◌, ◌↔◌, IsTrue, [], ◌∷◌, ◌++◌, false, length, None, Some, Option, IfNone, IfSome, IsSome};
 ghost use Rattle.rec_collector.specs.Given.{IsGiven};
 ghost use Rattle.rec_collector.specs.Kept.{KeepsSizes};
 ghost use Rattle.rec_collector.specs.Kind.{HasLoop, kind_of};
@@ -11,7 +11,7 @@ ghost use Rattle.rec_table.specs.Beats.{gathered, gathered_all, births_told};
 ghost use Rattle.rec_table.specs.Views.{CollectorView, collector_view, collector_now, mutator_now, IsCollectorOf, IsOwn, PutsBack};
 ghost use Rattle.rec_core.specs.Row.{index_of};
 ghost use Rattle.rec_table.specs.Turn.{MakesSome, MakesTurn, MakesTurns, MovesTo, MovesToFewer};
-ghost use Rattle.rec_table.specs.Telling.{Frees, IfHeld, IfTurned, IsFreeOp, TellsTurn, TellsTurns, freed_by};
+ghost use Rattle.rec_table.specs.Telling.{Frees, IfHeld, IfTurned, IsFreeOp, TellsTurn, TellsTurns, freed_by, freed_labels};
 ghost use Rattle.rec_io.specs.Faults.{Rose};
 ghost use Rattle.rec_notice.specs.Telling.{as_list, told};
 ghost use Rattle.rec_word.specs.Header.{IsTakenHeader};
@@ -358,6 +358,8 @@ impl Collector {
 
         ensures made { (first : CollectorView) → MovesTo first from self.old → MakesSome first self.new result.0 most result.1 }
         ensures further { result.1 ≡ Turn.Moved → from < result.0 }
+        // Only a sweep frees objects.
+        ensures unfreed { kind ≢ Kind.Sweeping → freed_labels self.new ≡ freed_labels self.old }
         ensures own { IsCollectorOf heap.now self.new }
     {
         self.run_loop_on(heap.board(), kind, from, most)
@@ -373,6 +375,7 @@ impl Collector {
 
         ensures made { (first : CollectorView) → MovesTo first from self.old → MakesSome first self.new result.0 most result.1 }
         ensures further { result.1 ≡ Turn.Moved → from < result.0 }
+        ensures unfreed { kind ≢ Kind.Sweeping → freed_labels self.new ≡ freed_labels self.old }
         ensures same { self.new ≡ record self.old { collecting = record self.old.collecting { log = self.new.collecting.log } } }
     {
         let (made, turn) = run_turns::<Brand>(
@@ -496,16 +499,116 @@ impl Collector {
         ensures own { IsCollectorOf heap.now self.new }
         ensures same { T.SameTube teller.old.tube teller.new.tube }
     {
-        for moves in 0..most {
-            match self.turn_telling(heap, teller) {
+        let mut moves = 0;
+        while moves < most {
+            let (made, told) = self.run_telling(heap, moves, most, teller);
+            match told {
                 Telling::Held { label } => return Telling::Held { label },
                 Telling::Turned(turn) => match turn {
-                    Turn::Moved => (),
+                    Turn::Moved => moves = made,
                     _ => return Telling::Turned(turn),
                 },
             }
         }
         Telling::Turned(Turn::Moved)
+    }
+
+    // Makes turns that tell, where so many of so many were made: as long as they are of one kind, where that kind frees no objects, else
+    // one. It tells how many were made then.
+    #[inline(always)]
+    fn run_telling<T: Tube>(
+        &mut self,
+        heap: &Heap,
+        from: u32,
+        most: u32,
+        teller: &mut Teller<T>,
+    ) -> (u32, Telling)
+        requires own { IsCollectorOf heap.now self.old }
+        requires fewer { from < most }
+
+        ensures made { IfTurned result.1 (λ turn. (first : CollectorView) → MovesTo first from self.old → MakesSome first self.new result.0 most turn) }
+        ensures further { IfTurned result.1 (λ turn. turn ≡ Turn.Moved → from < result.0) }
+        ensures told { TellsTurns self.old self.new (told T.sent teller.old) (told T.sent teller.new) }
+        ensures first { IfTurned result.1 (λ _. IsPrefix (told T.sent teller.old) (T.sent teller.new.tube)) }
+        ensures held { IfHeld result.1 (λ label. teller.new.kept ≡ Some label) }
+        ensures unturned { IfHeld result.1 (λ _. self.new ≡ self.old) }
+        ensures refused { IsSome teller.new.kept → Rose (T.refusals teller.old.tube) (T.refusals teller.new.tube) }
+        ensures never_falls { T.refusals teller.old.tube ≤ T.refusals teller.new.tube }
+        ensures own { IsCollectorOf heap.now self.new }
+        ensures same { T.SameTube teller.old.tube teller.new.tube }
+    {
+        match self.kind() {
+            Kind::Freeing => self.run_unfreeing(heap, Kind::Freeing, from, most, teller),
+            Kind::Trying => self.run_unfreeing(heap, Kind::Trying, from, most, teller),
+            Kind::Preparing => self.run_unfreeing(heap, Kind::Preparing, from, most, teller),
+            _ => self.run_one(heap, from, most, teller),
+        }
+    }
+
+    // One turn, in place of a run.
+    #[inline(always)]
+    fn run_one<T: Tube>(
+        &mut self,
+        heap: &Heap,
+        from: u32,
+        most: u32,
+        teller: &mut Teller<T>,
+    ) -> (u32, Telling)
+        requires own { IsCollectorOf heap.now self.old }
+        requires fewer { from < most }
+
+        ensures made { IfTurned result.1 (λ turn. (first : CollectorView) → MovesTo first from self.old → MakesSome first self.new result.0 most turn) }
+        ensures further { IfTurned result.1 (λ turn. turn ≡ Turn.Moved → from < result.0) }
+        ensures told { TellsTurns self.old self.new (told T.sent teller.old) (told T.sent teller.new) }
+        ensures first { IfTurned result.1 (λ _. IsPrefix (told T.sent teller.old) (T.sent teller.new.tube)) }
+        ensures held { IfHeld result.1 (λ label. teller.new.kept ≡ Some label) }
+        ensures unturned { IfHeld result.1 (λ _. self.new ≡ self.old) }
+        ensures refused { IsSome teller.new.kept → Rose (T.refusals teller.old.tube) (T.refusals teller.new.tube) }
+        ensures never_falls { T.refusals teller.old.tube ≤ T.refusals teller.new.tube }
+        ensures own { IsCollectorOf heap.now self.new }
+        ensures same { T.SameTube teller.old.tube teller.new.tube }
+    {
+        match self.turn_telling(heap, teller) {
+            Telling::Held { label } => (from, Telling::Held { label }),
+            Telling::Turned(turn) => match turn {
+                Turn::Moved => (from + 1, Telling::Turned(turn)),
+                _ => (from, Telling::Turned(turn)),
+            },
+        }
+    }
+
+    // A run of turns of a kind that frees no objects. So only a label that the teller keeps is offered.
+    #[inline(always)]
+    fn run_unfreeing<T: Tube>(
+        &mut self,
+        heap: &Heap,
+        kind: Kind,
+        from: u32,
+        most: u32,
+        teller: &mut Teller<T>,
+    ) -> (u32, Telling)
+        requires own { IsCollectorOf heap.now self.old }
+        requires fewer { from < most }
+        requires kind { kind ≡ kind_of (collector_now self.old).phase }
+        requires looped { HasLoop kind }
+        requires unfreeing { kind ≢ Kind.Sweeping }
+
+        ensures made { IfTurned result.1 (λ turn. (first : CollectorView) → MovesTo first from self.old → MakesSome first self.new result.0 most turn) }
+        ensures further { IfTurned result.1 (λ turn. turn ≡ Turn.Moved → from < result.0) }
+        ensures told { TellsTurns self.old self.new (told T.sent teller.old) (told T.sent teller.new) }
+        ensures first { IfTurned result.1 (λ _. IsPrefix (told T.sent teller.old) (T.sent teller.new.tube)) }
+        ensures held { IfHeld result.1 (λ label. teller.new.kept ≡ Some label) }
+        ensures unturned { IfHeld result.1 (λ _. self.new ≡ self.old) }
+        ensures refused { IsSome teller.new.kept → Rose (T.refusals teller.old.tube) (T.refusals teller.new.tube) }
+        ensures never_falls { T.refusals teller.old.tube ≤ T.refusals teller.new.tube }
+        ensures own { IsCollectorOf heap.now self.new }
+        ensures same { T.SameTube teller.old.tube teller.new.tube }
+    {
+        if let Some(label) = offer_kept(teller) {
+            return (from, Telling::Held { label });
+        }
+        let (made, turn) = self.run_loop(heap, kind, from, most);
+        (made, Telling::Turned(turn))
     }
 
     /// What became of the sets of possible garbage cycles that were tested since the opening.

@@ -1,7 +1,8 @@
 //! Runs of the collector's turns on the table.
-ghost use Rattle.std.specs.Prelude.{◌≡◌, ◌<◌, ◌≤◌, []};
+ghost use Rattle.std.specs.Prelude.{◌≡◌, ◌≢◌, ◌<◌, ◌≤◌, []};
 ghost use Rattle.rec_collector.specs.Kind.{HasLoop, kind_of};
 ghost use Rattle.rec_table.specs.Rule.{boxes_out, collecting_of};
+ghost use Rattle.rec_table.specs.Telling.{freed_labels};
 ghost use Rattle.rec_table.specs.TurnRuns.{IsSeat, Made};
 ghost use Rattle.rec_table.specs.Views.{collector_view};
 ghost use Rattle.rec_world.specs.World.{IsWorld};
@@ -63,6 +64,7 @@ pub(crate) fn run_turns<W: Starting>(
     ensures seat { IsSeat board.now.table.shared.table_id board.now.table.shared.key.value seat.new.table_id seat.new.me (boxes_out machine.new) machine.new }
     ensures same { collecting_of seat.new.me.0 ≡ record (collecting_of seat.old.me.0) { log = (collecting_of seat.new.me.0).log } }
     ensures made { Made (collector_view board.now.table.shared.table_id board.now.table.shared.key.value.collector (collecting_of seat.old.me.0)) (collector_view board.now.table.shared.table_id board.now.table.shared.key.value.collector (collecting_of seat.new.me.0)) result.0 result.1 }
+    ensures unfreed { kind ≢ Kind.Sweeping → freed_labels (collector_view board.now.table.shared.table_id board.now.table.shared.key.value.collector (collecting_of seat.new.me.0)) ≡ freed_labels (collector_view board.now.table.shared.table_id board.now.table.shared.key.value.collector (collecting_of seat.old.me.0)) }
     ensures some { 0 < result.0 }
     ensures few { result.0 ≤ most }
 {

@@ -1,5 +1,5 @@
 //! Runs of turns of one kind, with what the machine at work has kept in locals.
-ghost use Rattle.std.specs.Prelude.{◌≡◌, ◌<◌, ◌≤◌};
+ghost use Rattle.std.specs.Prelude.{◌≡◌, ◌≢◌, ◌<◌, ◌≤◌};
 ghost use Rattle.rec_collector.specs.Given.{IsFreeingIn, IsPreparingIn, IsSweepingIn, IsTryingIn};
 ghost use Rattle.rec_collector.specs.Kept.{IsMachine, KeepsSizes};
 ghost use Rattle.rec_collector.specs.Kind.{HasLoop, kind_of};
@@ -34,6 +34,8 @@ impl Machine {
         ensures stands { T.StandsAt board.now seat.new result.0 self.new result.1 }
         ensures some { 0 < result.0 }
         ensures few { result.0 ≤ most }
+        // Only a sweep frees slots.
+        ensures unfreed { kind ≢ Kind.Sweeping → self.new.freed ≡ self.old.freed }
         ensures same { KeepsSizes self.old self.new }
         ensures kept { IsMachine self.new }
     {
@@ -64,6 +66,7 @@ impl Machine {
         ensures stands { T.StandsAt board.now seat.new result.0 self.new result.1 }
         ensures some { 0 < result.0 }
         ensures few { result.0 ≤ most }
+        ensures unfreed { self.new.freed ≡ self.old.freed }
         ensures same { KeepsSizes self.old self.new }
         ensures kept { IsMachine self.new }
     {
@@ -91,6 +94,7 @@ impl Machine {
         ensures stands { T.StandsAt board.now seat.new result.0 self.new result.1 }
         ensures some { 0 < result.0 }
         ensures few { result.0 ≤ most }
+        ensures unfreed { self.new.freed ≡ self.old.freed }
         ensures same { KeepsSizes self.old self.new }
         ensures kept { IsMachine self.new }
     {
@@ -118,6 +122,7 @@ impl Machine {
         ensures stands { T.StandsAt board.now seat.new result.0 self.new result.1 }
         ensures some { 0 < result.0 }
         ensures few { result.0 ≤ most }
+        ensures unfreed { self.new.freed ≡ self.old.freed }
         ensures same { KeepsSizes self.old self.new }
         ensures kept { IsMachine self.new }
     {

@@ -1,11 +1,11 @@
 -- The contract of `run_turns`: makes turns of one kind.
-use Rattle.std.proofs.Common.{sym, ap, subst, ◌∙◌}
+use Rattle.std.proofs.Common.{sym, ap, subst, ◌∙◌, arith, refl}
 use Rattle.rec_collector.specs.Kind.{HasLoop}
 use Rattle.rec_collector.specs.Private.{Private}
 use Rattle.rec_collector.specs.declared.kind.Kind.{Kind}
 use Rattle.rec_collector.specs.declared.turn.Turn.TheVariants as turns
 use Rattle.rec_table.proofs.Common.{Core, CollectorSeat, Collects, collecting_of, collector_view}
-use Rattle.rec_table.specs.TurnRuns.{Made}
+use Rattle.rec_table.specs.TurnRuns.{FreesBySweeps, Made}
 use Rattle.rec_table.proofs.TurnRuns.{kinds_loop, loops_out}
 use Rattle.rec_table.proofs.runs.run_turns.Goals as goal
 
@@ -26,6 +26,8 @@ run_as-requires-clause-stands g c =
       sizes = c.requires.seat.sizes;
       between = c.requires.seat.between;
       made = subst (λ (x : CollectorSeat). Made (collector_view z key.collector x) (collector_view z key.collector seat) 0 turns.Moved) (sym c.requires.start) Made.none;
+      frees = subst (λ (x : CollectorSeat). FreesBySweeps (collector_view z key.collector x) (collector_view z key.collector seat)) (sym c.requires.start)
+          (record { grows = omega arith; none = λ same. refl });
     }
 
 pub returns : goal.returns
@@ -38,6 +40,9 @@ returns g c =
       seat = record { table = s.table; me = s.me; is = s.is; sizes = s.sizes; between = s.between };
       same = s.same ∙ ap (λ (x : CollectorSeat). record x { log = after.log }) c.requires.start;
       made = subst (λ (x : CollectorSeat). Made (collector_view z key.collector x) (collector_view z key.collector after) c.run_as.result.0 c.run_as.result.1) c.requires.start s.made;
+      unfreed = λ other.
+          let frees = subst (λ (x : CollectorSeat). FreesBySweeps (collector_view z key.collector x) (collector_view z key.collector after)) c.requires.start s.frees in
+          frees.none (ap (λ (x : Private). x.freed) (sym s.is) ∙ c.run_as.ensures.unfreed other ∙ ap (λ (x : Private). x.freed) c.requires.seat.is);
       some = c.run_as.ensures.some;
       few = c.run_as.ensures.few;
     }

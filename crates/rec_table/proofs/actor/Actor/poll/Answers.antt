@@ -4,15 +4,13 @@ use Rattle.rec_word.specs.declared.op.Op.TheVariants as ops
 use Rattle.rec_mutator.specs.Next.{next_of, next_at}
 use Rattle.rec_mutator.specs.declared.work.Work.{Work}
 use Rattle.rec_mutator.specs.declared.work.Work.TheVariants as works
-use Rattle.rec_mutator.proofs.Straight.{begun_machine}
-use Rattle.rec_table.specs.Rule.{MayBegin}
 use Rattle.rec_table.specs.Straight.{record_of}
 use Rattle.rec_table.specs.declared.start.Start.{Start}
-use Rattle.rec_table.proofs.Common.{Private, IsBetween, IsFound, IsMachine, IsTold, Contents, answer_of, work_of, begun_of, told, mutator_now, mutator_view, MutatorView, Mutates, Saw, View, beats, longer, MayGo, learnt, seated_of}
+use Rattle.rec_table.proofs.Common.{Private, IsBetween, IsFound, IsMachine, IsTold, Contents, answer_of, work_of, begun_of, told, mutator_now, mutator_view, MutatorView, Mutates, Saw, View, beats, longer, learnt, seated_of}
 use Rattle.rec_table.proofs.Making.{begun_work, counted, keeps_on}
 use Rattle.rec_mutator.specs.Took.{IsRequested}
 use Rattle.atomic_table.specs.Table.{Me}
-use Rattle.rec_table.proofs.Straight.{awake, Owns, path_once, polled_once, polled_path, kept_by, learns_first, none_born, opened_on, owns, seen_on, Begins, begins}
+use Rattle.rec_table.proofs.Straight.{awake, path_once, polled_once, polled_path, kept_by, learns_first, none_born, opened_on, owns, seen_on, Begins, begins}
 use Rattle.rec_table.proofs.actor.Actor.poll.Goals as goal
 use Rattle.rec_table.proofs.actor.Actor.poll.Goals.{After-from-from}
 

@@ -2,6 +2,7 @@
 use Rattle.std.proofs.Common.{◌≡◌, ℕ, ◌+◌, ◌≤◌, ap, sym, subst, ◌∙◌, arith}
 use Rattle.rec_collector.specs.declared.turn.Turn.{Turn}
 use Rattle.rec_table.proofs.Common.{Core, CollectorSeat, CollectorView, collecting_of, collector_view}
+use Rattle.rec_table.specs.Telling.{freed_labels}
 use Rattle.rec_table.specs.TurnRuns.{Made}
 use Rattle.rec_table.specs.Turn.{MakesSome}
 use Rattle.rec_table.proofs.TurnRuns.{made_ended, made_some}
@@ -28,3 +29,17 @@ returns-clause-made c = λ first before.
       | in-Moved w ↦ subst (λ (r : ℕ × Turn). MakesSome first after r.0 c.args.most r.1) (sym w.result-is) (made_some first c.args.self.now after c.args.from run.result.0 c.args.most run.result.1 before made w.in-Moved.is few)
       | in_default w ↦ subst (λ (r : ℕ × Turn). MakesSome first after r.0 c.args.most r.1) (sym w.result-is) (made_ended first c.args.self.now after c.args.from run.result.0 c.args.most run.result.1 before made w.in_default.not-Moved few)
     ]
+
+pub returns-clause-unfreed : goal.returns-clause-unfreed
+returns-clause-unfreed c = λ other.
+    let key : Core = c.args.board.now.table.shared.key.value in
+    let z = c.args.board.now.table.shared.table_id in
+    let s = c.self.inside in
+    let opened : s.opened.value ≡ key.collector = ap (λ (g : CollectorView). g.opened) c.self.view_is ∙ c.requires.own.1 in
+    let table : s.seat.table_id ≡ z = ap (λ (g : CollectorView). g.table) c.self.view_is ∙ c.requires.own.0 in
+    let run = c.run_turns-made in
+    let from : CollectorSeat = collecting_of s.seat.me.0 in
+    let to : CollectorSeat = collecting_of run.new.seat.me.0 in
+    let u_is : collector_view z key.collector from ≡ c.args.self.now = (λ k. collector_view (sym table k) (sym opened k) from) ∙ c.self.view_is in
+    let v_is : collector_view z key.collector to ≡ collector_view run.new.seat.table_id s.opened.value to = λ k. collector_view (sym run.ensures.seat.table k) (sym opened k) to in
+    ap freed_labels (sym v_is) ∙ run.ensures.unfreed other ∙ ap freed_labels u_is

@@ -1,20 +1,8 @@
 -- The contract of `Collector::turns`: makes turns until one comes to something else than that it moved, and at most so many.
-use Rattle.std.proofs.Common.{◌≡◌, ◌≢◌, ℕ, ◌≤◌, arith}
-use Rattle.rec_collector.specs.declared.turn.Turn.{Turn}
-use Rattle.rec_collector.specs.declared.turn.Turn.TheVariants as turns
-use Rattle.rec_table.specs.Turn.{MakesSome, MakesTurns, MovesTo}
-use Rattle.rec_table.specs.Views.{CollectorView}
+use Rattle.std.proofs.Common.{arith}
+use Rattle.rec_table.specs.Turn.{MovesTo}
+use Rattle.rec_table.proofs.TurnRuns.{some_ended, some_moved}
 use Rattle.rec_table.proofs.collector.Collector.turns.Goals as goal
-
--- turns that moved
-some_moved : (first after : CollectorView) (moves most : ℕ) (answer : Turn) → MakesSome first after moves most answer → answer ≡ turns.Moved → MovesTo first moves after × (moves ≤ most)
-some_moved first after moves most answer (MakesSome.moved e few m) is = (m, few)
-some_moved first after moves most answer (MakesSome.ended last fewer m t other) is = absurd (other is)
-
--- turns behind which one came to something else
-some_ended : (first after : CollectorView) (moves most : ℕ) (answer : Turn) → MakesSome first after moves most answer → answer ≢ turns.Moved → MakesTurns first after most answer
-some_ended first after moves most answer (MakesSome.moved e few m) other = absurd (other e)
-some_ended first after moves most answer (MakesSome.ended last fewer m t o) other = MakesTurns.ended moves last fewer m t other
 
 pub loop-moves-init : goal.loop-moves-init
 loop-moves-init c = record { own = c.requires.own; moved = MovesTo.none; few = omega arith }
