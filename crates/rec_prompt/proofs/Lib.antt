@@ -3,7 +3,9 @@ pub mod Begun
 pub mod Chains
 pub mod Counts
 pub mod Forgets
+pub mod Hanging
 pub mod Moves
+pub mod Mutators
 pub mod Prompt
 pub mod Sees
 pub mod Stays

@@ -1,3 +1,4 @@
 -- The modules of the definitions.
+pub mod Cover
 pub mod Lost
 pub mod Prompt

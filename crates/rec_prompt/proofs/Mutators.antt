@@ -1,0 +1,205 @@
+-- What mutators do leaves each slot on something that the collector still has to look at: what a write replaces and what is born is
+-- pending, and so is what a register names as its mutator leaves an epoch.
+use Rattle.std.proofs.Common.{◌≡◌, ◌≢◌, ◌⊎◌, inl, inr, ℕ, zero, suc, ◌+◌, ◌-◌, ◌/◌, ◌<◌, ◌≤◌, true, false, Bool, List, [], ◌∷◌, ◌++◌, Option, None, Some, length, map, replicate, slice_index_or, slice_set, refl, sym, ap, subst, ◌∙◌, arith}
+use Rattle.std.proofs.lemmas.Bool.{cases_eq, eq-eqb}
+use Rattle.std.proofs.lemmas.List.{get_or-set_same, get_or-set_other, map-append}
+use Rattle.rec_core.proofs.Common.{place_of, target_of, is_green, is_slot, Op, slot_at, IsTaken, Contents, Private, buffer_at, is_busy, word_for, next_of, left_of, took_of, whole_made, begun_of, named, old_target, IsMutator, Core, cell, cells_of, box, mutator, nobody, sight, spare_of, IsKept, begun_from, found_by, stepped, crossing_of, with_cell, one}
+use Rattle.rec_core.specs.declared.config.Config.{Config}
+use Rattle.rec_model.specs.Reach as reach
+use Rattle.rec_counts.proofs.Naming.{named-append, named-cons, named-nil}
+use Rattle.rec_word.specs.Header.{header_word}
+use Rattle.rec_word.specs.Op.{written}
+use Rattle.rec_word.specs.declared.op.Op.TheVariants as ops
+use Rattle.rec_log.specs.declared.entry.Entry.{Entry}
+use Rattle.rec_log.specs.declared.entry.Entry.TheVariants as entries
+use Rattle.rec_mutator.specs.Took.{step_of}
+use Rattle.rec_mutator.specs.declared.work.Work.{Work}
+use Rattle.rec_collector.specs.Private as collectors
+use Rattle.rec_core.proofs.Actors.{crossing_due, leaving_home}
+use Rattle.rec_core.proofs.Reach.{steps_keep_taken}
+use Rattle.rec_core.proofs.Steps.{actor_of, in_list, stand_of, stays_here}
+use Rattle.rec_prompt.specs.Cover.{Covers, Hangs, IsCovered, IsListed, IsPending, takes}
+use Rattle.rec_prompt.specs.Cover.Hangs.{later, listed, behind}
+use Rattle.rec_prompt.specs.Lost.{Leads}
+use Rattle.rec_prompt.proofs.Forgets.{set_or}
+use Rattle.rec_prompt.proofs.Hanging.{carried, IsHung, leaders_count}
+use Rattle.rec_prompt.proofs.Sees.{Bears, Keeps, Puts, Retires, Sees, seen_step}
+use Rattle.rec_core.proofs.Shapes.{LeavesWords}
+
+-- a log with one entry more takes off what it took off, and what the entry refers to no longer
+takes_more : (slot : ℕ) (b : Contents) (entry : Entry) → takes slot (record b { entries = b.entries ++ entry ∷ [] }) ≡ takes slot b + named slot (old_target entry ∷ [])
+takes_more slot b entry = omega (arith, ap (named slot) (map-append old_target b.entries (entry ∷ [])), named-append slot (map old_target b.entries) (old_target entry ∷ []))
+
+-- one that refers to the slot no longer takes one off it
+takes_one : (slot : ℕ) (target : Option ℕ) → target ≡ Some slot → 0 < named slot (target ∷ [])
+takes_one slot target is = subst (λ (x : Option ℕ). 0 < named slot (x ∷ [])) (sym is) (omega (arith, named-cons slot (Some slot) [], ap one (eq-eqb slot slot refl)))
+
+-- a snapshot that names nothing takes nothing off
+unnamed : (slot : ℕ) (xs : List (Option ℕ)) → reach.named xs ≡ [] → named slot xs ≡ 0
+unnamed slot [] none = named-nil slot
+unnamed slot (None ∷ xs) none = omega (arith, named-cons slot None xs, unnamed slot xs none)
+unnamed slot (Some x ∷ xs) none = absurd (cc)
+
+-- nor does a spare
+nulls_take : (slot n : ℕ) → named slot (replicate {A = Option ℕ} n None) ≡ 0
+nulls_take slot zero = named-nil slot
+nulls_take slot (suc n) = omega (arith, named-cons slot None (replicate n None), nulls_take slot n)
+
+pub spare_takes : (slot : ℕ) (config : Config) (b : Contents) → b ≡ spare_of config → takes slot b ≡ 0
+spare_takes slot config b is = ap (takes slot) is ∙ omega (arith, named-nil slot, nulls_take slot config.registers)
+
+-- A mutator begins a work.
+pub begun_covered : (v : Core) (t : ℕ) (work : Work) (from : ℕ) → IsMutator v.config t → IsKept true v → IsCovered v → IsCovered (begun_from v t work from)
+unfolding begun_of
+begun_covered v t work from is kept c slot taken plain =
+    let q : Private = begun_of (mutator v t) work from in
+    carried (sight v) (sight (begun_from v t work from)) (IsPending v) (IsPending (begun_from v t work from)) v.collector.counts v.collector.counts (leaders_count v kept)
+    (λ x pending taken_ plain_. later (goes q refl x pending))
+    (λ x list taken_ plain_. listed list)
+    (λ m n leads. inl leads)
+    slot (c slot taken plain) taken plain
+  where
+    goes : (q : Private) → q.log ≡ (mutator v t).log → (x : ℕ) → IsPending v x → IsPending (record v { mutators = slice_set v.mutators (t - 1) q }) x
+    goes q same x (IsPending.log i some) = IsPending.log i (elim (cases_eq i (t - 1)) [
+      | inl own ↦ subst (λ (p : Private). 0 < takes x p.log) (sym (ap (λ n. slice_index_or (slice_set v.mutators (t - 1) q) n nobody) own ∙ get_or-set_same v.mutators (t - 1) q nobody (in_list v t kept is)))
+          (subst (λ (b : Contents). 0 < takes x b) (ap (λ n. (slice_index_or v.mutators n nobody).log) own ∙ sym same) some)
+      | inr other ↦ subst (λ (p : Private). 0 < takes x p.log) (sym (get_or-set_other v.mutators (t - 1) i q nobody other)) some
+    ])
+    goes q same x (IsPending.mailbox i some) = IsPending.mailbox i some
+    goes q same x (IsPending.newer i some) = IsPending.newer i some
+    goes q same x (IsPending.older early i some) = IsPending.older early i some
+
+-- A mutator makes a step.
+module _ (v : Core) (t : ℕ) (kept : IsKept true v) (is : IsMutator v.config t) (busy : is_busy (mutator v t) ≡ true) (after : IsKept true (stepped v t)) (c : IsCovered v) where
+  abbrev p : Private
+  p = mutator v t
+
+  abbrev word : ℕ
+  word = found_by v t
+
+  abbrev op : Op
+  op = next_of p
+
+  abbrev q : Private
+  q = step_of p word (box v t)
+
+  abbrev left : Contents
+  left = left_of (took_of p word) (box v t)
+
+  abbrev u : Core
+  u = stepped v t
+
+  own_log : mutator u t ≡ q
+  own_log = get_or-set_same v.mutators (t - 1) q nobody (in_list v t kept is)
+
+  own_box : box u t ≡ left
+  own_box = let boxes : length v.boxes ≡ v.config.mutators = kept.mutators.mailboxes in get_or-set_same v.boxes (t - 1) left (collectors.blank 0 0) (omega (arith, boxes, is.0, is.1))
+
+  -- what its log takes off is pending, and what its mailbox does
+  by_log : (x : ℕ) → 0 < takes x q.log → IsPending u x
+  by_log x some = IsPending.log (t - 1) (subst (λ (r : Private). 0 < takes x r.log) (sym own_log) some)
+
+  by_box : (x : ℕ) → 0 < takes x left → IsPending u x
+  by_box x some = IsPending.mailbox (t - 1) (subst (λ (b : Contents). 0 < takes x b) (sym own_box) some)
+
+  -- What was pending is so still, where that holds of its own log and mailbox.
+  still_pending : ((x : ℕ) → 0 < takes x p.log → IsPending u x) → ((x : ℕ) → 0 < takes x (box v t) → IsPending u x) → (x : ℕ) → IsPending v x → IsPending u x
+  still_pending of_log of_box x (IsPending.log i some) = elim (cases_eq i (t - 1)) [
+    | inl own ↦ of_log x (subst (λ n. 0 < takes x (slice_index_or v.mutators n nobody).log) own some)
+    | inr other ↦ IsPending.log i (subst (λ (r : Private). 0 < takes x r.log) (sym (get_or-set_other v.mutators (t - 1) i q nobody other)) some)
+  ]
+  still_pending of_log of_box x (IsPending.mailbox i some) = elim (cases_eq i (t - 1)) [
+    | inl own ↦ of_box x (subst (λ n. 0 < takes x (slice_index_or v.boxes n (collectors.blank 0 0))) own some)
+    | inr other ↦ IsPending.mailbox i (subst (λ (b : Contents). 0 < takes x b) (sym (get_or-set_other v.boxes (t - 1) i left (collectors.blank 0 0) other)) some)
+  ]
+  still_pending of_log of_box x (IsPending.newer i some) = IsPending.newer i some
+  still_pending of_log of_box x (IsPending.older early i some) = IsPending.older early i some
+
+  same_box : left ≡ box v t → (x : ℕ) → 0 < takes x (box v t) → IsPending u x
+  same_box same x some = by_box x (subst (λ (b : Contents). 0 < takes x b) (sym same) some)
+
+  -- where each word stays, and each slot that holds an object held one
+  hung : ((x : ℕ) → IsPending v x → IsPending u x) → ((m n : ℕ) → Leads (sight v) m n → Leads (sight u) m n ⊎ IsPending u n) → ((x : ℕ) → IsTaken (sight u) x → IsTaken (sight v) x ⊎ IsPending u x) → IsCovered u
+  hung pending edge new slot taken plain = elim (new slot taken) [
+    | inr born ↦ later born
+    | inl was ↦ carried (sight v) (sight u) (IsPending v) (IsPending u) v.collector.counts v.collector.counts (leaders_count u after)
+        (λ x some taken_ plain_. later (pending x some))
+        (λ x list taken_ plain_. listed list)
+        (λ m n leads. elim (edge m n leads) [ inl still ↦ inl still | inr some ↦ inr (λ taken_ plain_. later some) ])
+        slot (c slot was plain) taken plain
+  ]
+
+  -- the words stay, unless the step puts one
+  same_words : LeavesWords word op → (m n : ℕ) → Leads (sight v) m n → Leads (sight u) m n ⊎ IsPending u n
+  same_words leaves m n (field, within, leads) = inl (field, within, ap (λ ws. target_of (slice_index_or ws (place_of m field v.config.fields) 0)) (leaves (cells_of v) refl) ∙ leads)
+
+  -- a slot holds an object, unless the step claims it
+  same_headers : u.headers ≡ v.headers → (x : ℕ) → IsTaken (sight u) x → IsTaken (sight v) x ⊎ IsPending u x
+  same_headers same x taken = inl (subst (λ hs. 0 < slice_index_or hs x 0) same taken)
+
+  -- the collector's own are the same, and a slot that wasn't claimed held an object before
+  by_keeps : Keeps p word (box v t) op q left → IsCovered u
+  by_keeps k = hung (still_pending (λ x some. by_log x (subst (λ (b : Contents). 0 < takes x b) (sym k.log) some)) (same_box k.mailbox)) (same_words k.words) (same_headers (k.headers (cells_of v) refl))
+
+  by_birth : Bears p word (box v t) op q left → IsCovered u
+  by_birth b = hung (still_pending (λ x some. by_log x (omega (arith, some, more x))) (same_box b.mailbox)) (same_words (subst (LeavesWords word) (sym b.operation) (λ cells e. refl)))
+      (λ x taken. elim (cases_eq x b.slot) [
+        | inl same ↦ inr (by_log x (omega (arith, more x, takes_one x (Some b.slot) (ap Some (sym same)))))
+        | inr other ↦ inl (subst (λ n. 0 < n) (header x other) taken)
+      ])
+    where
+      more : (x : ℕ) → takes x q.log ≡ takes x p.log + named x (Some b.slot ∷ [])
+      more x = ap (takes x) b.log ∙ takes_more x p.log (entries.Born b.slot b.leaf)
+
+      header : (x : ℕ) → x ≢ b.slot → slice_index_or u.headers x 0 ≡ slice_index_or v.headers x 0
+      header x other =
+          ap (λ (o : Op). slice_index_or (with_cell (cells_of v) o (written o word)).headers x 0) b.operation
+          ∙ get_or-set_other v.headers b.slot x (written (ops.ClaimHeader b.slot (header_word b.leaf b.label)) word) 0 other
+
+  by_put : Puts p word (box v t) op q left → IsCovered u
+  by_put k = hung (still_pending (λ x some. by_log x (omega (arith, some, more x))) (same_box k.mailbox)) edge (same_headers (ap (λ (o : Op). (with_cell (cells_of v) o (written o word)).headers) k.operation))
+    where
+      place : ℕ
+      place = place_of k.slot k.field p.fields
+
+      new : ℕ
+      new = word_for p k.val
+
+      more : (x : ℕ) → takes x q.log ≡ takes x p.log + named x (target_of word ∷ [])
+      more x = ap (takes x) k.log ∙ takes_more x p.log (entries.Put place new word)
+
+      here : word ≡ slice_index_or v.words place 0
+      here = ap (cell (cells_of v)) k.operation
+
+      after_words : u.words ≡ slice_set v.words place new
+      after_words = ap (λ (o : Op). (with_cell (cells_of v) o (written o word)).words) k.operation
+
+      edge : (m n : ℕ) → Leads (sight v) m n → Leads (sight u) m n ⊎ IsPending u n
+      edge m n (field, within, leads) = elim (cases_eq (place_of m field v.config.fields) place) [
+        | inl same ↦ inr (by_log n (omega (arith, more n, takes_one n (target_of word) (ap target_of (here ∙ ap (λ i. slice_index_or v.words i 0) (sym same)) ∙ leads))))
+        | inr other ↦ inl (field, within, ap target_of (ap (λ ws. slice_index_or ws (place_of m field v.config.fields) 0) after_words ∙ get_or-set_other v.words place (place_of m field v.config.fields) new 0 other) ∙ leads)
+      ]
+
+  by_crossing : Retires p word (box v t) op q left → IsCovered u
+  by_crossing k = hung (still_pending of_log (λ x some. absurd (omega (arith, some, spare_takes x v.config (box v t) home)))) (same_words k.words) (same_headers (k.headers (cells_of v) refl))
+    where
+      home : box v t ≡ spare_of v.config
+      home =
+          let stays = stays_here v t kept is busy in
+          let handshake = (actor_of v t kept is).handshake in
+          elim k.takes [
+            | inl crossing ↦ (crossing_due v.config v.epoch p (crossing_of v t) (box v t) (stand_of v t) stays crossing handshake).1.spare
+            | inr leaving ↦ (leaving_home v.config v.epoch p (crossing_of v t) (box v t) (stand_of v t) stays leaving handshake).0
+          ]
+
+      of_log : (x : ℕ) → 0 < takes x p.log → IsPending u x
+      of_log x some = by_box x (omega (arith, some, unnamed x p.log.snapshot (actor_of v t kept is).unwritten, ap (λ es. named x (map old_target es)) k.entries))
+
+  by_step : Sees p word (box v t) op q left → IsCovered u
+  by_step (Sees.keeps k) = by_keeps k
+  by_step (Sees.bears b) = by_birth b
+  by_step (Sees.puts k) = by_put k
+  by_step (Sees.retires k) = by_crossing k
+
+  pub step_covered : IsCovered u
+  step_covered = let actor = actor_of v t kept is in let whole = whole_made p word (box v t) busy actor.own.between in by_step (seen_step actor.own.machine whole.own whole.mailbox)
