@@ -47,7 +47,7 @@ buffers_none g f slot v none c = omega (
 )
 
 -- what weighs something has an element that does
-some_at : (f : ℕ → ℕ → ℕ) (xs : List ℕ) → 0 < sum_at f xs → (place : ℕ) × (0 < f place (slice_index_or xs place 0))
+pub some_at : (f : ℕ → ℕ → ℕ) (xs : List ℕ) → 0 < sum_at f xs → (place : ℕ) × (0 < f place (slice_index_or xs place 0))
 some_at f [] some = absurd (omega (arith, some))
 some_at f (x ∷ xs) some = elim (cases_lt 0 (f 0 x)) [
   | inl here ↦ (0, here)
@@ -55,7 +55,7 @@ some_at f (x ∷ xs) some = elim (cases_lt 0 (f 0 x)) [
 ]
 
 -- a word that is counted for a slot leads to it
-counted_leads : (word slot : ℕ) → 0 < one_if_same (slot + 1) (node_of word) → target_of word ≡ Some slot
+pub counted_leads : (word slot : ℕ) → 0 < one_if_same (slot + 1) (node_of word) → target_of word ≡ Some slot
 counted_leads word slot some = elim (cases_eq (slot + 1) (node_of word)) [
   | inl same ↦ node_leads word slot (sym same)
   | inr other ↦ absurd (omega (arith, some, none_if_differs (slot + 1) (node_of word) other))

@@ -6,6 +6,7 @@ pub mod Forgets
 pub mod Hanging
 pub mod Moves
 pub mod Mutators
+pub mod Pended
 pub mod Prompt
 pub mod Sees
 pub mod Stays
