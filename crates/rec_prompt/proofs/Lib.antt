@@ -4,6 +4,8 @@ pub mod Chains
 pub mod Counts
 pub mod Forgets
 pub mod Hanging
+pub mod Heeding
+pub mod Lessened
 pub mod Moves
 pub mod Mutators
 pub mod Pended
