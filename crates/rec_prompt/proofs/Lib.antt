@@ -13,4 +13,5 @@ pub mod Prompt
 pub mod Sees
 pub mod Stays
 pub mod Steps
+pub mod Tried
 pub mod Turns

@@ -1,0 +1,203 @@
+-- A trial takes nothing out of the lists while it is at work: what it marks stays marked until it is over.
+use Rattle.std.proofs.Common.{◌≡◌, ◌≢◌, ◌⊎◌, inl, inr, ℕ, zero, suc, ◌+◌, ◌-◌, ◌<◌, ◌≤◌, ◌==◌, ◌||◌, nat_lt, if◌then◌else◌, true, false, Bool, Option, None, Some, List, [], ◌∷◌, ◌++◌, length, map, slice_index_or, refl, sym, ap, subst, ◌∙◌, arith}
+use Rattle.std.specs.List.{concat}
+use Rattle.std.proofs.lemmas.Bool.{cases_Bool, cases_eq, cases_lt, ne_eqb, false≢true}
+use Rattle.rec_core.proofs.Common.{is_green, State, slot_at, with_slot, one, times, absent, Slot, times-append, times-cons, times-nil, stays, Work, target_of, Parts, with_offers}
+use Rattle.rec_counts.specs.declared.colour.Colour.{Colour}
+use Rattle.rec_counts.specs.declared.colour.Colour.TheVariants.{Black, Purple, Gray, White, Orange, Green}
+use Rattle.rec_counts.specs.Colour.{is_gray, is_purple, is_white}
+use Rattle.rec_counts.specs.Counts.{without_root, with_joined}
+use Rattle.rec_counts.specs.Groups.{with_member}
+use Rattle.rec_counts.proofs.Keeping.{map_at}
+use Rattle.rec_counts.proofs.Times.{one-same, times_push}
+use Rattle.rec_release.proofs.TakenOff.{written}
+use Rattle.rec_trial.specs.declared.phase.Phase.{Phase}
+use Rattle.rec_trial.specs.declared.phase.Phase.TheVariants.{Idle, Marking, Scanning, Collecting}
+use Rattle.rec_trial.specs.Moves.{all_whitened, blackened_if, cleared, collected_by, dropped, dropped_if, has_rest, joined_if, marked_by, one_off, scanned_by, touched, touched_if, whitened, whitened_if, with_new_set}
+use Rattle.rec_trial.specs.Trial.{is_due, learnt_at, moved_at, pointed, settled, started_of, took_of, went_on}
+use Rattle.rec_trial.proofs.Moving.{settled_by}
+use Rattle.rec_trial.proofs.Views.{concat_member, concat_new}
+use Rattle.rec_collector.specs.Offered.{offered, offered_if, offered_slot, offered_where}
+use Rattle.rec_collector.proofs.Offering.{where_green, where_keeps}
+use Rattle.rec_prompt.specs.Cover.{IsListed}
+use Rattle.rec_prompt.proofs.Heeding.{Heeds, heeds_alike, heeds_on, heeds_same, IsSeen}
+
+-- One slot is written, and is in a list then if it was in one, or is Green as it was; and each list has as many of each, or more.
+heeds_written : (s t : State) (x : ℕ) (v : Slot) → t.slots ≡ (with_slot s x v).slots → is_green v.colour ≡ is_green (slot_at s x).colour → v.released ≡ (slot_at s x).released
+    → (is_purple (slot_at s x).colour ≡ true → IsListed t x)
+    → ((y : ℕ) → times y s.zeros ≤ times y t.zeros) → ((y : ℕ) → times y s.roots ≤ times y t.roots) → ((y : ℕ) → times y (concat s.sets) ≤ times y (concat t.sets)) → ((y : ℕ) → times y s.marked ≤ times y t.marked) → Heeds s t
+heeds_written s t x v slots green released purple zeros roots members marked = record {
+  greens = λ y. elim (at y) [
+    | inl own ↦ ap (λ (u : Slot). is_green u.colour) own.1 ∙ green ∙ ap (λ n. is_green (slot_at s n).colour) (sym own.0)
+    | inr other ↦ ap (λ (u : Slot). is_green u.colour) other
+  ];
+  lists = lists;
+}
+  where
+    at : (y : ℕ) → ((y ≡ x) × (slot_at t y ≡ v)) ⊎ (slot_at t y ≡ slot_at s y)
+    at y = elim (written s x v y) [
+      | inl own ↦ inl (own.0, ap (λ ss. slice_index_or ss y absent) slots ∙ own.1)
+      | inr other ↦ inr (ap (λ ss. slice_index_or ss y absent) slots ∙ other)
+    ]
+
+    lists : (y : ℕ) → IsListed s y → IsSeen t y
+    lists y (IsListed.released is) = inl (IsListed.released (elim (at y) [
+      | inl own ↦ ap (λ (u : Slot). u.released) own.1 ∙ released ∙ ap (λ n. (slot_at s n).released) (sym own.0) ∙ is
+      | inr other ↦ ap (λ (u : Slot). u.released) other ∙ is
+    ]))
+    lists y (IsListed.zero some) = inl (IsListed.zero (omega (arith, some, zeros y)))
+    lists y (IsListed.root some is) = elim (at y) [
+      | inl own ↦ inl (subst (IsListed t) (sym own.0) (purple (ap (λ n. is_purple (slot_at s n).colour) (sym own.0) ∙ is)))
+      | inr other ↦ inl (IsListed.root (omega (arith, some, roots y)) (ap (λ (u : Slot). is_purple u.colour) other ∙ is))
+    ]
+    lists y (IsListed.member some) = inl (IsListed.member (omega (arith, some, members y)))
+    lists y (IsListed.marked some) = inl (IsListed.marked (omega (arith, some, marked y)))
+
+-- ---- marking
+
+touches : (b : Bool) (s : State) (x : ℕ) → is_green (slot_at s x).colour ≡ false → Heeds s (touched_if b s x)
+touches true s x plain = heeds_same s
+touches false s x plain = heeds_written s (touched_if false s x) x (record (slot_at s x) { colour = Gray; cyclic = (slot_at s x).count }) refl (sym plain) refl
+    (λ is. IsListed.marked (omega (arith, times_push x s.marked x, one-same x)))
+    (λ y. omega arith) (λ y. omega arith) (λ y. omega arith) (λ y. omega (arith, times_push y s.marked x))
+
+one_less : (s : State) (x : ℕ) → Heeds s (one_off s x)
+one_less s x = heeds_alike s (one_off s x)
+    (λ y. elim (written s x (record (slot_at s x) { cyclic = (slot_at s x).cyclic - 1 }) y) [ inl own ↦ ap (λ (u : Slot). u.colour) own.1 ∙ ap (λ n. (slot_at s n).colour) (sym own.0) | inr other ↦ ap (λ (u : Slot). u.colour) other ])
+    (λ y is. elim (written s x (record (slot_at s x) { cyclic = (slot_at s x).cyclic - 1 }) y) [ inl own ↦ ap (λ (u : Slot). u.released) own.1 ∙ ap (λ n. (slot_at s n).released) (sym own.0) ∙ is | inr other ↦ ap (λ (u : Slot). u.released) other ∙ is ])
+    (λ y. omega arith) (λ y. omega arith) (λ y. omega arith) (λ y. omega arith)
+
+-- a target that isn't Green
+abbrev pub IsPlainTarget : State → Option ℕ → Type 0
+IsPlainTarget s None = Unit {0}
+IsPlainTarget s (Some x) = is_green (slot_at s x).colour ≡ false
+
+marks : (s : State) (target : Option ℕ) → IsPlainTarget s target → Heeds s (marked_by s target)
+marks s None plain = heeds_same s
+marks s (Some x) plain = heeds_on (touches (is_gray (slot_at s x).colour) s x plain) (one_less (touched s x) x)
+
+-- the first root leaves the root buffer: it is released, or Purple and marked
+drops : (s : State) (x : ℕ) (xs : List ℕ) → s.roots ≡ x ∷ xs → Heeds s (dropped (without_root (x ∷ xs) s) x)
+drops s x xs is = go (slot_at u x).released (slot_at u x).colour refl refl
+  where
+    u : State
+    u = without_root (x ∷ xs) s
+
+    out : (y : ℕ) → ((slot_at u y).colour ≡ (slot_at s y).colour) × ((slot_at u y).released ≡ (slot_at s y).released)
+    out y = elim (written s x (record (slot_at s x) { buffered = false }) y) [
+      | inl own ↦ (ap (λ (v : Slot). v.colour) own.1 ∙ ap (λ n. (slot_at s n).colour) (sym own.0), ap (λ (v : Slot). v.released) own.1 ∙ ap (λ n. (slot_at s n).released) (sym own.0))
+      | inr other ↦ (ap (λ (v : Slot). v.colour) other, ap (λ (v : Slot). v.released) other)
+    ]
+
+    -- what is in the lists of these counts, where the first root is
+    with_first : (t : State) → ((y : ℕ) → is_green (slot_at t y).colour ≡ is_green (slot_at u y).colour) → ((y : ℕ) → IsListed u y → IsSeen t y) → (is_purple (slot_at s x).colour ≡ true → IsSeen t x) → Heeds s t
+    with_first t greens lists first = record { greens = λ y. greens y ∙ ap is_green (out y).0; lists = all }
+      where
+        all : (y : ℕ) → IsListed s y → IsSeen t y
+        all y (IsListed.released was) = lists y (IsListed.released ((out y).1 ∙ was))
+        all y (IsListed.zero some) = lists y (IsListed.zero some)
+        all y (IsListed.root some purple) = elim (cases_eq y x) [
+          | inl same ↦ subst (IsSeen t) (sym same) (first (ap (λ n. is_purple (slot_at s n).colour) (sym same) ∙ purple))
+          | inr other ↦ lists y (IsListed.root (omega (arith, some, ap (times y) is, times-cons y x xs, ap one (ne_eqb y x other))) (ap is_purple (out y).0 ∙ purple))
+        ]
+        all y (IsListed.member some) = lists y (IsListed.member some)
+        all y (IsListed.marked some) = lists y (IsListed.marked some)
+
+    other : (c : Colour) → (slot_at u x).colour ≡ c → is_purple c ≡ false → Heeds s u
+    other c is_c none = with_first u (λ y. refl) (λ y there. inl there) (λ purple. absurd (false≢true (sym none ∙ ap is_purple (sym is_c ∙ (out x).0) ∙ purple)))
+
+    go : (b : Bool) (c : Colour) → (slot_at u x).released ≡ b → (slot_at u x).colour ≡ c → Heeds s (dropped_if b c u x)
+    go true c gone is_c = with_first (dropped_if true c u x) (λ y. refl) (heeds_alike u (dropped_if true c u x) (λ y. refl) (λ y was. was) (λ y. omega arith) (λ y. omega arith) (λ y. omega arith) (λ y. omega arith)).lists (λ purple. inl (IsListed.released gone))
+    go false Purple there is_c =
+        let h : Heeds u (touched_if false u x) = touches false u x (ap is_green is_c) in
+        with_first (touched_if false u x) h.greens h.lists (λ purple. inl (IsListed.marked (omega (arith, times_push x s.marked x, one-same x))))
+    go false Black there is_c = other Black is_c refl
+    go false Gray there is_c = other Gray is_c refl
+    go false White there is_c = other White is_c refl
+    go false Orange there is_c = other Orange is_c refl
+    go false Green there is_c = other Green is_c refl
+
+-- ---- scanning
+
+gray_plain : (c : Colour) → is_gray c ≡ true → (is_green c ≡ false) × (is_purple c ≡ false)
+gray_plain Gray is = (refl, refl)
+gray_plain _ is = absurd (false≢true is)
+
+blackens : (b : Bool) (s : State) (x : ℕ) → (b ≡ true → is_gray (slot_at s x).colour ≡ true) → Heeds s (blackened_if b s x)
+blackens false s x gray = heeds_same s
+blackens true s x gray =
+    let plain = gray_plain (slot_at s x).colour (gray refl) in
+    heeds_written s (blackened_if true s x) x (record (slot_at s x) { colour = Black }) refl (sym plain.0) refl (λ purple. absurd (false≢true (sym plain.1 ∙ purple))) (λ y. omega arith) (λ y. omega arith) (λ y. omega arith) (λ y. omega arith)
+
+rest_gray : (v : Slot) → has_rest v ≡ true → is_gray v.colour ≡ true
+rest_gray v = go (is_gray v.colour)
+  where
+    go : (b : Bool) → (if b then nat_lt 0 v.cyclic else false) ≡ true → b ≡ true
+    go true is = refl
+    go false is = is
+
+scans : (s : State) (target : Option ℕ) → Heeds s (scanned_by s target)
+scans s None = heeds_same s
+scans s (Some x) = blackens (is_gray (slot_at s x).colour) s x (λ is. is)
+
+whitens : (s : State) → Heeds s (all_whitened s)
+whitens s = record { greens = λ x. ap (λ (v : Slot). is_green v.colour) (at x) ∙ green (slot_at s x); lists = lists }
+  where
+    at : (x : ℕ) → slot_at (all_whitened s) x ≡ whitened (slot_at s x)
+    at x = map_at whitened refl s.slots x
+
+    green : (v : Slot) → is_green (whitened v).colour ≡ is_green v.colour
+    green v = go (is_gray v.colour) refl
+      where
+        go : (b : Bool) → is_gray v.colour ≡ b → is_green (whitened_if b v).colour ≡ is_green v.colour
+        go true is = sym (gray_plain v.colour is).0
+        go false is = refl
+
+    purple : (v : Slot) → is_purple v.colour ≡ true → is_purple (whitened v).colour ≡ true
+    purple v is = go (is_gray v.colour) refl
+      where
+        go : (b : Bool) → is_gray v.colour ≡ b → is_purple (whitened_if b v).colour ≡ true
+        go true gray = absurd (false≢true (sym (gray_plain v.colour gray).1 ∙ is))
+        go false gray = is
+
+    released : (v : Slot) → (whitened v).released ≡ v.released
+    released v = go (is_gray v.colour)
+      where
+        go : (b : Bool) → (whitened_if b v).released ≡ v.released
+        go true = refl
+        go false = refl
+
+    lists : (x : ℕ) → IsListed s x → IsSeen (all_whitened s) x
+    lists x (IsListed.released is) = inl (IsListed.released (ap (λ (v : Slot). v.released) (at x) ∙ released (slot_at s x) ∙ is))
+    lists x (IsListed.zero some) = inl (IsListed.zero some)
+    lists x (IsListed.root some is) = inl (IsListed.root some (ap (λ (v : Slot). is_purple v.colour) (at x) ∙ purple (slot_at s x) is))
+    lists x (IsListed.member some) = inl (IsListed.member some)
+    lists x (IsListed.marked some) = inl (IsListed.marked some)
+
+-- ---- collecting
+
+white_plain : (c : Colour) → is_white c ≡ true → (is_green c ≡ false) × (is_purple c ≡ false)
+white_plain White is = (refl, refl)
+white_plain _ is = absurd (false≢true is)
+
+more_members : (sets : List (List ℕ)) (x y : ℕ) → times y (concat sets) ≤ times y (concat (with_member sets x))
+more_members [] x y = omega arith
+more_members (xs ∷ sets) x y = omega (arith, ap (times y) (concat_member (xs ∷ sets) x (omega arith)), times_push y (concat (xs ∷ sets)) x)
+
+joins : (b : Bool) (s : State) (x : ℕ) → (b ≡ true → is_white (slot_at s x).colour ≡ true) → Heeds s (joined_if b s x)
+joins false s x white = heeds_same s
+joins true s x white =
+    let plain = white_plain (slot_at s x).colour (white refl) in
+    let u : State = with_slot s x (record (slot_at s x) { colour = Orange }) in
+    heeds_on (heeds_written s u x (record (slot_at s x) { colour = Orange }) refl (sym plain.0) refl (λ purple. absurd (false≢true (sym plain.1 ∙ purple))) (λ y. omega arith) (λ y. omega arith) (λ y. omega arith) (λ y. omega arith))
+    (heeds_alike u (with_joined u x)
+        (λ y. elim (written u x (record (slot_at u x) { buffered = true; set = Some (length s.sets - 1) }) y) [ inl own ↦ ap (λ (v : Slot). v.colour) own.1 ∙ ap (λ n. (slot_at u n).colour) (sym own.0) | inr other ↦ ap (λ (v : Slot). v.colour) other ])
+        (λ y is. elim (written u x (record (slot_at u x) { buffered = true; set = Some (length s.sets - 1) }) y) [ inl own ↦ ap (λ (v : Slot). v.released) own.1 ∙ ap (λ n. (slot_at u n).released) (sym own.0) ∙ is | inr other ↦ ap (λ (v : Slot). v.released) other ∙ is ])
+        (λ y. omega arith) (λ y. omega arith) (λ y. more_members s.sets x y) (λ y. omega arith))
+
+collects : (s : State) (target : Option ℕ) → Heeds s (collected_by s target)
+collects s None = heeds_same s
+collects s (Some x) = joins (is_white (slot_at s x).colour) s x (λ is. is)
+
+begins_set : (s : State) → Heeds s (with_new_set s)
+begins_set s = heeds_alike s (with_new_set s) (λ x. refl) (λ x is. is) (λ x. omega arith) (λ x. omega arith) (λ x. omega (arith, ap (times x) (concat_new s.sets))) (λ x. omega arith)
