@@ -1,7 +1,7 @@
 -- A trial takes nothing out of the lists while it is at work: what it marks stays marked until it is over.
 use Rattle.std.proofs.Common.{◌≡◌, ◌≢◌, ◌⊎◌, inl, inr, ℕ, zero, suc, ◌+◌, ◌-◌, ◌<◌, ◌≤◌, ◌==◌, ◌||◌, nat_lt, if◌then◌else◌, true, false, Bool, Option, None, Some, List, [], ◌∷◌, ◌++◌, length, map, slice_index_or, refl, sym, ap, subst, ◌∙◌, arith}
 use Rattle.std.specs.List.{concat}
-use Rattle.std.proofs.lemmas.Bool.{cases_Bool, cases_eq, cases_lt, ne_eqb, false≢true}
+use Rattle.std.proofs.lemmas.Bool.{cases_Bool, cases_eq, cases_lt, ltb-false, ne_eqb, false≢true}
 use Rattle.rec_core.proofs.Common.{is_green, State, slot_at, with_slot, one, times, absent, Slot, times-append, times-cons, times-nil, stays, Work, target_of, Parts, with_offers}
 use Rattle.rec_counts.specs.declared.colour.Colour.{Colour}
 use Rattle.rec_counts.specs.declared.colour.Colour.TheVariants.{Black, Purple, Gray, White, Orange, Green}
@@ -14,10 +14,13 @@ use Rattle.rec_release.proofs.TakenOff.{written}
 use Rattle.rec_trial.specs.declared.phase.Phase.{Phase}
 use Rattle.rec_trial.specs.declared.phase.Phase.TheVariants.{Idle, Marking, Scanning, Collecting}
 use Rattle.rec_trial.specs.Moves.{all_whitened, blackened_if, cleared, collected_by, dropped, dropped_if, has_rest, joined_if, marked_by, one_off, scanned_by, touched, touched_if, whitened, whitened_if, with_new_set}
-use Rattle.rec_trial.specs.Trial.{is_due, learnt_at, moved_at, pointed, settled, started_of, took_of, went_on}
+use Rattle.rec_trial.specs.Trial.{collect_moved, is_due, learnt_at, moved_at, pointed, roots_moved, scan_moved, set_begun_if, settled}
+use Rattle.rec_trial.proofs.Course.{Course, first_view, moved_course}
+use Rattle.rec_trial.proofs.Deletion.{Loads}
+use Rattle.rec_trial.proofs.Holding.{inv_at, WhileCollecting}
 use Rattle.rec_trial.proofs.Moving.{settled_by}
-use Rattle.rec_trial.proofs.Views.{concat_member, concat_new}
-use Rattle.rec_collector.specs.Offered.{offered, offered_if, offered_slot, offered_where}
+use Rattle.rec_trial.proofs.Views.{concat_member, concat_new, view}
+use Rattle.rec_collector.specs.Offered.{missing, offered, offered_if, offered_slot, offered_where}
 use Rattle.rec_collector.proofs.Offering.{where_green, where_keeps}
 use Rattle.rec_prompt.specs.Cover.{IsListed}
 use Rattle.rec_prompt.proofs.Heeding.{Heeds, heeds_alike, heeds_on, heeds_same, IsSeen}
@@ -201,3 +204,97 @@ collects s (Some x) = joins (is_white (slot_at s x).colour) s x (λ is. is)
 
 begins_set : (s : State) → Heeds s (with_new_set s)
 begins_set s = heeds_alike s (with_new_set s) (λ x. refl) (λ x is. is) (λ x. omega arith) (λ x. omega arith) (λ x. omega (arith, ap (times x) (concat_new s.sets))) (λ x. omega arith)
+
+-- ---- a whole turn
+
+-- A trial that came from the one counts to this work has kept all that was in a list; or it is over, and nothing is marked any more.
+pub data Tries (fields : ℕ) (before s : State) (ls : Loads) (v : Work) : Type 0 where
+  goes : Heeds s v.counts → Tries fields before s ls v
+  ends : (w : Work) → Heeds s w.counts → WhileCollecting (first_view fields before) (view w) ls → w.machine.tried ≡ length w.counts.marked → v.machine.phase ≡ Idle → v.counts ≡ cleared w.counts → Tries fields before s ls v
+
+module _ (fields : ℕ) (before s : State) (ls : Loads) where
+  abbrev IsOn : Work → Type 0
+  IsOn v = Course fields before v ls × Tries fields before s ls v
+
+  -- a move without a load
+  tries_move : (w : Work) → Heeds s w.counts → (phase : Phase) → w.machine.phase ≡ phase → Course fields before w ls → Tries fields before s ls (moved_at phase w)
+  tries_move w h Idle at c = Tries.goes h
+  tries_move w h Marking at c = go w.counts.roots refl
+    where
+      go : (rs : List ℕ) → w.counts.roots ≡ rs → Tries fields before s ls (roots_moved rs w)
+      go [] is = Tries.goes h
+      go (x ∷ xs) is = Tries.goes (heeds_on h (drops w.counts x xs is))
+  tries_move w h Scanning at c = go (nat_lt w.machine.tried (length w.counts.marked))
+    where
+      go : (b : Bool) → Tries fields before s ls (scan_moved b w)
+      go true = let x : ℕ = slice_index_or w.counts.marked w.machine.tried 0 in Tries.goes (heeds_on h (blackens (has_rest (slot_at w.counts x)) w.counts x (rest_gray (slot_at w.counts x))))
+      go false = Tries.goes (heeds_on h (whitens w.counts))
+  tries_move w h Collecting at c = go (nat_lt w.machine.tried (length w.counts.marked)) refl
+    where
+      inv : WhileCollecting (first_view fields before) (view w) ls
+      inv = subst (λ p. inv_at p (first_view fields before) (view w) ls) at c.inv
+
+      x : ℕ
+      x = slice_index_or w.counts.marked w.machine.tried 0
+
+      found : (white : Bool) → is_white (slot_at w.counts x).colour ≡ white → Tries fields before s ls (set_begun_if white w x)
+      found true is = Tries.goes (heeds_on h (heeds_on (begins_set w.counts) (joins true (with_new_set w.counts) x (λ _. is))))
+      found false is = Tries.goes h
+
+      go : (b : Bool) → nat_lt w.machine.tried (length w.counts.marked) ≡ b → Tries fields before s ls (collect_moved b w)
+      go true more = found (is_white (slot_at w.counts x).colour) refl
+      go false none = Tries.ends w h inv (omega (arith, inv.tries, ltb-false w.machine.tried (length w.counts.marked) none)) refl refl
+
+  on_moved : (w : Work) → IsOn w → is_due w ≡ false → IsOn (moved_at w.machine.phase w)
+  on_moved w (c, Tries.goes h) due = (moved_course w c due, tries_move w h w.machine.phase refl c)
+  on_moved w (c, Tries.ends v h inv all idle is) due = (moved_course w c due, subst (λ p. Tries fields before s ls (moved_at p w)) (sym idle) (Tries.ends v h inv all idle is))
+
+  -- the moves up to the next load, or to the end
+  pub tries_settled : (w : Work) → Course fields before w ls → Heeds s w.counts → Course fields before (pointed (settled w)) ls × Tries fields before s ls (pointed (settled w))
+  tries_settled w c h =
+      let on : IsOn (settled w) = settled_by IsOn on_moved w (c, Tries.goes h) in
+      (pointed_course on.0, pointed_tries on.1)
+    where
+      pointed_course : Course fields before (settled w) ls → Course fields before (pointed (settled w)) ls
+      pointed_course d = record { inv = d.inv; same = d.same; rest = d.rest }
+
+      pointed_tries : Tries fields before s ls (settled w) → Tries fields before s ls (pointed (settled w))
+      pointed_tries (Tries.goes g) = Tries.goes g
+      pointed_tries (Tries.ends v g inv all idle is) = Tries.ends v g inv all idle is
+
+-- a word that was loaded
+pub learnt_heeds : (phase : Phase) (s : State) (target : Option ℕ) → IsPlainTarget s target → Heeds s (learnt_at phase s target)
+learnt_heeds Idle s target plain = heeds_same s
+learnt_heeds Marking s target plain = marks s target plain
+learnt_heeds Scanning s target plain = scans s target
+learnt_heeds Collecting s target plain = collects s target
+
+-- ---- every slot is offered
+
+offers_all : (s : State) → Heeds s (offered_where true s)
+unfolding offered
+offers_all s = record { greens = where_green true s; lists = lists }
+  where
+    t : State
+    t = offered_where true s
+
+    at : (x : ℕ) → slot_at t x ≡ offered_slot (slot_at s x)
+    at x = map_at offered_slot refl s.slots x
+
+    purple : (v : Slot) → is_purple v.colour ≡ true → is_purple (offered_slot v).colour ≡ true
+    purple v is = go (stays v)
+      where
+        go : (b : Bool) → is_purple (offered_if b v).colour ≡ true
+        go true = is
+        go false = refl
+
+    lists : (x : ℕ) → IsListed s x → IsSeen t x
+    lists x (IsListed.released is) = inl (IsListed.released ((where_keeps true s).rest.released x ∙ is))
+    lists x (IsListed.zero some) = inl (IsListed.zero some)
+    lists x (IsListed.root some is) = inl (IsListed.root (omega (arith, some, times-append x s.roots (missing s))) (ap (λ (v : Slot). is_purple v.colour) (at x) ∙ purple (slot_at s x) is))
+    lists x (IsListed.member some) = inl (IsListed.member some)
+    lists x (IsListed.marked some) = inl (IsListed.marked some)
+
+pub heeds_offered : (offers : Bool) (s : State) → Heeds s (offered_where offers s)
+heeds_offered true s = offers_all s
+heeds_offered false s = heeds_same s
