@@ -1,14 +1,14 @@
 -- What hangs on something hangs on something still where what it hung on does, and each field that led there leads there, or what it led
 -- to hangs on something by itself.
 use Rattle.std.proofs.Common.{◌≡◌, ◌⊎◌, inl, inr, ℕ, ◌+◌, ◌/◌, ◌<◌, true, false, Bool, Option, None, Some, length, replicate, slice_index_or, refl, sym, ap, subst, ◌∙◌, arith}
+use Rattle.std.proofs.Math.Nat.{mul-le-mul_right}
 use Rattle.std.proofs.lemmas.Bool.{cases_Bool, cases_lt, false≢true}
 use Rattle.std.proofs.lemmas.List.{get_or_past, get_or-replicate, length-replicate}
-use Rattle.rec_core.proofs.Common.{place_of, target_of, is_green, slot_at, State, Sight, IsTaken, words_of, word_in, Core, sight, IsKept}
-use Rattle.rec_core.proofs.Moves.{home_of}
+use Rattle.rec_core.proofs.Common.{place_of, target_of, is_green, slot_at, State, HasGreens, IsSound, Sight, IsTaken, words_of, word_in, Core, sight, IsKept}
+use Rattle.rec_model.proofs.Unfreed.{taken_or_free}
 use Rattle.rec_prompt.specs.Cover.{Covers, Hangs, IsCovered, IsListed, IsPending}
 use Rattle.rec_prompt.specs.Cover.Hangs.{later, listed, behind}
 use Rattle.rec_prompt.specs.Lost.{Leads}
-use Rattle.rec_prompt.proofs.Turns.{leads_from_taken}
 
 -- the slot hangs on something, if it has to
 abbrev pub IsHung : (w : Sight) (pending : ℕ → Type 0) (s : State) → (slot : ℕ) → Type 0
@@ -41,21 +41,49 @@ null_word n f = elim (cases_lt f n) [
   | inr past ↦ let many : length (replicate {A = ℕ} n 0) ≡ n = length-replicate n 0 in get_or_past (replicate {A = ℕ} n 0) f 0 (omega (arith, past, many))
 ]
 
--- what leads somewhere holds an object, and isn't Green
-pub leaders_count : {dated : Bool} → (w : Core) → IsKept dated w → LeadersCount (sight w) w.collector.counts
-leaders_count w kept from slot (field, within, leads) = (subst (IsTaken (sight w)) source taken, plain)
+-- On a path of fields from what is pending.
+pub data Trails (w : Sight) (pending : ℕ → Type 0) : (slot : ℕ) → Type 0 where
+  first : {slot : ℕ} → pending slot → Trails w pending slot
+  along : {from slot : ℕ} → Trails w pending from → Leads w from slot → Trails w pending slot
+
+-- whatever holds of what is pending, and of what a field leads to from where it holds
+pub all_on_trails : (w : Sight) (pending : ℕ → Type 0) (P : ℕ → Type 0) → ((slot : ℕ) → pending slot → P slot) → ((from slot : ℕ) → P from → Leads w from slot → P slot) → (slot : ℕ) → Trails w pending slot → P slot
+all_on_trails w pending P at_first on slot (Trails.first is) = at_first slot is
+all_on_trails w pending P at_first on slot (Trails.along {from = from} path leads) = on from slot (all_on_trails w pending P at_first on from path) leads
+
+pub trails_hang : (w : Sight) (pending : ℕ → Type 0) (s : State) (slot : ℕ) → Trails w pending slot → Hangs w pending s slot
+trails_hang w pending s = all_on_trails w pending (Hangs w pending s) (λ slot is. later is) (λ from slot hung leads. behind hung leads)
+
+-- where what was pending is so still, and a field leads where it led or the target is pending
+pub trails_stay : (w u : Sight) (before after : ℕ → Type 0) → ((slot : ℕ) → before slot → after slot) → ((from slot : ℕ) → Leads w from slot → Leads u from slot ⊎ after slot) → (slot : ℕ) → Trails w before slot → Trails u after slot
+trails_stay w u before after still edge = all_on_trails w before (Trails u after) (λ slot is. Trails.first (still slot is))
+    (λ from slot path leads. elim (edge from slot leads) [ inl there ↦ Trails.along path there | inr is ↦ Trails.first is ])
+
+-- What leads somewhere in a sound heap in which just leaves are Green has to hang on something.
+pub leaders_from : (w : Sight) (s : State) → IsSound w → HasGreens w.headers s → LeadersCount w s
+leaders_from w s sound greens from slot (field, within, leads) = (there, plain)
   where
-    source : place_of from field w.config.fields / w.config.fields ≡ from
-    source = let here : place_of from field w.config.fields / w.config.fields + 1 ≡ from + 1 = home_of from field w.config.fields within in omega (arith, here)
+    null : words_of w from ≡ replicate w.fields 0 → ⊥
+    null none =
+        let zero : slice_index_or w.words (place_of from field w.fields) 0 ≡ 0 = sym (word_in w from field within) ∙ ap (λ ws. slice_index_or ws field 0) none ∙ null_word w.fields field in
+        let not_so : ◌≡◌ {A = Option ℕ} None (Some slot) = sym (ap target_of zero) ∙ leads in
+        cc
 
-    taken : IsTaken (sight w) (place_of from field w.config.fields / w.config.fields)
-    taken = leads_from_taken w kept (place_of from field w.config.fields) slot leads
-
-    plain : is_green (slot_at w.collector.counts from).colour ≡ false
-    plain = elim (cases_Bool (is_green (slot_at w.collector.counts from).colour)) [
-      | inr plain_ ↦ plain_
-      | inl green ↦
-          let null : slice_index_or w.words (place_of from field w.config.fields) 0 ≡ 0 = sym (word_in (sight w) from field within) ∙ ap (λ ws. slice_index_or ws field 0) (kept.sound.leaves from (kept.greens from green)) ∙ null_word w.config.fields field in
-          let not_so : ◌≡◌ {A = Option ℕ} None (Some slot) = sym (ap target_of null) ∙ leads in
-          absurd (cc)
+    there : IsTaken w from
+    there = elim (taken_or_free w from) [
+      | inl taken ↦ taken
+      | inr free ↦ elim (cases_lt from (length w.headers)) [
+        | inl below ↦ absurd (null (sound.free from below free))
+        | inr past ↦
+            let zero : slice_index_or w.words (place_of from field w.fields) 0 ≡ 0 = get_or_past w.words (place_of from field w.fields) 0 (omega (arith, sound.places, mul-le-mul_right w.fields past)) in
+            let not_so : ◌≡◌ {A = Option ℕ} None (Some slot) = sym (ap target_of zero) ∙ leads in
+            absurd (cc)
+      ]
     ]
+
+    plain : is_green (slot_at s from).colour ≡ false
+    plain = elim (cases_Bool (is_green (slot_at s from).colour)) [ inr plain_ ↦ plain_ | inl green ↦ absurd (null (sound.leaves from (greens from green))) ]
+
+-- so it is of every heap
+pub leaders_count : {dated : Bool} → (w : Core) → IsKept dated w → LeadersCount (sight w) w.collector.counts
+leaders_count w kept = leaders_from (sight w) w.collector.counts kept.sound kept.greens

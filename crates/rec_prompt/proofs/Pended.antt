@@ -17,10 +17,10 @@ use Rattle.rec_model.proofs.Counted.{closed_out_of, edge_sum, opened_from, root_
 use Rattle.rec_model.proofs.Reaching.{all_in_reach}
 use Rattle.rec_core.proofs.Batches.{buffer_there, same_name, same_word}
 use Rattle.rec_core.proofs.Sums.{share, log_share, box_share, buffers_sum}
-use Rattle.rec_prompt.specs.Cover.{Hangs, has_batched, IsPending, takes}
-use Rattle.rec_prompt.specs.Cover.Hangs.{later, behind}
+use Rattle.rec_prompt.specs.Cover.{has_batched, IsPending, takes}
 use Rattle.rec_prompt.specs.Lost.{Leads}
 use Rattle.rec_prompt.proofs.Counts.{counted_leads, some_at}
+use Rattle.rec_prompt.proofs.Hanging.{Trails}
 
 -- a sum that isn't zero has an element that isn't
 pub some_of : {X : Type 0} (f : X → ℕ) (xs : List X) (d : X) → 0 < sum_by f xs → (i : ℕ) × (i < length xs) × (0 < f (slice_index_or xs i d))
@@ -156,17 +156,17 @@ module _ (v : Core) (kept : IsKept true v) where
       let here : place_of (place / fields) (place % fields) fields ≡ place = ap (λ k. k + place % fields) (mul_comm (place / fields) fields) ∙ div-add-mod place fields in
       (place % fields, mod-lt place kept.config.some_fields, ap (λ n. target_of (slice_index_or v.words n 0)) here ∙ counted_leads (slice_index_or v.words place 0) slot some)
 
-  -- What is in reach of the last batch's epoch hangs on what is pending, whatever the collector's lists.
-  pub reach_hangs : (s : State) (slot : ℕ) → IsInReach (pending v) applied (slot + 1) → Hangs (sight v) (IsPending v) s slot
-  reach_hangs s slot reached = all_in_reach (pending v) applied (λ node. (x : ℕ) → node ≡ x + 1 → Hangs (sight v) (IsPending v) s x) at_root at_target (slot + 1) reached slot refl
+  -- What is in reach of the last batch's epoch is on a path of fields from what is pending.
+  pub reach_trails : (slot : ℕ) → IsInReach (pending v) applied (slot + 1) → Trails (sight v) (IsPending v) slot
+  reach_trails slot reached = all_in_reach (pending v) applied (λ node. (x : ℕ) → node ≡ x + 1 → Trails (sight v) (IsPending v) x) at_root at_target (slot + 1) reached slot refl
     where
-      at_root : (node : ℕ) → 0 < node → 0 < root_sum (pending v) applied node → (x : ℕ) → node ≡ x + 1 → Hangs (sight v) (IsPending v) s x
-      at_root node pos some x is = later (elim (cases_lt 0 (sum_by (is_at applied (x + 1)) (pending v).snapshots)) [
+      at_root : (node : ℕ) → 0 < node → 0 < root_sum (pending v) applied node → (x : ℕ) → node ≡ x + 1 → Trails (sight v) (IsPending v) x
+      at_root node pos some x is = Trails.first (elim (cases_lt 0 (sum_by (is_at applied (x + 1)) (pending v).snapshots)) [
         | inl snapshot ↦ snapped_pends x snapshot
         | inr none ↦ born_pends x (let there : 0 < root_sum (pending v) applied (x + 1) = subst (λ n. 0 < root_sum (pending v) applied n) is some in omega (arith, there, none))
       ])
 
-      at_target : (source node : ℕ) → 0 < source → 0 < node → IsInReach (pending v) applied source → ((x : ℕ) → source ≡ x + 1 → Hangs (sight v) (IsPending v) s x) → 0 < edge_sum (pending v) applied source node → (x : ℕ) → node ≡ x + 1 → Hangs (sight v) (IsPending v) s x
+      at_target : (source node : ℕ) → 0 < source → 0 < node → IsInReach (pending v) applied source → ((x : ℕ) → source ≡ x + 1 → Trails (sight v) (IsPending v) x) → 0 < edge_sum (pending v) applied source node → (x : ℕ) → node ≡ x + 1 → Trails (sight v) (IsPending v) x
       at_target source node some_source pos from hung some x is =
           let fields : ℕ = v.config.fields in
           let there : 0 < edge_sum (pending v) applied source (x + 1) = subst (λ n. 0 < edge_sum (pending v) applied source n) is some in
@@ -176,7 +176,7 @@ module _ (v : Core) (kept : IsKept true v) where
                 let word : ℕ = slice_index_or v.words place 0 in
                 let own = only_if_some (source == home fields place) (opened_to applied (x + 1) place word) weighs in
                 let named_ = only_if_some (nat_le (epoch_of word) applied) (one_if_same (x + 1) (node_of word)) own.1 in
-                behind (hung (place / fields) (eqb-true source (home fields place) own.0)) (leads_there place x named_.1)
-            | inr none ↦ later (replaced_pends x (omega (arith, there, none, sum_by-le-sum_by (closed_out_of fields applied source (x + 1)) (replaces_from applied (x + 1)) (pending v).writes
+                Trails.along (hung (place / fields) (eqb-true source (home fields place) own.0)) (leads_there place x named_.1)
+            | inr none ↦ Trails.first (replaced_pends x (omega (arith, there, none, sum_by-le-sum_by (closed_out_of fields applied source (x + 1)) (replaces_from applied (x + 1)) (pending v).writes
                 (λ e. only_if_most (source == home fields e.place) (nat_le applied (epoch_of e.new)) (nat_le (epoch_of e.old) applied) (one_if_same (x + 1) (node_of e.old))))))
           ]
