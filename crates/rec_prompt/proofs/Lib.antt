@@ -1,4 +1,5 @@
 -- The modules of the proofs.
+pub mod Batch
 pub mod Begun
 pub mod Chains
 pub mod Counts

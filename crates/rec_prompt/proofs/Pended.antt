@@ -6,7 +6,7 @@ use Rattle.std.proofs.Math.Nat.{mod-lt, div-add-mod, mul_comm}
 use Rattle.std.proofs.lemmas.Bool.{cases_Bool, cases_eq, cases_lt, eqb-true, lt-leb, ne_eqb}
 use Rattle.std.proofs.lemmas.List.Elements.{All-head, All-tail}
 use Rattle.std.proofs.lemmas.List.Sums.{sum_by-cons, sum_by-le-sum_by}
-use Rattle.rec_core.proofs.Common.{place_of, target_of, State, is_at, is_from, replaces_from, is_slot, one_if_same, only_if, only_if-le, none_if_differs, node_of, epoch_of, home, dated, dated_birth, Write, sum_at, Contents, Entry, Private, buffer_at, Phase, Idle, Looking, Swapping, Returning, Core, nobody, sight, IsKept, IsMadeIn, Filed, writes_in, births_in, dated_names, applied_at, older_at, epoch_at, buffers, pending, named, old_target, one, is_green}
+use Rattle.rec_core.proofs.Common.{place_of, target_of, State, is_at, is_from, replaces_from, is_slot, one_if_same, only_if, only_if-le, none_if_differs, node_of, epoch_of, home, dated, dated_birth, Write, sum_at, Contents, Entry, Private, buffer_at, Phase, Idle, Looking, Swapping, Returning, Core, nobody, sight, Handshake, IsKeptBy, IsMadeIn, Filed, writes_in, births_in, dated_names, applied_at, older_at, epoch_at, buffers, pending, named, old_target, one, is_green}
 use Rattle.rec_log.specs.declared.entry.Entry.TheVariants as entries
 use Rattle.rec_counts.proofs.Naming.{named-cons, named-nil}
 use Rattle.rec_collector.specs.Kept.{under_way}
@@ -98,7 +98,7 @@ only_if_most true false c n = omega arith
 only_if_most false b c n = omega arith
 
 -- Of a heap of dated words.
-module _ (v : Core) (kept : IsKept true v) where
+module _ {stands : (t : ℕ) → Handshake} (v : Core) (kept : IsKeptBy true stands v) where
   abbrev applied : ℕ
   applied = applied_at v.epoch v.collector.phase
 
