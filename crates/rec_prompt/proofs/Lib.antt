@@ -3,6 +3,7 @@ pub mod Batch
 pub mod Begun
 pub mod Chains
 pub mod Counts
+pub mod Ended
 pub mod Followed
 pub mod Forgets
 pub mod Hanging

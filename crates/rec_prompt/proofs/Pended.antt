@@ -150,7 +150,7 @@ module _ {stands : (t : ℕ) → Handshake} (v : Core) (kept : IsKeptBy true sta
       (λ epoch b past made. snapped_early applied epoch slot b.snapshot past) some
 
   -- A place that is counted for a slot is a field that leads to it.
-  leads_there : (place slot : ℕ) → 0 < one_if_same (slot + 1) (node_of (slice_index_or v.words place 0)) → Leads (sight v) (place / v.config.fields) slot
+  pub leads_there : (place slot : ℕ) → 0 < one_if_same (slot + 1) (node_of (slice_index_or v.words place 0)) → Leads (sight v) (place / v.config.fields) slot
   leads_there place slot some =
       let fields : ℕ = v.config.fields in
       let here : place_of (place / fields) (place % fields) fields ≡ place = ap (λ k. k + place % fields) (mul_comm (place / fields) fields) ∙ div-add-mod place fields in

@@ -18,6 +18,7 @@ use Rattle.rec_trial.specs.Trial.{collect_moved, is_due, learnt_at, moved_at, po
 use Rattle.rec_trial.proofs.Course.{Course, first_view, moved_course}
 use Rattle.rec_trial.proofs.Deletion.{Loads}
 use Rattle.rec_trial.proofs.Holding.{inv_at, WhileCollecting}
+use Rattle.rec_trial.proofs.Rest.{no_roots_at}
 use Rattle.rec_trial.proofs.Moving.{settled_by}
 use Rattle.rec_trial.proofs.Views.{concat_member, concat_new, view}
 use Rattle.rec_collector.specs.Offered.{missing, offered, offered_if, offered_slot, offered_where}
@@ -210,7 +211,7 @@ begins_set s = heeds_alike s (with_new_set s) (λ x. refl) (λ x is. is) (λ x. 
 -- A trial that came from the one counts to this work has kept all that was in a list; or it is over, and nothing is marked any more.
 pub data Tries (fields : ℕ) (before s : State) (ls : Loads) (v : Work) : Type 0 where
   goes : Heeds s v.counts → Tries fields before s ls v
-  ends : (w : Work) → Heeds s w.counts → WhileCollecting (first_view fields before) (view w) ls → w.machine.tried ≡ length w.counts.marked → v.machine.phase ≡ Idle → v.counts ≡ cleared w.counts → Tries fields before s ls v
+  ends : (w : Work) → Heeds s w.counts → Course fields before w ls → WhileCollecting (first_view fields before) (view w) ls → w.counts.roots ≡ [] → w.machine.tried ≡ length w.counts.marked → v.machine.phase ≡ Idle → v.counts ≡ cleared w.counts → Tries fields before s ls v
 
 module _ (fields : ℕ) (before s : State) (ls : Loads) where
   abbrev IsOn : Work → Type 0
@@ -243,11 +244,11 @@ module _ (fields : ℕ) (before s : State) (ls : Loads) where
 
       go : (b : Bool) → nat_lt w.machine.tried (length w.counts.marked) ≡ b → Tries fields before s ls (collect_moved b w)
       go true more = found (is_white (slot_at w.counts x).colour) refl
-      go false none = Tries.ends w h inv (omega (arith, inv.tries, ltb-false w.machine.tried (length w.counts.marked) none)) refl refl
+      go false none = Tries.ends w h c inv (subst (λ p. no_roots_at p w.counts.roots) at c.rest.no_roots) (omega (arith, inv.tries, ltb-false w.machine.tried (length w.counts.marked) none)) refl refl
 
   on_moved : (w : Work) → IsOn w → is_due w ≡ false → IsOn (moved_at w.machine.phase w)
   on_moved w (c, Tries.goes h) due = (moved_course w c due, tries_move w h w.machine.phase refl c)
-  on_moved w (c, Tries.ends v h inv all idle is) due = (moved_course w c due, subst (λ p. Tries fields before s ls (moved_at p w)) (sym idle) (Tries.ends v h inv all idle is))
+  on_moved w (c, Tries.ends v h d inv none all idle is) due = (moved_course w c due, subst (λ p. Tries fields before s ls (moved_at p w)) (sym idle) (Tries.ends v h d inv none all idle is))
 
   -- the moves up to the next load, or to the end
   pub tries_settled : (w : Work) → Course fields before w ls → Heeds s w.counts → Course fields before (pointed (settled w)) ls × Tries fields before s ls (pointed (settled w))
@@ -260,7 +261,7 @@ module _ (fields : ℕ) (before s : State) (ls : Loads) where
 
       pointed_tries : Tries fields before s ls (settled w) → Tries fields before s ls (pointed (settled w))
       pointed_tries (Tries.goes g) = Tries.goes g
-      pointed_tries (Tries.ends v g inv all idle is) = Tries.ends v g inv all idle is
+      pointed_tries (Tries.ends v g d inv none all idle is) = Tries.ends v g d inv none all idle is
 
 -- a word that was loaded
 pub learnt_heeds : (phase : Phase) (s : State) (target : Option ℕ) → IsPlainTarget s target → Heeds s (learnt_at phase s target)
