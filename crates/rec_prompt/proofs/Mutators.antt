@@ -1,9 +1,9 @@
 -- What mutators do leaves each slot on something that the collector still has to look at: what a write replaces and what is born is
 -- pending, and so is what a register names as its mutator leaves an epoch.
 use Rattle.std.proofs.Common.{◌≡◌, ◌≢◌, ◌⊎◌, inl, inr, ℕ, zero, suc, ◌+◌, ◌-◌, ◌/◌, ◌<◌, ◌≤◌, true, false, Bool, List, [], ◌∷◌, ◌++◌, Option, None, Some, length, map, replicate, slice_index_or, slice_set, refl, sym, ap, subst, ◌∙◌, arith}
-use Rattle.std.proofs.lemmas.Bool.{cases_eq, eq-eqb}
-use Rattle.std.proofs.lemmas.List.{get_or-set_same, get_or-set_other, map-append}
-use Rattle.rec_core.proofs.Common.{place_of, target_of, is_green, is_slot, Op, slot_at, IsTaken, Contents, Private, buffer_at, is_busy, word_for, next_of, left_of, took_of, whole_made, begun_of, named, old_target, IsMutator, Core, cell, cells_of, box, mutator, nobody, sight, spare_of, IsKept, begun_from, found_by, stepped, crossing_of, with_cell, one}
+use Rattle.std.proofs.lemmas.Bool.{cases_Bool, cases_eq, cases_lt, eq-eqb, false≢true}
+use Rattle.std.proofs.lemmas.List.{get_or-set_same, get_or-set_other, get_or_past, map-append}
+use Rattle.rec_core.proofs.Common.{place_of, target_of, is_green, is_slot, Op, slot_at, IsTaken, Contents, Private, buffer_at, is_busy, word_for, next_of, left_of, took_of, whole_made, begun_of, named, old_target, IsMutator, Core, cell, cells_of, box, mutator, nobody, sight, spare_of, IsKept, begun_from, found_by, stepped, crossing_of, with_cell, one, code, epoch_at, has_let_go, Holds, Machine, pending, register, State}
 use Rattle.rec_core.specs.declared.config.Config.{Config}
 use Rattle.rec_model.specs.Reach as reach
 use Rattle.rec_counts.proofs.Naming.{named-append, named-cons, named-nil}
@@ -22,7 +22,16 @@ use Rattle.rec_prompt.specs.Cover.{Covers, Hangs, IsCovered, IsListed, IsPending
 use Rattle.rec_prompt.specs.Cover.Hangs.{later, listed, behind}
 use Rattle.rec_prompt.specs.Lost.{Leads}
 use Rattle.rec_prompt.proofs.Forgets.{set_or}
-use Rattle.rec_prompt.proofs.Hanging.{carried, IsHung, leaders_count}
+use Rattle.rec_core.proofs.Moves.{has_register}
+use Rattle.rec_core.proofs.Rules.{leads_to}
+use Rattle.rec_model.proofs.Consequences.{registers_in_reach}
+use Rattle.rec_model.proofs.Ledgers.{epoch_after}
+use Rattle.rec_model.proofs.Names.{named_at}
+use Rattle.rec_model.specs.Reach.{is_in}
+use Rattle.rec_trial.proofs.Course.{Course}
+use Rattle.rec_prompt.proofs.Followed.{IsFollowed}
+use Rattle.rec_prompt.proofs.Hanging.{carried, IsHung, leaders_count, Trails, trails_stay}
+use Rattle.rec_prompt.proofs.Pended.{reach_trails}
 use Rattle.rec_prompt.proofs.Sees.{Bears, Keeps, Puts, Retires, Sees, seen_step}
 use Rattle.rec_core.proofs.Shapes.{LeavesWords}
 
@@ -48,16 +57,20 @@ nulls_take slot (suc n) = omega (arith, named-cons slot None (replicate n None),
 pub spare_takes : (slot : ℕ) (config : Config) (b : Contents) → b ≡ spare_of config → takes slot b ≡ 0
 spare_takes slot config b is = ap (takes slot) is ∙ omega (arith, named-nil slot, nulls_take slot config.registers)
 
+-- What a move of a mutator leaves: what was pending is so still, a word that no longer leads where it led has its target pending, one that
+-- leads somewhere anew leads to what is on a path from what was pending, and what holds an object anew is pending.
+pub record Hides (v u : Core) : Type 0 where
+  pub config : u.config ≡ v.config
+  pub collector : u.collector ≡ v.collector
+  pub pending : (x : ℕ) → IsPending v x → IsPending u x
+  pub fields : (place x : ℕ) → target_of (slice_index_or v.words place 0) ≡ Some x → (target_of (slice_index_or u.words place 0) ≡ Some x) ⊎ IsPending u x
+  pub back : (place x : ℕ) → target_of (slice_index_or u.words place 0) ≡ Some x → (target_of (slice_index_or v.words place 0) ≡ Some x) ⊎ Trails (sight v) (IsPending v) x
+  pub taken : (x : ℕ) → IsTaken (sight u) x → IsTaken (sight v) x ⊎ IsPending u x
+
 -- A mutator begins a work.
-pub begun_covered : (v : Core) (t : ℕ) (work : Work) (from : ℕ) → IsMutator v.config t → IsKept true v → IsCovered v → IsCovered (begun_from v t work from)
+pub begun_hides : (v : Core) (t : ℕ) (work : Work) (from : ℕ) → IsMutator v.config t → IsKept true v → Hides v (begun_from v t work from)
 unfolding begun_of
-begun_covered v t work from is kept c slot taken plain =
-    let q : Private = begun_of (mutator v t) work from in
-    carried (sight v) (sight (begun_from v t work from)) (IsPending v) (IsPending (begun_from v t work from)) v.collector.counts v.collector.counts (leaders_count v kept)
-    (λ x pending taken_ plain_. later (goes q refl x pending))
-    (λ x list taken_ plain_. listed list)
-    (λ m n leads. inl leads)
-    slot (c slot taken plain) taken plain
+begun_hides v t work from is kept = record { config = refl; collector = refl; pending = goes (begun_of (mutator v t) work from) refl; fields = λ place x leads. inl leads; back = λ place x leads. inl leads; taken = λ x there. inl there }
   where
     goes : (q : Private) → q.log ≡ (mutator v t).log → (x : ℕ) → IsPending v x → IsPending (record v { mutators = slice_set v.mutators (t - 1) q }) x
     goes q same x (IsPending.log i some) = IsPending.log i (elim (cases_eq i (t - 1)) [
@@ -70,7 +83,7 @@ begun_covered v t work from is kept c slot taken plain =
     goes q same x (IsPending.older early i some) = IsPending.older early i some
 
 -- A mutator makes a step.
-module _ (v : Core) (t : ℕ) (kept : IsKept true v) (is : IsMutator v.config t) (busy : is_busy (mutator v t) ≡ true) (after : IsKept true (stepped v t)) (c : IsCovered v) where
+module _ (v : Core) (t : ℕ) (kept : IsKept true v) (is : IsMutator v.config t) (busy : is_busy (mutator v t) ≡ true) where
   abbrev p : Private
   p = mutator v t
 
@@ -118,36 +131,35 @@ module _ (v : Core) (t : ℕ) (kept : IsKept true v) (is : IsMutator v.config t)
   same_box : left ≡ box v t → (x : ℕ) → 0 < takes x (box v t) → IsPending u x
   same_box same x some = by_box x (subst (λ (b : Contents). 0 < takes x b) (sym same) some)
 
-  -- where each word stays, and each slot that holds an object held one
-  hung : ((x : ℕ) → IsPending v x → IsPending u x) → ((m n : ℕ) → Leads (sight v) m n → Leads (sight u) m n ⊎ IsPending u n) → ((x : ℕ) → IsTaken (sight u) x → IsTaken (sight v) x ⊎ IsPending u x) → IsCovered u
-  hung pending edge new slot taken plain = elim (new slot taken) [
-    | inr born ↦ later born
-    | inl was ↦ carried (sight v) (sight u) (IsPending v) (IsPending u) v.collector.counts v.collector.counts (leaders_count u after)
-        (λ x some taken_ plain_. later (pending x some))
-        (λ x list taken_ plain_. listed list)
-        (λ m n leads. elim (edge m n leads) [ inl still ↦ inl still | inr some ↦ inr (λ taken_ plain_. later some) ])
-        slot (c slot was plain) taken plain
-  ]
+  hides : ((x : ℕ) → IsPending v x → IsPending u x) → ((place x : ℕ) → target_of (slice_index_or v.words place 0) ≡ Some x → (target_of (slice_index_or u.words place 0) ≡ Some x) ⊎ IsPending u x)
+      → ((place x : ℕ) → target_of (slice_index_or u.words place 0) ≡ Some x → (target_of (slice_index_or v.words place 0) ≡ Some x) ⊎ Trails (sight v) (IsPending v) x) → ((x : ℕ) → IsTaken (sight u) x → IsTaken (sight v) x ⊎ IsPending u x) → Hides v u
+  hides pending fields back taken = record { config = refl; collector = refl; pending = pending; fields = fields; back = back; taken = taken }
 
   -- the words stay, unless the step puts one
-  same_words : LeavesWords word op → (m n : ℕ) → Leads (sight v) m n → Leads (sight u) m n ⊎ IsPending u n
-  same_words leaves m n (field, within, leads) = inl (field, within, ap (λ ws. target_of (slice_index_or ws (place_of m field v.config.fields) 0)) (leaves (cells_of v) refl) ∙ leads)
+  same_words : LeavesWords word op → (place x : ℕ) → target_of (slice_index_or v.words place 0) ≡ Some x → (target_of (slice_index_or u.words place 0) ≡ Some x) ⊎ IsPending u x
+  same_words leaves place x leads = inl (ap (λ ws. target_of (slice_index_or ws place 0)) (leaves (cells_of v) refl) ∙ leads)
+
+  words_back : LeavesWords word op → (place x : ℕ) → target_of (slice_index_or u.words place 0) ≡ Some x → (target_of (slice_index_or v.words place 0) ≡ Some x) ⊎ Trails (sight v) (IsPending v) x
+  words_back leaves place x leads = inl (sym (ap (λ ws. target_of (slice_index_or ws place 0)) (leaves (cells_of v) refl)) ∙ leads)
 
   -- a slot holds an object, unless the step claims it
   same_headers : u.headers ≡ v.headers → (x : ℕ) → IsTaken (sight u) x → IsTaken (sight v) x ⊎ IsPending u x
   same_headers same x taken = inl (subst (λ hs. 0 < slice_index_or hs x 0) same taken)
 
   -- the collector's own are the same, and a slot that wasn't claimed held an object before
-  by_keeps : Keeps p word (box v t) op q left → IsCovered u
-  by_keeps k = hung (still_pending (λ x some. by_log x (subst (λ (b : Contents). 0 < takes x b) (sym k.log) some)) (same_box k.mailbox)) (same_words k.words) (same_headers (k.headers (cells_of v) refl))
+  by_keeps : Keeps p word (box v t) op q left → Hides v u
+  by_keeps k = hides (still_pending (λ x some. by_log x (subst (λ (b : Contents). 0 < takes x b) (sym k.log) some)) (same_box k.mailbox)) (same_words k.words) (words_back k.words) (same_headers (k.headers (cells_of v) refl))
 
-  by_birth : Bears p word (box v t) op q left → IsCovered u
-  by_birth b = hung (still_pending (λ x some. by_log x (omega (arith, some, more x))) (same_box b.mailbox)) (same_words (subst (LeavesWords word) (sym b.operation) (λ cells e. refl)))
+  by_birth : Bears p word (box v t) op q left → Hides v u
+  by_birth b = hides (still_pending (λ x some. by_log x (omega (arith, some, more x))) (same_box b.mailbox)) (same_words leaves) (words_back leaves)
       (λ x taken. elim (cases_eq x b.slot) [
         | inl same ↦ inr (by_log x (omega (arith, more x, takes_one x (Some b.slot) (ap Some (sym same)))))
         | inr other ↦ inl (subst (λ n. 0 < n) (header x other) taken)
       ])
     where
+      leaves : LeavesWords word op
+      leaves = subst (LeavesWords word) (sym b.operation) (λ cells e. refl)
+
       more : (x : ℕ) → takes x q.log ≡ takes x p.log + named x (Some b.slot ∷ [])
       more x = ap (takes x) b.log ∙ takes_more x p.log (entries.Born b.slot b.leaf)
 
@@ -156,8 +168,8 @@ module _ (v : Core) (t : ℕ) (kept : IsKept true v) (is : IsMutator v.config t)
           ap (λ (o : Op). slice_index_or (with_cell (cells_of v) o (written o word)).headers x 0) b.operation
           ∙ get_or-set_other v.headers b.slot x (written (ops.ClaimHeader b.slot (header_word b.leaf b.label)) word) 0 other
 
-  by_put : Puts p word (box v t) op q left → IsCovered u
-  by_put k = hung (still_pending (λ x some. by_log x (omega (arith, some, more x))) (same_box k.mailbox)) edge (same_headers (ap (λ (o : Op). (with_cell (cells_of v) o (written o word)).headers) k.operation))
+  by_put : Puts p word (box v t) op q left → Hides v u
+  by_put k = hides (still_pending (λ x some. by_log x (omega (arith, some, more x))) (same_box k.mailbox)) edge back_ (same_headers (ap (λ (o : Op). (with_cell (cells_of v) o (written o word)).headers) k.operation))
     where
       place : ℕ
       place = place_of k.slot k.field p.fields
@@ -174,14 +186,39 @@ module _ (v : Core) (t : ℕ) (kept : IsKept true v) (is : IsMutator v.config t)
       after_words : u.words ≡ slice_set v.words place new
       after_words = ap (λ (o : Op). (with_cell (cells_of v) o (written o word)).words) k.operation
 
-      edge : (m n : ℕ) → Leads (sight v) m n → Leads (sight u) m n ⊎ IsPending u n
-      edge m n (field, within, leads) = elim (cases_eq (place_of m field v.config.fields) place) [
-        | inl same ↦ inr (by_log n (omega (arith, more n, takes_one n (target_of word) (ap target_of (here ∙ ap (λ i. slice_index_or v.words i 0) (sym same)) ∙ leads))))
-        | inr other ↦ inl (field, within, ap target_of (ap (λ ws. slice_index_or ws (place_of m field v.config.fields) 0) after_words ∙ get_or-set_other v.words place (place_of m field v.config.fields) new 0 other) ∙ leads)
+      edge : (i x : ℕ) → target_of (slice_index_or v.words i 0) ≡ Some x → (target_of (slice_index_or u.words i 0) ≡ Some x) ⊎ IsPending u x
+      edge i x leads = elim (cases_eq i place) [
+        | inl same ↦ inr (by_log x (omega (arith, more x, takes_one x (target_of word) (ap target_of (here ∙ ap (λ n. slice_index_or v.words n 0) (sym same)) ∙ leads))))
+        | inr other ↦ inl (ap target_of (ap (λ ws. slice_index_or ws i 0) after_words ∙ get_or-set_other v.words place i new 0 other) ∙ leads)
       ]
 
-  by_crossing : Retires p word (box v t) op q left → IsCovered u
-  by_crossing k = hung (still_pending of_log (λ x some. absurd (omega (arith, some, spare_takes x v.config (box v t) home)))) (same_words k.words) (same_headers (k.headers (cells_of v) refl))
+      -- what a register names is on a path from what is pending
+      named_trails : (x : ℕ) → register p k.val ≡ Some x → Trails (sight v) (IsPending v) x
+      named_trails x names = reach_trails v kept.whole x (registers_in_reach (pending v) kept.accounted (pending v).applied (epoch_at p) (x + 1) (omega arith) (epoch_after (pending v) (epoch_at p) (x + 1) kept.accounted.epochs holds) (omega arith) holds)
+        where
+          within : k.val < length p.registers
+          within = elim (cases_lt k.val (length p.registers)) [
+            | inl below ↦ below
+            | inr past ↦ let not_so : ◌≡◌ {A = Option ℕ} None (Some x) = sym (get_or_past p.registers k.val None past) ∙ names in absurd (cc)
+          ]
+
+          held : has_let_go p ≡ false
+          held = elim (cases_Bool (has_let_go p)) [
+            | inr no_ ↦ no_
+            | inl gone ↦ absurd (false≢true (ap (is_in x) (sym ((actor_of v t kept is).let_go gone).registers) ∙ named_at p.registers k.val x names))
+          ]
+
+          holds : Holds (pending v) (epoch_at p) (x + 1)
+          holds = subst (Holds (pending v) (epoch_at p)) (ap code names) (has_register v t k.val (in_list v t kept is) held within)
+
+      back_ : (i x : ℕ) → target_of (slice_index_or u.words i 0) ≡ Some x → (target_of (slice_index_or v.words i 0) ≡ Some x) ⊎ Trails (sight v) (IsPending v) x
+      back_ i x leads = elim (set_or v.words place new i 0) [
+        | inl other ↦ inl (sym (ap target_of (ap (λ ws. slice_index_or ws i 0) after_words ∙ other)) ∙ leads)
+        | inr own ↦ inr (named_trails x (sym (leads_to v t k.val kept is (stays_here v t kept is busy) k.room) ∙ sym (ap target_of (ap (λ ws. slice_index_or ws i 0) after_words ∙ own)) ∙ leads))
+      ]
+
+  by_crossing : Retires p word (box v t) op q left → Hides v u
+  by_crossing k = hides (still_pending of_log (λ x some. absurd (omega (arith, some, spare_takes x v.config (box v t) home)))) (same_words k.words) (words_back k.words) (same_headers (k.headers (cells_of v) refl))
     where
       home : box v t ≡ spare_of v.config
       home =
@@ -195,11 +232,56 @@ module _ (v : Core) (t : ℕ) (kept : IsKept true v) (is : IsMutator v.config t)
       of_log : (x : ℕ) → 0 < takes x p.log → IsPending u x
       of_log x some = by_box x (omega (arith, some, unnamed x p.log.snapshot (actor_of v t kept is).unwritten, ap (λ es. named x (map old_target es)) k.entries))
 
-  by_step : Sees p word (box v t) op q left → IsCovered u
+  by_step : Sees p word (box v t) op q left → Hides v u
   by_step (Sees.keeps k) = by_keeps k
   by_step (Sees.bears b) = by_birth b
   by_step (Sees.puts k) = by_put k
   by_step (Sees.retires k) = by_crossing k
 
-  pub step_covered : IsCovered u
-  step_covered = let actor = actor_of v t kept is in let whole = whole_made p word (box v t) busy actor.own.between in by_step (seen_step actor.own.machine whole.own whole.mailbox)
+  pub step_hides : Hides v u
+  step_hides = let actor = actor_of v t kept is in let whole = whole_made p word (box v t) busy actor.own.between in by_step (seen_step actor.own.machine whole.own whole.mailbox)
+
+-- ---- so each slot hangs on something still, and a trial is followed still
+
+pub hides_covers : (v u : Core) → IsKept true u → Hides v u → IsCovered v → IsCovered u
+hides_covers v u after h c slot taken plain = elim (h.taken slot taken) [
+  | inr born ↦ later born
+  | inl was ↦ carried (sight v) (sight u) (IsPending v) (IsPending u) v.collector.counts u.collector.counts (leaders_count u after)
+      (λ x some taken_ plain_. later (h.pending x some))
+      (λ x list taken_ plain_. listed (subst (λ (k : collectors.Private). IsListed k.counts x) (sym h.collector) list))
+      (edges_hidden v u h)
+      slot (c slot was (sym (ap (λ (k : collectors.Private). is_green (slot_at k.counts slot).colour) h.collector) ∙ plain)) taken plain
+]
+  where
+    edges_hidden : (v u : Core) → Hides v u → (m n : ℕ) → Leads (sight v) m n → Leads (sight u) m n ⊎ IsHung (sight u) (IsPending u) u.collector.counts n
+    edges_hidden v u h m n (field, within, leads) = elim (h.fields (place_of m field v.config.fields) n leads) [
+      | inl still ↦ inl (field, subst (λ (k : Config). field < k.fields) (sym h.config) within, subst (λ (k : Config). target_of (slice_index_or u.words (place_of m field k.fields) 0) ≡ Some n) (sym h.config) still)
+      | inr some ↦ inr (λ taken_ plain_. later some)
+    ]
+
+hides_trails : (v u : Core) → Hides v u → (x : ℕ) → Trails (sight v) (IsPending v) x → Trails (sight u) (IsPending u) x
+hides_trails v u h = trails_stay (sight v) (sight u) (IsPending v) (IsPending u) h.pending (λ m n (field, within, leads). elim (h.fields (place_of m field v.config.fields) n leads) [
+  | inl still ↦ inl (field, subst (λ (k : Config). field < k.fields) (sym h.config) within, subst (λ (k : Config). target_of (slice_index_or u.words (place_of m field k.fields) 0) ≡ Some n) (sym h.config) still)
+  | inr some ↦ inr some
+])
+
+pub hides_followed : (v u : Core) (s : State) (m : Machine) → Hides v u → IsFollowed (sight v) (IsPending v) s m → IsFollowed (sight u) (IsPending u) s m
+hides_followed v u s m h f = record {
+  before = f.before;
+  ls = f.ls;
+  course = subst (λ (k : Config). Course k.fields f.before (record { machine = m; counts = s }) f.ls) (sym h.config) f.course;
+  due = f.due;
+  node = f.node;
+  marks = λ n g x within there leads.
+      let inside : g < v.config.fields = subst (λ (k : Config). g < k.fields) h.config within in
+      elim (h.back (place_of n g v.config.fields) x (subst (λ (k : Config). target_of (slice_index_or u.words (place_of n g k.fields) 0) ≡ Some x) h.config leads)) [
+        | inl was ↦ elim (f.marks n g x inside there was) [ inl hit ↦ inl hit | inr rest ↦ elim rest [ inl green ↦ inr (inl green) | inr trail ↦ inr (inr (hides_trails v u h x trail)) ] ]
+        | inr trail ↦ inr (inr (hides_trails v u h x trail))
+      ];
+  blacks = λ n g x within hit.
+      let inside : g < v.config.fields = subst (λ (k : Config). g < k.fields) h.config within in
+      elim (f.blacks n g x inside hit) [
+        | inl leads ↦ elim (h.fields (place_of n g v.config.fields) x leads) [ inl still ↦ inl (subst (λ (k : Config). target_of (slice_index_or u.words (place_of n g k.fields) 0) ≡ Some x) (sym h.config) still) | inr some ↦ inr some ]
+        | inr some ↦ inr (h.pending x some)
+      ];
+}
