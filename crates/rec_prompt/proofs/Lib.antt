@@ -2,6 +2,7 @@
 pub mod Batch
 pub mod Begun
 pub mod Chains
+pub mod Clears
 pub mod Counts
 pub mod Ended
 pub mod Followed
