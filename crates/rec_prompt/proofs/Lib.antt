@@ -18,4 +18,5 @@ pub mod Sees
 pub mod Stays
 pub mod Steps
 pub mod Tried
+pub mod Turned
 pub mod Turns

@@ -30,12 +30,12 @@ use Rattle.rec_prompt.proofs.Forgets.{counted, Forgets, IsClean, empty_clean, se
 
 -- What a turn does to the collector's buffers: nothing, or it completes a collection, and then the newer ones are the older ones, or it
 -- gathers one.
-data Rows (p q : collectors.Private) : Type 0 where
+pub data Rows (p q : collectors.Private) : Type 0 where
   kept_rows : q.newer ≡ p.newer → q.older ≡ p.older → q.collections ≡ p.collections → Rows p q
   turned_rows : q.newer ≡ map cleared p.older → q.older ≡ p.newer → q.collections ≡ p.collections + 1 → Rows p q
 
 -- the same from a record with these buffers
-rows_as : {p r q : collectors.Private} → r.newer ≡ p.newer → r.older ≡ p.older → r.collections ≡ p.collections → Rows r q → Rows p q
+pub rows_as : {p r q : collectors.Private} → r.newer ≡ p.newer → r.older ≡ p.older → r.collections ≡ p.collections → Rows r q → Rows p q
 rows_as newer older many (Rows.kept_rows a b c) = Rows.kept_rows (a ∙ newer) (b ∙ older) (c ∙ many)
 rows_as newer older many (Rows.turned_rows a b c) = Rows.turned_rows (a ∙ ap (map cleared) older) (b ∙ newer) (c ∙ ap (λ n. n + 1) many)
 
@@ -45,16 +45,16 @@ goes_rows p q w turn next g = Rows.kept_rows (ap (λ (x : collectors.Private). x
 ends_rows : (p q : collectors.Private) (w : Parts) (turn : Turn) (swept : ℕ) → step.Ends (with_parts p w) q turn swept → Rows p q
 ends_rows p q w turn swept e = Rows.turned_rows (ap (λ (x : collectors.Private). x.newer) e.after) (ap (λ (x : collectors.Private). x.older) e.after) (ap (λ (x : collectors.Private). x.collections) e.after)
 
-prepares_rows : (p q : collectors.Private) (w : Parts) (v : preps.Work) (turn : Turn) → PreparesOn p w v q turn → Rows p q
+pub prepares_rows : (p q : collectors.Private) (w : Parts) (v : preps.Work) (turn : Turn) → PreparesOn p w v q turn → Rows p q
 prepares_rows p q w v turn (PreparesOn.more busy g) = goes_rows p q (record w { counts = v.counts }) turn _ g
 prepares_rows p q w v turn (PreparesOn.sweeps_next done some g) = goes_rows p q (record w { counts = v.counts }) turn _ g
 prepares_rows p q w v turn (PreparesOn.completes done none e) = ends_rows p q (record w { counts = v.counts }) turn _ e
 
-tries_rows : (p q : collectors.Private) (w : Parts) (v : trials.Work) (turn : Turn) → TriesOn p w v q turn → Rows p q
+pub tries_rows : (p q : collectors.Private) (w : Parts) (v : trials.Work) (turn : Turn) → TriesOn p w v q turn → Rows p q
 tries_rows p q w v turn (TriesOn.more busy g) = goes_rows p q (record w { counts = v.counts }) turn _ g
 tries_rows p q w v turn (TriesOn.prepares done on) = prepares_rows p q _ _ turn on
 
-clears_rows : (p q : collectors.Private) (turn : Turn) {b : Begun} → ClearsOn p q turn b → Rows p q
+pub clears_rows : (p q : collectors.Private) (turn : Turn) {b : Begun} → ClearsOn p q turn b → Rows p q
 clears_rows p q turn {b} (ClearsOn.works phase at g) = goes_rows p q b.parts turn _ g
 clears_rows p q turn (ClearsOn.tests c none some tested on) = clears_rows p q turn on
 clears_rows p q turn (ClearsOn.tries none empty due on) = tries_rows p q _ _ turn on
