@@ -9,6 +9,7 @@ pub mod Followed
 pub mod Forgets
 pub mod Hanging
 pub mod Heeding
+pub mod Learnt
 pub mod Lessened
 pub mod Moves
 pub mod Mutators

@@ -50,7 +50,7 @@ unnamed slot (None ∷ xs) none = omega (arith, named-cons slot None xs, unnamed
 unnamed slot (Some x ∷ xs) none = absurd (cc)
 
 -- nor does a spare
-nulls_take : (slot n : ℕ) → named slot (replicate {A = Option ℕ} n None) ≡ 0
+pub nulls_take : (slot n : ℕ) → named slot (replicate {A = Option ℕ} n None) ≡ 0
 nulls_take slot zero = named-nil slot
 nulls_take slot (suc n) = omega (arith, named-cons slot None (replicate n None), nulls_take slot n)
 

@@ -2,15 +2,17 @@
 use Rattle.std.proofs.Common.{◌≡◌, ◌≢◌, ◌⊎◌, inl, inr, ℕ, zero, suc, ◌+◌, ◌-◌, ◌*◌, ◌<◌, ◌≤◌, ◌==◌, true, false, Bool, Option, None, Some, IsSome, List, [], ◌∷◌, length, map, slice_index_or, slice_set, refl, sym, ap, subst, ◌∙◌, arith}
 use Rattle.std.proofs.lemmas.Bool.{cases_Bool, cases_eq, cases_lt, false≢true, eq-eqb, cond-true}
 use Rattle.std.proofs.lemmas.List.{get_or-set_same, get_or-set_other, get_or_past, length-set, set-get_or}
-use Rattle.rec_core.proofs.Common.{crossing_word, Retired, place_of, target_of, Op, is_green, State, slot_at, one, times, absent, Slot, taken_off, IsApart, emptied, Sight, IsTaken, Contents, buffer_at, Parts, parts_of, with_parts, with_released, with_freed, zeros_released, ClearsOn, TriesOn, PreparesOn, Begun, cleared, noted, requested, Phase, Idle, Looking, Returning, Releasing, Freeing, Trying, Preparing, Opening, Sweeping, Closing, Turn, Machine, Work, cell, with_cell, IsMutator, Core, cells_of, box, mutator, nobody, sight, IsKept, IsKeptBy, left_by, looked_at, turned, turned_by, At, Member, swept, visible, next_begun, freed_by, freed_last, freed_listed, freed_on, released_by, released_last, released_more, spare_of}
+use Rattle.rec_core.proofs.Common.{crossing_word, Retired, place_of, target_of, Op, is_green, State, slot_at, one, times, absent, Slot, taken_off, IsApart, emptied, Sight, IsTaken, Contents, buffer_at, Parts, parts_of, with_parts, with_released, with_freed, zeros_released, ClearsOn, TriesOn, PreparesOn, Begun, cleared, noted, requested, Phase, Idle, Looking, Returning, Releasing, Freeing, Trying, Preparing, Opening, Sweeping, Closing, Turn, Machine, Work, cell, with_cell, IsMutator, Core, cells_of, box, mutator, nobody, sight, stand_at, IsKept, IsKeptBy, left_by, looked_at, turned, turned_by, At, Member, swept, visible, next_begun, freed_by, freed_last, freed_listed, freed_on, released_by, released_last, released_more, spare_of}
 use Rattle.rec_word.specs.Op.{written}
 use Rattle.rec_word.specs.declared.op.Op.TheVariants as ops
-use Rattle.rec_counts.specs.Counts.{IsKept as IsKeptCounts}
+use Rattle.rec_counts.proofs.Naming.{named-nil}
+use Rattle.rec_prompt.proofs.Mutators.{nulls_take}
 use Rattle.rec_release.specs.CycleFree as frees
 use Rattle.rec_release.specs.Release as releases
 use Rattle.rec_release.specs.Sweep as sweeps
 use Rattle.rec_sigma.specs.Prepare as preps
 use Rattle.rec_trial.specs.Trial as trials
+use Rattle.rec_collector.specs.Kept as collector_kept
 use Rattle.rec_collector.specs.Next.{next_of}
 use Rattle.rec_collector.specs.Private as collectors
 use Rattle.rec_collector.specs.Step as step
@@ -21,6 +23,8 @@ use Rattle.rec_core.proofs.Landed.{HasCleared}
 use Rattle.rec_core.proofs.Shapes.{same_boxes}
 use Rattle.rec_core.proofs.TurnCases.{Awaits, giving_back, requesting}
 use Rattle.rec_core.proofs.Turning.{mutator_at, some_op}
+use Rattle.rec_core.proofs.Applying.{counted}
+use Rattle.rec_core.proofs.Phases.{clears_in}
 use Rattle.rec_core.proofs.Turns.{now_at}
 use Rattle.rec_prompt.specs.Cover.{Covers, Hangs, has_batched, IsCovered, IsListed, IsPending, takes}
 use Rattle.rec_prompt.specs.Cover.Hangs.{later, listed, behind}
@@ -170,8 +174,96 @@ module _ (v : Core) (op : Op) (kept : IsKept true v) (after : IsKept true (turne
   plain_boxes phase is same = ap (λ (p : Phase). slice_set v.boxes (looked_at p - 1) (left_by c its_word (box v (looked_at p)) p)) is ∙ ap (slice_set v.boxes (looked_at phase - 1)) same ∙ same_boxes v (looked_at phase)
 
   -- what is late is pending after it, by what becomes of the collector's buffers
-  late_pends : u.boxes ≡ v.boxes → Rows c q → (q.collections ≡ c.collections + 1 → has_batched q.phase ≡ false) → (x : ℕ) → IsLate v x → IsPending u x
-  late_pends boxes rows idle x (IsLate.log j some) = IsPending.log j some
-  late_pends boxes rows idle x (IsLate.mailbox j some) = IsPending.mailbox j (subst (λ (bs : List Contents). 0 < takes x (slice_index_or bs j (collectors.blank 0 0))) (sym boxes) some)
-  late_pends boxes (Rows.kept_rows newer older many) idle x (IsLate.newer j some) = IsPending.newer j (subst (λ (bs : List Contents). 0 < takes x (buffer_at bs j)) (sym newer) some)
-  late_pends boxes (Rows.turned_rows newer older many) idle x (IsLate.newer j some) = IsPending.older (idle many) j (subst (λ (bs : List Contents). 0 < takes x (buffer_at bs j)) (sym older) some)
+  late_pends : u.boxes ≡ v.boxes → Rows c q → (x : ℕ) → IsLate v x → IsPending u x
+  late_pends boxes rows x (IsLate.log j some) = IsPending.log j some
+  late_pends boxes rows x (IsLate.mailbox j some) = IsPending.mailbox j (subst (λ (bs : List Contents). 0 < takes x (slice_index_or bs j (collectors.blank 0 0))) (sym boxes) some)
+  late_pends boxes (Rows.kept_rows newer older many) x (IsLate.newer j some) = IsPending.newer j (subst (λ (bs : List Contents). 0 < takes x (buffer_at bs j)) (sym newer) some)
+  late_pends boxes (Rows.turned_rows newer older many idle) x (IsLate.newer j some) = IsPending.older (ap has_batched idle) j (subst (λ (bs : List Contents). 0 < takes x (buffer_at bs j)) (sym older) some)
+
+  -- the rules that only gather
+  module _ (turn : Turn) where
+    -- a phase before the batch follows, with the same counts and buffers
+    before_batch : (phase next : Phase) → c.phase ≡ phase → left_by c its_word (box v (looked_at phase)) phase ≡ box v (looked_at phase) → q.phase ≡ next → has_batched phase ≡ false → has_batched next ≡ false → ((m : Machine) → next ≡ Trying m → ⊥)
+        → q.counts ≡ c.counts → q.newer ≡ c.newer → q.older ≡ c.older → u.words ≡ v.words → u.headers ≡ v.headers → IsWatched u
+    before_batch phase next at left then_ early early_then other counts newer older words headers = record {
+      covers = subst (λ (s : Sight). Covers s (IsPending u) q.counts) (sym (sight_is v.words words headers)) (subst (Covers (sight v) (IsPending u)) (sym counts) (covers_more (sight v) (IsPending v) (IsPending u) c.counts more i.covers));
+      follows = λ m is. absurd (other m (sym then_ ∙ is));
+    }
+      where
+        more : (x : ℕ) → IsPending v x → IsPending u x
+        more x (IsPending.log j some) = IsPending.log j some
+        more x (IsPending.mailbox j some) = IsPending.mailbox j (subst (λ (bs : List Contents). 0 < takes x (slice_index_or bs j (collectors.blank 0 0))) (sym (plain_boxes phase at left)) some)
+        more x (IsPending.newer j some) = IsPending.newer j (subst (λ (bs : List Contents). 0 < takes x (buffer_at bs j)) (sym newer) some)
+        more x (IsPending.older is j some) = IsPending.older (ap has_batched then_ ∙ early_then) j (subst (λ (bs : List Contents). 0 < takes x (buffer_at bs j)) (sym older) some)
+
+    -- a mailbox is gathered
+    gathered : (t : ℕ) → c.phase ≡ Looking t → its_word ≡ crossing_word c.epoch Retired → step.GoesOn (record c { newer = slice_set c.newer (t - 1) its_box }) q turn (Returning t) → u.words ≡ v.words → u.headers ≡ v.headers → IsWatched u
+    gathered t at crossed g words headers = record {
+      covers = subst (λ (s : Sight). Covers s (IsPending u) q.counts) (sym (sight_is v.words words headers)) (subst (Covers (sight v) (IsPending u)) (sym (ap (λ (x : collectors.Private). x.counts) g.after)) (covers_more (sight v) (IsPending v) (IsPending u) c.counts more i.covers));
+      follows = λ m is. absurd (other m (sym then_ ∙ is));
+    }
+      where
+        then_ : q.phase ≡ Returning t
+        then_ = ap (λ (x : collectors.Private). x.phase) g.after
+
+        other : (m : Machine) → Returning t ≡ Trying m → ⊥
+        other m is = cc
+
+        now : collector_kept.IsLooking c t (2 * t - 1)
+        now = now_at v (Looking t) kept at
+
+        newer : q.newer ≡ slice_set c.newer (t - 1) (box v t)
+        newer = ap (λ (x : collectors.Private). x.newer) g.after ∙ ap (λ (p : Phase). slice_set c.newer (t - 1) (box v (looked_at p))) at
+
+        older : q.older ≡ c.older
+        older = ap (λ (x : collectors.Private). x.older) g.after
+
+        -- the gathered buffer
+        own : (x : ℕ) → 0 < takes x (box v t) → IsPending u x
+        own x some = IsPending.newer (t - 1) (subst (λ (bs : List Contents). 0 < takes x (buffer_at bs (t - 1))) (sym newer) (subst (λ (b : Contents). 0 < takes x b) (sym (get_or-set_same c.newer (t - 1) (box v t) (collectors.blank 0 0) (omega (arith, now.there, now.first)))) some))
+
+        -- there was a spare in its place
+        spare_there : (x : ℕ) → takes x (buffer_at c.newer (t - 1)) ≡ 0
+        spare_there x = ap (takes x) (now.spares (t - 1) (omega arith) (omega (arith, now.there, now.first))) ∙ omega (arith, named-nil x, nulls_take x c.registers)
+
+        more : (x : ℕ) → IsPending v x → IsPending u x
+        more x (IsPending.log j some) = IsPending.log j some
+        more x (IsPending.mailbox j some) = elim (cases_eq j (t - 1)) [
+          | inl same ↦ own x (subst (λ n. 0 < takes x (slice_index_or v.boxes n (collectors.blank 0 0))) same some)
+          | inr other_ ↦ IsPending.mailbox j (subst (λ (b : Contents). 0 < takes x b) (sym (ap (λ (p : Phase). slice_index_or (slice_set v.boxes (looked_at p - 1) (left_by c its_word (box v (looked_at p)) p)) j (collectors.blank 0 0)) at ∙ get_or-set_other v.boxes (t - 1) j (left_by c its_word (box v t) (Looking t)) (collectors.blank 0 0) other_)) some)
+        ]
+        more x (IsPending.newer j some) = elim (cases_eq j (t - 1)) [
+          | inl same ↦ absurd (omega (arith, some, ap (λ n. takes x (buffer_at c.newer n)) same, spare_there x))
+          | inr other_ ↦ IsPending.newer j (subst (λ (bs : List Contents). 0 < takes x (buffer_at bs j)) (sym newer) (subst (λ (b : Contents). 0 < takes x b) (sym (get_or-set_other c.newer (t - 1) j (box v t) (collectors.blank 0 0) other_)) some))
+        ]
+        more x (IsPending.older early j some) = IsPending.older (ap has_batched then_) j (subst (λ (bs : List Contents). 0 < takes x (buffer_at bs j)) (sym older) some)
+
+    -- a turn without a batch: what follows is over these words
+    over : (words crossing : List ℕ) (r : ℕ) → u.words ≡ words → u.headers ≡ v.headers → ((x : ℕ) → IsLate v x → IsPending u x) → r ≡ refused c.sets → IsOver v crossing words (IsLate v) q turn r → IsTurned
+    over words crossing r is headers more same (inl on) = inl (finish words crossing v (IsLate v) turn refl is headers more on)
+    over words crossing r is headers more same (inr less) = inr (omega (arith, less, same))
+
+    -- The batch is applied, from where the last mailbox was given back.
+    batch_on : (b : Core) (t : ℕ) (home : IsKeptBy true (stand_at b.collector.left Opening) b) (at : b.collector.phase ≡ Returning t) → sight (record b { words = b.words }) ≡ sight (record v { words = b.words }) → b.collector.sets ≡ c.sets → Covers (sight b) (IsPending b) b.collector.counts
+        → ((x : ℕ) → IsLate b x → IsPending u x) → u.words ≡ v.words → u.headers ≡ v.headers
+        → ClearsOn b.collector q turn (zeros_released false (record (parts_of b.collector) { counts = counted b t home at })) → b.words ≡ v.words → IsTurned
+    batch_on b t home at same_sight sets cover more words headers on same_words = go (clears_on b b.crossing b.words (IsLate b) q turn h (heeds_covers (sight b) (IsLate b) (counted b t home at) (zeros_released false batched).parts.counts alive_zeros zeros (batch_covers b t home at alive cover)) on)
+      where
+        batched : Parts
+        batched = record (parts_of b.collector) { counts = counted b t home at }
+
+        h : HasCleared b b.crossing b.words (zeros_released false batched)
+        h = applied_lands b t home at
+
+        zeros : Heeds (counted b t home at) (zeros_released false batched).parts.counts
+        zeros = heeds_zeros false batched
+
+        alive_zeros : LeadersCount (sight b) (zeros_released false batched).parts.counts
+        alive_zeros = leaders_from (sight b) (zeros_released false batched).parts.counts h.landed.sound h.landed.greens
+
+        alive : LeadersCount (sight b) (counted b t home at)
+        alive m n leads = let there = alive_zeros m n leads in (there.0, sym (zeros.greens m) ∙ there.1)
+
+        go : IsOver b b.crossing b.words (IsLate b) q turn (refused b.collector.sets) → IsTurned
+        go (inl on_) = inl (finish b.words b.crossing b (IsLate b) turn same_sight (words ∙ sym same_words) headers more on_)
+        go (inr less) = inr (omega (arith, less, ap refused sets))

@@ -4,7 +4,7 @@ use Rattle.std.proofs.Math.ListN.{get_or-map}
 use Rattle.std.proofs.Math.Nat.{mod-lt, div-add-mod, mul_comm, mul-le-mul_right}
 use Rattle.std.proofs.lemmas.Bool.{cases_lt, false≢true}
 use Rattle.std.proofs.lemmas.List.{length-set, get_or-set_same, get_or-set_other, get_or_past, get_or-replicate, length-replicate, set-get_or}
-use Rattle.rec_core.proofs.Common.{crossing_word, Retired, Spare, WithMutator, place_of, target_of, Op, IsTaken, word_in, Contents, Parts, with_parts, buffer_at, PreparesOn, TriesOn, ClearsOn, Begun, cleared, noted, requested, Phase, Looking, Turn, cell, with_cell, IsMutator, Core, cells_of, box, mutator, sight, crossing_of, IsKept, left_by, looked_at, turned, turned_by, epoch_at}
+use Rattle.rec_core.proofs.Common.{crossing_word, Retired, Spare, WithMutator, place_of, target_of, Op, IsTaken, word_in, Contents, Parts, with_parts, buffer_at, PreparesOn, TriesOn, ClearsOn, Begun, cleared, noted, requested, Phase, Idle, Looking, Turn, cell, with_cell, IsMutator, Core, cells_of, box, mutator, sight, crossing_of, IsKept, left_by, looked_at, turned, turned_by, epoch_at}
 use Rattle.rec_word.specs.Op.{written}
 use Rattle.rec_word.specs.declared.op.Op.TheVariants as ops
 use Rattle.rec_model.specs.Reach.{is_in}
@@ -32,18 +32,18 @@ use Rattle.rec_prompt.proofs.Forgets.{counted, Forgets, IsClean, empty_clean, se
 -- gathers one.
 pub data Rows (p q : collectors.Private) : Type 0 where
   kept_rows : q.newer ≡ p.newer → q.older ≡ p.older → q.collections ≡ p.collections → Rows p q
-  turned_rows : q.newer ≡ map cleared p.older → q.older ≡ p.newer → q.collections ≡ p.collections + 1 → Rows p q
+  turned_rows : q.newer ≡ map cleared p.older → q.older ≡ p.newer → q.collections ≡ p.collections + 1 → q.phase ≡ Idle → Rows p q
 
 -- the same from a record with these buffers
 pub rows_as : {p r q : collectors.Private} → r.newer ≡ p.newer → r.older ≡ p.older → r.collections ≡ p.collections → Rows r q → Rows p q
 rows_as newer older many (Rows.kept_rows a b c) = Rows.kept_rows (a ∙ newer) (b ∙ older) (c ∙ many)
-rows_as newer older many (Rows.turned_rows a b c) = Rows.turned_rows (a ∙ ap (map cleared) older) (b ∙ newer) (c ∙ ap (λ n. n + 1) many)
+rows_as newer older many (Rows.turned_rows a b c d) = Rows.turned_rows (a ∙ ap (map cleared) older) (b ∙ newer) (c ∙ ap (λ n. n + 1) many) d
 
 goes_rows : (p q : collectors.Private) (w : Parts) (turn : Turn) (next : Phase) → step.GoesOn (with_parts p w) q turn next → Rows p q
 goes_rows p q w turn next g = Rows.kept_rows (ap (λ (x : collectors.Private). x.newer) g.after) (ap (λ (x : collectors.Private). x.older) g.after) (ap (λ (x : collectors.Private). x.collections) g.after)
 
 ends_rows : (p q : collectors.Private) (w : Parts) (turn : Turn) (swept : ℕ) → step.Ends (with_parts p w) q turn swept → Rows p q
-ends_rows p q w turn swept e = Rows.turned_rows (ap (λ (x : collectors.Private). x.newer) e.after) (ap (λ (x : collectors.Private). x.older) e.after) (ap (λ (x : collectors.Private). x.collections) e.after)
+ends_rows p q w turn swept e = Rows.turned_rows (ap (λ (x : collectors.Private). x.newer) e.after) (ap (λ (x : collectors.Private). x.older) e.after) (ap (λ (x : collectors.Private). x.collections) e.after) (ap (λ (x : collectors.Private). x.phase) e.after)
 
 pub prepares_rows : (p q : collectors.Private) (w : Parts) (v : preps.Work) (turn : Turn) → PreparesOn p w v q turn → Rows p q
 prepares_rows p q w v turn (PreparesOn.more busy g) = goes_rows p q (record w { counts = v.counts }) turn _ g
@@ -181,7 +181,7 @@ module _ (late : ℕ) (first : Core) (lost : ℕ → Type 0) (v : Core) (op : Op
     λ i slot below from gone. subst (λ (bs : List Contents). IsClean slot (buffer_at bs i)) (sym newer) (f.newer i slot (subst (λ (bs : List Contents). i < length bs) newer below) (omega (arith, from, many)) gone),
     λ i slot below from gone. subst (λ (bs : List Contents). IsClean slot (buffer_at bs i)) (sym older) (f.older i slot (subst (λ (bs : List Contents). i < length bs) older below) (omega (arith, from, many)) gone),
   )
-  rows_clean (Rows.turned_rows newer older many) = (
+  rows_clean (Rows.turned_rows newer older many idle) = (
     λ i slot below from gone. subst (λ (bs : List Contents). IsClean slot (buffer_at bs i)) (sym newer) (cleared_clean i slot c.older),
     λ i slot below from gone. subst (λ (bs : List Contents). IsClean slot (buffer_at bs i)) (sym older) (f.newer i slot (subst (λ (bs : List Contents). i < length bs) older below) (omega (arith, from, many)) gone),
   )
@@ -234,7 +234,7 @@ module _ (late : ℕ) (first : Core) (lost : ℕ → Type 0) (v : Core) (op : Op
   clean (step.Step.preparation m at is on) = rows_clean (prepares_rows c q _ _ _ on)
   clean (step.Step.begin_sweep at is g) = rows_clean (Rows.kept_rows (ap (λ (x : collectors.Private). x.newer) g.after) (ap (λ (x : collectors.Private). x.older) g.after) (ap (λ (x : collectors.Private). x.collections) g.after))
   clean (step.Step.sweep due swept w next at is took follows g) = rows_clean (Rows.kept_rows (ap (λ (x : collectors.Private). x.newer) g.after) (ap (λ (x : collectors.Private). x.older) g.after) (ap (λ (x : collectors.Private). x.collections) g.after))
-  clean (step.Step.end_sweep swept at is e) = rows_clean (Rows.turned_rows (ap (λ (x : collectors.Private). x.newer) e.after) (ap (λ (x : collectors.Private). x.older) e.after) (ap (λ (x : collectors.Private). x.collections) e.after))
+  clean (step.Step.end_sweep swept at is e) = rows_clean (Rows.turned_rows (ap (λ (x : collectors.Private). x.newer) e.after) (ap (λ (x : collectors.Private). x.older) e.after) (ap (λ (x : collectors.Private). x.collections) e.after) (ap (λ (x : collectors.Private). x.phase) e.after))
 
   leads : (place slot : ℕ) → target_of (slice_index_or u.words place 0) ≡ Some slot → target_of (slice_index_or v.words place 0) ≡ Some slot
   leads place slot there = op_leads v u op place slot (length c.counts.slots) c.fields (length c.newer) refl names there
