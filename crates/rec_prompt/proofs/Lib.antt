@@ -18,6 +18,7 @@ pub mod Prompt
 pub mod Sees
 pub mod Stays
 pub mod Steps
+pub mod Trialled
 pub mod Tried
 pub mod Turned
 pub mod Turns

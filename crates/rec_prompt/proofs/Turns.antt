@@ -103,7 +103,7 @@ op_headers v u ops.AddFreed slot slots fields mutators is names free = ap (λ hs
 op_headers v u _ slot slots fields mutators is names free = absurd names
 
 -- a slot that it frees holds no object
-op_frees : (v u : Core) (op : Op) (slot : ℕ) → u.headers ≡ (with_cell (cells_of v) op (written op (cell (cells_of v) op))).headers → is_in slot (freed_by (Some op)) ≡ true → IsTaken (sight u) slot → ⊥
+pub op_frees : (v u : Core) (op : Op) (slot : ℕ) → u.headers ≡ (with_cell (cells_of v) op (written op (cell (cells_of v) op))).headers → is_in slot (freed_by (Some op)) ≡ true → IsTaken (sight u) slot → ⊥
 op_frees v u (ops.FreeHeader x) slot is freed taken = elim (is_in-cons slot x [] freed) [
   | inl same ↦ elim (set_or v.headers x 0 slot 0) [
     | inr null ↦ omega (arith, taken, ap (λ hs. slice_index_or hs slot 0) is, null)
