@@ -105,12 +105,12 @@ module _ (w : Core) (crossing words : List ℕ) (pending : ℕ → Type 0) (q : 
       prepares_on p its (prep_started its) on (heeds_covers seen pending u.counts (prep_started its).counts (heeds_leaders seen u.counts (prep_started its).counts h alive) h c)
 
   -- refused sets stay so
-  prepares_refused : (p : collectors.Private) (v : Parts) (u : preps.Work) → PreparesOn p v u q turn → q.sets ≡ v.sets
+  pub prepares_refused : (p : collectors.Private) (v : Parts) (u : preps.Work) → PreparesOn p v u q turn → q.sets ≡ v.sets
   prepares_refused p v u (PreparesOn.more some g) = ap (λ (x : collectors.Private). x.sets) g.after
   prepares_refused p v u (PreparesOn.sweeps_next none some g) = ap (λ (x : collectors.Private). x.sets) g.after
   prepares_refused p v u (PreparesOn.completes none free e) = ap (λ (x : collectors.Private). x.sets) e.after
 
-  tries_refused : (p : collectors.Private) (v : Parts) (u : Work) → TriesOn p v u q turn → q.sets ≡ v.sets
+  pub tries_refused : (p : collectors.Private) (v : Parts) (u : Work) → TriesOn p v u q turn → q.sets ≡ v.sets
   tries_refused p v u (TriesOn.more some g) = ap (λ (x : collectors.Private). x.sets) g.after
   tries_refused p v u (TriesOn.prepares none on) = prepares_refused p (record v { counts = u.counts }) _ on
 
@@ -119,7 +119,7 @@ module _ (w : Core) (crossing words : List ℕ) (pending : ℕ → Type 0) (q : 
   tested_refused v c (IsTested.fails_delta s touched last is) = omega (arith, ap (λ (b : Begun). refused b.parts.sets) is)
   tested_refused v c (IsTested.fails_sigma s orange held last is) = omega (arith, ap (λ (b : Begun). refused b.parts.sets) is)
 
-  clears_refused : (p : collectors.Private) {b : Begun} → ClearsOn p q turn b → refused b.parts.sets ≤ refused q.sets
+  pub clears_refused : (p : collectors.Private) {b : Begun} → ClearsOn p q turn b → refused b.parts.sets ≤ refused q.sets
   clears_refused p (ClearsOn.works phase is g) = omega (arith, ap (λ (x : collectors.Private). refused x.sets) g.after)
   clears_refused p {b} (ClearsOn.tests c is some tested on) = omega (arith, tested_refused b.parts c tested, clears_refused p on)
   clears_refused p {b} (ClearsOn.tries is none due on) = omega (arith, ap refused (tries_refused p (with_offers b.parts) _ on))

@@ -22,3 +22,4 @@ pub mod Trialled
 pub mod Tried
 pub mod Turned
 pub mod Turns
+pub mod Watched

@@ -2,7 +2,7 @@
 use Rattle.std.proofs.Common.{◌≡◌, ◌≢◌, ◌⊎◌, inl, inr, ℕ, zero, suc, ◌+◌, ◌-◌, ◌*◌, ◌<◌, ◌≤◌, ◌==◌, true, false, Bool, Option, None, Some, IsSome, List, [], ◌∷◌, length, map, slice_index_or, slice_set, refl, sym, ap, subst, ◌∙◌, arith}
 use Rattle.std.proofs.lemmas.Bool.{cases_Bool, cases_eq, cases_lt, false≢true, cond-false, ne_eqb}
 use Rattle.std.proofs.lemmas.List.{get_or-set_same, get_or-set_other, get_or_past, length-set, set-get_or}
-use Rattle.rec_core.proofs.Common.{crossing_word, Retired, place_of, target_of, Op, is_green, State, slot_at, one, times, absent, Slot, taken_off, IsApart, emptied, Sight, IsTaken, Contents, buffer_at, Parts, parts_of, with_parts, with_released, with_freed, zeros_released, ClearsOn, TriesOn, PreparesOn, Begun, cleared, noted, requested, Phase, Idle, Looking, Returning, Releasing, Freeing, Trying, Preparing, Opening, Sweeping, Closing, Turn, Machine, Work, cell, with_cell, IsMutator, Core, cells_of, box, mutator, nobody, sight, stand_at, IsKept, IsKeptBy, left_by, looked_at, turned, turned_by, At, Member, swept, swept_clean, visible, next_begun, freed_by, freed_last, freed_listed, freed_on, released_by, released_last, released_more, spare_of}
+use Rattle.rec_core.proofs.Common.{crossing_word, Retired, place_of, target_of, Op, is_green, State, slot_at, one, times, absent, Slot, taken_off, IsApart, emptied, Sight, IsTaken, Contents, buffer_at, Parts, parts_of, with_parts, relieved_at, with_released, with_freed, zeros_released, ClearsOn, TriesOn, PreparesOn, Begun, cleared, noted, requested, Phase, Idle, Looking, Returning, Releasing, Freeing, Trying, Preparing, Opening, Sweeping, Closing, Turn, Machine, Work, cell, with_cell, IsMutator, Core, cells_of, box, mutator, nobody, sight, stand_at, IsKept, IsKeptBy, left_by, looked_at, turned, turned_by, At, Member, swept, swept_clean, visible, next_begun, freed_by, freed_last, freed_listed, freed_on, released_by, released_last, released_more, spare_of}
 use Rattle.rec_word.specs.Op.{written}
 use Rattle.rec_word.specs.declared.op.Op.TheVariants as ops
 use Rattle.rec_counts.proofs.Naming.{named-nil}
@@ -30,7 +30,7 @@ use Rattle.rec_prompt.specs.Cover.{Covers, Hangs, has_batched, IsCovered, IsList
 use Rattle.rec_prompt.specs.Cover.Hangs.{later, listed, behind}
 use Rattle.rec_prompt.specs.Lost.{Leads}
 use Rattle.rec_prompt.proofs.Batch.{batch_covers, IsLate}
-use Rattle.rec_prompt.proofs.Clears.{clears_on, heeds_leaders, heeds_zeros, IsOn, IsOver, prepares_on, refused, tries_on}
+use Rattle.rec_prompt.proofs.Clears.{clears_on, clears_refused, prepares_refused, tries_refused, heeds_leaders, heeds_zeros, IsOn, IsOver, prepares_on, refused, tries_on}
 use Rattle.rec_prompt.proofs.Followed.{IsFollowed}
 use Rattle.rec_prompt.proofs.Forgets.{set_or}
 use Rattle.rec_prompt.proofs.Hanging.{all_on_trails, carried, IsHung, leaders_count, leaders_from, LeadersCount, Trails}
@@ -410,7 +410,7 @@ module _ (v : Core) (op : Op) (kept : IsKept true v) (after : IsKept true (turne
   same_late b mutators boxes newer x (IsLate.newer j some) = IsLate.newer j (subst (λ (bs : List Contents). 0 < takes x (buffer_at bs j)) newer some)
 
   -- A turn, rule by rule.
-  by_rule : {turn : Turn} → step.Step c its_word its_box (Some op) q turn → IsTurned
+  pub by_rule : {turn : Turn} → step.Step c its_word its_box (Some op) q turn → IsTurned
   unfolding sweeps.started_of sweeps.took_of sweeps.next_of
   by_rule (step.Step.spent at last none is turn_is) = let n : ◌≡◌ {A = Option Op} (Some op) None = none in absurd (cc)
   by_rule {turn} (step.Step.request next at more is n g) =
@@ -456,3 +456,34 @@ module _ (v : Core) (op : Op) (kept : IsKept true v) (after : IsKept true (turne
     where
       not_idle : (m : Machine) → Idle ≡ Trying m → ⊥
       not_idle m e_ = cc
+
+-- refused sets stay so over a turn
+module _ (v : Core) (op : Op) where
+  abbrev r : collectors.Private
+  r = step_of v.collector (cell (cells_of v) op) (box v (looked_at v.collector.phase))
+
+  from_sets : r.sets ≡ v.collector.sets → refused v.collector.sets ≤ refused r.sets
+  from_sets same = omega (arith, ap refused same)
+
+  pub rule_refused : {turn : Turn} → step.Step v.collector (cell (cells_of v) op) (box v (looked_at v.collector.phase)) (Some op) r turn → refused v.collector.sets ≤ refused r.sets
+  rule_refused (step.Step.spent at last none is turn_is) = from_sets (ap (λ (x : collectors.Private). x.sets) is)
+  rule_refused (step.Step.request next at more is n g) = from_sets (ap (λ (x : collectors.Private). x.sets) g.after)
+  rule_refused {turn} (step.Step.request_alone at more is gone on) = clears_refused v v.crossing v.words (IsLate v) r turn (requested v.collector) on
+  rule_refused (step.Step.wait t at other is same turn_is) = from_sets (ap (λ (x : collectors.Private). x.sets) same)
+  rule_refused (step.Step.gather t at crossed is g) = from_sets (ap (λ (x : collectors.Private). x.sets) g.after)
+  rule_refused (step.Step.give_back t next at is n g) = from_sets (ap (λ (x : collectors.Private). x.sets) g.after)
+  rule_refused {turn} (step.Step.apply t at is gone on) = clears_refused v v.crossing v.words (IsLate v) r turn (noted v.collector t) on
+  rule_refused {turn} (step.Step.release m at is on) = clears_refused v v.crossing v.words (IsLate v) r turn v.collector on
+  rule_refused {turn} (step.Step.freeing m at is on) = omega (arith, freed_sets m, clears_refused v v.crossing v.words (IsLate v) r turn v.collector on)
+    where
+      freed_sets : (m : frees.Machine) → refused (with_freed m (parts_of v.collector) (cell (cells_of v) op)).parts.sets ≡ refused v.collector.sets
+      freed_sets m = let u : frees.Work = frees.took_of (record { machine = m; counts = v.collector.counts }) (cell (cells_of v) op) in ap refused (go (record (parts_of v.collector) { counts = u.counts }) u.machine u.machine.at)
+        where
+          go : (w : Parts) (k : frees.Machine) (a : Option Member) → (relieved_at w k a).parts.sets ≡ w.sets
+          go w k None = refl
+          go w k (Some a) = refl
+  rule_refused {turn} (step.Step.trial m at is on) = from_sets (tries_refused v v.crossing v.words (IsLate v) r turn v.collector (parts_of v.collector) _ on)
+  rule_refused {turn} (step.Step.preparation m at is on) = from_sets (prepares_refused v v.crossing v.words (IsLate v) r turn v.collector (parts_of v.collector) _ on)
+  rule_refused (step.Step.begin_sweep at is g) = from_sets (ap (λ (x : collectors.Private). x.sets) g.after)
+  rule_refused (step.Step.sweep due swept_ w next at is took follows g) = from_sets (ap (λ (x : collectors.Private). x.sets) g.after)
+  rule_refused (step.Step.end_sweep swept_ at is e) = from_sets (ap (λ (x : collectors.Private). x.sets) e.after)

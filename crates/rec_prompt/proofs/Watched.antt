@@ -1,0 +1,97 @@
+-- Each slot hangs on something in every state of every run, as long as no set is refused.
+use Rattle.std.proofs.Common.{◌≡◌, ◌⊎◌, inl, inr, ℕ, ◌+◌, ◌<◌, ◌≤◌, true, false, Option, None, Some, List, [], ◌∷◌, length, map, slice_index_or, refl, sym, ap, subst, ◌∙◌, arith}
+use Rattle.std.proofs.Math.ListN.{get_or-map}
+use Rattle.std.proofs.lemmas.Bool.{cases_lt}
+use Rattle.rec_core.proofs.Common.{place_of, target_of, Op, Sight, IsTaken, Reaches, is_green, State, slot_at, Contents, Entry, Private, buffer_at, named, old_target, Trying, Idle, Turn, Machine, AllFit, Core, Fits, IsConfig, IsKept, Move, after_move, after_moves, cell, cells_of, box, looked_at, nobody, sight, offering, pending, turned, turned_by, step_of}
+use Rattle.rec_model.specs.Heap.{roots}
+use Rattle.rec_model.specs.Reach.{is_in}
+use Rattle.rec_model.proofs.Consequences.{registers_in_reach}
+use Rattle.rec_model.proofs.Ledgers.{epoch_after}
+use Rattle.rec_model.proofs.Seen.{field_target}
+use Rattle.rec_model.proofs.Within.{all_reached}
+use Rattle.rec_collector.specs.Private as collectors
+use Rattle.rec_collector.specs.Step as step
+use Rattle.rec_core.specs.Bare.{bare_core}
+use Rattle.rec_core.specs.Core.{opened_from}
+use Rattle.rec_core.specs.Moves.{EndsRun, IsRun}
+use Rattle.rec_core.specs.Objects.{AreObjects, HaveLabels, Objects}
+use Rattle.rec_core.proofs.BareSeen.{reached_too}
+use Rattle.rec_core.proofs.Dated.{Explains, end_explained, moves_explained}
+use Rattle.rec_core.proofs.OpenedFromSeen.{seen_settled}
+use Rattle.rec_core.proofs.Reach.{sight_is}
+use Rattle.rec_core.proofs.Runs.{move_kept, moves_kept, rule_of, turned_kept}
+use Rattle.rec_core.proofs.Turning.{turn_case}
+use Rattle.rec_prompt.specs.Cover.{Covers, Hangs, IsCovered, IsPending, takes}
+use Rattle.rec_prompt.specs.Cover.Hangs.{later, listed, behind}
+use Rattle.rec_prompt.specs.Lost.{Leads}
+use Rattle.rec_prompt.proofs.Clears.{refused}
+use Rattle.rec_prompt.proofs.Followed.{IsFollowed}
+use Rattle.rec_prompt.proofs.Forgets.{node_leads}
+use Rattle.rec_prompt.proofs.Hanging.{Trails, trails_hang}
+use Rattle.rec_prompt.proofs.Mutators.{begun_hides, hides_covers, hides_followed, Hides, step_hides}
+use Rattle.rec_prompt.proofs.Pended.{reach_trails}
+use Rattle.rec_prompt.proofs.Turned.{by_rule, covers_more, followed_more, IsWatched, rule_refused}
+
+-- What registers reach is on a path of fields from what is pending.
+pub reached_trails : (v : Core) → IsKept true v → (slot : ℕ) → Reaches (sight v) slot → Trails (sight v) (IsPending v) slot
+reached_trails v kept = all_reached (Trails (sight v) (IsPending v)) (roots (sight v).registers) _ at_root
+    (λ m n from path there. let (f, within, inside, node) = field_target (sight v) m n there in Trails.along path (f, within, node_leads (slice_index_or v.words (place_of m f v.config.fields) 0) n node))
+  where
+    at_root : (slot : ℕ) → is_in slot (roots (sight v).registers) ≡ true → Trails (sight v) (IsPending v) slot
+    at_root slot there =
+        let (epoch, holds) = (sight_is v kept.whole).registers slot there in
+        reach_trails v kept.whole slot (registers_in_reach (pending v) kept.accounted (pending v).applied epoch (slot + 1) (omega arith) (epoch_after (pending v) epoch (slot + 1) kept.accounted.epochs holds) (omega arith) holds)
+
+-- a heap as it is opened is watched, since registers reach all that it has
+pub opened_watched : (v : Core) → IsKept true v → v.collector.phase ≡ Idle → ((slot : ℕ) → IsTaken (sight v) slot → Reaches (sight v) slot) → IsWatched v
+opened_watched v kept idle reached = record {
+  covers = λ slot taken plain. trails_hang (sight v) (IsPending v) v.collector.counts slot (reached_trails v kept slot (reached slot taken));
+  follows = λ m at. let n : Idle ≡ Trying m = sym idle ∙ at in absurd (cc);
+}
+
+-- a move of a mutator
+hides_watched : (v u : Core) → IsKept true u → Hides v u → IsWatched v → IsWatched u
+hides_watched v u after h i = record {
+  covers = hides_covers v u after h i.covers;
+  follows = λ m at. subst (λ (k : collectors.Private). IsFollowed (sight u) (IsPending u) k.counts m) (sym h.collector) (hides_followed v u v.collector.counts m h (i.follows m (sym (ap (λ (k : collectors.Private). k.phase) h.collector) ∙ at)));
+}
+
+-- all slots are to be offered
+offering_watched : (v : Core) → IsWatched v → IsWatched (offering v)
+offering_watched v i = record {
+  covers = covers_more (sight v) (IsPending v) (IsPending (offering v)) v.collector.counts more i.covers;
+  follows = λ m at. followed_more (sight v) (IsPending v) (IsPending (offering v)) v.collector.counts m more (i.follows m at);
+}
+  where
+    more : (x : ℕ) → IsPending v x → IsPending (offering v) x
+    more x (IsPending.log j some) = IsPending.log j some
+    more x (IsPending.mailbox j some) = IsPending.mailbox j some
+    more x (IsPending.newer j some) = IsPending.newer j some
+    more x (IsPending.older early j some) = IsPending.older early j some
+
+-- a move leaves each slot on something, or refuses a set
+move_watched : (v : Core) (m : Move) → IsKept true v → Fits v m → IsWatched v → IsWatched (after_move v m) ⊎ (refused v.collector.sets < refused (after_move v m).collector.sets)
+move_watched v (Move.Begins t work from) kept fits i = inl (hides_watched v (after_move v (Move.Begins t work from)) (move_kept v (Move.Begins t work from) kept fits) (begun_hides v t work from fits.0 kept) i)
+move_watched v (Move.Steps t) kept fits i = inl (hides_watched v (after_move v (Move.Steps t)) (move_kept v (Move.Steps t) kept fits) (step_hides v t kept fits.0 fits.1) i)
+move_watched v Move.Offers kept fits i = inl (offering_watched v i)
+move_watched v Move.Turns kept fits i = turn_case v (λ o u. IsKept true u → IsWatched u ⊎ (refused v.collector.sets < refused u.collector.sets)) (λ none after. inl i) (λ op named after. by_rule v op kept after i (rule_of v op kept named)) (turned_kept v kept)
+
+-- and no set that was refused is refused no more
+move_refused : (v : Core) (m : Move) → IsKept true v → Fits v m → refused v.collector.sets ≤ refused (after_move v m).collector.sets
+move_refused v (Move.Begins t work from) kept fits = omega arith
+move_refused v (Move.Steps t) kept fits = omega arith
+move_refused v Move.Offers kept fits = omega arith
+move_refused v Move.Turns kept fits = turn_case v (λ o u. refused v.collector.sets ≤ refused u.collector.sets) (λ none. omega arith) (λ op named. rule_refused v op (rule_of v op kept named))
+
+pub moves_refused : (v : Core) (ms : List Move) → IsKept true v → AllFit v ms → refused v.collector.sets ≤ refused (after_moves v ms).collector.sets
+moves_refused v [] kept fit = omega arith
+moves_refused v (m ∷ ms) kept fit = omega (arith, move_refused v m kept fit.0, moves_refused (after_move v m) ms (move_kept v m kept fit.0) fit.1)
+
+pub moves_watched : (v : Core) (ms : List Move) → IsKept true v → AllFit v ms → IsWatched v → refused (after_moves v ms).collector.sets ≤ refused v.collector.sets → IsWatched (after_moves v ms)
+moves_watched v [] kept fit i few = i
+moves_watched v (m ∷ ms) kept fit i few =
+    let after : IsKept true (after_move v m) = move_kept v m kept fit.0 in
+    elim (move_watched v m kept fit.0 i) [
+      | inl there ↦ moves_watched (after_move v m) ms after fit.1 there (omega (arith, few, move_refused v m kept fit.0))
+      | inr more ↦ absurd (omega (arith, few, more, moves_refused (after_move v m) ms after fit.1))
+    ]
