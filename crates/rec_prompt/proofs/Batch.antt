@@ -1,15 +1,15 @@
 -- A batch leaves each slot on something: what it took something off is a candidate root or a zero then, or a snapshot of the batch's epoch
 -- names it, in a steady heap. What it only added to was in the reach of the epoch before, so it hangs on what was taken off.
-use Rattle.std.proofs.Common.{◌≡◌, ◌⊎◌, inl, inr, ℕ, zero, suc, ◌+◌, ◌-◌, ◌<◌, ◌≤◌, ◌==◌, nat_lt, true, false, Bool, Option, None, Some, List, [], ◌∷◌, length, map, slice_index_or, refl, sym, ap, subst, ◌∙◌, arith}
+use Rattle.std.proofs.Common.{◌≡◌, inl, inr, ℕ, zero, suc, ◌+◌, ◌<◌, ◌≤◌, ◌==◌, nat_lt, true, false, Bool, List, [], ◌∷◌, length, map, slice_index_or, refl, sym, ap, ◌∙◌, arith}
 use Rattle.std.specs.List.{sum_by, concat}
 use Rattle.std.proofs.lemmas.Bool.{cases_Bool, cases_lt, eqb-true, false≢true, lt-ltb}
 use Rattle.std.proofs.lemmas.List.{get_or_past}
 use Rattle.std.proofs.lemmas.List.Sums.{sum_by-cons, sum_by-le-sum_by}
-use Rattle.rec_core.proofs.Common.{is_green, State, slot_at, one, times, times-nil, Slot, absent, Contents, named, new_target, old_target, puts_in, node_of, epoch_of, home, one_if_same, only_if, Write, IsTaken, Phase, Opening, Returning, Core, sight, nobody, Handshake, IsKeptBy, stand_at, pending, applied_at, buffer_at}
+use Rattle.rec_core.proofs.Common.{is_green, State, slot_at, one, times, times-nil, Slot, Contents, named, old_target, puts_in, node_of, epoch_of, home, one_if_same, only_if, Write, IsTaken, Opening, Returning, Core, sight, nobody, IsKeptBy, stand_at, pending, applied_at, buffer_at}
 use Rattle.rec_counts.specs.Batch.{AreAlike, IsApplied, names}
 use Rattle.rec_counts.specs.Colour.{is_purple}
 use Rattle.rec_counts.specs.Counts.{IsKept as IsKeptCounts}
-use Rattle.rec_counts.specs.Targets.{added, held, leaves, taken, told_buffers, written}
+use Rattle.rec_counts.specs.Targets.{held, leaves, taken, told_buffers, written}
 use Rattle.rec_counts.proofs.Naming.{added_parts, named-nil}
 use Rattle.rec_counts.proofs.Told.{told_even, written_told}
 use Rattle.rec_counts.proofs.Times.{one-some}
@@ -19,9 +19,8 @@ use Rattle.rec_model.specs.Accounted.{touches}
 use Rattle.rec_model.specs.References.{IsInReach}
 use Rattle.rec_core.proofs.Applying.{counted, is_counted, puts_is}
 use Rattle.rec_core.proofs.Turns.{now_in}
-use Rattle.rec_prompt.specs.Cover.{Covers, Hangs, IsListed, IsPending, takes}
+use Rattle.rec_prompt.specs.Cover.{Covers, IsListed, IsPending, takes}
 use Rattle.rec_prompt.specs.Cover.Hangs.{later, listed, behind}
-use Rattle.rec_prompt.specs.Lost.{Leads}
 use Rattle.rec_prompt.proofs.Hanging.{all_on_trails, carried, IsHung, LeadersCount, Trails}
 use Rattle.rec_prompt.proofs.Pended.{reach_trails, some_of}
 

@@ -1,12 +1,10 @@
 -- What follows a release, a test of a set or a trial, up to the end of a turn: each slot hangs on something still, unless a set was refused.
-use Rattle.std.proofs.Common.{◌≡◌, ◌≢◌, ◌⊎◌, inl, inr, ℕ, zero, suc, ◌+◌, ◌-◌, ◌<◌, ◌≤◌, true, false, Bool, Option, None, Some, IsSome, List, [], ◌∷◌, length, slice_index_or, refl, sym, ap, subst, ◌∙◌, arith}
-use Rattle.std.proofs.lemmas.Bool.{cases_lt}
-use Rattle.rec_core.proofs.Common.{State, slot_at, given_up, is_green, IsFreeable, Parts, with_parts, parts_of, put_off, prep_started, with_offers, ClearsOn, IsTested, PreparesOn, TriesOn, Begun, counted_by, zeros_released, with_freeing, new_freeing, Phase, Idle, Trying, Preparing, Opening, Releasing, Freeing, Turn, still, IsClearing, Machine, Work, Core, Sight, sight}
+use Rattle.std.proofs.Common.{◌≡◌, ◌≢◌, ◌⊎◌, inl, inr, ℕ, ◌+◌, ◌-◌, ◌<◌, ◌≤◌, Bool, None, Some, List, [], length, refl, sym, ap, subst, ◌∙◌, arith}
+use Rattle.rec_core.proofs.Common.{State, IsFreeable, Parts, put_off, prep_started, with_offers, ClearsOn, IsTested, PreparesOn, TriesOn, Begun, zeros_released, with_freeing, new_freeing, Idle, Trying, Preparing, Opening, Turn, still, IsClearing, Machine, Work, Core, Sight, sight}
 use Rattle.rec_counts.specs.Counts.{IsKept as IsKeptCounts}
 use Rattle.rec_release.specs.CycleFree as frees
 use Rattle.rec_release.specs.Release as releases
 use Rattle.rec_sigma.specs.Prepare as preps
-use Rattle.rec_sigma.specs.Refurbish.{LastRefurbished}
 use Rattle.rec_trial.specs.Rules.{IsReady}
 use Rattle.rec_trial.specs.Moves.{cleared}
 use Rattle.rec_trial.specs.Trial as trials
@@ -17,7 +15,6 @@ use Rattle.rec_trial.proofs.Moving.{settled_is_due}
 use Rattle.rec_trial.proofs.Runs.{opened_course}
 use Rattle.rec_trial.proofs.Totals.{occurs}
 use Rattle.rec_collector.specs.Private as collectors
-use Rattle.rec_collector.specs.Testing.{told}
 use Rattle.rec_collector.specs.declared.sets.Sets.{Sets}
 use Rattle.rec_collector.proofs.Judging.{last_freeable, passed_verdict}
 use Rattle.rec_collector.proofs.Offering.{where_ready}
@@ -31,8 +28,6 @@ use Rattle.rec_prompt.proofs.Hanging.{leaders_from, LeadersCount}
 use Rattle.rec_prompt.proofs.Heeding.{Heeds, heeds_covers, heeds_next, heeds_on, heeds_others, heeds_postponed, heeds_same, IsSeen}
 use Rattle.rec_prompt.proofs.Lessened.{heeds_given_up}
 use Rattle.rec_prompt.proofs.Tried.{heeds_offered, Tries, tries_settled}
-use Rattle.rec_prompt.specs.Lost.{Leads}
-use Rattle.rec_model.specs.Sight.{IsTaken}
 
 -- how many sets were refused, of those that were tested
 abbrev pub refused : Sets → ℕ

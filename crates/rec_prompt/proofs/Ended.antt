@@ -1,12 +1,11 @@
 -- A trial ends with each slot a member of a set, or on a path of fields from what is pending. A slot that isn't marked is on one, since
 -- marking loaded each field of what is marked. And so is a Black one: something has it that no marked slot accounts for, or a Black slot
 -- leads to it.
-use Rattle.std.proofs.Common.{◌≡◌, ◌⊎◌, inl, inr, ℕ, zero, suc, ◌+◌, ◌-◌, ◌*◌, ◌/◌, ◌%◌, ◌<◌, ◌≤◌, ◌==◌, true, false, Bool, Option, Some, List, [], ◌∷◌, length, slice_index_or, refl, sym, ap, subst, ◌∙◌, arith}
+use Rattle.std.proofs.Common.{◌≡◌, ◌⊎◌, inl, inr, ℕ, ◌+◌, ◌-◌, ◌/◌, ◌%◌, ◌<◌, ◌≤◌, ◌==◌, true, false, Some, [], length, slice_index_or, sym, ap, ◌∙◌, arith}
 use Rattle.std.specs.List.{sum_by, concat}
 use Rattle.std.proofs.Math.Nat.{mod-lt, div-add-mod, mul_comm}
-use Rattle.std.proofs.lemmas.Bool.{cases_Bool, cases_lt, false≢true, ne_eqb}
-use Rattle.rec_core.proofs.Common.{place_of, target_of, is_green, only_if-le, State, slot_at, one, times, times-nil, one_if_same, only_if, node_of, names, sum_at, is_at, is_from, puts_after, replaces_from, Slot, IsTaken, word_at, Core, sight, IsKept, pending, applied_at}
-use Rattle.rec_model.specs.Pending.{Dated}
+use Rattle.std.proofs.lemmas.Bool.{cases_lt, false≢true, ne_eqb}
+use Rattle.rec_core.proofs.Common.{place_of, target_of, is_green, only_if-le, State, slot_at, one, times, times-nil, one_if_same, only_if, node_of, names, is_at, is_from, replaces_from, Slot, IsTaken, word_at, Core, sight, IsKept, pending, applied_at}
 use Rattle.rec_counts.specs.Colour.{is_white}
 use Rattle.rec_trial.specs.Moves.{cleared}
 use Rattle.rec_trial.specs.Trial.{Work}
@@ -89,16 +88,16 @@ module _ (w : Core) (kept : IsKept true w) (before : State) (ls : Loads) (v : Wo
       | inr unborn ↦ elim (cases_lt 0 (sum_by (is_at a (x + 1)) (pending w).snapshots)) [
         | inl snapped ↦ Trails.first (inl (snapped_pends w kept.whole x snapped))
         | inr unsnapped ↦ by_field (more_somewhere (names (x + 1)) loads w.words (omega (
-              arith,
-              rest,
-              hits_few fields x ls.marks w.words,
-              kept.accounted.ledger (x + 1) (omega arith),
-              ap (λ (c : Slot). c.count) (slot_there w kept x (taken_slot w kept x is.0)),
-              unreplaced,
-              unborn,
-              unsnapped,
-              untaken,
-            )))
+          arith,
+          rest,
+          hits_few fields x ls.marks w.words,
+          kept.accounted.ledger (x + 1) (omega arith),
+          ap (λ (c : Slot). c.count) (slot_there w kept x (taken_slot w kept x is.0)),
+          unreplaced,
+          unborn,
+          unsnapped,
+          untaken,
+        )))
       ]
     ]
   ]

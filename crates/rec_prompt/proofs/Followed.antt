@@ -1,9 +1,9 @@
 -- A trial at work, followed from load to load: what marking loaded from a field still stands there, or what stands there now is known to
 -- the collector by what is pending; and so of what blackening loaded.
-use Rattle.std.proofs.Common.{◌≡◌, ◌⊎◌, inl, inr, ℕ, zero, suc, ◌+◌, ◌*◌, ◌/◌, ◌%◌, ◌<◌, ◌≤◌, ◌==◌, cond, eqb, true, false, Bool, Option, Some, List, [], ◌∷◌, refl, sym, ap, ◌∙◌, arith}
+use Rattle.std.proofs.Common.{◌≡◌, ◌⊎◌, inl, inr, ℕ, zero, suc, ◌+◌, ◌*◌, ◌/◌, ◌%◌, ◌<◌, ◌≤◌, ◌==◌, cond, eqb, true, false, Bool, Some, List, [], ◌∷◌, refl, sym, ap, ◌∙◌, arith}
 use Rattle.std.proofs.Math.Nat.{div-add-mod, mul_comm}
 use Rattle.std.proofs.lemmas.Bool.{cases_eq, cases_lt, eq-eqb, eqb-true, ne_eqb}
-use Rattle.rec_core.proofs.Common.{target_of, is_green, State, slot_at, only_if, sum_at, sum_at_none, sum_at_same, sum_at_split, Sight, word_at, Machine, Work}
+use Rattle.rec_core.proofs.Common.{target_of, is_green, State, slot_at, only_if, sum_at, sum_at_none, sum_at_same, sum_at_split, Sight, word_at, Machine}
 use Rattle.rec_model.proofs.Sums.{sum_at-le-sum_at}
 use Rattle.rec_trial.specs.Trial.{is_due, list_of}
 use Rattle.rec_trial.proofs.Course.{Course}

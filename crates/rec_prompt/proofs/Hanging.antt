@@ -1,12 +1,12 @@
 -- What hangs on something hangs on something still where what it hung on does, and each field that led there leads there, or what it led
 -- to hangs on something by itself.
-use Rattle.std.proofs.Common.{◌≡◌, ◌⊎◌, inl, inr, ℕ, ◌+◌, ◌/◌, ◌<◌, true, false, Bool, Option, None, Some, length, replicate, slice_index_or, refl, sym, ap, subst, ◌∙◌, arith}
+use Rattle.std.proofs.Common.{◌≡◌, ◌⊎◌, inl, inr, ℕ, false, Bool, Option, None, Some, length, replicate, slice_index_or, sym, ap, ◌∙◌, arith}
 use Rattle.std.proofs.Math.Nat.{mul-le-mul_right}
-use Rattle.std.proofs.lemmas.Bool.{cases_Bool, cases_lt, false≢true}
+use Rattle.std.proofs.lemmas.Bool.{cases_Bool, cases_lt}
 use Rattle.std.proofs.lemmas.List.{get_or_past, get_or-replicate, length-replicate}
 use Rattle.rec_core.proofs.Common.{place_of, target_of, is_green, slot_at, State, HasGreens, IsSound, Sight, IsTaken, words_of, word_in, Core, sight, IsKept}
 use Rattle.rec_model.proofs.Unfreed.{taken_or_free}
-use Rattle.rec_prompt.specs.Cover.{Covers, Hangs, IsCovered, IsListed, IsPending}
+use Rattle.rec_prompt.specs.Cover.{Hangs, IsListed}
 use Rattle.rec_prompt.specs.Cover.Hangs.{later, listed, behind}
 use Rattle.rec_prompt.specs.Lost.{Leads}
 

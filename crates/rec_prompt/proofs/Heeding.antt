@@ -1,19 +1,19 @@
 -- What the collector has in its lists stays there, over what it does with its counts: no slot gets out of sight that isn't Green.
-use Rattle.std.proofs.Common.{◌≡◌, ◌⊎◌, inl, inr, ℕ, zero, suc, ◌+◌, ◌-◌, ◌<◌, ◌≤◌, ◌==◌, nat_lt, if◌then◌else◌, true, false, Bool, Option, None, Some, List, [], ◌∷◌, ◌++◌, length, map, slice_index_or, refl, sym, ap, subst, ◌∙◌, arith}
+use Rattle.std.proofs.Common.{◌≡◌, ◌⊎◌, inl, inr, ℕ, zero, suc, ◌≤◌, if◌then◌else◌, true, false, Bool, List, [], ◌∷◌, length, refl, sym, ap, ◌∙◌, arith}
 use Rattle.std.specs.List.{concat}
-use Rattle.std.proofs.lemmas.Bool.{cases_Bool, cases_eq, cases_lt, ne_eqb, false≢true}
-use Rattle.std.proofs.lemmas.List.{get_or-set_same, get_or-set_other, get_or_past, length-set}
-use Rattle.rec_core.proofs.Common.{is_green, State, slot_at, with_slot, one, times, absent, Slot, times-append, times-cons, times-nil, emptied, listed_if, next_from, without_first, Sight, KeepsOthers}
-use Rattle.rec_counts.specs.Colour.{is_purple, is_gray, is_white}
+use Rattle.std.proofs.lemmas.Bool.{cases_eq, cases_lt, ne_eqb, false≢true}
+use Rattle.std.proofs.lemmas.List.{get_or-set_same, get_or_past, length-set}
+use Rattle.rec_core.proofs.Common.{is_green, State, slot_at, one, times, absent, Slot, times-cons, emptied, listed_if, next_from, without_first, Sight, KeepsOthers}
+use Rattle.rec_counts.specs.Colour.{is_purple}
 use Rattle.rec_counts.specs.Counts.{without_root}
-use Rattle.rec_counts.proofs.Times.{one-same, times_push}
+use Rattle.rec_counts.proofs.Times.{times_push}
 use Rattle.rec_release.specs.Release as releases
 use Rattle.rec_release.proofs.Keeping.{emptied_zeros}
 use Rattle.rec_release.proofs.TakenOff.{written}
 use Rattle.rec_trial.specs.Postponed.{returned_if, rotated, rotated_by, rotated_in, postponed}
-use Rattle.rec_prompt.specs.Cover.{Covers, Hangs, IsListed}
-use Rattle.rec_prompt.specs.Cover.Hangs.{later, listed, behind}
-use Rattle.rec_prompt.proofs.Hanging.{carried, IsHung, LeadersCount}
+use Rattle.rec_prompt.specs.Cover.{Covers, IsListed}
+use Rattle.rec_prompt.specs.Cover.Hangs.{later, listed}
+use Rattle.rec_prompt.proofs.Hanging.{carried, LeadersCount}
 
 -- the slot is in a list, or it is Green
 abbrev pub IsSeen : State → (slot : ℕ) → Type 0

@@ -1,8 +1,8 @@
 -- A trial takes in a word: what marking and blackening loaded is followed still.
-use Rattle.std.proofs.Common.{◌≡◌, ◌⊎◌, inl, inr, ℕ, zero, suc, ◌+◌, ◌<◌, ◌≤◌, if◌then◌else◌, cond, eqb, true, false, Bool, Option, None, Some, IfSome, List, [], ◌∷◌, refl, sym, ap, subst, ◌∙◌, arith}
-use Rattle.std.proofs.lemmas.Bool.{cases_Bool, cases_lt, eq-eqb, eqb-true, false≢true}
+use Rattle.std.proofs.Common.{◌≡◌, ◌⊎◌, inl, inr, ℕ, suc, ◌<◌, if◌then◌else◌, cond, eqb, true, false, Bool, Option, None, Some, List, ◌∷◌, refl, sym, ap, ◌∙◌, arith}
+use Rattle.std.proofs.lemmas.Bool.{cases_Bool, cases_lt, eq-eqb, eqb-true}
 use Rattle.rec_word.specs.Word.{predecessor, target_bits}
-use Rattle.rec_core.proofs.Common.{place_of, target_of, is_green, State, slot_at, Sight, word_at, visible, visible_if}
+use Rattle.rec_core.proofs.Common.{target_of, is_green, State, slot_at, Sight, word_at, visible, visible_if}
 use Rattle.rec_trial.specs.declared.phase.Phase.{Phase}
 use Rattle.rec_trial.specs.declared.phase.Phase.TheVariants.{Idle, Marking, Scanning, Collecting}
 use Rattle.rec_trial.proofs.Deletion.{Loads, Seen, with_load}

@@ -1,12 +1,12 @@
 -- Where a word comes out of a field, its target is in a list then, or Green; and a set that is given up is released.
-use Rattle.std.proofs.Common.{◌≡◌, ◌≢◌, ◌⊎◌, inl, inr, ℕ, zero, suc, ◌+◌, ◌-◌, ◌<◌, ◌≤◌, ◌==◌, ◌||◌, nat_lt, if◌then◌else◌, true, false, Bool, Option, None, Some, List, [], ◌∷◌, ◌++◌, length, map, slice_index_or, refl, sym, ap, subst, ◌∙◌, arith}
+use Rattle.std.proofs.Common.{◌≡◌, ◌≢◌, inl, inr, ℕ, ◌-◌, ◌<◌, ◌≤◌, ◌==◌, ◌||◌, true, false, Bool, Option, None, Some, List, [], ◌∷◌, ◌++◌, length, refl, sym, ap, subst, ◌∙◌, arith}
 use Rattle.std.specs.List.{concat}
-use Rattle.std.proofs.lemmas.Bool.{cases_Bool, cases_eq, cases_lt, ne_eqb, false≢true}
+use Rattle.std.proofs.lemmas.Bool.{cases_eq, cases_lt, false≢true}
 use Rattle.std.proofs.lemmas.List.{get_or-set_same, get_or-set_other}
 use Rattle.std.proofs.lemmas.Option.{same_Some}
-use Rattle.rec_core.proofs.Common.{is_green, State, slot_at, with_slot, sent, one, times, absent, Slot, times-append, times-cons, times-nil, decremented, due_of, lessened, lessened_if, stays, lowered, taken_off, down_if, is_lowered, is_orange, IsApart, given_up, given_up_slot, dead_if, IsFreeable, is_in, unbuffered_if}
+use Rattle.rec_core.proofs.Common.{is_green, State, slot_at, with_slot, sent, one, times, absent, Slot, times-append, decremented, due_of, lessened, lessened_if, stays, lowered, taken_off, down_if, is_lowered, is_orange, IsApart, given_up, dead_if, IsFreeable, is_in, unbuffered_if}
 use Rattle.rec_counts.specs.declared.colour.Colour.{Colour}
-use Rattle.rec_counts.specs.declared.colour.Colour.TheVariants.{Black, Purple, Gray, White, Orange, Green}
+use Rattle.rec_counts.specs.declared.colour.Colour.TheVariants.{Black, Purple, Orange}
 use Rattle.rec_counts.specs.declared.slot.Due.{Due}
 use Rattle.rec_counts.specs.declared.slot.Due.TheVariants.{Nothing, Zero, Root}
 use Rattle.rec_counts.specs.Colour.{is_purple}

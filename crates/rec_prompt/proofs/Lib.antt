@@ -4,6 +4,7 @@ pub mod Begun
 pub mod Chains
 pub mod Clears
 pub mod Counts
+pub mod Covered
 pub mod Ended
 pub mod Followed
 pub mod Forgets

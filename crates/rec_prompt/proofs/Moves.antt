@@ -3,7 +3,7 @@ use Rattle.std.proofs.Common.{◌≡◌, inl, inr, ℕ, true, false, List, [], �
 use Rattle.std.proofs.lemmas.Bool.{cases_Bool, false≢true}
 use Rattle.rec_core.proofs.Common.{Core, IsKept, AllFit, Fits, Move, after_move, after_moves, sight}
 use Rattle.rec_model.specs.Reach.{is_in}
-use Rattle.rec_model.proofs.Members.{is_in-cases, is_in-left, is_in-right, not_in-left}
+use Rattle.rec_model.proofs.Members.{is_in-cases, is_in-right, not_in-left}
 use Rattle.rec_core.proofs.Runs.{move_kept, moves_kept}
 use Rattle.rec_prompt.specs.Prompt.{freed_in, freed_over}
 use Rattle.rec_prompt.proofs.Forgets.{Forgets}

@@ -1,9 +1,9 @@
 -- What mutators do leaves each slot on something that the collector still has to look at: what a write replaces and what is born is
 -- pending, and so is what a register names as its mutator leaves an epoch.
-use Rattle.std.proofs.Common.{◌≡◌, ◌≢◌, ◌⊎◌, inl, inr, ℕ, zero, suc, ◌+◌, ◌-◌, ◌/◌, ◌<◌, ◌≤◌, true, false, Bool, List, [], ◌∷◌, ◌++◌, Option, None, Some, length, map, replicate, slice_index_or, slice_set, refl, sym, ap, subst, ◌∙◌, arith}
+use Rattle.std.proofs.Common.{◌≡◌, ◌≢◌, ◌⊎◌, inl, inr, ℕ, zero, suc, ◌+◌, ◌-◌, ◌<◌, true, false, List, [], ◌∷◌, ◌++◌, Option, None, Some, length, map, replicate, slice_index_or, slice_set, refl, sym, ap, subst, ◌∙◌, arith}
 use Rattle.std.proofs.lemmas.Bool.{cases_Bool, cases_eq, cases_lt, eq-eqb, false≢true}
 use Rattle.std.proofs.lemmas.List.{get_or-set_same, get_or-set_other, get_or_past, map-append}
-use Rattle.rec_core.proofs.Common.{place_of, target_of, is_green, is_slot, Op, slot_at, IsTaken, Contents, Private, buffer_at, is_busy, word_for, next_of, left_of, took_of, whole_made, begun_of, named, old_target, IsMutator, Core, cell, cells_of, box, mutator, nobody, sight, spare_of, IsKept, begun_from, found_by, stepped, crossing_of, with_cell, one, code, epoch_at, has_let_go, Holds, Machine, pending, register, State}
+use Rattle.rec_core.proofs.Common.{place_of, target_of, is_green, Op, slot_at, IsTaken, Contents, Private, is_busy, word_for, next_of, left_of, took_of, whole_made, begun_of, named, old_target, IsMutator, Core, cell, cells_of, box, mutator, nobody, sight, spare_of, IsKept, begun_from, found_by, stepped, crossing_of, with_cell, one, code, epoch_at, has_let_go, Holds, Machine, pending, register, State}
 use Rattle.rec_core.specs.declared.config.Config.{Config}
 use Rattle.rec_model.specs.Reach as reach
 use Rattle.rec_counts.proofs.Naming.{named-append, named-cons, named-nil}
@@ -16,10 +16,9 @@ use Rattle.rec_mutator.specs.Took.{step_of}
 use Rattle.rec_mutator.specs.declared.work.Work.{Work}
 use Rattle.rec_collector.specs.Private as collectors
 use Rattle.rec_core.proofs.Actors.{crossing_due, leaving_home}
-use Rattle.rec_core.proofs.Reach.{steps_keep_taken}
 use Rattle.rec_core.proofs.Steps.{actor_of, in_list, stand_of, stays_here}
-use Rattle.rec_prompt.specs.Cover.{Covers, Hangs, IsCovered, IsListed, IsPending, takes}
-use Rattle.rec_prompt.specs.Cover.Hangs.{later, listed, behind}
+use Rattle.rec_prompt.specs.Cover.{IsCovered, IsListed, IsPending, takes}
+use Rattle.rec_prompt.specs.Cover.Hangs.{later, listed}
 use Rattle.rec_prompt.specs.Lost.{Leads}
 use Rattle.rec_prompt.proofs.Forgets.{set_or}
 use Rattle.rec_core.proofs.Moves.{has_register}

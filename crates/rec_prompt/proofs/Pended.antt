@@ -1,18 +1,17 @@
 -- What is still to be taken off by the epochs of what is pending is so by a buffer that the collector hasn't applied yet. So what is in
 -- the reach of the last batch's epoch hangs on what is pending: each root of that epoch is pending, and so is what a write replaced since.
-use Rattle.std.proofs.Common.{◌≡◌, ◌⊎◌, inl, inr, ℕ, suc, ◌+◌, ◌-◌, ◌*◌, ◌/◌, ◌%◌, ◌<◌, ◌≤◌, ◌==◌, nat_le, if◌then◌else◌, true, false, Bool, List, [], ◌∷◌, Option, None, Some, length, map, slice_index_or, refl, sym, ap, subst, ◌∙◌, arith}
+use Rattle.std.proofs.Common.{◌≡◌, ◌⊎◌, inl, inr, ℕ, suc, ◌+◌, ◌-◌, ◌/◌, ◌%◌, ◌<◌, ◌≤◌, ◌==◌, nat_le, true, false, Bool, List, [], ◌∷◌, Option, None, Some, length, map, slice_index_or, refl, ap, subst, ◌∙◌, arith}
 use Rattle.std.specs.List.{All, sum_by, flat_map, zip}
 use Rattle.std.proofs.Math.Nat.{mod-lt, div-add-mod, mul_comm}
-use Rattle.std.proofs.lemmas.Bool.{cases_Bool, cases_eq, cases_lt, eqb-true, lt-leb, ne_eqb}
+use Rattle.std.proofs.lemmas.Bool.{cases_lt, eqb-true, lt-leb, ne_eqb}
 use Rattle.std.proofs.lemmas.List.Elements.{All-head, All-tail}
 use Rattle.std.proofs.lemmas.List.Sums.{sum_by-cons, sum_by-le-sum_by}
-use Rattle.rec_core.proofs.Common.{place_of, target_of, State, is_at, is_from, replaces_from, is_slot, one_if_same, only_if, only_if-le, none_if_differs, node_of, epoch_of, home, dated, dated_birth, Write, sum_at, Contents, Entry, Private, buffer_at, Phase, Idle, Looking, Swapping, Returning, Core, nobody, sight, Handshake, IsKeptBy, IsMadeIn, Filed, writes_in, births_in, dated_names, applied_at, older_at, epoch_at, buffers, pending, named, old_target, one, is_green}
+use Rattle.rec_core.proofs.Common.{place_of, target_of, is_at, is_from, replaces_from, one_if_same, only_if, only_if-le, node_of, epoch_of, home, dated, dated_birth, Write, sum_at, Contents, Entry, buffer_at, Phase, Idle, Looking, Swapping, Returning, Core, nobody, sight, Handshake, IsKeptBy, IsMadeIn, Filed, writes_in, births_in, dated_names, applied_at, older_at, epoch_at, buffers, pending, named, old_target, one}
 use Rattle.rec_log.specs.declared.entry.Entry.TheVariants as entries
-use Rattle.rec_counts.proofs.Naming.{named-cons, named-nil}
+use Rattle.rec_counts.proofs.Naming.{named-cons}
 use Rattle.rec_collector.specs.Kept.{under_way}
 use Rattle.rec_collector.specs.Private as collectors
-use Rattle.rec_model.specs.Pending.{Pending, Dated}
-use Rattle.rec_model.specs.References.{IsInReach, opened_to, closed_from}
+use Rattle.rec_model.specs.References.{IsInReach, opened_to}
 use Rattle.rec_model.proofs.Counted.{closed_out_of, edge_sum, opened_from, root_sum}
 use Rattle.rec_model.proofs.Reaching.{all_in_reach}
 use Rattle.rec_core.proofs.Batches.{buffer_there, same_name, same_word}
@@ -177,6 +176,11 @@ module _ {stands : (t : ℕ) → Handshake} (v : Core) (kept : IsKeptBy true sta
                 let own = only_if_some (source == home fields place) (opened_to applied (x + 1) place word) weighs in
                 let named_ = only_if_some (nat_le (epoch_of word) applied) (one_if_same (x + 1) (node_of word)) own.1 in
                 Trails.along (hung (place / fields) (eqb-true source (home fields place) own.0)) (leads_there place x named_.1)
-            | inr none ↦ Trails.first (replaced_pends x (omega (arith, there, none, sum_by-le-sum_by (closed_out_of fields applied source (x + 1)) (replaces_from applied (x + 1)) (pending v).writes
-                (λ e. only_if_most (source == home fields e.place) (nat_le applied (epoch_of e.new)) (nat_le (epoch_of e.old) applied) (one_if_same (x + 1) (node_of e.old))))))
+            | inr none ↦ Trails.first (replaced_pends x (omega (
+              arith,
+              there,
+              none,
+              sum_by-le-sum_by (closed_out_of fields applied source (x + 1)) (replaces_from applied (x + 1)) (pending v).writes
+                  (λ e. only_if_most (source == home fields e.place) (nat_le applied (epoch_of e.new)) (nat_le (epoch_of e.old) applied) (one_if_same (x + 1) (node_of e.old))),
+            )))
           ]

@@ -1,9 +1,9 @@
 -- The law: what is lost and behind no cycle is freed by the end of the second collection.
-use Rattle.std.proofs.Common.{◌≡◌, ◌⊎◌, inl, inr, ℕ, ◌+◌, ◌/◌, ◌%◌, ◌<◌, ◌≤◌, true, false, List, [], ◌∷◌, ◌++◌, slice_index_or, refl, sym, ap, subst, ◌∙◌, arith}
+use Rattle.std.proofs.Common.{◌≡◌, ◌⊎◌, inl, inr, ℕ, ◌+◌, ◌/◌, ◌%◌, ◌<◌, ◌≤◌, true, List, [], ◌∷◌, ◌++◌, slice_index_or, refl, sym, ap, subst, ◌∙◌, arith}
 use Rattle.std.proofs.Math.ListN.{get_or-map}
 use Rattle.std.proofs.Math.Nat.{mod-lt, div-add-mod, mul_comm}
 use Rattle.std.proofs.lemmas.Bool.{cases_Bool, cases_lt}
-use Rattle.rec_core.proofs.Common.{place_of, target_of, Core, sight, IsKept, Idle, AllFit, Move, after_move, after_moves, turned, EndsRun, Fits, IsConfig, Phase, Turn}
+use Rattle.rec_core.proofs.Common.{place_of, target_of, Core, sight, IsKept, Idle, AllFit, Move, after_move, after_moves, turned, EndsRun, Fits, IsConfig, Turn}
 use Rattle.rec_model.specs.Reach.{is_in}
 use Rattle.rec_collector.specs.Kept.{under_way}
 use Rattle.rec_collector.proofs.Bare.{next_bare}
@@ -14,17 +14,16 @@ use Rattle.rec_core.specs.Bare.{bare_core}
 use Rattle.rec_core.specs.Turn.{TurnHasCause, turn_told}
 use Rattle.rec_core.proofs.BareSeen.{reached_bare}
 use Rattle.rec_core.proofs.Dated.{Explains, end_explained, move_explained, moves_explained}
-use Rattle.rec_core.proofs.Runs.{config_after, fit_first, move_stays, moves_kept, over_both, run_more}
+use Rattle.rec_core.proofs.Runs.{config_after, fit_first, move_stays, over_both, run_more}
 use Rattle.rec_core.proofs.Turn.{turn_is_one}
 use Rattle.rec_model.proofs.Members.{is_in-left}
 use Rattle.rec_core.proofs.Steps.{taken_slot}
 use Rattle.rec_prompt.specs.Lost.{IsBehindNoCycle, IsLost, Leads, LeadsOn}
 use Rattle.rec_prompt.specs.Lost.LeadsOn.{step, further}
 use Rattle.rec_prompt.specs.Prompt.{Complete, IsFreed, freed_by, freed_in, freed_over}
-use Rattle.rec_prompt.proofs.Begun.{starts_forgetting}
 use Rattle.rec_prompt.proofs.Chains.{none_lost}
 use Rattle.rec_prompt.proofs.Counts.{led_to}
-use Rattle.rec_prompt.proofs.Forgets.{counted, Forgets}
+use Rattle.rec_prompt.proofs.Forgets.{counted}
 use Rattle.rec_prompt.proofs.Moves.{forgotten, lost_over}
 use Rattle.rec_collector.proofs.Landing.{under_way_most}
 

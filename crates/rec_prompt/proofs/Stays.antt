@@ -1,10 +1,9 @@
 -- A lost slot stays lost until it is freed, what leads to it is lost and led to it before, and its count comes to the fields that lead
 -- to it.
-use Rattle.std.proofs.Common.{◌≡◌, inl, inr, ℕ, suc, ◌+◌, ◌-◌, ◌/◌, ◌<◌, ◌≤◌, if◌then◌else◌, count_by, true, false, List, [], ◌∷◌, Option, None, Some, length, map, slice_index_or, refl, sym, ap, subst, ◌∙◌, arith}
+use Rattle.std.proofs.Common.{◌≡◌, inl, inr, ℕ, suc, ◌+◌, ◌-◌, ◌/◌, ◌<◌, ◌≤◌, true, false, List, [], ◌∷◌, Option, None, Some, length, map, slice_index_or, sym, ap, subst, ◌∙◌, arith}
 use Rattle.std.proofs.Math.ListN.{get_or-map}
 use Rattle.std.proofs.lemmas.Bool.{false≢true}
-use Rattle.std.proofs.lemmas.List.Sums.{sum_by-cons}
-use Rattle.rec_core.proofs.Common.{place_of, target_of, is_slot, AllFit, Core, EndsRun, Idle, IsConfig, IsKept, Move, Private, Reaches, after_moves, nobody, register, sight, slot_at, targets_of}
+use Rattle.rec_core.proofs.Common.{place_of, target_of, AllFit, Core, EndsRun, Idle, IsConfig, IsKept, Move, Private, Reaches, after_moves, nobody, register, sight, slot_at, targets_of}
 use Rattle.rec_word.specs.Bare.{bare}
 use Rattle.rec_word.proofs.Bare.{target_of_bare}
 use Rattle.rec_model.specs.Heap.{roots}
@@ -17,12 +16,11 @@ use Rattle.rec_core.specs.Bare.{bare_core}
 use Rattle.rec_core.proofs.BareSeen.{reached_too, words_alike}
 use Rattle.rec_core.proofs.Dated.{Explains, end_explained, moves_explained}
 use Rattle.rec_core.proofs.Moves.{home_of}
-use Rattle.rec_core.proofs.Runs.{config_after, moves_kept}
+use Rattle.rec_core.proofs.Runs.{config_after}
 use Rattle.rec_prompt.specs.Lost.{fields_to, IsLost, Leads}
 use Rattle.rec_prompt.specs.Prompt.{freed_over, IsLeft}
-use Rattle.rec_prompt.proofs.Begun.{starts_forgetting}
 use Rattle.rec_prompt.proofs.Counts.{counted_fields}
-use Rattle.rec_prompt.proofs.Forgets.{counted, Forgets, node_leads}
+use Rattle.rec_prompt.proofs.Forgets.{counted, node_leads}
 use Rattle.rec_prompt.proofs.Moves.{forgotten, lost_over}
 use Rattle.rec_prompt.proofs.Prompt.{freed_behind, leads_bare, lost_behind}
 

@@ -1,13 +1,13 @@
 -- A turn of a trial leaves each slot on something, and the trial followed; so does its last one.
-use Rattle.std.proofs.Common.{◌≡◌, ◌≢◌, ◌⊎◌, inl, inr, ℕ, ◌+◌, ◌<◌, true, false, Bool, Option, None, Some, IfSome, IsSome, List, [], ◌∷◌, length, slice_index_or, refl, sym, ap, subst, ◌∙◌, arith}
-use Rattle.rec_core.proofs.Common.{place_of, target_of, is_green, LeadsToVisible, State, slot_at, Slot, Sight, word_at, visible, Trying, Machine, Work, Op, Core, sight, IsKept}
+use Rattle.std.proofs.Common.{◌≡◌, ◌≢◌, inl, inr, ℕ, true, false, Option, None, Some, IfSome, slice_index_or, refl, sym, ap, subst, ◌∙◌}
+use Rattle.rec_core.proofs.Common.{place_of, target_of, is_green, LeadsToVisible, State, slot_at, word_at, visible, Trying, Machine, Work, Op, Core, sight, IsKept}
 use Rattle.rec_word.specs.Word.{target_bits}
 use Rattle.rec_word.specs.declared.op.Op.TheVariants.{LoadChild}
 use Rattle.rec_trial.specs.declared.phase.Phase.TheVariants as trial_at
 use Rattle.rec_trial.specs.Trial as trials
 use Rattle.rec_trial.specs.Trial.{is_due, learnt_at, next_of, pointed, settled, took_of}
 use Rattle.rec_trial.proofs.Course.{Course, learnt, learnt_course}
-use Rattle.rec_trial.proofs.Deletion.{Loads, queue_at, Seen, seen, with_load}
+use Rattle.rec_trial.proofs.Deletion.{Loads, Seen, seen, with_load}
 use Rattle.rec_trial.proofs.Moving.{settled_is_due}
 use Rattle.rec_trial.proofs.Running.{due_op}
 use Rattle.rec_trial.proofs.Runs.{node_seen, took_busy}

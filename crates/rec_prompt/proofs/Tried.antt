@@ -1,8 +1,8 @@
 -- A trial takes nothing out of the lists while it is at work: what it marks stays marked until it is over.
-use Rattle.std.proofs.Common.{◌≡◌, ◌≢◌, ◌⊎◌, inl, inr, ℕ, zero, suc, ◌+◌, ◌-◌, ◌<◌, ◌≤◌, ◌==◌, ◌||◌, nat_lt, if◌then◌else◌, true, false, Bool, Option, None, Some, List, [], ◌∷◌, ◌++◌, length, map, slice_index_or, refl, sym, ap, subst, ◌∙◌, arith}
+use Rattle.std.proofs.Common.{◌≡◌, ◌⊎◌, inl, inr, ℕ, ◌-◌, ◌≤◌, nat_lt, if◌then◌else◌, true, false, Bool, Option, None, Some, List, [], ◌∷◌, length, slice_index_or, refl, sym, ap, subst, ◌∙◌, arith}
 use Rattle.std.specs.List.{concat}
-use Rattle.std.proofs.lemmas.Bool.{cases_Bool, cases_eq, cases_lt, ltb-false, ne_eqb, false≢true}
-use Rattle.rec_core.proofs.Common.{is_green, State, slot_at, with_slot, one, times, absent, Slot, times-append, times-cons, times-nil, stays, Work, target_of, Parts, with_offers}
+use Rattle.std.proofs.lemmas.Bool.{cases_eq, ltb-false, ne_eqb, false≢true}
+use Rattle.rec_core.proofs.Common.{is_green, State, slot_at, with_slot, one, times, absent, Slot, times-append, times-cons, stays, Work}
 use Rattle.rec_counts.specs.declared.colour.Colour.{Colour}
 use Rattle.rec_counts.specs.declared.colour.Colour.TheVariants.{Black, Purple, Gray, White, Orange, Green}
 use Rattle.rec_counts.specs.Colour.{is_gray, is_purple, is_white}
@@ -195,9 +195,9 @@ joins true s x white =
     let u : State = with_slot s x (record (slot_at s x) { colour = Orange }) in
     heeds_on (heeds_written s u x (record (slot_at s x) { colour = Orange }) refl (sym plain.0) refl (λ purple. absurd (false≢true (sym plain.1 ∙ purple))) (λ y. omega arith) (λ y. omega arith) (λ y. omega arith) (λ y. omega arith))
     (heeds_alike u (with_joined u x)
-        (λ y. elim (written u x (record (slot_at u x) { buffered = true; set = Some (length s.sets - 1) }) y) [ inl own ↦ ap (λ (v : Slot). v.colour) own.1 ∙ ap (λ n. (slot_at u n).colour) (sym own.0) | inr other ↦ ap (λ (v : Slot). v.colour) other ])
-        (λ y is. elim (written u x (record (slot_at u x) { buffered = true; set = Some (length s.sets - 1) }) y) [ inl own ↦ ap (λ (v : Slot). v.released) own.1 ∙ ap (λ n. (slot_at u n).released) (sym own.0) ∙ is | inr other ↦ ap (λ (v : Slot). v.released) other ∙ is ])
-        (λ y. omega arith) (λ y. omega arith) (λ y. more_members s.sets x y) (λ y. omega arith))
+    (λ y. elim (written u x (record (slot_at u x) { buffered = true; set = Some (length s.sets - 1) }) y) [ inl own ↦ ap (λ (v : Slot). v.colour) own.1 ∙ ap (λ n. (slot_at u n).colour) (sym own.0) | inr other ↦ ap (λ (v : Slot). v.colour) other ])
+    (λ y is. elim (written u x (record (slot_at u x) { buffered = true; set = Some (length s.sets - 1) }) y) [ inl own ↦ ap (λ (v : Slot). v.released) own.1 ∙ ap (λ n. (slot_at u n).released) (sym own.0) ∙ is | inr other ↦ ap (λ (v : Slot). v.released) other ∙ is ])
+    (λ y. omega arith) (λ y. omega arith) (λ y. more_members s.sets x y) (λ y. omega arith))
 
 collects : (s : State) (target : Option ℕ) → Heeds s (collected_by s target)
 collects s None = heeds_same s

@@ -1,8 +1,8 @@
 -- A turn of the collector leaves each slot on something, unless it refuses a set.
-use Rattle.std.proofs.Common.{◌≡◌, ◌≢◌, ◌⊎◌, inl, inr, ℕ, zero, suc, ◌+◌, ◌-◌, ◌*◌, ◌<◌, ◌≤◌, ◌==◌, true, false, Bool, Option, None, Some, IsSome, List, [], ◌∷◌, length, map, slice_index_or, slice_set, refl, sym, ap, subst, ◌∙◌, arith}
-use Rattle.std.proofs.lemmas.Bool.{cases_Bool, cases_eq, cases_lt, false≢true, cond-false, ne_eqb}
-use Rattle.std.proofs.lemmas.List.{get_or-set_same, get_or-set_other, get_or_past, length-set, set-get_or}
-use Rattle.rec_core.proofs.Common.{crossing_word, Retired, place_of, target_of, Op, is_green, State, slot_at, one, times, absent, Slot, taken_off, IsApart, emptied, Sight, IsTaken, Contents, buffer_at, Parts, parts_of, with_parts, relieved_at, with_released, with_freed, zeros_released, ClearsOn, TriesOn, PreparesOn, Begun, cleared, noted, requested, Phase, Idle, Looking, Returning, Releasing, Freeing, Trying, Preparing, Opening, Sweeping, Closing, Turn, Machine, Work, cell, with_cell, IsMutator, Core, cells_of, box, mutator, nobody, sight, stand_at, IsKept, IsKeptBy, left_by, looked_at, turned, turned_by, At, Member, swept, swept_clean, visible, next_begun, freed_by, freed_last, freed_listed, freed_on, released_by, released_last, released_more, spare_of}
+use Rattle.std.proofs.Common.{◌≡◌, ◌≢◌, ◌⊎◌, inl, inr, ℕ, ◌+◌, ◌-◌, ◌*◌, ◌<◌, ◌≤◌, ◌==◌, true, false, Bool, Option, None, Some, IsSome, List, [], ◌∷◌, length, map, slice_index_or, slice_set, refl, sym, ap, subst, ◌∙◌, arith}
+use Rattle.std.proofs.lemmas.Bool.{cases_eq, false≢true, cond-false, ne_eqb}
+use Rattle.std.proofs.lemmas.List.{get_or-set_same, get_or-set_other, set-get_or}
+use Rattle.rec_core.proofs.Common.{crossing_word, Retired, place_of, target_of, Op, is_green, State, slot_at, times, absent, Slot, taken_off, IsApart, emptied, Sight, IsTaken, Contents, buffer_at, Parts, parts_of, relieved_at, with_released, with_freed, zeros_released, ClearsOn, TriesOn, PreparesOn, Begun, noted, requested, Phase, Idle, Looking, Returning, Releasing, Freeing, Trying, Preparing, Opening, Sweeping, Closing, Turn, Machine, cell, with_cell, Core, cells_of, box, nobody, sight, stand_at, IsKept, IsKeptBy, left_by, looked_at, turned_by, At, Member, swept, swept_clean, visible, freed_by, freed_last, freed_listed, released_by}
 use Rattle.rec_word.specs.Op.{written}
 use Rattle.rec_word.specs.declared.op.Op.TheVariants as ops
 use Rattle.rec_counts.proofs.Naming.{named-nil}
@@ -13,7 +13,6 @@ use Rattle.rec_release.specs.Sweep as sweeps
 use Rattle.rec_sigma.specs.Prepare as preps
 use Rattle.rec_trial.specs.Trial as trials
 use Rattle.rec_collector.specs.Kept as collector_kept
-use Rattle.rec_collector.specs.Next.{next_of}
 use Rattle.rec_collector.specs.Private as collectors
 use Rattle.rec_collector.specs.Step as step
 use Rattle.rec_collector.specs.Took.{step_of}
@@ -33,8 +32,8 @@ use Rattle.rec_prompt.proofs.Batch.{batch_covers, IsLate}
 use Rattle.rec_prompt.proofs.Clears.{clears_on, clears_refused, prepares_refused, tries_refused, heeds_leaders, heeds_zeros, IsOn, IsOver, prepares_on, refused, tries_on}
 use Rattle.rec_prompt.proofs.Followed.{IsFollowed}
 use Rattle.rec_prompt.proofs.Forgets.{set_or}
-use Rattle.rec_prompt.proofs.Hanging.{all_on_trails, carried, IsHung, leaders_count, leaders_from, LeadersCount, Trails}
-use Rattle.rec_prompt.proofs.Heeding.{Heeds, heeds_alike, heeds_covers, heeds_emptied, heeds_next, heeds_on, heeds_others, heeds_same, IsSeen}
+use Rattle.rec_prompt.proofs.Hanging.{all_on_trails, carried, leaders_count, leaders_from, LeadersCount, Trails}
+use Rattle.rec_prompt.proofs.Heeding.{Heeds, heeds_alike, heeds_covers, heeds_emptied, heeds_next, heeds_on, heeds_others, IsSeen}
 use Rattle.rec_prompt.proofs.Lessened.{heeds_taken_off}
 use Rattle.rec_core.proofs.Freeing.{freed_lands}
 use Rattle.rec_core.proofs.Preparing.{loads_due}
@@ -142,9 +141,9 @@ module _ (v : Core) (kept : IsKept true v) (place : ℕ) (batched : has_batched 
       (λ a at more. off_covers v kept place batched apart c true)
       (λ a at last more. off_covers v kept place batched apart c true)
       (λ a at last none.
-          let s : State = taken_off true v.collector.counts (target_of found) in
-          let lists : Heeds s (frees.listed s) = heeds_alike s (frees.listed s) (λ x. refl) (λ x is. is) (λ x. omega arith) (λ x. omega arith) (λ x. omega arith) (λ x. omega arith) in
-          heeds_then true (freed_last (parts_of v.collector) found).parts.counts (heeds_on lists (heeds_zeros true (freed_listed (parts_of v.collector) found))))
+      let s : State = taken_off true v.collector.counts (target_of found) in
+      let lists : Heeds s (frees.listed s) = heeds_alike s (frees.listed s) (λ x. refl) (λ x is. is) (λ x. omega arith) (λ x. omega arith) (λ x. omega arith) (λ x. omega arith) in
+      heeds_then true (freed_last (parts_of v.collector) found).parts.counts (heeds_on lists (heeds_zeros true (freed_listed (parts_of v.collector) found))))
 
 -- ---- the rules of a turn
 

@@ -1,8 +1,6 @@
 -- Each slot hangs on something in every state of every run, as long as no set is refused.
-use Rattle.std.proofs.Common.{◌≡◌, ◌⊎◌, inl, inr, ℕ, ◌+◌, ◌<◌, ◌≤◌, true, false, Option, None, Some, List, [], ◌∷◌, length, map, slice_index_or, refl, sym, ap, subst, ◌∙◌, arith}
-use Rattle.std.proofs.Math.ListN.{get_or-map}
-use Rattle.std.proofs.lemmas.Bool.{cases_lt}
-use Rattle.rec_core.proofs.Common.{place_of, target_of, Op, Sight, IsTaken, Reaches, is_green, State, slot_at, Contents, Entry, Private, buffer_at, named, old_target, Trying, Idle, Turn, Machine, AllFit, Core, Fits, IsConfig, IsKept, Move, after_move, after_moves, cell, cells_of, box, looked_at, nobody, sight, offering, pending, turned, turned_by, step_of}
+use Rattle.std.proofs.Common.{◌≡◌, ◌⊎◌, inl, inr, ℕ, ◌+◌, ◌<◌, ◌≤◌, true, List, [], ◌∷◌, slice_index_or, sym, ap, subst, ◌∙◌, arith}
+use Rattle.rec_core.proofs.Common.{place_of, IsTaken, Reaches, Trying, Idle, AllFit, Core, Fits, IsKept, Move, after_move, after_moves, sight, offering, pending}
 use Rattle.rec_model.specs.Heap.{roots}
 use Rattle.rec_model.specs.Reach.{is_in}
 use Rattle.rec_model.proofs.Consequences.{registers_in_reach}
@@ -10,20 +8,10 @@ use Rattle.rec_model.proofs.Ledgers.{epoch_after}
 use Rattle.rec_model.proofs.Seen.{field_target}
 use Rattle.rec_model.proofs.Within.{all_reached}
 use Rattle.rec_collector.specs.Private as collectors
-use Rattle.rec_collector.specs.Step as step
-use Rattle.rec_core.specs.Bare.{bare_core}
-use Rattle.rec_core.specs.Core.{opened_from}
-use Rattle.rec_core.specs.Moves.{EndsRun, IsRun}
-use Rattle.rec_core.specs.Objects.{AreObjects, HaveLabels, Objects}
-use Rattle.rec_core.proofs.BareSeen.{reached_too}
-use Rattle.rec_core.proofs.Dated.{Explains, end_explained, moves_explained}
-use Rattle.rec_core.proofs.OpenedFromSeen.{seen_settled}
 use Rattle.rec_core.proofs.Reach.{sight_is}
-use Rattle.rec_core.proofs.Runs.{move_kept, moves_kept, rule_of, turned_kept}
+use Rattle.rec_core.proofs.Runs.{move_kept, rule_of, turned_kept}
 use Rattle.rec_core.proofs.Turning.{turn_case}
-use Rattle.rec_prompt.specs.Cover.{Covers, Hangs, IsCovered, IsPending, takes}
-use Rattle.rec_prompt.specs.Cover.Hangs.{later, listed, behind}
-use Rattle.rec_prompt.specs.Lost.{Leads}
+use Rattle.rec_prompt.specs.Cover.{IsCovered, IsPending}
 use Rattle.rec_prompt.proofs.Clears.{refused}
 use Rattle.rec_prompt.proofs.Followed.{IsFollowed}
 use Rattle.rec_prompt.proofs.Forgets.{node_leads}
@@ -57,17 +45,20 @@ hides_watched v u after h i = record {
 }
 
 -- all slots are to be offered
+offering_pends : (v : Core) (x : ℕ) → IsPending v x → IsPending (offering v) x
+offering_pends v x (IsPending.log j some) = IsPending.log j some
+offering_pends v x (IsPending.mailbox j some) = IsPending.mailbox j some
+offering_pends v x (IsPending.newer j some) = IsPending.newer j some
+offering_pends v x (IsPending.older early j some) = IsPending.older early j some
+
+pub offering_covers : (v : Core) → IsCovered v → IsCovered (offering v)
+offering_covers v c = covers_more (sight v) (IsPending v) (IsPending (offering v)) v.collector.counts (offering_pends v) c
+
 offering_watched : (v : Core) → IsWatched v → IsWatched (offering v)
 offering_watched v i = record {
-  covers = covers_more (sight v) (IsPending v) (IsPending (offering v)) v.collector.counts more i.covers;
-  follows = λ m at. followed_more (sight v) (IsPending v) (IsPending (offering v)) v.collector.counts m more (i.follows m at);
+  covers = offering_covers v i.covers;
+  follows = λ m at. followed_more (sight v) (IsPending v) (IsPending (offering v)) v.collector.counts m (offering_pends v) (i.follows m at);
 }
-  where
-    more : (x : ℕ) → IsPending v x → IsPending (offering v) x
-    more x (IsPending.log j some) = IsPending.log j some
-    more x (IsPending.mailbox j some) = IsPending.mailbox j some
-    more x (IsPending.newer j some) = IsPending.newer j some
-    more x (IsPending.older early j some) = IsPending.older early j some
 
 -- a move leaves each slot on something, or refuses a set
 move_watched : (v : Core) (m : Move) → IsKept true v → Fits v m → IsWatched v → IsWatched (after_move v m) ⊎ (refused v.collector.sets < refused (after_move v m).collector.sets)

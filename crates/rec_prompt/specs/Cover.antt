@@ -11,6 +11,7 @@ use Rattle.rec_collector.specs.Private as collectors
 use Rattle.rec_collector.specs.declared.phase.Phase.{Phase}
 use Rattle.rec_collector.specs.declared.phase.Phase.TheVariants.{Idle, Looking, Swapping, Returning}
 use Rattle.rec_core.specs.Core.{Core, nobody, sight}
+use Rattle.rec_core.specs.Moves.{Move}
 use Rattle.rec_prompt.specs.Lost.{Leads}
 
 -- how many of its references a batch takes off the slot by this buffer: the targets that its writes replaced, its births, its snapshot
@@ -54,3 +55,12 @@ Covers w pending s = (slot : ℕ) → IsTaken w slot → is_green (slot_at s slo
 -- the same of a heap with its collector
 abbrev pub IsCovered : Core → Type 0
 IsCovered w = Covers (sight w) (IsPending w) w.collector.counts
+
+-- how many sets were refused, of those that were tested
+abbrev pub refused_sets : Core → ℕ
+refused_sets w = w.collector.sets.delta + w.collector.sets.sigma
+
+-- the move isn't a turn of the collector
+abbrev pub IsNoTurn : Move → Type 0
+IsNoTurn Move.Turns = ⊥
+IsNoTurn _ = Unit {0}

@@ -5,7 +5,8 @@ ghost use Rattle.rec_counts.specs.Counts.{slot_at};
 ghost use Rattle.rec_collector.specs.declared.phase.Phase.TheVariants.{Idle};
 ghost use Rattle.rec_core.specs.Config.{IsConfig};
 ghost use Rattle.rec_core.specs.Core.{Core, sight};
-ghost use Rattle.rec_core.specs.Moves.{Move, AllFit, EndsRun, after_moves};
+ghost use Rattle.rec_core.specs.Moves.{Move, AllFit, EndsRun, Fits, after_move, after_moves};
+ghost use Rattle.rec_prompt.specs.Cover.{IsCovered, IsNoTurn, refused_sets};
 ghost use Rattle.rec_prompt.specs.Lost.{fields_to, IsBehindNoCycle, IsLost, Leads};
 ghost use Rattle.rec_prompt.specs.Prompt.{Complete, IsFreed, IsLeft};
 
@@ -25,4 +26,16 @@ pub fn lost_slots_stay_lost()
     ensures lost { (w : Core) (moves : List Move) (slot : ℕ) → IsConfig w.config → EndsRun w → AllFit w moves → IsLeft w moves slot → IsLost (sight (after_moves w moves)) slot }
     ensures led { (w : Core) (moves : List Move) (slot from : ℕ) → IsConfig w.config → EndsRun w → AllFit w moves → IsLeft w moves slot → Leads (sight (after_moves w moves)) from slot → IsLeft w moves from × Leads (sight w) from slot }
     ensures counted { (w : Core) (moves : List Move) (slot : ℕ) → IsConfig w.config → EndsRun w → AllFit w moves → (after_moves w moves).collector.phase ≡ Idle → w.epoch + 2 ≤ (after_moves w moves).epoch → IsLeft w moves slot → (slot_at (after_moves w moves).collector.counts slot).count ≡ fields_to (sight (after_moves w moves)) slot }
+{}
+
+/// Nothing is forgotten, as long as no set is refused. A slot hangs on something that the collector still has to look at if it is pending
+/// or listed itself, or if fields lead to it from such a slot. It is pending while a batch to come takes something off it: by a log, by a
+/// mailbox or by one of the collector's buffers. It is listed while it is released, a zero, a Purple candidate root or a member of a set, or
+/// marked by the trial at work. In every state of a run in which no set was refused yet, each slot that holds an object hangs on
+/// something, unless it is Green. If that is so in a state between two collections, it stays so until one more set is refused. No move
+/// of a mutator takes it away, in any phase of a collection and whatever was refused.
+pub fn nothing_is_forgotten()
+    ensures run { (w : Core) → IsConfig w.config → EndsRun w → refused_sets w ≡ 0 → IsCovered w }
+    ensures between { (w : Core) (moves : List Move) → IsConfig w.config → EndsRun w → w.collector.phase ≡ Idle → AllFit w moves → refused_sets (after_moves w moves) ≡ refused_sets w → IsCovered w → IsCovered (after_moves w moves) }
+    ensures mutators { (w : Core) (m : Move) → IsConfig w.config → EndsRun w → Fits w m → IsNoTurn m → IsCovered w → IsCovered (after_move w m) }
 {}
