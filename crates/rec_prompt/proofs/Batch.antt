@@ -21,6 +21,7 @@ use Rattle.rec_core.proofs.Applying.{counted, is_counted, puts_is}
 use Rattle.rec_core.proofs.Turns.{now_in}
 use Rattle.rec_prompt.specs.Cover.{Covers, IsListed, IsPending, takes}
 use Rattle.rec_prompt.specs.Cover.Hangs.{later, listed, behind}
+use Rattle.rec_prompt.proofs.Heeding.{IsOwned}
 use Rattle.rec_prompt.proofs.Hanging.{all_on_trails, carried, IsHung, LeadersCount, Trails}
 use Rattle.rec_prompt.proofs.Pended.{reach_trails, some_of}
 
@@ -155,3 +156,8 @@ module _ (u : Core) (t : ℕ) (kept : IsKeptBy true (stand_at u.collector.left O
       where
         still_green : (x : ℕ) → is_green (slot_at c.counts x).colour ≡ true → is_green (slot_at s x).colour ≡ true
         still_green x green = elim (cases_lt 0 (leaves x told_newer)) [ inl born ↦ is.born x born | inr none ↦ is.greens x (omega (arith, none)) ∙ green ]
+
+  -- and what was a member or released is so after it
+  pub batch_owned : (x : ℕ) → IsOwned c.counts x → IsOwned s x
+  batch_owned x (inl gone) = inl (is.rest.released x ∙ gone)
+  batch_owned x (inr member) = inr (omega (arith, member, ap (λ (xss : List (List ℕ)). times x (concat xss)) is.rest.sets))

@@ -43,13 +43,13 @@ unfolding releases.started_of
 heeds_zeros lowers v = heeds_next v.counts.zeros v.counts refl
 
 -- the freeing of the last set begins
-heeds_freeing : (v : Parts) → IsKeptCounts v.counts → IsFreeable v.counts → Heeds v.counts (with_freeing v (frees.started_of (new_freeing v.fields) v.counts)).parts.counts
+pub heeds_freeing : (v : Parts) → IsKeptCounts v.counts → IsFreeable v.counts → Heeds v.counts (with_freeing v (frees.started_of (new_freeing v.fields) v.counts)).parts.counts
 unfolding frees.started_of
 heeds_freeing v kept f = heeds_given_up v.counts kept f
 
 -- where nothing is marked, the end of a trial changes nothing
 unmarked_heeds : (s : State) → ((x : ℕ) → IsListed s x → IsSeen (cleared s) x) → Heeds s (cleared s)
-unmarked_heeds s lists = record { greens = λ x. refl; lists = lists }
+unmarked_heeds s lists = record { greens = λ x. refl; lists = lists; gone = λ x is. is; kept = λ x some. inr some }
 
 -- Over a turn with these words, in which this is pending.
 module _ (w : Core) (crossing words : List ℕ) (pending : ℕ → Type 0) (q : collectors.Private) (turn : Turn) where
@@ -127,7 +127,7 @@ module _ (w : Core) (crossing words : List ℕ) (pending : ℕ → Type 0) (q : 
       let first : Work = record { machine = trials.opened_of v.fields; counts = v.counts } in
       let none : Loads = record { marks = []; blacks = []; finds = [] } in
       let u : Work = trials.pointed (trials.settled first) in
-      let goes = tries_settled v.fields v.counts v.counts none first (opened_course v.fields v.counts wide ready) (heeds_same v.counts) in
+      let goes = tries_settled v.fields v.counts v.counts none first (opened_course v.fields v.counts wide ready) (heeds_same v.counts) (λ e. cc) in
       let h : Heeds v.counts u.counts = heeds_tries u goes.1 in
       tries_on w.collector v u on (heeds_leaders seen v.counts u.counts h alive) (heeds_covers seen pending v.counts u.counts (heeds_leaders seen v.counts u.counts h alive) h c)
       (λ busy. record {
@@ -142,7 +142,7 @@ module _ (w : Core) (crossing words : List ℕ) (pending : ℕ → Type 0) (q : 
     where
       -- without loads nothing is marked at the end
       heeds_tries : (u : Work) → Tries v.fields v.counts v.counts (record { marks = []; blacks = []; finds = [] }) u → Heeds v.counts u.counts
-      heeds_tries u (Tries.goes h) = h
+      heeds_tries u (Tries.goes h busy) = h
       heeds_tries u (Tries.ends x h d inv roots all idle is) = subst (Heeds v.counts) (sym is) (heeds_on h (unmarked_heeds x.counts lists))
         where
           lists : (y : ℕ) → IsListed x.counts y → IsSeen (cleared x.counts) y

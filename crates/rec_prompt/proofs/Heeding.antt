@@ -1,9 +1,9 @@
 -- What the collector has in its lists stays there, over what it does with its counts: no slot gets out of sight that isn't Green.
-use Rattle.std.proofs.Common.{◌≡◌, ◌⊎◌, inl, inr, ℕ, zero, suc, ◌≤◌, if◌then◌else◌, true, false, Bool, List, [], ◌∷◌, length, refl, sym, ap, ◌∙◌, arith}
+use Rattle.std.proofs.Common.{◌≡◌, ◌⊎◌, inl, inr, ℕ, zero, suc, ◌≤◌, if◌then◌else◌, true, false, Bool, List, [], ◌∷◌, length, refl, sym, ap, ◌∙◌, arith, ◌<◌, ◌≢◌}
 use Rattle.std.specs.List.{concat}
 use Rattle.std.proofs.lemmas.Bool.{cases_eq, cases_lt, ne_eqb, false≢true}
 use Rattle.std.proofs.lemmas.List.{get_or-set_same, get_or_past, length-set}
-use Rattle.rec_core.proofs.Common.{is_green, State, slot_at, one, times, absent, Slot, times-cons, emptied, listed_if, next_from, without_first, Sight, KeepsOthers}
+use Rattle.rec_core.proofs.Common.{is_green, State, slot_at, one, times, absent, Slot, times-cons, emptied, listed_if, next_from, without_first, IsTaken, Sight, KeepsOthers}
 use Rattle.rec_counts.specs.Colour.{is_purple}
 use Rattle.rec_counts.specs.Counts.{without_root}
 use Rattle.rec_counts.proofs.Times.{times_push}
@@ -13,24 +13,46 @@ use Rattle.rec_release.proofs.TakenOff.{written}
 use Rattle.rec_trial.specs.Postponed.{returned_if, rotated, rotated_by, rotated_in, postponed}
 use Rattle.rec_prompt.specs.Cover.{Covers, IsListed}
 use Rattle.rec_prompt.specs.Cover.Hangs.{later, listed}
-use Rattle.rec_prompt.proofs.Hanging.{carried, LeadersCount}
+use Rattle.rec_prompt.proofs.Hanging.{all_on_trails, Trails, carried, LeadersCount}
 
 -- the slot is in a list, or it is Green
 abbrev pub IsSeen : State → (slot : ℕ) → Type 0
 IsSeen s slot = IsListed s slot ⊎ (is_green (slot_at s slot).colour ≡ true)
 
--- No slot becomes Green or is Green no more, and each that was in a list is in one then.
+-- the slot is released, or a member of a set
+abbrev pub IsOwned : State → (slot : ℕ) → Type 0
+IsOwned s slot = ((slot_at s slot).released ≡ true) ⊎ (0 < times slot (concat s.sets))
+
+-- No slot becomes Green or is Green no more, and each that was in a list is in one then. What was released or a member is so then.
 pub record Heeds (s t : State) : Type 0 where
   pub greens : (x : ℕ) → is_green (slot_at t x).colour ≡ is_green (slot_at s x).colour
   pub lists : (x : ℕ) → IsListed s x → IsSeen t x
+  pub gone : (x : ℕ) → (slot_at s x).released ≡ true → (slot_at t x).released ≡ true
+  pub kept : (x : ℕ) → 0 < times x (concat s.sets) → IsOwned t x
+
+pub heeds_owned : {s t : State} → Heeds s t → (x : ℕ) → IsOwned s x → IsOwned t x
+heeds_owned h x (inl gone) = inl (h.gone x gone)
+heeds_owned h x (inr member) = h.kept x member
+
+-- Each slot is released, a member of a set, or on a path of fields from what is pending or released, unless it is Green.
+abbrev pub FoundIn : Sight → (pending : ℕ → Type 0) → State → Type 0
+FoundIn w pending s = (slot : ℕ) → IsTaken w slot → is_green (slot_at s slot).colour ≡ false → IsOwned s slot ⊎ Trails w (λ y. pending y ⊎ ((slot_at s y).released ≡ true)) slot
+
+pub heeds_found : (w : Sight) (pending : ℕ → Type 0) (s t : State) → Heeds s t → FoundIn w pending s → FoundIn w pending t
+heeds_found w pending s t h f slot taken plain = elim (f slot taken (sym (h.greens slot) ∙ plain)) [
+  | inl own ↦ inl (heeds_owned h slot own)
+  | inr trail ↦ inr (all_on_trails w (λ y. pending y ⊎ ((slot_at s y).released ≡ true)) (Trails w (λ y. pending y ⊎ ((slot_at t y).released ≡ true))) (λ y is. Trails.first (elim is [ inl p ↦ inl p | inr gone ↦ inr (h.gone y gone) ])) (λ m n path leads. Trails.along path leads) slot trail)
+]
 
 pub heeds_same : (s : State) → Heeds s s
-heeds_same s = record { greens = λ x. refl; lists = λ x is. inl is }
+heeds_same s = record { greens = λ x. refl; lists = λ x is. inl is; gone = λ x is. is; kept = λ x is. inr is }
 
 pub heeds_on : {s t u : State} → Heeds s t → Heeds t u → Heeds s u
 heeds_on a b = record {
   greens = λ x. b.greens x ∙ a.greens x;
   lists = λ x is. elim (a.lists x is) [ inl there ↦ b.lists x there | inr green ↦ inr (b.greens x ∙ green) ];
+  gone = λ x is. b.gone x (a.gone x is);
+  kept = λ x is. heeds_owned b x (a.kept x is);
 }
 
 -- so what hangs on something does so then
@@ -44,7 +66,7 @@ heeds_covers w pending s t alive h c slot taken plain = carried w w pending pend
 -- the same slots, and as many of each in each list, or more
 pub heeds_alike : (s t : State) → ((x : ℕ) → (slot_at t x).colour ≡ (slot_at s x).colour) → ((x : ℕ) → (slot_at s x).released ≡ true → (slot_at t x).released ≡ true)
     → ((x : ℕ) → times x s.zeros ≤ times x t.zeros) → ((x : ℕ) → times x s.roots ≤ times x t.roots) → ((x : ℕ) → times x (concat s.sets) ≤ times x (concat t.sets)) → ((x : ℕ) → times x s.marked ≤ times x t.marked) → Heeds s t
-heeds_alike s t colours released zeros roots members marked = record { greens = λ x. ap is_green (colours x); lists = lists }
+heeds_alike s t colours released zeros roots members marked = record { greens = λ x. ap is_green (colours x); lists = lists; gone = released; kept = λ x some. inr (omega (arith, some, members x)) }
   where
     lists : (x : ℕ) → IsListed s x → IsSeen t x
     lists x (IsListed.released is) = inl (IsListed.released (released x is))
@@ -70,7 +92,7 @@ heeds_emptied s z = go (slot_at s z).buffered
 
 -- the first of the zeros is released
 pub heeds_first : (s : State) (z : ℕ) (zs : List ℕ) → s.zeros ≡ z ∷ zs → Heeds s (without_first (z ∷ zs) s)
-heeds_first s z zs is = record { greens = λ x. ap is_green (colour x); lists = lists }
+heeds_first s z zs is = record { greens = λ x. ap is_green (colour x); lists = lists; gone = released; kept = λ x some. inr some }
   where
     t : State
     t = without_first (z ∷ zs) s
@@ -124,7 +146,7 @@ heeds_returned s x xs is = go (slot_at u x).released refl
     ]
 
     go : (b : Bool) → (slot_at u x).released ≡ b → Heeds s (returned_if b u x)
-    go true gone = record { greens = λ y. ap is_green (out y).0; lists = lists }
+    go true gone = record { greens = λ y. ap is_green (out y).0; lists = lists; gone = λ y was. (out y).1 ∙ was; kept = λ y some. inr some }
       where
         t : State
         t = returned_if true u x

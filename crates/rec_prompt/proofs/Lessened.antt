@@ -20,7 +20,7 @@ use Rattle.rec_release.proofs.Giving.{given_released, given_slot}
 use Rattle.rec_release.proofs.TakenOff.{written}
 use Rattle.rec_trial.proofs.Views.{concat_last}
 use Rattle.rec_prompt.specs.Cover.{IsListed}
-use Rattle.rec_prompt.proofs.Heeding.{Heeds, heeds_alike, heeds_same, IsSeen}
+use Rattle.rec_prompt.proofs.Heeding.{Heeds, heeds_alike, heeds_same, IsOwned, IsSeen}
 
 -- one reference less leaves a Green slot Green and a released one released
 less_green : (v : Slot) → is_green (lessened v).colour ≡ is_green v.colour
@@ -115,7 +115,7 @@ module _ (s : State) (x : ℕ) where
       ]
 
   pub heeds_lessened : IsKeptCounts s → Heeds s (decremented s x)
-  heeds_lessened kept = record { greens = own_green; lists = λ y is. elim (cases_eq y x) [ inl same ↦ subst (IsSeen (decremented s x)) (sym same) (seen_lessened kept) | inr other ↦ others y other is ] }
+  heeds_lessened kept = record { greens = own_green; lists = λ y is. elim (cases_eq y x) [ inl same ↦ subst (IsSeen (decremented s x)) (sym same) (seen_lessened kept) | inr other ↦ others y other is ]; gone = λ y is. own_released y ∙ is; kept = λ y some. inr (omega (arith, some, ap (λ (xss : List (List ℕ)). times y (concat xss)) (rest_decremented s x).sets)) }
     where
       others : (y : ℕ) → y ≢ x → IsListed s y → IsSeen (decremented s x) y
       others y other (IsListed.released is) = inl (IsListed.released (own_released y ∙ is))
@@ -154,7 +154,7 @@ heeds_taken_off lowers s (Some y) kept apart = (both.0, λ x is. subst (IsSeen (
 
 -- The last set is given up: its members are released, and all else is as it was.
 pub heeds_given_up : (s : State) → IsKeptCounts s → IsFreeable s → Heeds s (given_up s)
-heeds_given_up s kept f = record { greens = λ x. elim (cases_lt 0 (times x (last_set s.sets))) [ inl member ↦ ap is_green (black x member) ∙ sym (ap is_green (f.orange x member)) | inr none ↦ ap is_green (other x (omega (arith, none))) ]; lists = lists }
+heeds_given_up s kept f = record { greens = λ x. elim (cases_lt 0 (times x (last_set s.sets))) [ inl member ↦ ap is_green (black x member) ∙ sym (ap is_green (f.orange x member)) | inr none ↦ ap is_green (other x (omega (arith, none))) ]; lists = lists; gone = stays_gone; kept = member_kept }
   where
     number : ℕ
     number = length s.sets - 1
@@ -171,6 +171,15 @@ heeds_given_up s kept f = record { greens = λ x. elim (cases_lt 0 (times x (las
     other x none =
         let outside : is_in number (slot_at s x).set ≡ false = one-none (is_in number (slot_at s x).set) (omega (arith, none, kept.numbers number x)) in
         ap (λ (u : Slot). u.colour) (given_slot s x) ∙ ap (λ b. (dead_if b (unbuffered_if b (slot_at s x))).colour) outside
+
+    stays_gone : (x : ℕ) → (slot_at s x).released ≡ true → (slot_at (given_up s) x).released ≡ true
+    stays_gone x is = one-some (slot_at (given_up s) x).released (omega (arith, ap one is, given_released s x kept f))
+
+    member_kept : (x : ℕ) → 0 < times x (concat s.sets) → IsOwned (given_up s) x
+    member_kept x some = elim (cases_lt 0 (times x (last_set s.sets))) [
+      | inl member ↦ inl (gone x member)
+      | inr none ↦ inr (omega (arith, some, none, ap (times x) (concat_last s.sets), times-append x (concat (earlier_sets s.sets)) (last_set s.sets)))
+    ]
 
     lists : (x : ℕ) → IsListed s x → IsSeen (given_up s) x
     lists x (IsListed.released is) = inl (IsListed.released (one-some (slot_at (given_up s) x).released (omega (arith, ap one is, given_released s x kept f))))

@@ -8,6 +8,7 @@ pub mod Covered
 pub mod Ended
 pub mod Followed
 pub mod Forgets
+pub mod Found
 pub mod Hanging
 pub mod Heeding
 pub mod Learnt

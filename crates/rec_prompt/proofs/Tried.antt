@@ -1,5 +1,5 @@
 -- A trial takes nothing out of the lists while it is at work: what it marks stays marked until it is over.
-use Rattle.std.proofs.Common.{◌≡◌, ◌⊎◌, inl, inr, ℕ, ◌-◌, ◌≤◌, nat_lt, if◌then◌else◌, true, false, Bool, Option, None, Some, List, [], ◌∷◌, length, slice_index_or, refl, sym, ap, subst, ◌∙◌, arith}
+use Rattle.std.proofs.Common.{◌≡◌, ◌⊎◌, inl, inr, ℕ, ◌-◌, ◌≤◌, nat_lt, if◌then◌else◌, true, false, Bool, Option, None, Some, List, [], ◌∷◌, length, slice_index_or, refl, sym, ap, subst, ◌∙◌, arith, ◌<◌, ◌≢◌}
 use Rattle.std.specs.List.{concat}
 use Rattle.std.proofs.lemmas.Bool.{cases_eq, ltb-false, ne_eqb, false≢true}
 use Rattle.rec_core.proofs.Common.{is_green, State, slot_at, with_slot, one, times, absent, Slot, times-append, times-cons, stays, Work}
@@ -24,7 +24,7 @@ use Rattle.rec_trial.proofs.Views.{concat_member, concat_new, view}
 use Rattle.rec_collector.specs.Offered.{missing, offered, offered_if, offered_slot, offered_where}
 use Rattle.rec_collector.proofs.Offering.{where_green, where_keeps}
 use Rattle.rec_prompt.specs.Cover.{IsListed}
-use Rattle.rec_prompt.proofs.Heeding.{Heeds, heeds_alike, heeds_on, heeds_same, IsSeen}
+use Rattle.rec_prompt.proofs.Heeding.{Heeds, heeds_alike, heeds_on, heeds_same, IsOwned, IsSeen}
 
 -- One slot is written, and is in a list then if it was in one, or is Green as it was; and each list has as many of each, or more.
 heeds_written : (s t : State) (x : ℕ) (v : Slot) → t.slots ≡ (with_slot s x v).slots → is_green v.colour ≡ is_green (slot_at s x).colour → v.released ≡ (slot_at s x).released
@@ -36,6 +36,8 @@ heeds_written s t x v slots green released purple zeros roots members marked = r
     | inr other ↦ ap (λ (u : Slot). is_green u.colour) other
   ];
   lists = lists;
+  gone = gone;
+  kept = λ y some. inr (omega (arith, some, members y));
 }
   where
     at : (y : ℕ) → ((y ≡ x) × (slot_at t y ≡ v)) ⊎ (slot_at t y ≡ slot_at s y)
@@ -44,11 +46,14 @@ heeds_written s t x v slots green released purple zeros roots members marked = r
       | inr other ↦ inr (ap (λ ss. slice_index_or ss y absent) slots ∙ other)
     ]
 
-    lists : (y : ℕ) → IsListed s y → IsSeen t y
-    lists y (IsListed.released is) = inl (IsListed.released (elim (at y) [
+    gone : (y : ℕ) → (slot_at s y).released ≡ true → (slot_at t y).released ≡ true
+    gone y is = elim (at y) [
       | inl own ↦ ap (λ (u : Slot). u.released) own.1 ∙ released ∙ ap (λ n. (slot_at s n).released) (sym own.0) ∙ is
       | inr other ↦ ap (λ (u : Slot). u.released) other ∙ is
-    ]))
+    ]
+
+    lists : (y : ℕ) → IsListed s y → IsSeen t y
+    lists y (IsListed.released is) = inl (IsListed.released (gone y is))
     lists y (IsListed.zero some) = inl (IsListed.zero (omega (arith, some, zeros y)))
     lists y (IsListed.root some is) = elim (at y) [
       | inl own ↦ inl (subst (IsListed t) (sym own.0) (purple (ap (λ n. is_purple (slot_at s n).colour) (sym own.0) ∙ is)))
@@ -94,8 +99,8 @@ drops s x xs is = go (slot_at u x).released (slot_at u x).colour refl refl
     ]
 
     -- what is in the lists of these counts, where the first root is
-    with_first : (t : State) → ((y : ℕ) → is_green (slot_at t y).colour ≡ is_green (slot_at u y).colour) → ((y : ℕ) → IsListed u y → IsSeen t y) → (is_purple (slot_at s x).colour ≡ true → IsSeen t x) → Heeds s t
-    with_first t greens lists first = record { greens = λ y. greens y ∙ ap is_green (out y).0; lists = all }
+    with_first : (t : State) → ((y : ℕ) → is_green (slot_at t y).colour ≡ is_green (slot_at u y).colour) → ((y : ℕ) → IsListed u y → IsSeen t y) → (is_purple (slot_at s x).colour ≡ true → IsSeen t x) → ((y : ℕ) → (slot_at u y).released ≡ true → (slot_at t y).released ≡ true) → ((y : ℕ) → 0 < times y (concat u.sets) → IsOwned t y) → Heeds s t
+    with_first t greens lists first gone kept = record { greens = λ y. greens y ∙ ap is_green (out y).0; lists = all; gone = λ y was. gone y ((out y).1 ∙ was); kept = kept }
       where
         all : (y : ℕ) → IsListed s y → IsSeen t y
         all y (IsListed.released was) = lists y (IsListed.released ((out y).1 ∙ was))
@@ -108,13 +113,13 @@ drops s x xs is = go (slot_at u x).released (slot_at u x).colour refl refl
         all y (IsListed.marked some) = lists y (IsListed.marked some)
 
     other : (c : Colour) → (slot_at u x).colour ≡ c → is_purple c ≡ false → Heeds s u
-    other c is_c none = with_first u (λ y. refl) (λ y there. inl there) (λ purple. absurd (false≢true (sym none ∙ ap is_purple (sym is_c ∙ (out x).0) ∙ purple)))
+    other c is_c none = with_first u (λ y. refl) (λ y there. inl there) (λ purple. absurd (false≢true (sym none ∙ ap is_purple (sym is_c ∙ (out x).0) ∙ purple))) (λ y was. was) (λ y some. inr some)
 
     go : (b : Bool) (c : Colour) → (slot_at u x).released ≡ b → (slot_at u x).colour ≡ c → Heeds s (dropped_if b c u x)
-    go true c gone is_c = with_first (dropped_if true c u x) (λ y. refl) (heeds_alike u (dropped_if true c u x) (λ y. refl) (λ y was. was) (λ y. omega arith) (λ y. omega arith) (λ y. omega arith) (λ y. omega arith)).lists (λ purple. inl (IsListed.released gone))
+    go true c gone is_c = with_first (dropped_if true c u x) (λ y. refl) (heeds_alike u (dropped_if true c u x) (λ y. refl) (λ y was. was) (λ y. omega arith) (λ y. omega arith) (λ y. omega arith) (λ y. omega arith)).lists (λ purple. inl (IsListed.released gone)) (λ y was. was) (λ y some. inr some)
     go false Purple there is_c =
         let h : Heeds u (touched_if false u x) = touches false u x (ap is_green is_c) in
-        with_first (touched_if false u x) h.greens h.lists (λ purple. inl (IsListed.marked (omega (arith, times_push x s.marked x, one-same x))))
+        with_first (touched_if false u x) h.greens h.lists (λ purple. inl (IsListed.marked (omega (arith, times_push x s.marked x, one-same x)))) h.gone h.kept
     go false Black there is_c = other Black is_c refl
     go false Gray there is_c = other Gray is_c refl
     go false White there is_c = other White is_c refl
@@ -145,7 +150,7 @@ scans s None = heeds_same s
 scans s (Some x) = blackens (is_gray (slot_at s x).colour) s x (λ is. is)
 
 whitens : (s : State) → Heeds s (all_whitened s)
-whitens s = record { greens = λ x. ap (λ (v : Slot). is_green v.colour) (at x) ∙ green (slot_at s x); lists = lists }
+whitens s = record { greens = λ x. ap (λ (v : Slot). is_green v.colour) (at x) ∙ green (slot_at s x); lists = lists; gone = λ x is. ap (λ (v : Slot). v.released) (at x) ∙ released (slot_at s x) ∙ is; kept = λ x some. inr some }
   where
     at : (x : ℕ) → slot_at (all_whitened s) x ≡ whitened (slot_at s x)
     at x = map_at whitened refl s.slots x
@@ -210,7 +215,7 @@ begins_set s = heeds_alike s (with_new_set s) (λ x. refl) (λ x is. is) (λ x. 
 
 -- A trial that came from the one counts to this work has kept all that was in a list; or it is over, and nothing is marked any more.
 pub data Tries (fields : ℕ) (before s : State) (ls : Loads) (v : Work) : Type 0 where
-  goes : Heeds s v.counts → Tries fields before s ls v
+  goes : Heeds s v.counts → v.machine.phase ≢ Idle → Tries fields before s ls v
   ends : (w : Work) → Heeds s w.counts → Course fields before w ls → WhileCollecting (first_view fields before) (view w) ls → w.counts.roots ≡ [] → w.machine.tried ≡ length w.counts.marked → v.machine.phase ≡ Idle → v.counts ≡ cleared w.counts → Tries fields before s ls v
 
 module _ (fields : ℕ) (before s : State) (ls : Loads) where
@@ -218,19 +223,19 @@ module _ (fields : ℕ) (before s : State) (ls : Loads) where
   IsOn v = Course fields before v ls × Tries fields before s ls v
 
   -- a move without a load
-  tries_move : (w : Work) → Heeds s w.counts → (phase : Phase) → w.machine.phase ≡ phase → Course fields before w ls → Tries fields before s ls (moved_at phase w)
-  tries_move w h Idle at c = Tries.goes h
-  tries_move w h Marking at c = go w.counts.roots refl
+  tries_move : (w : Work) → Heeds s w.counts → w.machine.phase ≢ Idle → (phase : Phase) → w.machine.phase ≡ phase → Course fields before w ls → Tries fields before s ls (moved_at phase w)
+  tries_move w h busy Idle at c = absurd (busy at)
+  tries_move w h busy Marking at c = go w.counts.roots refl
     where
       go : (rs : List ℕ) → w.counts.roots ≡ rs → Tries fields before s ls (roots_moved rs w)
-      go [] is = Tries.goes h
-      go (x ∷ xs) is = Tries.goes (heeds_on h (drops w.counts x xs is))
-  tries_move w h Scanning at c = go (nat_lt w.machine.tried (length w.counts.marked))
+      go [] is = Tries.goes h (λ e. cc)
+      go (x ∷ xs) is = Tries.goes (heeds_on h (drops w.counts x xs is)) (λ e. cc)
+  tries_move w h busy Scanning at c = go (nat_lt w.machine.tried (length w.counts.marked))
     where
       go : (b : Bool) → Tries fields before s ls (scan_moved b w)
-      go true = let x : ℕ = slice_index_or w.counts.marked w.machine.tried 0 in Tries.goes (heeds_on h (blackens (has_rest (slot_at w.counts x)) w.counts x (rest_gray (slot_at w.counts x))))
-      go false = Tries.goes (heeds_on h (whitens w.counts))
-  tries_move w h Collecting at c = go (nat_lt w.machine.tried (length w.counts.marked)) refl
+      go true = let x : ℕ = slice_index_or w.counts.marked w.machine.tried 0 in Tries.goes (heeds_on h (blackens (has_rest (slot_at w.counts x)) w.counts x (rest_gray (slot_at w.counts x)))) (λ e. cc)
+      go false = Tries.goes (heeds_on h (whitens w.counts)) (λ e. cc)
+  tries_move w h busy Collecting at c = go (nat_lt w.machine.tried (length w.counts.marked)) refl
     where
       inv : WhileCollecting (first_view fields before) (view w) ls
       inv = subst (λ p. inv_at p (first_view fields before) (view w) ls) at c.inv
@@ -239,28 +244,28 @@ module _ (fields : ℕ) (before s : State) (ls : Loads) where
       x = slice_index_or w.counts.marked w.machine.tried 0
 
       found : (white : Bool) → is_white (slot_at w.counts x).colour ≡ white → Tries fields before s ls (set_begun_if white w x)
-      found true is = Tries.goes (heeds_on h (heeds_on (begins_set w.counts) (joins true (with_new_set w.counts) x (λ _. is))))
-      found false is = Tries.goes h
+      found true is = Tries.goes (heeds_on h (heeds_on (begins_set w.counts) (joins true (with_new_set w.counts) x (λ _. is)))) (λ e. cc)
+      found false is = Tries.goes h (λ e. cc)
 
       go : (b : Bool) → nat_lt w.machine.tried (length w.counts.marked) ≡ b → Tries fields before s ls (collect_moved b w)
       go true more = found (is_white (slot_at w.counts x).colour) refl
       go false none = Tries.ends w h c inv (subst (λ p. no_roots_at p w.counts.roots) at c.rest.no_roots) (omega (arith, inv.tries, ltb-false w.machine.tried (length w.counts.marked) none)) refl refl
 
   on_moved : (w : Work) → IsOn w → is_due w ≡ false → IsOn (moved_at w.machine.phase w)
-  on_moved w (c, Tries.goes h) due = (moved_course w c due, tries_move w h w.machine.phase refl c)
+  on_moved w (c, Tries.goes h busy) due = (moved_course w c due, tries_move w h busy w.machine.phase refl c)
   on_moved w (c, Tries.ends v h d inv none all idle is) due = (moved_course w c due, subst (λ p. Tries fields before s ls (moved_at p w)) (sym idle) (Tries.ends v h d inv none all idle is))
 
   -- the moves up to the next load, or to the end
-  pub tries_settled : (w : Work) → Course fields before w ls → Heeds s w.counts → Course fields before (pointed (settled w)) ls × Tries fields before s ls (pointed (settled w))
-  tries_settled w c h =
-      let on : IsOn (settled w) = settled_by IsOn on_moved w (c, Tries.goes h) in
+  pub tries_settled : (w : Work) → Course fields before w ls → Heeds s w.counts → w.machine.phase ≢ Idle → Course fields before (pointed (settled w)) ls × Tries fields before s ls (pointed (settled w))
+  tries_settled w c h busy =
+      let on : IsOn (settled w) = settled_by IsOn on_moved w (c, Tries.goes h busy) in
       (pointed_course on.0, pointed_tries on.1)
     where
       pointed_course : Course fields before (settled w) ls → Course fields before (pointed (settled w)) ls
       pointed_course d = record { inv = d.inv; same = d.same; rest = d.rest }
 
       pointed_tries : Tries fields before s ls (settled w) → Tries fields before s ls (pointed (settled w))
-      pointed_tries (Tries.goes g) = Tries.goes g
+      pointed_tries (Tries.goes g busy_) = Tries.goes g busy_
       pointed_tries (Tries.ends v g d inv none all idle is) = Tries.ends v g d inv none all idle is
 
 -- a word that was loaded
@@ -274,7 +279,7 @@ learnt_heeds Collecting s target plain = collects s target
 
 offers_all : (s : State) → Heeds s (offered_where true s)
 unfolding offered
-offers_all s = record { greens = where_green true s; lists = lists }
+offers_all s = record { greens = where_green true s; lists = lists; gone = λ x is. (where_keeps true s).rest.released x ∙ is; kept = λ x some. inr some }
   where
     t : State
     t = offered_where true s

@@ -131,6 +131,20 @@ module _ (v : Core) (kept : IsKept true v) (place : ℕ) (batched : has_batched 
   heeds_then : (lowers : Bool) (u : State) → Heeds (taken_off lowers v.collector.counts (target_of found)) u → Covers then (IsLate v) u
   heeds_then lowers u h = heeds_covers then (IsLate v) (taken_off lowers v.collector.counts (target_of found)) u (heeds_leaders then (taken_off lowers v.collector.counts (target_of found)) u h (off_leaders v kept place batched apart c lowers)) h (off_covers v kept place batched apart c lowers)
 
+  pub heeds_released : (m : releases.Machine) → IsSome m.at → Heeds v.collector.counts (with_released m (parts_of v.collector) found).parts.counts
+  heeds_released m busy = released_by (λ b. Heeds v.collector.counts b.parts.counts) m (parts_of v.collector) found busy
+      (λ a at more. (off v kept place batched apart c m.lowers).0)
+      (λ a at last. let s : State = emptied (taken_off m.lowers v.collector.counts (target_of found)) a.slot in heeds_on (off v kept place batched apart c m.lowers).0 (heeds_on (heeds_emptied (taken_off m.lowers v.collector.counts (target_of found)) a.slot) (heeds_next s.zeros s refl)))
+
+  pub heeds_freed : (m : frees.Machine) → IsSome m.at → Heeds v.collector.counts (with_freed m (parts_of v.collector) found).parts.counts
+  heeds_freed m busy = freed_by (λ b. Heeds v.collector.counts b.parts.counts) m (parts_of v.collector) found busy
+      (λ a at more. (off v kept place batched apart c true).0)
+      (λ a at last more. (off v kept place batched apart c true).0)
+      (λ a at last none.
+          let s : State = taken_off true v.collector.counts (target_of found) in
+          let lists : Heeds s (frees.listed s) = heeds_alike s (frees.listed s) (λ x. refl) (λ x is. is) (λ x. omega arith) (λ x. omega arith) (λ x. omega arith) (λ x. omega arith) in
+          heeds_on (off v kept place batched apart c true).0 (heeds_on lists (heeds_zeros true (freed_listed (parts_of v.collector) found))))
+
   pub released_covers : (m : releases.Machine) → IsSome m.at → Covers then (IsLate v) (with_released m (parts_of v.collector) found).parts.counts
   released_covers m busy = released_by (λ b. Covers then (IsLate v) b.parts.counts) m (parts_of v.collector) found busy
       (λ a at more. off_covers v kept place batched apart c m.lowers)
@@ -168,7 +182,7 @@ module _ (v : Core) (op : Op) (kept : IsKept true v) (after : IsKept true (turne
   IsTurned = IsWatched u ⊎ (refused c.sets < refused q.sets)
 
   -- the same of what is seen where the words are these, and what is pending is so still
-  sight_is : (words : List ℕ) → u.words ≡ words → u.headers ≡ v.headers → sight u ≡ sight (record v { words = words })
+  pub sight_is : (words : List ℕ) → u.words ≡ words → u.headers ≡ v.headers → sight u ≡ sight (record v { words = words })
   sight_is words is same = λ j. record { fields = v.config.fields; headers = same j; words = is j; registers = map (λ p. p.registers) v.mutators }
 
   finish : (words crossing : List ℕ) (w : Core) (pending : ℕ → Type 0) (turn : Turn) → sight (record w { words = words }) ≡ sight (record v { words = words }) → u.words ≡ words → u.headers ≡ v.headers → ((x : ℕ) → pending x → IsPending u x) → IsOn w crossing words pending q turn → IsWatched u
@@ -180,11 +194,11 @@ module _ (v : Core) (op : Op) (kept : IsKept true v) (after : IsKept true (turne
       }
 
   -- no mailbox is looked at
-  plain_boxes : (phase : Phase) → c.phase ≡ phase → left_by c its_word (box v (looked_at phase)) phase ≡ box v (looked_at phase) → u.boxes ≡ v.boxes
+  pub plain_boxes : (phase : Phase) → c.phase ≡ phase → left_by c its_word (box v (looked_at phase)) phase ≡ box v (looked_at phase) → u.boxes ≡ v.boxes
   plain_boxes phase is same = ap (λ (p : Phase). slice_set v.boxes (looked_at p - 1) (left_by c its_word (box v (looked_at p)) p)) is ∙ ap (slice_set v.boxes (looked_at phase - 1)) same ∙ same_boxes v (looked_at phase)
 
   -- what is late is pending after it, by what becomes of the collector's buffers
-  late_pends : u.boxes ≡ v.boxes → Rows c q → (x : ℕ) → IsLate v x → IsPending u x
+  pub late_pends : u.boxes ≡ v.boxes → Rows c q → (x : ℕ) → IsLate v x → IsPending u x
   late_pends boxes rows x (IsLate.log j some) = IsPending.log j some
   late_pends boxes rows x (IsLate.mailbox j some) = IsPending.mailbox j (subst (λ (bs : List Contents). 0 < takes x (slice_index_or bs j (collectors.blank 0 0))) (sym boxes) some)
   late_pends boxes (Rows.kept_rows newer older many) x (IsLate.newer j some) = IsPending.newer j (subst (λ (bs : List Contents). 0 < takes x (buffer_at bs j)) (sym newer) some)
@@ -192,13 +206,9 @@ module _ (v : Core) (op : Op) (kept : IsKept true v) (after : IsKept true (turne
 
   -- the rules that only gather
   module _ (turn : Turn) where
-    -- a phase before the batch follows, with the same counts and buffers
-    before_batch : (phase next : Phase) → c.phase ≡ phase → left_by c its_word (box v (looked_at phase)) phase ≡ box v (looked_at phase) → q.phase ≡ next → has_batched phase ≡ false → has_batched next ≡ false → ((m : Machine) → next ≡ Trying m → ⊥)
-        → q.counts ≡ c.counts → q.newer ≡ c.newer → q.older ≡ c.older → u.words ≡ v.words → u.headers ≡ v.headers → IsWatched u
-    before_batch phase next at left then_ early early_then other counts newer older words headers = record {
-      covers = subst (λ (s : Sight). Covers s (IsPending u) q.counts) (sym (sight_is v.words words headers)) (subst (Covers (sight v) (IsPending u)) (sym counts) (covers_more (sight v) (IsPending v) (IsPending u) c.counts more i.covers));
-      follows = λ m is. absurd (other m (sym then_ ∙ is));
-    }
+    -- what is pending is so still where a phase before the batch follows, with the same buffers
+    pub before_pends : (phase next : Phase) → c.phase ≡ phase → left_by c its_word (box v (looked_at phase)) phase ≡ box v (looked_at phase) → q.phase ≡ next → has_batched next ≡ false → q.newer ≡ c.newer → q.older ≡ c.older → (x : ℕ) → IsPending v x → IsPending u x
+    before_pends phase next at left then_ early_then newer older = more
       where
         more : (x : ℕ) → IsPending v x → IsPending u x
         more x (IsPending.log j some) = IsPending.log j some
@@ -206,18 +216,20 @@ module _ (v : Core) (op : Op) (kept : IsKept true v) (after : IsKept true (turne
         more x (IsPending.newer j some) = IsPending.newer j (subst (λ (bs : List Contents). 0 < takes x (buffer_at bs j)) (sym newer) some)
         more x (IsPending.older is j some) = IsPending.older (ap has_batched then_ ∙ early_then) j (subst (λ (bs : List Contents). 0 < takes x (buffer_at bs j)) (sym older) some)
 
-    -- a mailbox is gathered
-    gathered : (t : ℕ) → c.phase ≡ Looking t → its_word ≡ crossing_word c.epoch Retired → step.GoesOn (record c { newer = slice_set c.newer (t - 1) its_box }) q turn (Returning t) → u.words ≡ v.words → u.headers ≡ v.headers → IsWatched u
-    gathered t at crossed g words headers = record {
-      covers = subst (λ (s : Sight). Covers s (IsPending u) q.counts) (sym (sight_is v.words words headers)) (subst (Covers (sight v) (IsPending u)) (sym (ap (λ (x : collectors.Private). x.counts) g.after)) (covers_more (sight v) (IsPending v) (IsPending u) c.counts more i.covers));
+    -- a phase before the batch follows, with the same counts and buffers
+    before_batch : (phase next : Phase) → c.phase ≡ phase → left_by c its_word (box v (looked_at phase)) phase ≡ box v (looked_at phase) → q.phase ≡ next → has_batched phase ≡ false → has_batched next ≡ false → ((m : Machine) → next ≡ Trying m → ⊥)
+        → q.counts ≡ c.counts → q.newer ≡ c.newer → q.older ≡ c.older → u.words ≡ v.words → u.headers ≡ v.headers → IsWatched u
+    before_batch phase next at left then_ early early_then other counts newer older words headers = record {
+      covers = subst (λ (s : Sight). Covers s (IsPending u) q.counts) (sym (sight_is v.words words headers)) (subst (Covers (sight v) (IsPending u)) (sym counts) (covers_more (sight v) (IsPending v) (IsPending u) c.counts (before_pends phase next at left then_ early_then newer older) i.covers));
       follows = λ m is. absurd (other m (sym then_ ∙ is));
     }
+
+    -- a mailbox is gathered
+    pub gathered_pends : (t : ℕ) → c.phase ≡ Looking t → step.GoesOn (record c { newer = slice_set c.newer (t - 1) its_box }) q turn (Returning t) → (x : ℕ) → IsPending v x → IsPending u x
+    gathered_pends t at g = more
       where
         then_ : q.phase ≡ Returning t
         then_ = ap (λ (x : collectors.Private). x.phase) g.after
-
-        other : (m : Machine) → Returning t ≡ Trying m → ⊥
-        other m is = cc
 
         now : collector_kept.IsLooking c t (2 * t - 1)
         now = now_at v (Looking t) kept at
@@ -247,6 +259,15 @@ module _ (v : Core) (op : Op) (kept : IsKept true v) (after : IsKept true (turne
           | inr other_ ↦ IsPending.newer j (subst (λ (bs : List Contents). 0 < takes x (buffer_at bs j)) (sym newer) (subst (λ (b : Contents). 0 < takes x b) (sym (get_or-set_other c.newer (t - 1) j (box v t) (collectors.blank 0 0) other_)) some))
         ]
         more x (IsPending.older early j some) = IsPending.older (ap has_batched then_) j (subst (λ (bs : List Contents). 0 < takes x (buffer_at bs j)) (sym older) some)
+
+    gathered : (t : ℕ) → c.phase ≡ Looking t → its_word ≡ crossing_word c.epoch Retired → step.GoesOn (record c { newer = slice_set c.newer (t - 1) its_box }) q turn (Returning t) → u.words ≡ v.words → u.headers ≡ v.headers → IsWatched u
+    gathered t at crossed g words headers = record {
+      covers = subst (λ (s : Sight). Covers s (IsPending u) q.counts) (sym (sight_is v.words words headers)) (subst (Covers (sight v) (IsPending u)) (sym (ap (λ (x : collectors.Private). x.counts) g.after)) (covers_more (sight v) (IsPending v) (IsPending u) c.counts (gathered_pends t at g) i.covers));
+      follows = λ m is. absurd (other m (sym (ap (λ (x : collectors.Private). x.phase) g.after) ∙ is));
+    }
+      where
+        other : (m : Machine) → Returning t ≡ Trying m → ⊥
+        other m is = cc
 
     -- a turn without a batch: what follows is over these words
     over : (words crossing : List ℕ) (r : ℕ) → u.words ≡ words → u.headers ≡ v.headers → ((x : ℕ) → IsLate v x → IsPending u x) → r ≡ refused c.sets → IsOver v crossing words (IsLate v) q turn r → IsTurned
@@ -393,17 +414,17 @@ module _ (v : Core) (op : Op) (kept : IsKept true v) (after : IsKept true (turne
     }
 
   -- the words and headers after an operation that changes neither
-  quiet : (o : Op) → op ≡ o → (with_cell (cells_of v) o (written o (cell (cells_of v) o))).words ≡ v.words → (with_cell (cells_of v) o (written o (cell (cells_of v) o))).headers ≡ v.headers → (u.words ≡ v.words) × (u.headers ≡ v.headers)
+  pub quiet : (o : Op) → op ≡ o → (with_cell (cells_of v) o (written o (cell (cells_of v) o))).words ≡ v.words → (with_cell (cells_of v) o (written o (cell (cells_of v) o))).headers ≡ v.headers → (u.words ≡ v.words) × (u.headers ≡ v.headers)
   quiet o its words headers = (ap (λ (p : Op). (with_cell (cells_of v) p (written p (cell (cells_of v) p))).words) its ∙ words, ap (λ (p : Op). (with_cell (cells_of v) p (written p (cell (cells_of v) p))).headers) its ∙ headers)
 
   -- just before a batch, as much is pending as before the turn
-  awaits_more : (b : Core) → b.mutators ≡ v.mutators → b.boxes ≡ v.boxes → b.collector.newer ≡ c.newer → b.collector.older ≡ c.older → has_batched b.collector.phase ≡ false → (x : ℕ) → IsPending v x → IsPending b x
+  pub awaits_more : (b : Core) → b.mutators ≡ v.mutators → b.boxes ≡ v.boxes → b.collector.newer ≡ c.newer → b.collector.older ≡ c.older → has_batched b.collector.phase ≡ false → (x : ℕ) → IsPending v x → IsPending b x
   awaits_more b mutators boxes newer older early x (IsPending.log j some) = IsPending.log j (subst (λ ps. 0 < takes x (slice_index_or ps j nobody).log) (sym mutators) some)
   awaits_more b mutators boxes newer older early x (IsPending.mailbox j some) = IsPending.mailbox j (subst (λ (bs : List Contents). 0 < takes x (slice_index_or bs j (collectors.blank 0 0))) (sym boxes) some)
   awaits_more b mutators boxes newer older early x (IsPending.newer j some) = IsPending.newer j (subst (λ (bs : List Contents). 0 < takes x (buffer_at bs j)) (sym newer) some)
   awaits_more b mutators boxes newer older early x (IsPending.older e j some) = IsPending.older early j (subst (λ (bs : List Contents). 0 < takes x (buffer_at bs j)) (sym older) some)
 
-  same_late : (b : Core) → b.mutators ≡ v.mutators → b.boxes ≡ v.boxes → b.collector.newer ≡ c.newer → (x : ℕ) → IsLate b x → IsLate v x
+  pub same_late : (b : Core) → b.mutators ≡ v.mutators → b.boxes ≡ v.boxes → b.collector.newer ≡ c.newer → (x : ℕ) → IsLate b x → IsLate v x
   same_late b mutators boxes newer x (IsLate.log j some) = IsLate.log j (subst (λ ps. 0 < takes x (slice_index_or ps j nobody).log) mutators some)
   same_late b mutators boxes newer x (IsLate.mailbox j some) = IsLate.mailbox j (subst (λ (bs : List Contents). 0 < takes x (slice_index_or bs j (collectors.blank 0 0))) boxes some)
   same_late b mutators boxes newer x (IsLate.newer j some) = IsLate.newer j (subst (λ (bs : List Contents). 0 < takes x (buffer_at bs j)) newer some)
