@@ -161,3 +161,6 @@ module _ (u : Core) (t : ℕ) (kept : IsKeptBy true (stand_at u.collector.left O
   pub batch_owned : (x : ℕ) → IsOwned c.counts x → IsOwned s x
   batch_owned x (inl gone) = inl (is.rest.released x ∙ gone)
   batch_owned x (inr member) = inr (omega (arith, member, ap (λ (xss : List (List ℕ)). times x (concat xss)) is.rest.sets))
+
+  pub batch_gone : (x : ℕ) → (slot_at c.counts x).released ≡ true → (slot_at s x).released ≡ true
+  batch_gone x gone = is.rest.released x ∙ gone

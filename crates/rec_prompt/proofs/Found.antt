@@ -60,7 +60,7 @@ module _ (w : Core) (crossing words : List ℕ) (pending : ℕ → Type 0) (q : 
   abbrev Keeps : State → Type 0
   Keeps s = (x : ℕ) → (slot_at s x).released ≡ true → (slot_at q.counts x).released ≡ true
 
-  prepares_counts : (p : collectors.Private) (v : Parts) (u : preps.Work) → PreparesOn p v u q turn → q.counts ≡ u.counts
+  pub prepares_counts : (p : collectors.Private) (v : Parts) (u : preps.Work) → PreparesOn p v u q turn → q.counts ≡ u.counts
   prepares_counts p v u (PreparesOn.more some g) = ap (λ (x : collectors.Private). x.counts) g.after
   prepares_counts p v u (PreparesOn.sweeps_next none some g) = ap (λ (x : collectors.Private). x.counts) g.after
   prepares_counts p v u (PreparesOn.completes none free e) = ap (λ (x : collectors.Private). x.counts) e.after

@@ -15,6 +15,7 @@ pub mod Learnt
 pub mod Lessened
 pub mod Moves
 pub mod Mutators
+pub mod Passed
 pub mod Pended
 pub mod Prompt
 pub mod Sees
