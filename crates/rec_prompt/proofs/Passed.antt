@@ -160,3 +160,153 @@ module _ (v : Core) (op : Op) (kept : IsKept true v) (after : IsKept true (turne
           (ap (λ (o : Op). (with_cell (cells_of v) o (written o its_word)).words) its) (ap (λ (o : Op). (with_cell (cells_of v) o (written o its_word)).headers) its)
           (late_pends v op kept after i (plain_boxes v op kept after i (Freeing m) at refl) (clears_rows c q turn on_)) (heeds_owned h) h.gone (refused (with_freed m (parts_of c) word).parts.sets) sets refl
           (clears_found v v.crossing (slice_set v.words place 0) (IsLate v) q turn always (freed_lands v m a kept at is) (freed_covers v kept place (ap has_batched at) now.clearing.tidy.apart i.covers m now.clearing.busy) on_)
+
+  -- a field is loaded
+  trial_passed : (turn : Turn) (m : Machine) → c.phase ≡ Trying m → ◌≡◌ {A = Option Op} (Some op) (trials.next_of m) → step.TriesOn c (parts_of c) (trials.took_of (record { machine = m; counts = c.counts }) (visible c.counts its_word)) q turn → IsPassed
+  trial_passed turn m at named on =
+      let (place, its) = loads_child m op named in
+      let found_is : its_word ≡ slice_index_or v.words place 0 = ap (cell (cells_of v)) its in
+      let tried = trialled v m kept at place (sym named ∙ ap (λ o. Some o) its) (i.follows m at) i.covers in
+      let its_on = subst (λ n. step.TriesOn c (parts_of c) (trials.took_of (record { machine = m; counts = c.counts }) (visible c.counts n)) q turn) found_is on in
+      inl (
+        λ next. found_to v.words (IsPending v) q.counts (ap (λ (o : Op). (with_cell (cells_of v) o (written o its_word)).words) its ∙ ap (slice_set v.words place) found_is ∙ set-get_or v.words place 0)
+        (ap (λ (o : Op). (with_cell (cells_of v) o (written o its_word)).headers) its)
+        (λ x is. late_pends v op kept after i (plain_boxes v op kept after i (Trying m) at refl) (tries_rows c q (parts_of c) _ turn its_on) x (late_of v (ap has_batched at) x is))
+        (tries_found v v.crossing v.words (IsPending v) q turn c (parts_of c) _ its_on tried.found next),
+        λ n x unfreed near. elim near [
+          | inl old ↦ absurd (false≢true (sym (ap before_tests at) ∙ old.0))
+          | inr gone ↦ inr (tries_keeps v v.crossing v.words (IsPending v) q turn c (parts_of c) _ its_on x (tried.gone x gone))
+        ],
+      )
+
+  preparation_passed : (turn : Turn) (m : preps.Machine) → c.phase ≡ Preparing m → ◌≡◌ {A = Option Op} (Some op) (preps.next_of m) → step.PreparesOn c (parts_of c) (preps.took_of (record { machine = m; counts = c.counts }) its_word) q turn → IsPassed
+  preparation_passed turn m at named on =
+      let (a, is, its) = loads_due m op (sym named) in
+      let place : ℕ = place_of a.member.slot a.member.field m.fields in
+      let found_is : its_word ≡ slice_index_or v.words place 0 = ap (cell (cells_of v)) its in
+      let s : State = (preps.took_of (record { machine = m; counts = c.counts }) its_word).counts in
+      let h : Heeds c.counts s = heeds_others c.counts s (took_others (record { machine = m; counts = c.counts }) its_word) in
+      let same : q.counts ≡ s = prepares_counts v v.crossing v.words (IsPending v) q turn c (parts_of c) _ on in
+      inl (
+        λ next. found_to v.words (IsPending v) q.counts (ap (λ (o : Op). (with_cell (cells_of v) o (written o its_word)).words) its ∙ ap (slice_set v.words place) found_is ∙ set-get_or v.words place 0)
+        (ap (λ (o : Op). (with_cell (cells_of v) o (written o its_word)).headers) its)
+        (λ x is_. late_pends v op kept after i (plain_boxes v op kept after i (Preparing m) at refl) (prepares_rows c q (parts_of c) _ turn on) x (late_of v (ap has_batched at) x is_))
+        (subst (FoundIn (sight v) (IsPending v)) (sym same) (heeds_found (sight v) (IsPending v) c.counts s h (f (ap has_found at)))),
+        λ n x unfreed near. elim near [
+          | inl old ↦ absurd (false≢true (sym (ap before_tests at) ∙ old.0))
+          | inr gone ↦ inr (ap (λ (k : State). (slot_at k x).released) same ∙ h.gone x gone)
+        ],
+      )
+
+  -- a sweep begins or ends
+  sweeps_on : (phase : Phase) → c.phase ≡ phase → has_found phase ≡ true → has_batched phase ≡ true → before_tests phase ≡ false → op ≡ ops.AddFreed → q.counts ≡ c.counts → Rows c q → u.boxes ≡ v.boxes → IsPassed
+  sweeps_on phase at found batched_ late its same rows boxes =
+      let calm = quiet v op kept after i ops.AddFreed its refl refl in
+      inl (
+        λ next. subst (FoundIn (sight u) (IsPending u)) (sym same) (found_to v.words (IsPending v) c.counts calm.0 calm.1 (λ x is. late_pends v op kept after i boxes rows x (late_of v (ap has_batched at ∙ batched_) x is)) (f (ap has_found at ∙ found))),
+        near_same (λ early. absurd (false≢true (sym (ap before_tests at ∙ late) ∙ early))) same,
+      )
+
+  -- a slot is swept
+  swept_passed : (x n : ℕ) (next : Phase) → c.phase ≡ Sweeping (Some x) n → op ≡ ops.FreeHeader x → q ≡ record c { counts = swept c.counts x; freed = c.freed + 1; phase = next; turns = c.turns + 1 } → IsPassed
+  swept_passed x n next at its is = inl (λ found. found_then, near)
+    where
+      words : u.words ≡ v.words
+      words = ap (λ (o : Op). (with_cell (cells_of v) o (written o its_word)).words) its
+
+      headers : u.headers ≡ slice_set v.headers x 0
+      headers = ap (λ (o : Op). (with_cell (cells_of v) o (written o its_word)).headers) its
+
+      freed_x : (y : ℕ) → y ≡ x → is_in y (freed_by (Some op)) ≡ true
+      freed_x y same = ap (λ (o : Op). is_in y (freed_by (Some o))) its ∙ ap (λ k. is_in y (k ∷ [])) (sym same) ∙ is_in-head y []
+
+      not_swept : (y : ℕ) → IsTaken (sight u) y → y ≢ x
+      not_swept y taken same = op_frees v u op y refl (freed_x y same) taken
+
+      same_slot : (y : ℕ) → y ≢ x → slot_at q.counts y ≡ slot_at c.counts y
+      same_slot y apart = ap (λ (k : collectors.Private). slot_at k.counts y) is ∙ get_or-set_other c.counts.slots x y (swept_clean (slot_at c.counts x)) absent apart
+
+      sets : q.counts.sets ≡ c.counts.sets
+      sets = ap (λ (k : collectors.Private). k.counts.sets) is
+
+      more : (y : ℕ) → IsPending v y → IsPending u y
+      more y pending = late_pends v op kept after i (plain_boxes v op kept after i (Sweeping (Some x) n) at refl) (Rows.kept_rows (ap (λ (k : collectors.Private). k.newer) is) (ap (λ (k : collectors.Private). k.older) is) (ap (λ (k : collectors.Private). k.collections) is)) y (late_of v (ap has_batched at) y pending)
+
+      still : (m k : ℕ) → Leads (sight v) m k → Leads (sight u) m k
+      still m k (field, within, leads) = (field, within, ap (λ ws. target_of (slice_index_or ws (place_of m field v.config.fields) 0)) words ∙ leads)
+
+      -- a path that doesn't begin with the swept slot, which leads nowhere
+      trails : (y : ℕ) → Trails (sight v) (λ z. IsPending v z ⊎ ((slot_at c.counts z).released ≡ true)) y → (y ≡ x) ⊎ Trails (sight u) (λ z. IsPending u z ⊎ ((slot_at q.counts z).released ≡ true)) y
+      trails = all_on_trails (sight v) (λ z. IsPending v z ⊎ ((slot_at c.counts z).released ≡ true)) (λ y. (y ≡ x) ⊎ Trails (sight u) (λ z. IsPending u z ⊎ ((slot_at q.counts z).released ≡ true)) y)
+          (λ y is_. elim is_ [
+            | inl pending ↦ inr (Trails.first (inl (more y pending)))
+            | inr gone ↦ elim (cases_eq y x) [ inl same ↦ inl same | inr apart ↦ inr (Trails.first (inr (ap (λ (s : Slot). s.released) (same_slot y apart) ∙ gone))) ]
+          ])
+          (λ m k path leads. elim path [
+            | inl same ↦ absurd (not_swept m (leaders_count u after m k (still m k leads)).0 same)
+            | inr path_ ↦ inr (Trails.along path_ (still m k leads))
+          ])
+
+      owned : (y : ℕ) → y ≢ x → IsOwned c.counts y → IsOwned q.counts y
+      owned y apart (inl gone) = inl (ap (λ (s : Slot). s.released) (same_slot y apart) ∙ gone)
+      owned y apart (inr member) = inr (omega (arith, member, ap (λ (xss : List (List ℕ)). times y (concat xss)) sets))
+
+      found_then : FoundIn (sight u) (IsPending u) q.counts
+      found_then slot taken plain =
+          let apart : slot ≢ x = not_swept slot taken in
+          let was : IsTaken (sight v) slot = subst (λ k. 0 < k) (ap (λ hs. slice_index_or hs slot 0) headers ∙ get_or-set_other v.headers x slot 0 0 apart) taken in
+          elim (f (ap has_found at) slot was (sym (ap (λ (s : Slot). is_green s.colour) (same_slot slot apart)) ∙ plain)) [
+            | inl own ↦ inl (owned slot apart own)
+            | inr trail ↦ elim (trails slot trail) [ inl same ↦ absurd (apart same) | inr there ↦ inr there ]
+          ]
+
+      near : StaysNear
+      near k y unfreed (inl (early, many, own)) = absurd (false≢true (sym (ap before_tests at) ∙ early))
+      near k y unfreed (inr gone) = elim (cases_eq y x) [
+        | inl same ↦ absurd (false≢true (sym unfreed ∙ freed_x y same))
+        | inr apart ↦ inr (ap (λ (s : Slot). s.released) (same_slot y apart) ∙ gone)
+      ]
+
+  -- A turn, rule by rule.
+  pub passed_rule : {turn : Turn} → step.Step c its_word its_box (Some op) q turn → IsPassed
+  unfolding sweeps.started_of sweeps.took_of sweeps.next_of
+  passed_rule (step.Step.spent at last none is turn_is) = let n : ◌≡◌ {A = Option Op} (Some op) None = none in absurd (cc)
+  passed_rule {turn} (step.Step.request next at more is n g) =
+      let calm = quiet v op kept after i (ops.StoreEpoch (c.epoch + 1)) (some_op op (ops.StoreEpoch (c.epoch + 1)) is) refl refl in
+      let then_ : q.phase ≡ Looking next = ap (λ (x : collectors.Private). x.phase) g.after in
+      gathers Idle at refl (ap before_tests then_) (ap (λ (x : collectors.Private). x.collections) g.after) (ap (λ (x : collectors.Private). x.counts) g.after) calm.0 calm.1 (before_pends v op kept after i turn Idle (Looking next) at refl then_ refl (ap (λ (x : collectors.Private). x.newer) g.after) (ap (λ (x : collectors.Private). x.older) g.after))
+  passed_rule {turn} (step.Step.request_alone at more is gone on) =
+      let calm = quiet v op kept after i (ops.StoreEpoch (c.epoch + 1)) (some_op op (ops.StoreEpoch (c.epoch + 1)) is) refl refl in
+      let b : Core = requesting v in
+      let awaits : Awaits v b = Awaits.alone at (λ last. more (ap (λ n. n + 1) kept.collector.epoch ∙ last)) gone in
+      batched turn b (length c.newer) (awaits_kept v b kept awaits) refl refl refl refl refl always (covers_more (sight b) (IsPending v) (IsPending b) c.counts (awaits_more v op kept after i b refl refl refl refl refl) i.covers)
+      (λ x late. late_pends v op kept after i (plain_boxes v op kept after i Idle at refl) (rows_as refl refl refl (clears_rows (requested c) q turn on)) x (same_late v op kept after i b refl refl refl x late)) calm.0 calm.1 (clears_in b.collector.phase on)
+  passed_rule {turn} (step.Step.wait t at other is same turn_is) =
+      let its : op ≡ ops.LookBox t c.epoch = some_op op (ops.LookBox t c.epoch) is in
+      let calm = quiet v op kept after i (ops.LookBox t c.epoch) its refl refl in
+      let then_ : q.phase ≡ Looking t = ap (λ (x : collectors.Private). x.phase) same ∙ at in
+      gathers (Looking t) at refl (ap before_tests then_) (ap (λ (x : collectors.Private). x.collections) same) (ap (λ (x : collectors.Private). x.counts) same) calm.0 calm.1
+      (before_pends v op kept after i turn (Looking t) (Looking t) at (cond-false (its_word == crossing_word c.epoch Retired) (collectors.spare c) (box v t) (ne_eqb its_word (crossing_word c.epoch Retired) other)) then_ refl (ap (λ (x : collectors.Private). x.newer) same) (ap (λ (x : collectors.Private). x.older) same))
+  passed_rule {turn} (step.Step.gather t at crossed is g) =
+      let calm = quiet v op kept after i (ops.LookBox t c.epoch) (some_op op (ops.LookBox t c.epoch) is) refl refl in
+      gathers (Looking t) at refl (ap (λ (x : collectors.Private). before_tests x.phase) g.after) (ap (λ (x : collectors.Private). x.collections) g.after) (ap (λ (x : collectors.Private). x.counts) g.after) calm.0 calm.1 (gathered_pends v op kept after i turn t at g)
+  passed_rule {turn} (step.Step.give_back t next at is n g) =
+      let calm = quiet v op kept after i (ops.ReturnBox t c.epoch) (some_op op (ops.ReturnBox t c.epoch) is) refl refl in
+      let then_ : q.phase ≡ Looking next = ap (λ (x : collectors.Private). x.phase) g.after in
+      gathers (Returning t) at refl (ap before_tests then_) (ap (λ (x : collectors.Private). x.collections) g.after) (ap (λ (x : collectors.Private). x.counts) g.after) calm.0 calm.1 (before_pends v op kept after i turn (Returning t) (Looking next) at refl then_ refl (ap (λ (x : collectors.Private). x.newer) g.after) (ap (λ (x : collectors.Private). x.older) g.after))
+  passed_rule {turn} (step.Step.apply t at is gone on) =
+      let calm = quiet v op kept after i (ops.ReturnBox t c.epoch) (some_op op (ops.ReturnBox t c.epoch) is) refl refl in
+      let b : Core = giving_back v t in
+      let now = now_at v (Returning t) kept at in
+      let awaits : Awaits v b = Awaits.last t (mutator_at v t (Returning t) kept at (now.first, now.there)) at gone in
+      batched turn b (length c.newer) (awaits_kept v b kept awaits) refl refl refl refl refl always (covers_more (sight b) (IsPending v) (IsPending b) c.counts (awaits_more v op kept after i b refl refl refl refl refl) i.covers)
+      (λ x late. late_pends v op kept after i (plain_boxes v op kept after i (Returning t) at refl) (rows_as refl refl refl (clears_rows (noted c t) q turn on)) x (same_late v op kept after i b refl refl refl x late)) calm.0 calm.1 (clears_in b.collector.phase on)
+  passed_rule {turn} (step.Step.release m at is on) = released_passed turn m at is on
+  passed_rule {turn} (step.Step.freeing m at is on) = freed_passed turn m at is on
+  passed_rule {turn} (step.Step.trial m at is on) = trial_passed turn m at is on
+  passed_rule {turn} (step.Step.preparation m at is on) = preparation_passed turn m at is on
+  passed_rule {turn} (step.Step.begin_sweep at is g) = sweeps_on Opening at refl refl refl (some_op op ops.AddFreed is) (ap (λ (x : collectors.Private). x.counts) g.after) (Rows.kept_rows (ap (λ (x : collectors.Private). x.newer) g.after) (ap (λ (x : collectors.Private). x.older) g.after) (ap (λ (x : collectors.Private). x.collections) g.after)) (plain_boxes v op kept after i Opening at refl)
+  passed_rule (step.Step.sweep None swept_ w next at is took follows g) = let n : ◌≡◌ {A = Option Op} (Some op) None = is in absurd (cc)
+  passed_rule {turn} (step.Step.sweep (Some x) swept_ w next at is took follows g) =
+      swept_passed x swept_ next at (some_op op (ops.FreeHeader x) is) (g.after ∙ ap (λ (k : sweeps.Work). record c { counts = k.counts; freed = c.freed + 1; phase = next; turns = c.turns + 1 }) took)
+  passed_rule {turn} (step.Step.end_sweep swept_ at is e) = sweeps_on (Closing swept_) at refl refl refl (some_op op ops.AddFreed is) (ap (λ (x : collectors.Private). x.counts) e.after) (Rows.turned_rows (ap (λ (x : collectors.Private). x.newer) e.after) (ap (λ (x : collectors.Private). x.older) e.after) (ap (λ (x : collectors.Private). x.collections) e.after) (ap (λ (x : collectors.Private). x.phase) e.after)) (plain_boxes v op kept after i (Closing swept_) at refl)
