@@ -29,11 +29,11 @@ snapshot_none slot epoch (Some m ∷ xs) none =
     )
 
 -- every buffer is clean of the slot
-record AreClean (slot : ℕ) (v : Core) : Type 0 where
-  logs : (i : ℕ) → i < length v.mutators → IsClean slot (slice_index_or v.mutators i nobody).log
-  boxes : (i : ℕ) → i < length v.mutators → IsClean slot (slice_index_or v.boxes i (collectors.blank 0 0))
-  newer : (i : ℕ) → i < length v.collector.newer → IsClean slot (buffer_at v.collector.newer i)
-  older : (i : ℕ) → i < length v.collector.older → IsClean slot (buffer_at v.collector.older i)
+pub record AreClean (slot : ℕ) (v : Core) : Type 0 where
+  pub logs : (i : ℕ) → i < length v.mutators → IsClean slot (slice_index_or v.mutators i nobody).log
+  pub boxes : (i : ℕ) → i < length v.mutators → IsClean slot (slice_index_or v.boxes i (collectors.blank 0 0))
+  pub newer : (i : ℕ) → i < length v.collector.newer → IsClean slot (buffer_at v.collector.newer i)
+  pub older : (i : ℕ) → i < length v.collector.older → IsClean slot (buffer_at v.collector.older i)
 
 -- then what has no weight in a clean buffer has none in all of them
 buffers_none : {Y : Type 0} (g : Y → ℕ) (f : Filed → List Y) (slot : ℕ) (v : Core) → ((epoch : ℕ) (b : Contents) → IsClean slot b → share g f epoch b ≡ 0) → AreClean slot v → sum_by g (flat_map f (buffers v)) ≡ 0
@@ -86,7 +86,7 @@ module _ (late : ℕ) (first : Core) (lost : ℕ → Type 0) (v : Core) (kept : 
     | inr spare ↦ spare_clean slot v.config (box v t) spare.1
   ]
 
-  clean : AreClean slot v
+  pub clean : AreClean slot v
   clean = record {
     logs = λ i below. let at : i + 1 - 1 ≡ i = omega arith in subst (λ n. IsClean slot (slice_index_or v.mutators n nobody).log) at (of_log (i + 1) (of_mutator i below));
     boxes = λ i below. let at : i + 1 - 1 ≡ i = omega arith in subst (λ n. IsClean slot (slice_index_or v.boxes n (collectors.blank 0 0))) at (of_box (i + 1) (of_mutator i below));

@@ -21,6 +21,7 @@ pub mod Prompt
 pub mod Sees
 pub mod Stays
 pub mod Steps
+pub mod Third
 pub mod Trialled
 pub mod Tried
 pub mod Turned

@@ -51,7 +51,7 @@ in_neither slot xs ys a b = elim (cases_Bool (is_in slot (xs ++ ys))) [
   | inr not_there ↦ not_there
 ]
 
-not_second : (slot : ℕ) (xs ys : List ℕ) → is_in slot (xs ++ ys) ≡ false → is_in slot ys ≡ false
+pub not_second : (slot : ℕ) (xs ys : List ℕ) → is_in slot (xs ++ ys) ≡ false → is_in slot ys ≡ false
 not_second slot xs ys none = elim (cases_Bool (is_in slot ys)) [
   | inl there ↦ absurd (false≢true (sym none ∙ is_in-right slot xs ys there))
   | inr not_there ↦ not_there

@@ -284,3 +284,10 @@ hides_followed v u s m h f = record {
         | inr some ↦ inr (h.pending x some)
       ];
 }
+
+-- a path from what is pending, or from what the collector has otherwise
+pub hides_trails_too : (v u : Core) → Hides v u → (own : ℕ → Type 0) → (x : ℕ) → Trails (sight v) (λ y. IsPending v y ⊎ own y) x → Trails (sight u) (λ y. IsPending u y ⊎ own y) x
+hides_trails_too v u h own = trails_stay (sight v) (sight u) (λ y. IsPending v y ⊎ own y) (λ y. IsPending u y ⊎ own y) (λ y is. elim is [ inl some ↦ inl (h.pending y some) | inr its ↦ inr its ]) (λ m n (field, within, leads). elim (h.fields (place_of m field v.config.fields) n leads) [
+  | inl still ↦ inl (field, subst (λ (k : Config). field < k.fields) (sym h.config) within, subst (λ (k : Config). target_of (slice_index_or u.words (place_of m field k.fields) 0) ≡ Some n) (sym h.config) still)
+  | inr some ↦ inr (inl some)
+])

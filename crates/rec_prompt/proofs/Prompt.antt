@@ -92,18 +92,18 @@ completes w Move.Turns config run fits = go (turn_told w) (turn_is_one w config 
     go turns.EpochsSpent cause = inl (ap (λ (x : Core). x.collector.collections) cause.2)
 
 -- moves over which this many collections are complete come to a state between two collections where just as many are
-record IsBetween (w : Core) (ms : List Move) (collections : ℕ) : Type 0 where
-  first : List Move
-  second : List Move
-  both : first ++ second ≡ ms
-  idle : (after_moves w first).collector.phase ≡ Idle
-  complete : (after_moves w first).collector.collections ≡ collections
+pub record IsBetween (w : Core) (ms : List Move) (collections : ℕ) : Type 0 where
+  pub first : List Move
+  pub second : List Move
+  pub both : first ++ second ≡ ms
+  pub idle : (after_moves w first).collector.phase ≡ Idle
+  pub complete : (after_moves w first).collector.collections ≡ collections
 
 -- with a move in front
 one_before : (w : Core) (m : Move) (ms : List Move) (collections : ℕ) → IsBetween (after_move w m) ms collections → IsBetween w (m ∷ ms) collections
 one_before w m ms collections rest = record { first = m ∷ rest.first; second = rest.second; both = ap (λ (xs : List Move). m ∷ xs) rest.both; idle = rest.idle; complete = rest.complete }
 
-comes_between : (w : Core) (ms : List Move) (collections : ℕ) → IsConfig w.config → EndsRun w → AllFit w ms → w.collector.collections < collections → collections ≤ (after_moves w ms).collector.collections → IsBetween w ms collections
+pub comes_between : (w : Core) (ms : List Move) (collections : ℕ) → IsConfig w.config → EndsRun w → AllFit w ms → w.collector.collections < collections → collections ≤ (after_moves w ms).collector.collections → IsBetween w ms collections
 comes_between w [] collections config run fit less enough = absurd (omega (arith, less, enough))
 comes_between w (m ∷ ms) collections config run fit less enough =
     let later : (after_move w m).collector.collections < collections → IsBetween (after_move w m) ms collections

@@ -45,7 +45,7 @@ module _ (v : Core) (ms : List Move) (kept : IsKept true v) (fit : AllFit v ms) 
   open (forgotten v ms kept fit) use {f, kept_then}
 
   -- what leads to it
-  still_led : (from slot : ℕ) → lost_over v ms slot → Leads (sight (after_moves v ms)) from slot → lost_over v ms from × Leads (sight v) from slot
+  pub still_led : (from slot : ℕ) → lost_over v ms slot → Leads (sight (after_moves v ms)) from slot → lost_over v ms from × Leads (sight v) from slot
   still_led from slot gone (field, within, leads) =
       let same : (after_moves v ms).config ≡ v.config = config_after v ms in
       let here : place_of from field (after_moves v ms).config.fields / (after_moves v ms).config.fields + 1 ≡ from + 1 = home_of from field (after_moves v ms).config.fields within in
@@ -70,7 +70,7 @@ module _ (v : Core) (ms : List Move) (kept : IsKept true v) (fit : AllFit v ms) 
           let (field, within, inside, node) = field_target (sight (after_moves v ms)) m n there in
           apart (still_led m n gone (field, within, node_leads (slice_index_or (after_moves v ms).words (place_of m field (after_moves v ms).config.fields) 0) n node)).0
 
-  still_lost : (slot : ℕ) → lost_over v ms slot → IsLost (sight (after_moves v ms)) slot
+  pub still_lost : (slot : ℕ) → lost_over v ms slot → IsLost (sight (after_moves v ms)) slot
   still_lost slot gone = record { taken = f.taken slot gone; unreached = λ from. still_unreached slot from gone }
 
   still_counted : (after_moves v ms).collector.phase ≡ Idle → v.epoch + 2 ≤ (after_moves v ms).epoch → (slot : ℕ) → lost_over v ms slot → (slot_at (after_moves v ms).collector.counts slot).count ≡ fields_to (sight (after_moves v ms)) slot

@@ -45,7 +45,7 @@ hides_watched v u after h i = record {
 }
 
 -- all slots are to be offered
-offering_pends : (v : Core) (x : ℕ) → IsPending v x → IsPending (offering v) x
+pub offering_pends : (v : Core) (x : ℕ) → IsPending v x → IsPending (offering v) x
 offering_pends v x (IsPending.log j some) = IsPending.log j some
 offering_pends v x (IsPending.mailbox j some) = IsPending.mailbox j some
 offering_pends v x (IsPending.newer j some) = IsPending.newer j some
@@ -61,14 +61,14 @@ offering_watched v i = record {
 }
 
 -- a move leaves each slot on something, or refuses a set
-move_watched : (v : Core) (m : Move) → IsKept true v → Fits v m → IsWatched v → IsWatched (after_move v m) ⊎ (refused v.collector.sets < refused (after_move v m).collector.sets)
+pub move_watched : (v : Core) (m : Move) → IsKept true v → Fits v m → IsWatched v → IsWatched (after_move v m) ⊎ (refused v.collector.sets < refused (after_move v m).collector.sets)
 move_watched v (Move.Begins t work from) kept fits i = inl (hides_watched v (after_move v (Move.Begins t work from)) (move_kept v (Move.Begins t work from) kept fits) (begun_hides v t work from fits.0 kept) i)
 move_watched v (Move.Steps t) kept fits i = inl (hides_watched v (after_move v (Move.Steps t)) (move_kept v (Move.Steps t) kept fits) (step_hides v t kept fits.0 fits.1) i)
 move_watched v Move.Offers kept fits i = inl (offering_watched v i)
 move_watched v Move.Turns kept fits i = turn_case v (λ o u. IsKept true u → IsWatched u ⊎ (refused v.collector.sets < refused u.collector.sets)) (λ none after. inl i) (λ op named after. by_rule v op kept after i (rule_of v op kept named)) (turned_kept v kept)
 
 -- and no set that was refused is refused no more
-move_refused : (v : Core) (m : Move) → IsKept true v → Fits v m → refused v.collector.sets ≤ refused (after_move v m).collector.sets
+pub move_refused : (v : Core) (m : Move) → IsKept true v → Fits v m → refused v.collector.sets ≤ refused (after_move v m).collector.sets
 move_refused v (Move.Begins t work from) kept fits = omega arith
 move_refused v (Move.Steps t) kept fits = omega arith
 move_refused v Move.Offers kept fits = omega arith
