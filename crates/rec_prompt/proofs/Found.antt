@@ -1,9 +1,9 @@
 -- A trial ends with each slot found: released, a member of a set, or on a path of fields from what is pending or released. That stays so up
 -- to the next batch. And what is released or a member before the tests is released after them, where no set is refused.
-use Rattle.std.proofs.Common.{◌≡◌, ◌≢◌, ◌⊎◌, inl, inr, ℕ, ◌+◌, ◌-◌, ◌<◌, ◌≤◌, true, false, Bool, Option, None, Some, List, [], ◌∷◌, length, refl, sym, ap, subst, ◌∙◌, arith}
+use Rattle.std.proofs.Common.{◌≡◌, ◌⊎◌, inl, inr, ℕ, ◌-◌, ◌<◌, ◌≤◌, true, false, Bool, None, Some, List, [], length, refl, sym, ap, subst, ◌∙◌, arith}
 use Rattle.std.specs.List.{concat}
-use Rattle.std.proofs.lemmas.Bool.{cases_Bool, cases_lt, false≢true}
-use Rattle.rec_core.proofs.Common.{State, slot_at, times, times-nil, is_green, IsFreeable, Parts, with_parts, parts_of, put_off, prep_started, with_offers, ClearsOn, IsTested, PreparesOn, TriesOn, Begun, zeros_released, Phase, Idle, Looking, Swapping, Returning, Trying, Preparing, Opening, Releasing, Freeing, Turn, still, IsClearing, Machine, Work, Core, Sight, IsTaken, sight}
+use Rattle.std.proofs.lemmas.Bool.{false≢true}
+use Rattle.rec_core.proofs.Common.{State, slot_at, times, times-nil, IsFreeable, Parts, prep_started, with_offers, ClearsOn, IsTested, PreparesOn, TriesOn, Begun, Phase, Idle, Looking, Swapping, Returning, Trying, Releasing, Freeing, Turn, still, IsClearing, Work, Core, Sight, sight}
 use Rattle.rec_trial.specs.Moves.{cleared}
 use Rattle.rec_trial.specs.Rules.{IsReady}
 use Rattle.rec_trial.specs.Trial as trials
@@ -22,10 +22,9 @@ use Rattle.rec_core.proofs.Landings.{prep_others}
 use Rattle.rec_core.proofs.SetTests.{tested_lands}
 use Rattle.rec_prompt.specs.Cover.{Covers, Hangs, IsListed}
 use Rattle.rec_prompt.specs.Cover.Hangs.{later, listed, behind}
-use Rattle.rec_prompt.specs.Lost.{Leads}
 use Rattle.rec_prompt.proofs.Clears.{clears_refused, heeds_freeing, heeds_leaders, refused}
 use Rattle.rec_prompt.proofs.Hanging.{leaders_from, LeadersCount, Trails}
-use Rattle.rec_prompt.proofs.Heeding.{FoundIn, Heeds, heeds_covers, heeds_found, heeds_on, heeds_others, heeds_owned, heeds_same, IsOwned}
+use Rattle.rec_prompt.proofs.Heeding.{FoundIn, Heeds, heeds_covers, heeds_found, heeds_others, heeds_owned, heeds_same, IsOwned}
 use Rattle.rec_prompt.proofs.Trialled.{none_idle}
 use Rattle.rec_prompt.proofs.Tried.{heeds_offered, Tries, tries_settled}
 
@@ -159,8 +158,12 @@ module _ (w : Core) (crossing words : List ℕ) (pending : ℕ → Type 0) (q : 
       let alive_then : LeadersCount seen (with_offers b.parts).counts = heeds_leaders seen b.parts.counts (with_offers b.parts).counts offers alive in
       let zeros : (with_offers b.parts).counts.zeros ≡ [] = (where_keeps b.parts.offers b.parts.counts).zeros ∙ there.clears.clearing.zeros in
       let both = trial_found (with_offers b.parts) h.clears.wide (where_ready b.parts.offers b.parts.counts ready) zeros alive_then (heeds_covers seen pending b.parts.counts (with_offers b.parts).counts alive_then offers c) on in
-      inl (both.0, λ x own. inr (both.1 x (elim own [
-        | inl gone ↦ offers.gone x gone
-        | inr member ↦ absurd (omega (arith, member, ap (λ (xss : List (List ℕ)). times x (concat xss)) none, times-nil x))
-      ])), λ x gone. both.1 x (offers.gone x gone))
+      inl (
+        both.0,
+        λ x own. inr (both.1 x (elim own [
+          | inl gone ↦ offers.gone x gone
+          | inr member ↦ absurd (omega (arith, member, ap (λ (xss : List (List ℕ)). times x (concat xss)) none, times-nil x))
+        ])),
+        λ x gone. both.1 x (offers.gone x gone),
+      )
   clears_found {b} always h c (ClearsOn.waits is none off on) = absurd (false≢true (sym off ∙ always_tries b.parts (ap (λ k. k.least_roots) h.landed.policy ∙ always)))

@@ -1,5 +1,5 @@
 -- What the collector has in its lists stays there, over what it does with its counts: no slot gets out of sight that isn't Green.
-use Rattle.std.proofs.Common.{◌≡◌, ◌⊎◌, inl, inr, ℕ, zero, suc, ◌≤◌, if◌then◌else◌, true, false, Bool, List, [], ◌∷◌, length, refl, sym, ap, ◌∙◌, arith, ◌<◌, ◌≢◌}
+use Rattle.std.proofs.Common.{◌≡◌, ◌⊎◌, inl, inr, ℕ, zero, suc, ◌≤◌, if◌then◌else◌, true, false, Bool, List, [], ◌∷◌, length, refl, sym, ap, ◌∙◌, arith, ◌<◌}
 use Rattle.std.specs.List.{concat}
 use Rattle.std.proofs.lemmas.Bool.{cases_eq, cases_lt, ne_eqb, false≢true}
 use Rattle.std.proofs.lemmas.List.{get_or-set_same, get_or_past, length-set}

@@ -5,6 +5,7 @@ pub mod Chains
 pub mod Clears
 pub mod Counts
 pub mod Covered
+pub mod Cycles
 pub mod Ended
 pub mod Followed
 pub mod Forgets

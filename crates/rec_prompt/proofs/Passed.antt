@@ -1,10 +1,10 @@
 -- A turn of the collector, where no set is refused: what the last trial found stays found up to the next batch, and what is released or a
 -- member before the tests is released after them.
-use Rattle.std.proofs.Common.{◌≡◌, ◌≢◌, ◌⊎◌, inl, inr, ℕ, ◌+◌, ◌-◌, ◌<◌, ◌≤◌, ◌==◌, true, false, Bool, Option, None, Some, List, [], ◌∷◌, length, map, slice_index_or, slice_set, refl, sym, ap, subst, ◌∙◌, arith}
+use Rattle.std.proofs.Common.{◌≡◌, ◌≢◌, ◌⊎◌, inl, inr, ℕ, ◌+◌, ◌<◌, ◌==◌, true, false, Option, None, Some, List, [], ◌∷◌, length, slice_index_or, slice_set, refl, sym, ap, subst, ◌∙◌, arith}
 use Rattle.std.specs.List.{concat}
-use Rattle.std.proofs.lemmas.Bool.{cases_Bool, cases_eq, cond-false, false≢true, ne_eqb}
+use Rattle.std.proofs.lemmas.Bool.{cases_eq, cond-false, false≢true, ne_eqb}
 use Rattle.std.proofs.lemmas.List.{get_or-set_other, set-get_or}
-use Rattle.rec_core.proofs.Common.{crossing_word, Retired, place_of, target_of, Op, is_green, State, slot_at, times, absent, Slot, Sight, IsTaken, Contents, buffer_at, Parts, parts_of, with_released, with_freed, zeros_released, ClearsOn, Phase, Idle, Looking, Returning, Releasing, Freeing, Trying, Preparing, Opening, Sweeping, Closing, Turn, Machine, cell, with_cell, Core, cells_of, box, sight, IsKept, IsKeptBy, stand_at, looked_at, step_of, turned_by, At, Member, swept, swept_clean, visible, requested, noted, freed_by as freed_cases}
+use Rattle.rec_core.proofs.Common.{crossing_word, Retired, place_of, target_of, Op, is_green, State, slot_at, times, absent, Slot, Sight, IsTaken, Contents, Parts, parts_of, with_released, with_freed, zeros_released, ClearsOn, Phase, Idle, Looking, Returning, Releasing, Freeing, Trying, Preparing, Opening, Sweeping, Closing, Turn, Machine, cell, with_cell, Core, cells_of, box, sight, IsKept, IsKeptBy, stand_at, looked_at, step_of, turned_by, At, Member, swept, swept_clean, visible, requested, noted, freed_by as freed_cases}
 use Rattle.rec_word.specs.Op.{written}
 use Rattle.rec_word.specs.declared.op.Op.TheVariants as ops
 use Rattle.rec_model.specs.Reach.{is_in}
@@ -170,9 +170,9 @@ module _ (v : Core) (op : Op) (kept : IsKept true v) (after : IsKept true (turne
       let its_on = subst (λ n. step.TriesOn c (parts_of c) (trials.took_of (record { machine = m; counts = c.counts }) (visible c.counts n)) q turn) found_is on in
       inl (
         λ next. found_to v.words (IsPending v) q.counts (ap (λ (o : Op). (with_cell (cells_of v) o (written o its_word)).words) its ∙ ap (slice_set v.words place) found_is ∙ set-get_or v.words place 0)
-        (ap (λ (o : Op). (with_cell (cells_of v) o (written o its_word)).headers) its)
-        (λ x is. late_pends v op kept after i (plain_boxes v op kept after i (Trying m) at refl) (tries_rows c q (parts_of c) _ turn its_on) x (late_of v (ap has_batched at) x is))
-        (tries_found v v.crossing v.words (IsPending v) q turn c (parts_of c) _ its_on tried.found next),
+            (ap (λ (o : Op). (with_cell (cells_of v) o (written o its_word)).headers) its)
+            (λ x is. late_pends v op kept after i (plain_boxes v op kept after i (Trying m) at refl) (tries_rows c q (parts_of c) _ turn its_on) x (late_of v (ap has_batched at) x is))
+            (tries_found v v.crossing v.words (IsPending v) q turn c (parts_of c) _ its_on tried.found next),
         λ n x unfreed near. elim near [
           | inl old ↦ absurd (false≢true (sym (ap before_tests at) ∙ old.0))
           | inr gone ↦ inr (tries_keeps v v.crossing v.words (IsPending v) q turn c (parts_of c) _ its_on x (tried.gone x gone))
@@ -189,9 +189,9 @@ module _ (v : Core) (op : Op) (kept : IsKept true v) (after : IsKept true (turne
       let same : q.counts ≡ s = prepares_counts v v.crossing v.words (IsPending v) q turn c (parts_of c) _ on in
       inl (
         λ next. found_to v.words (IsPending v) q.counts (ap (λ (o : Op). (with_cell (cells_of v) o (written o its_word)).words) its ∙ ap (slice_set v.words place) found_is ∙ set-get_or v.words place 0)
-        (ap (λ (o : Op). (with_cell (cells_of v) o (written o its_word)).headers) its)
-        (λ x is_. late_pends v op kept after i (plain_boxes v op kept after i (Preparing m) at refl) (prepares_rows c q (parts_of c) _ turn on) x (late_of v (ap has_batched at) x is_))
-        (subst (FoundIn (sight v) (IsPending v)) (sym same) (heeds_found (sight v) (IsPending v) c.counts s h (f (ap has_found at)))),
+            (ap (λ (o : Op). (with_cell (cells_of v) o (written o its_word)).headers) its)
+            (λ x is_. late_pends v op kept after i (plain_boxes v op kept after i (Preparing m) at refl) (prepares_rows c q (parts_of c) _ turn on) x (late_of v (ap has_batched at) x is_))
+            (subst (FoundIn (sight v) (IsPending v)) (sym same) (heeds_found (sight v) (IsPending v) c.counts s h (f (ap has_found at)))),
         λ n x unfreed near. elim near [
           | inl old ↦ absurd (false≢true (sym (ap before_tests at) ∙ old.0))
           | inr gone ↦ inr (ap (λ (k : State). (slot_at k x).released) same ∙ h.gone x gone)

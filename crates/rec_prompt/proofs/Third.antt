@@ -1,39 +1,35 @@
 -- Where no set was refused, each lost slot is freed by the end of the third collection: the trial of the second one has found it, and the
 -- tests of the third release it.
-use Rattle.std.proofs.Common.{◌≡◌, ◌⊎◌, inl, inr, ℕ, zero, suc, ◌+◌, ◌-◌, ◌/◌, ◌<◌, ◌≤◌, true, false, Bool, Option, None, Some, List, [], ◌∷◌, ◌++◌, length, map, slice_index_or, refl, sym, ap, subst, ◌∙◌, arith}
-use Rattle.std.proofs.lemmas.Bool.{cases_Bool, cases_lt, false≢true, ne_eqb}
+use Rattle.std.proofs.Common.{◌≡◌, ◌⊎◌, inl, inr, ℕ, suc, ◌+◌, ◌/◌, ◌<◌, ◌≤◌, true, false, Option, None, Some, List, [], ◌∷◌, length, map, slice_index_or, sym, ap, subst, ◌∙◌, arith}
+use Rattle.std.proofs.lemmas.Bool.{cases_lt, false≢true, ne_eqb}
 use Rattle.std.proofs.lemmas.List.{get_or_past}
-use Rattle.rec_core.proofs.Common.{place_of, target_of, is_green, is_node, one, one_if_same, node_of, named, old_target, State, slot_at, times, Slot, Write, Sight, IsTaken, Contents, Entry, AllFit, Core, EndsRun, Fits, Idle, IsConfig, IsKept, Move, after_move, after_moves, buffer_at, nobody, sight, writes_in, births_in, dated_birth}
+use Rattle.rec_core.proofs.Common.{place_of, target_of, is_green, is_node, one, one_if_same, node_of, named, old_target, slot_at, Write, Contents, Entry, AllFit, Core, Fits, Idle, IsKept, Move, after_move, after_moves, buffer_at, nobody, sight, writes_in, births_in, dated_birth}
 use Rattle.std.specs.List.{sum_by}
 use Rattle.std.proofs.lemmas.List.Sums.{sum_by-cons}
 use Rattle.rec_log.specs.declared.entry.Entry.TheVariants as entries
 use Rattle.rec_model.specs.Reach.{is_in}
-use Rattle.rec_model.proofs.Members.{is_in-left, not_in-left}
+use Rattle.rec_model.proofs.Members.{not_in-left}
 use Rattle.rec_core.proofs.Moves.{home_of}
 use Rattle.rec_core.proofs.Common.{Private}
 use Rattle.rec_counts.proofs.Naming.{named-cons, named-nil}
-use Rattle.rec_collector.specs.Kept.{under_way}
 use Rattle.rec_collector.specs.Private as collectors
 use Rattle.rec_collector.proofs.Following.{none_released}
 use Rattle.rec_core.proofs.Batches.{same_name, same_word}
-use Rattle.rec_core.proofs.Dated.{Explains, end_explained, moves_explained}
-use Rattle.rec_core.proofs.Runs.{after_both, config_after, fit_first, move_kept, moves_kept, over_both, rule_of, turned_kept}
+use Rattle.rec_core.proofs.Runs.{config_after, move_kept, rule_of, turned_kept}
 use Rattle.rec_core.proofs.Steps.{taken_slot}
 use Rattle.rec_core.proofs.Turning.{turn_case}
 use Rattle.rec_core.proofs.Turns.{now_at}
 use Rattle.rec_prompt.specs.Cover.{IsPending, takes}
-use Rattle.rec_prompt.specs.Lost.{IsLost, Leads}
 use Rattle.rec_prompt.specs.Prompt.{freed_by, freed_in, freed_over}
 use Rattle.rec_prompt.proofs.Clears.{refused}
-use Rattle.rec_prompt.proofs.Counts.{AreClean, clean, led_to}
+use Rattle.rec_prompt.proofs.Counts.{AreClean, clean}
 use Rattle.rec_prompt.proofs.Forgets.{counted, Forgets, IsClean}
 use Rattle.rec_prompt.proofs.Found.{has_found, IsNear}
-use Rattle.rec_prompt.proofs.Hanging.{all_on_trails, leaders_count, Trails}
+use Rattle.rec_prompt.proofs.Hanging.{all_on_trails, Trails}
 use Rattle.rec_prompt.proofs.Heeding.{FoundIn, IsOwned}
-use Rattle.rec_prompt.proofs.Moves.{forgotten, lost_over, not_second}
+use Rattle.rec_prompt.proofs.Moves.{not_second}
 use Rattle.rec_prompt.proofs.Mutators.{begun_hides, Hides, hides_trails_too, step_hides}
 use Rattle.rec_prompt.proofs.Passed.{found_more, passed_rule}
-use Rattle.rec_prompt.proofs.Stays.{still_led, still_lost}
 use Rattle.rec_prompt.proofs.Turned.{IsWatched}
 use Rattle.rec_prompt.proofs.Watched.{move_refused, move_watched, moves_refused, offering_pends}
 
@@ -77,10 +73,10 @@ move_stands v Move.Offers kept always fits st = elim (move_watched v Move.Offers
 move_stands v Move.Turns kept always fits st = elim (move_watched v Move.Turns kept fits st.watched) [
   | inr more ↦ inr more
   | inl there ↦ elim (turn_case v (λ o u. IsKept true u → ((has_found u.collector.phase ≡ true → FoundIn (sight u) (IsPending u) u.collector.counts) × ((n x : ℕ) → is_in x (freed_by o) ≡ false → IsNear n v.collector x → IsNear n u.collector x)) ⊎ (refused v.collector.sets < refused u.collector.sets))
-        (λ none after. inl (st.found, λ n x unfreed near. near)) (λ op named after. passed_rule v op kept after st.watched always st.found (rule_of v op kept named)) (turned_kept v kept)) [
-      | inl both ↦ inl (record { watched = there; found = both.0 }, both.1)
-      | inr more ↦ inr more
-    ]
+      (λ none after. inl (st.found, λ n x unfreed near. near)) (λ op named after. passed_rule v op kept after st.watched always st.found (rule_of v op kept named)) (turned_kept v kept)) [
+        | inl both ↦ inl (record { watched = there; found = both.0 }, both.1)
+        | inr more ↦ inr more
+      ]
 ]
 
 -- some moves over which no set is refused
@@ -141,13 +137,13 @@ clean_unpended v slot kept c (IsPending.older early i some) = elim (cases_lt i (
 ]
 
 -- Between two collections, once the buffers are late enough, a lost slot that isn't Green is a member of a set.
-lost_found : (first : Core) (late : ℕ) (lost : ℕ → Type 0) (v : Core) → IsKept true v → v.collector.phase ≡ Idle → Forgets late first lost v → late + 1 ≤ counted v → FoundIn (sight v) (IsPending v) v.collector.counts → (slot : ℕ) → lost slot → is_green (slot_at v.collector.counts slot).colour ≡ false → IsOwned v.collector.counts slot
+pub lost_found : (first : Core) (late : ℕ) (lost : ℕ → Type 0) (v : Core) → IsKept true v → v.collector.phase ≡ Idle → Forgets late first lost v → late + 1 ≤ counted v → FoundIn (sight v) (IsPending v) v.collector.counts → (slot : ℕ) → lost slot → is_green (slot_at v.collector.counts slot).colour ≡ false → IsOwned v.collector.counts slot
 lost_found first late lost v kept idle f past found slot gone plain = elim (found slot (f.taken slot gone) plain) [
   | inl own ↦ own
   | inr trail ↦ absurd (all_on_trails (sight v) (λ y. IsPending v y ⊎ ((slot_at v.collector.counts y).released ≡ true)) (λ y. lost y → ⊥)
-        (λ y is gone_. elim is [ inl pending ↦ clean_unpended v y kept (clean late first lost v kept idle f past y gone_) pending | inr released ↦ false≢true (sym (unreleased y gone_) ∙ released) ])
-        (λ m y path (field, within, leads) gone_. path (subst lost (source m field within) (f.fields (place_of m field v.config.fields) y leads gone_)))
-        slot trail gone)
+      (λ y is gone_. elim is [ inl pending ↦ clean_unpended v y kept (clean late first lost v kept idle f past y gone_) pending | inr released ↦ false≢true (sym (unreleased y gone_) ∙ released) ])
+      (λ m y path (field, within, leads) gone_. path (subst lost (source m field within) (f.fields (place_of m field v.config.fields) y leads gone_)))
+      slot trail gone)
 ]
   where
     unreleased : (y : ℕ) → lost y → (slot_at v.collector.counts y).released ≡ false

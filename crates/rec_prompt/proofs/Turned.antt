@@ -141,9 +141,9 @@ module _ (v : Core) (kept : IsKept true v) (place : ℕ) (batched : has_batched 
       (λ a at more. (off v kept place batched apart c true).0)
       (λ a at last more. (off v kept place batched apart c true).0)
       (λ a at last none.
-          let s : State = taken_off true v.collector.counts (target_of found) in
-          let lists : Heeds s (frees.listed s) = heeds_alike s (frees.listed s) (λ x. refl) (λ x is. is) (λ x. omega arith) (λ x. omega arith) (λ x. omega arith) (λ x. omega arith) in
-          heeds_on (off v kept place batched apart c true).0 (heeds_on lists (heeds_zeros true (freed_listed (parts_of v.collector) found))))
+      let s : State = taken_off true v.collector.counts (target_of found) in
+      let lists : Heeds s (frees.listed s) = heeds_alike s (frees.listed s) (λ x. refl) (λ x is. is) (λ x. omega arith) (λ x. omega arith) (λ x. omega arith) (λ x. omega arith) in
+      heeds_on (off v kept place batched apart c true).0 (heeds_on lists (heeds_zeros true (freed_listed (parts_of v.collector) found))))
 
   pub released_covers : (m : releases.Machine) → IsSome m.at → Covers then (IsLate v) (with_released m (parts_of v.collector) found).parts.counts
   released_covers m busy = released_by (λ b. Covers then (IsLate v) b.parts.counts) m (parts_of v.collector) found busy

@@ -28,6 +28,15 @@ pub fn lost_slots_stay_lost()
     ensures counted { (w : Core) (moves : List Move) (slot : ℕ) → IsConfig w.config → EndsRun w → AllFit w moves → (after_moves w moves).collector.phase ≡ Idle → w.epoch + 2 ≤ (after_moves w moves).epoch → IsLeft w moves slot → (slot_at (after_moves w moves).collector.counts slot).count ≡ fields_to (sight (after_moves w moves)) slot }
 {}
 
+/// Every lost slot is freed by the end of the third collection, as long as no set is refused, garbage cycles too. Take any state of any run
+/// of a heap that makes a trial in each collection, in which no collection is under way, and any moves from there over which three
+/// collections become complete. If by their end no set of the run was refused, a turn among these moves frees each slot that held an object in
+/// that state and that no register reached there. From a state in which a collection is under way, four collections are enough.
+pub fn lost_slots_are_freed_while_no_set_is_refused()
+    ensures idle { (w : Core) (moves : List Move) (slot : ℕ) → IsConfig w.config → EndsRun w → w.config.policy.least_roots ≡ 0 → w.collector.phase ≡ Idle → AllFit w moves → refused_sets (after_moves w moves) ≡ 0 → Complete 3 w moves → IsLost (sight w) slot → IsFreed w moves slot }
+    ensures under_way { (w : Core) (moves : List Move) (slot : ℕ) → IsConfig w.config → EndsRun w → w.config.policy.least_roots ≡ 0 → AllFit w moves → refused_sets (after_moves w moves) ≡ 0 → Complete 4 w moves → IsLost (sight w) slot → IsFreed w moves slot }
+{}
+
 /// Nothing is forgotten, as long as no set is refused. A slot hangs on something that the collector still has to look at if it is pending
 /// or listed itself, or if fields lead to it from such a slot. It is pending while a batch to come takes something off it: by a log, by a
 /// mailbox or by one of the collector's buffers. It is listed while it is released, a zero, a Purple candidate root or a member of a set, or

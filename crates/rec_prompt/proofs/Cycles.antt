@@ -1,0 +1,189 @@
+-- The law of garbage cycles: where no set was refused, what is lost is freed by the end of the third collection.
+use Rattle.std.proofs.Common.{◌≡◌, ◌⊎◌, inl, inr, ℕ, ◌+◌, ◌-◌, ◌/◌, ◌%◌, ◌<◌, ◌≤◌, true, false, Some, List, [], ◌∷◌, ◌++◌, length, slice_index_or, refl, sym, ap, subst, ◌∙◌, arith}
+use Rattle.std.proofs.Math.Nat.{mod-lt, div-add-mod, mul_comm}
+use Rattle.std.proofs.lemmas.Bool.{cases_Bool, false≢true}
+use Rattle.rec_core.proofs.Common.{place_of, target_of, is_green, slot_at, IsTaken, Reaches, AllFit, Core, EndsRun, Idle, IsConfig, IsKept, IsStart, Move, after_move, after_moves, sight}
+use Rattle.rec_model.specs.Reach.{is_in}
+use Rattle.rec_model.proofs.Members.{is_in-left, not_in-left}
+use Rattle.rec_collector.specs.Kept.{under_way}
+use Rattle.rec_collector.proofs.Following.{none_released}
+use Rattle.rec_collector.proofs.Landing.{under_way_most}
+use Rattle.rec_core.specs.Bare.{bare_core}
+use Rattle.rec_core.specs.Core.{opened_from}
+use Rattle.rec_core.proofs.BareSeen.{reached_too}
+use Rattle.rec_core.proofs.Dated.{Explains, end_explained, moves_explained}
+use Rattle.rec_core.proofs.OpenedFromSeen.{seen_settled}
+use Rattle.rec_core.proofs.Runs.{after_both, config_after, fit_first, moves_kept, over_both}
+use Rattle.rec_core.proofs.Steps.{taken_slot}
+use Rattle.rec_core.proofs.Turns.{now_at}
+use Rattle.rec_prompt.specs.Cover.{IsPending, refused_sets}
+use Rattle.rec_prompt.specs.Lost.{IsLost, Leads}
+use Rattle.rec_prompt.specs.Prompt.{Complete, freed_in, freed_over, IsFreed}
+use Rattle.rec_prompt.proofs.Clears.{refused}
+use Rattle.rec_prompt.proofs.Counts.{led_to}
+use Rattle.rec_prompt.proofs.Forgets.{counted}
+use Rattle.rec_prompt.proofs.Found.{before_tests, has_found, IsNear}
+use Rattle.rec_prompt.proofs.Hanging.{all_on_trails, leaders_count, Trails}
+use Rattle.rec_prompt.proofs.Moves.{forgotten, lost_over, not_second}
+use Rattle.rec_prompt.proofs.Prompt.{comes_between, freed_behind, lost_behind}
+use Rattle.rec_prompt.proofs.Stays.{still_led, still_lost}
+use Rattle.rec_prompt.proofs.Third.{lost_found, moves_stand, Stands}
+use Rattle.rec_prompt.proofs.Watched.{moves_refused, opened_watched, reached_trails}
+
+-- the later ones of moves that fit
+fit_rest : (w : Core) (ms ns : List Move) → AllFit w (ms ++ ns) → AllFit (after_moves w ms) ns
+fit_rest w [] ns fit = fit
+fit_rest w (m ∷ ms) ns fit = fit_rest (after_move w m) ms ns fit.1
+
+-- Over moves from a state, with a state between two collections amid, two epochs on, and one more collection complete at their end.
+module _ (v : Core) (first rest : List Move) (kept : IsKept true v) (fit : AllFit v (first ++ rest)) (always : v.config.policy.least_roots ≡ 0) (st : Stands v)
+    (idle : (after_moves v first).collector.phase ≡ Idle) (past : v.epoch + 2 ≤ counted (after_moves v first)) (end_idle : (after_moves (after_moves v first) rest).collector.phase ≡ Idle)
+    (more : (after_moves v first).collector.collections < (after_moves (after_moves v first) rest).collector.collections) (few : refused (after_moves (after_moves v first) rest).collector.sets ≤ refused v.collector.sets) where
+  abbrev u : Core
+  u = after_moves v first
+
+  abbrev end : Core
+  end = after_moves u rest
+
+  fit_u : AllFit v first
+  fit_u = fit_first v first rest fit
+
+  fit_end : AllFit u rest
+  fit_end = fit_rest v first rest fit
+
+  kept_u : IsKept true u
+  kept_u = moves_kept v first kept fit_u
+
+  kept_end : IsKept true end
+  kept_end = moves_kept u rest kept_u fit_end
+
+  always_u : u.config.policy.least_roots ≡ 0
+  always_u = ap (λ k. k.policy.least_roots) (config_after v first) ∙ always
+
+  to_u : Stands u
+  to_u = (moves_stand v first kept always fit_u (omega (arith, few, moves_refused u rest kept_u fit_end)) st).0
+
+  to_end : (n x : ℕ) → is_in x (freed_over u rest) ≡ false → IsNear n u.collector x → IsNear n end.collector x
+  to_end = (moves_stand u rest kept_u always_u fit_end (omega (arith, few, moves_refused v first kept fit_u)) to_u).1
+
+  -- what isn't freed over all is freed over neither part
+  unfreed : (x : ℕ) → is_in x (freed_over v (first ++ rest)) ≡ false → (is_in x (freed_over v first) ≡ false) × (is_in x (freed_over u rest) ≡ false)
+  unfreed x none =
+      let both : is_in x (freed_over v first ++ freed_over u rest) ≡ false = ap (is_in x) (sym (over_both freed_in v first rest)) ∙ none in
+      (not_in-left x (freed_over v first) (freed_over u rest) both, not_second x (freed_over v first) (freed_over u rest) both)
+
+  -- a slot that is lost and isn't freed is taken at the end, and not released
+  unreleased : (x : ℕ) → is_in x (freed_over v (first ++ rest)) ≡ false → IsLost (sight v) x → (slot_at end.collector.counts x).released ≡ false
+  unreleased x none gone =
+      let parts = unfreed x none in
+      let lost_u : IsLost (sight u) x = still_lost v first kept fit_u x (gone, parts.0) in
+      let f = forgotten u rest kept_u fit_end in
+      let many : length end.collector.counts.slots ≡ end.config.slots = kept_end.collector.slots in
+      none_released (now_at end Idle kept_end end_idle).0 x (omega (arith, many, taken_slot end kept_end x (f.f.taken x (lost_u, parts.1))))
+
+  -- one that isn't Green amid them is freed
+  plain_freed : (x : ℕ) → is_in x (freed_over v (first ++ rest)) ≡ false → IsLost (sight v) x → is_green (slot_at u.collector.counts x).colour ≡ false → ⊥
+  plain_freed x none gone plain =
+      let parts = unfreed x none in
+      let f = forgotten v first kept fit_u in
+      let own = lost_found v (v.epoch + 1) (lost_over v first) u kept_u idle f.f (omega (arith, past)) (to_u.found (ap has_found idle)) x (gone, parts.0) plain in
+      elim (to_end u.collector.collections x parts.1 (inl (ap before_tests idle, refl, own))) [
+        | inl near ↦ omega (arith, near.1, more)
+        | inr released ↦ false≢true (sym (unreleased x none gone) ∙ released)
+      ]
+
+  -- so is a Green one, since nothing that isn't Green leads to it any more
+  pub all_freed : (x : ℕ) → is_in x (freed_over v (first ++ rest)) ≡ false → IsLost (sight v) x → ⊥
+  all_freed x none gone = elim (cases_Bool (is_green (slot_at u.collector.counts x).colour)) [
+    | inr plain ↦ plain_freed x none gone plain
+    | inl green ↦
+        let parts = unfreed x none in
+        let lost_u : lost_over u rest x = (still_lost v first kept fit_u x (gone, parts.0), parts.1) in
+        let f = forgotten v (first ++ rest) kept fit in
+        let same : after_moves v (first ++ rest) ≡ end = after_both v first rest in
+        let (place, leads) = led_to (v.epoch + 1) v (lost_over v (first ++ rest)) (after_moves v (first ++ rest)) f.kept_then (ap (λ (k : Core). k.collector.phase) same ∙ end_idle) f.f
+        (omega (arith, past, more, ap counted same, ap (λ (k : Core). k.config.first_epoch) same, ap (λ k. k.first_epoch) (config_after u rest))) x (gone, none) in
+        let fields : ℕ = v.config.fields in
+        let width : (after_moves v (first ++ rest)).config.fields ≡ fields = ap (λ k. k.fields) (config_after v (first ++ rest)) in
+        let from : ℕ = place / fields in
+        let lost_from : lost_over v (first ++ rest) from = subst (λ n. lost_over v (first ++ rest) (place / n)) width (f.f.fields place x leads (gone, none)) in
+        let here : place_of from (place % fields) fields ≡ place = ap (λ k. k + place % fields) (mul_comm from fields) ∙ div-add-mod place fields in
+        let wide : end.config.fields ≡ fields = ap (λ k. k.fields) (config_after u rest ∙ config_after v first) in
+        let leads_end : Leads (sight end) from x = (place % fields, subst (λ n. place % fields < n) (sym wide) (mod-lt place kept.config.some_fields), subst (λ (k : Core). target_of (slice_index_or k.words (place_of from (place % fields) end.config.fields) 0) ≡ Some x) same (ap (λ n. target_of (slice_index_or (after_moves v (first ++ rest)).words n 0)) (ap (place_of from (place % fields)) wide ∙ here) ∙ leads)) in
+        let at_u = still_led u rest kept_u fit_end from x lost_u leads_end in
+        plain_freed from lost_from.1 lost_from.0 (leaders_count u kept_u from x at_u.1).1
+  ]
+
+-- ---- the heap itself
+
+-- a heap as it is opened stands so
+opened_stands : {start : Core} (v : Core) → IsConfig start.config → IsStart start → Explains v start → Stands v
+opened_stands {start} v its (o, are, labels, opens) e = record {
+  watched = opened_watched v e.kept idle reached;
+  found = λ found slot taken plain. inr (all_on_trails (sight v) (IsPending v) (Trails (sight v) (λ y. IsPending v y ⊎ ((slot_at v.collector.counts y).released ≡ true))) (λ y pending. Trails.first (inl pending)) (λ m n path leads. Trails.along path leads) slot (reached_trails v e.kept slot (reached slot taken)));
+}
+  where
+    is : bare_core v ≡ opened_from start.config o
+    is = e.bare ∙ opens
+
+    idle : v.collector.phase ≡ Idle
+    idle = ap (λ (x : Core). x.collector.phase) is
+
+    reached : (slot : ℕ) → IsTaken (sight v) slot → Reaches (sight v) slot
+    reached slot taken =
+        let there : IsTaken (sight (opened_from start.config o)) slot = subst (λ (x : Core). IsTaken (sight x) slot) is taken in
+        reached_too v slot (subst (λ (x : Core). Reaches (sight x) slot) (sym is) (((seen_settled start.config o its are labels).collected slot).0 there))
+
+-- behind a heap in which no set was refused stands one that does
+stands_behind : (w : Core) → IsConfig w.config → EndsRun w → refused_sets w ≡ 0 → w.config.policy.least_roots ≡ 0 → (v : Core) × Explains v w × Stands v
+stands_behind w config (start, moves, run) none always =
+    let same : w.config ≡ start.config = ap (λ (x : Core). x.config) (sym run.ends) ∙ config_after start moves in
+    let its : IsConfig start.config = subst IsConfig same config in
+    let (v, e) = end_explained start its (start, [], record { starts = run.starts; fit = tt; ends = refl }) in
+    let all = moves_explained v start moves e run.fit in
+    let least : v.config.policy.least_roots ≡ 0 = ap (λ (x : Core). x.config.policy.least_roots) e.bare ∙ ap (λ k. k.policy.least_roots) (sym same) ∙ always in
+    let few : refused (after_moves v moves).collector.sets ≤ refused v.collector.sets = omega (arith, none, ap refused_sets run.ends, ap refused_sets all.1.bare) in
+    (after_moves v moves, subst (Explains (after_moves v moves)) run.ends all.1, (moves_stand v moves e.kept least all.0 few (opened_stands v its run.starts e)).0)
+
+-- from a state, over moves that come to one where so many collections are complete
+freed_by_third : (w : Core) (ms : List Move) (slot more : ℕ) → IsConfig w.config → EndsRun w → w.config.policy.least_roots ≡ 0 → AllFit w ms → refused_sets (after_moves w ms) ≡ 0 → under_way w.collector.phase + 3 ≤ more → w.collector.collections + more ≤ (after_moves w ms).collector.collections → IsLost (sight w) slot → IsFreed w ms slot
+freed_by_third w ms slot more config run always fit none enough complete gone =
+    let at = comes_between w ms (w.collector.collections + more) config run fit (omega (arith, enough)) complete in
+    let fits : AllFit w (at.first ++ at.second) = subst (AllFit w) (sym at.both) fit in
+    let fit_first_ : AllFit w at.first = fit_first w at.first at.second fits in
+    let amid = comes_between w at.first (w.collector.collections + (more - 1)) config run fit_first_ (omega (arith, enough)) (omega (arith, at.complete, enough)) in
+    let parts : AllFit w (amid.first ++ amid.second) = subst (AllFit w) (sym amid.both) fit_first_ in
+    let (v_, e_) = end_explained w config run in
+    let none_w : refused_sets w ≡ 0 = (let all_ = moves_explained v_ w ms e_ fit in omega (arith, none, ap refused_sets e_.bare, ap refused_sets all_.1.bare, moves_refused v_ ms e_.kept all_.0)) in
+    let (v, e, st) = stands_behind w config run none_w always in
+    let both = moves_explained v w (amid.first ++ amid.second) e parts in
+    let first = moves_explained v w amid.first e (fit_first w amid.first amid.second parts) in
+    let u : Core = after_moves v amid.first in
+    let end_is : after_moves v (amid.first ++ amid.second) ≡ after_moves u amid.second = after_both v amid.first amid.second in
+    let end_bare : bare_core (after_moves u amid.second) ≡ after_moves w at.first = ap bare_core (sym end_is) ∙ both.1.bare ∙ ap (after_moves w) amid.both in
+    let last : after_moves w ms ≡ after_moves (after_moves w at.first) at.second = ap (after_moves w) (sym at.both) ∙ after_both w at.first at.second in
+    let few : refused (after_moves u amid.second).collector.sets ≤ refused v.collector.sets = (
+    let whole = moves_explained v w (at.first ++ at.second) e fits in
+    let kept_end : IsKept true (after_moves v at.first) = moves_kept v at.first e.kept (fit_first v at.first at.second whole.0) in
+    let same_end : after_moves v at.first ≡ after_moves u amid.second = ap (after_moves v) (sym amid.both) ∙ end_is in
+    omega (arith, none, ap refused_sets last, ap refused_sets (after_both w at.first at.second), ap refused_sets (after_both v at.first at.second), ap refused_sets whole.1.bare, ap refused_sets same_end, moves_refused (after_moves v at.first) at.second kept_end (fit_rest v at.first at.second whole.0))) in
+    let begun : v.config.first_epoch + v.collector.collections + under_way v.collector.phase ≡ v.epoch = e.kept.collector.begun in
+    let way : under_way v.collector.phase ≡ under_way w.collector.phase = ap (λ (x : Core). under_way x.collector.phase) e.bare in
+    let before : v.collector.collections ≡ w.collector.collections = ap (λ (x : Core). x.collector.collections) e.bare in
+    let amid_many : u.collector.collections ≡ w.collector.collections + (more - 1) = ap (λ (x : Core). x.collector.collections) first.1.bare ∙ amid.complete in
+    let end_many : (after_moves u amid.second).collector.collections ≡ w.collector.collections + more = ap (λ (x : Core). x.collector.collections) end_bare ∙ at.complete in
+    let same_first : u.config.first_epoch ≡ v.config.first_epoch = ap (λ k. k.first_epoch) (config_after v amid.first) in
+    let lost : IsLost (sight v) slot = lost_behind v slot (subst (λ (x : Core). IsLost (sight x) slot) (sym e.bare) gone) in
+    let freed : is_in slot (freed_over v (amid.first ++ amid.second)) ≡ true = elim (cases_Bool (is_in slot (freed_over v (amid.first ++ amid.second)))) [
+      | inl freed_ ↦ freed_
+      | inr unfreed_ ↦ absurd (all_freed v amid.first amid.second e.kept both.0 (ap (λ (x : Core). x.config.policy.least_roots) e.bare ∙ always) st
+          (ap (λ (x : Core). x.collector.phase) first.1.bare ∙ amid.idle) (omega (arith, begun, way, before, amid_many, same_first, enough)) (ap (λ (x : Core). x.collector.phase) end_bare ∙ at.idle) (omega (arith, amid_many, end_many, enough)) few slot unfreed_ lost)
+    ] in
+    let there : is_in slot (freed_over w at.first) ≡ true = ap (λ (xs : List Move). is_in slot (freed_over w xs)) (sym amid.both) ∙ ap (is_in slot) (freed_behind v w (amid.first ++ amid.second) e parts) ∙ freed in
+    subst (λ (xs : List Move). is_in slot (freed_over w xs) ≡ true) at.both (ap (is_in slot) (over_both freed_in w at.first at.second) ∙ is_in-left slot (freed_over w at.first) (freed_over (after_moves w at.first) at.second) there)
+
+pub cycles_idle : (w : Core) (ms : List Move) (slot : ℕ) → IsConfig w.config → EndsRun w → w.config.policy.least_roots ≡ 0 → w.collector.phase ≡ Idle → AllFit w ms → refused_sets (after_moves w ms) ≡ 0 → Complete 3 w ms → IsLost (sight w) slot → IsFreed w ms slot
+cycles_idle w ms slot config run always idle fit none complete gone = freed_by_third w ms slot 3 config run always fit none (omega (arith, ap under_way idle)) complete gone
+
+pub cycles_under_way : (w : Core) (ms : List Move) (slot : ℕ) → IsConfig w.config → EndsRun w → w.config.policy.least_roots ≡ 0 → AllFit w ms → refused_sets (after_moves w ms) ≡ 0 → Complete 4 w ms → IsLost (sight w) slot → IsFreed w ms slot
+cycles_under_way w ms slot config run always fit none complete gone = freed_by_third w ms slot 4 config run always fit none (omega (arith, under_way_most w.collector.phase)) complete gone
