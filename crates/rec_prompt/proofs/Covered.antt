@@ -72,7 +72,7 @@ covered_from v c slot taken plain = hangs_from v slot (c slot taken plain)
 covered_here : (v w : Core) → Explains v w → IsCovered v → IsCovered w
 covered_here v w e c = subst IsCovered e.bare (covered_to v c)
 
-covered_behind : (v w : Core) → Explains v w → IsCovered w → IsCovered v
+pub covered_behind : (v w : Core) → Explains v w → IsCovered w → IsCovered v
 covered_behind v w e c = covered_from v (subst IsCovered (sym e.bare) c)
 
 -- Mutators hide nothing.

@@ -2,7 +2,7 @@
 use Rattle.std.proofs.Common.{◌≡◌, ◌⊎◌, inl, inr, ℕ, ◌+◌, ◌-◌, ◌/◌, ◌%◌, ◌<◌, ◌≤◌, true, false, Some, List, [], ◌∷◌, ◌++◌, length, slice_index_or, refl, sym, ap, subst, ◌∙◌, arith}
 use Rattle.std.proofs.Math.Nat.{mod-lt, div-add-mod, mul_comm}
 use Rattle.std.proofs.lemmas.Bool.{cases_Bool, false≢true}
-use Rattle.rec_core.proofs.Common.{place_of, target_of, is_green, slot_at, IsTaken, Reaches, AllFit, Core, EndsRun, Idle, IsConfig, IsKept, IsStart, Move, after_move, after_moves, sight}
+use Rattle.rec_core.proofs.Common.{place_of, target_of, is_green, slot_at, IsTaken, Reaches, AllFit, Core, EndsRun, Idle, IsConfig, IsKept, IsStart, Move, Trying, after_move, after_moves, sight}
 use Rattle.rec_model.specs.Reach.{is_in}
 use Rattle.rec_model.proofs.Members.{is_in-left, not_in-left}
 use Rattle.rec_collector.specs.Kept.{under_way}
@@ -16,12 +16,15 @@ use Rattle.rec_core.proofs.OpenedFromSeen.{seen_settled}
 use Rattle.rec_core.proofs.Runs.{after_both, config_after, fit_first, moves_kept, over_both}
 use Rattle.rec_core.proofs.Steps.{taken_slot}
 use Rattle.rec_core.proofs.Turns.{now_at}
-use Rattle.rec_prompt.specs.Cover.{IsPending, refused_sets}
+use Rattle.rec_prompt.specs.Cover.{IsCovered, IsPending, refused_sets}
 use Rattle.rec_prompt.specs.Lost.{IsLost, Leads}
 use Rattle.rec_prompt.specs.Prompt.{Complete, freed_in, freed_over, IsFreed}
 use Rattle.rec_prompt.proofs.Clears.{refused}
 use Rattle.rec_prompt.proofs.Counts.{led_to}
 use Rattle.rec_prompt.proofs.Forgets.{counted}
+use Rattle.rec_prompt.proofs.Turned.{IsWatched}
+use Rattle.rec_prompt.proofs.Covered.{covered_behind, run_covers}
+use Rattle.rec_prompt.proofs.Heeding.{FoundIn}
 use Rattle.rec_prompt.proofs.Found.{before_tests, has_found, IsNear}
 use Rattle.rec_prompt.proofs.Hanging.{all_on_trails, leaders_count, Trails}
 use Rattle.rec_prompt.proofs.Moves.{forgotten, lost_over, not_second}
@@ -36,7 +39,7 @@ fit_rest w [] ns fit = fit
 fit_rest w (m ∷ ms) ns fit = fit_rest (after_move w m) ms ns fit.1
 
 -- Over moves from a state, with a state between two collections amid, two epochs on, and one more collection complete at their end.
-module _ (v : Core) (first rest : List Move) (kept : IsKept true v) (fit : AllFit v (first ++ rest)) (always : v.config.policy.least_roots ≡ 0) (st : Stands v)
+module _ (v : Core) (first rest : List Move) (kept : IsKept true v) (fit : AllFit v (first ++ rest)) (always : v.config.policy.least_roots ≡ 0) (since : ℕ) (st : Stands since v) (later : since < (after_moves v first).collector.collections)
     (idle : (after_moves v first).collector.phase ≡ Idle) (past : v.epoch + 2 ≤ counted (after_moves v first)) (end_idle : (after_moves (after_moves v first) rest).collector.phase ≡ Idle)
     (more : (after_moves v first).collector.collections < (after_moves (after_moves v first) rest).collector.collections) (few : refused (after_moves (after_moves v first) rest).collector.sets ≤ refused v.collector.sets) where
   abbrev u : Core
@@ -60,11 +63,11 @@ module _ (v : Core) (first rest : List Move) (kept : IsKept true v) (fit : AllFi
   always_u : u.config.policy.least_roots ≡ 0
   always_u = ap (λ k. k.policy.least_roots) (config_after v first) ∙ always
 
-  to_u : Stands u
-  to_u = (moves_stand v first kept always fit_u (omega (arith, few, moves_refused u rest kept_u fit_end)) st).0
+  to_u : Stands since u
+  to_u = (moves_stand since v first kept always fit_u (omega (arith, few, moves_refused u rest kept_u fit_end)) st).0
 
   to_end : (n x : ℕ) → is_in x (freed_over u rest) ≡ false → IsNear n u.collector x → IsNear n end.collector x
-  to_end = (moves_stand u rest kept_u always_u fit_end (omega (arith, few, moves_refused v first kept fit_u)) to_u).1
+  to_end = (moves_stand since u rest kept_u always_u fit_end (omega (arith, few, moves_refused v first kept fit_u)) to_u).1
 
   -- what isn't freed over all is freed over neither part
   unfreed : (x : ℕ) → is_in x (freed_over v (first ++ rest)) ≡ false → (is_in x (freed_over v first) ≡ false) × (is_in x (freed_over u rest) ≡ false)
@@ -81,12 +84,15 @@ module _ (v : Core) (first rest : List Move) (kept : IsKept true v) (fit : AllFi
       let many : length end.collector.counts.slots ≡ end.config.slots = kept_end.collector.slots in
       none_released (now_at end Idle kept_end end_idle).0 x (omega (arith, many, taken_slot end kept_end x (f.f.taken x (lost_u, parts.1))))
 
+  found_u : FoundIn (sight u) (IsPending u) u.collector.counts
+  found_u = elim (to_u.found (ap has_found idle)) [ inl soon ↦ absurd (omega (arith, soon.1, later)) | inr was ↦ was ]
+
   -- one that isn't Green amid them is freed
   plain_freed : (x : ℕ) → is_in x (freed_over v (first ++ rest)) ≡ false → IsLost (sight v) x → is_green (slot_at u.collector.counts x).colour ≡ false → ⊥
   plain_freed x none gone plain =
       let parts = unfreed x none in
       let f = forgotten v first kept fit_u in
-      let own = lost_found v (v.epoch + 1) (lost_over v first) u kept_u idle f.f (omega (arith, past)) (to_u.found (ap has_found idle)) x (gone, parts.0) plain in
+      let own = lost_found v (v.epoch + 1) (lost_over v first) u kept_u idle f.f (omega (arith, past)) found_u x (gone, parts.0) plain in
       elim (to_end u.collector.collections x parts.1 (inl (ap before_tests idle, refl, own))) [
         | inl near ↦ omega (arith, near.1, more)
         | inr released ↦ false≢true (sym (unreleased x none gone) ∙ released)
@@ -117,10 +123,10 @@ module _ (v : Core) (first rest : List Move) (kept : IsKept true v) (fit : AllFi
 -- ---- the heap itself
 
 -- a heap as it is opened stands so
-opened_stands : {start : Core} (v : Core) → IsConfig start.config → IsStart start → Explains v start → Stands v
-opened_stands {start} v its (o, are, labels, opens) e = record {
+opened_stands : {start : Core} (since : ℕ) (v : Core) → IsConfig start.config → IsStart start → Explains v start → Stands since v
+opened_stands {start} since v its (o, are, labels, opens) e = record {
   watched = opened_watched v e.kept idle reached;
-  found = λ found slot taken plain. inr (all_on_trails (sight v) (IsPending v) (Trails (sight v) (λ y. IsPending v y ⊎ ((slot_at v.collector.counts y).released ≡ true))) (λ y pending. Trails.first (inl pending)) (λ m n path leads. Trails.along path leads) slot (reached_trails v e.kept slot (reached slot taken)));
+  found = λ found. inr (λ slot taken plain. inr (all_on_trails (sight v) (IsPending v) (Trails (sight v) (λ y. IsPending v y ⊎ ((slot_at v.collector.counts y).released ≡ true))) (λ y pending. Trails.first (inl pending)) (λ m n path leads. Trails.along path leads) slot (reached_trails v e.kept slot (reached slot taken))));
 }
   where
     is : bare_core v ≡ opened_from start.config o
@@ -135,7 +141,7 @@ opened_stands {start} v its (o, are, labels, opens) e = record {
         reached_too v slot (subst (λ (x : Core). Reaches (sight x) slot) (sym is) (((seen_settled start.config o its are labels).collected slot).0 there))
 
 -- behind a heap in which no set was refused stands one that does
-stands_behind : (w : Core) → IsConfig w.config → EndsRun w → refused_sets w ≡ 0 → w.config.policy.least_roots ≡ 0 → (v : Core) × Explains v w × Stands v
+stands_behind : (w : Core) → IsConfig w.config → EndsRun w → refused_sets w ≡ 0 → w.config.policy.least_roots ≡ 0 → (v : Core) × Explains v w × Stands w.collector.collections v
 stands_behind w config (start, moves, run) none always =
     let same : w.config ≡ start.config = ap (λ (x : Core). x.config) (sym run.ends) ∙ config_after start moves in
     let its : IsConfig start.config = subst IsConfig same config in
@@ -143,19 +149,16 @@ stands_behind w config (start, moves, run) none always =
     let all = moves_explained v start moves e run.fit in
     let least : v.config.policy.least_roots ≡ 0 = ap (λ (x : Core). x.config.policy.least_roots) e.bare ∙ ap (λ k. k.policy.least_roots) (sym same) ∙ always in
     let few : refused (after_moves v moves).collector.sets ≤ refused v.collector.sets = omega (arith, none, ap refused_sets run.ends, ap refused_sets all.1.bare) in
-    (after_moves v moves, subst (Explains (after_moves v moves)) run.ends all.1, (moves_stand v moves e.kept least all.0 few (opened_stands v its run.starts e)).0)
+    (after_moves v moves, subst (Explains (after_moves v moves)) run.ends all.1, (moves_stand w.collector.collections v moves e.kept least all.0 few (opened_stands w.collector.collections v its run.starts e)).0)
 
 -- from a state, over moves that come to one where so many collections are complete
-freed_by_third : (w : Core) (ms : List Move) (slot more : ℕ) → IsConfig w.config → EndsRun w → w.config.policy.least_roots ≡ 0 → AllFit w ms → refused_sets (after_moves w ms) ≡ 0 → under_way w.collector.phase + 3 ≤ more → w.collector.collections + more ≤ (after_moves w ms).collector.collections → IsLost (sight w) slot → IsFreed w ms slot
-freed_by_third w ms slot more config run always fit none enough complete gone =
+freed_by_third : (w : Core) (ms : List Move) (slot more : ℕ) → IsConfig w.config → EndsRun w → (v : Core) → Explains v w → Stands w.collector.collections v → w.config.policy.least_roots ≡ 0 → AllFit w ms → refused_sets (after_moves w ms) ≡ refused_sets w → under_way w.collector.phase + 3 ≤ more → w.collector.collections + more ≤ (after_moves w ms).collector.collections → IsLost (sight w) slot → IsFreed w ms slot
+freed_by_third w ms slot more config run v e st always fit none enough complete gone =
     let at = comes_between w ms (w.collector.collections + more) config run fit (omega (arith, enough)) complete in
     let fits : AllFit w (at.first ++ at.second) = subst (AllFit w) (sym at.both) fit in
     let fit_first_ : AllFit w at.first = fit_first w at.first at.second fits in
     let amid = comes_between w at.first (w.collector.collections + (more - 1)) config run fit_first_ (omega (arith, enough)) (omega (arith, at.complete, enough)) in
     let parts : AllFit w (amid.first ++ amid.second) = subst (AllFit w) (sym amid.both) fit_first_ in
-    let (v_, e_) = end_explained w config run in
-    let none_w : refused_sets w ≡ 0 = (let all_ = moves_explained v_ w ms e_ fit in omega (arith, none, ap refused_sets e_.bare, ap refused_sets all_.1.bare, moves_refused v_ ms e_.kept all_.0)) in
-    let (v, e, st) = stands_behind w config run none_w always in
     let both = moves_explained v w (amid.first ++ amid.second) e parts in
     let first = moves_explained v w amid.first e (fit_first w amid.first amid.second parts) in
     let u : Core = after_moves v amid.first in
@@ -166,7 +169,7 @@ freed_by_third w ms slot more config run always fit none enough complete gone =
     let whole = moves_explained v w (at.first ++ at.second) e fits in
     let kept_end : IsKept true (after_moves v at.first) = moves_kept v at.first e.kept (fit_first v at.first at.second whole.0) in
     let same_end : after_moves v at.first ≡ after_moves u amid.second = ap (after_moves v) (sym amid.both) ∙ end_is in
-    omega (arith, none, ap refused_sets last, ap refused_sets (after_both w at.first at.second), ap refused_sets (after_both v at.first at.second), ap refused_sets whole.1.bare, ap refused_sets same_end, moves_refused (after_moves v at.first) at.second kept_end (fit_rest v at.first at.second whole.0))) in
+    omega (arith, none, ap refused_sets e.bare, ap refused_sets last, ap refused_sets (after_both w at.first at.second), ap refused_sets (after_both v at.first at.second), ap refused_sets whole.1.bare, ap refused_sets same_end, moves_refused (after_moves v at.first) at.second kept_end (fit_rest v at.first at.second whole.0))) in
     let begun : v.config.first_epoch + v.collector.collections + under_way v.collector.phase ≡ v.epoch = e.kept.collector.begun in
     let way : under_way v.collector.phase ≡ under_way w.collector.phase = ap (λ (x : Core). under_way x.collector.phase) e.bare in
     let before : v.collector.collections ≡ w.collector.collections = ap (λ (x : Core). x.collector.collections) e.bare in
@@ -176,14 +179,34 @@ freed_by_third w ms slot more config run always fit none enough complete gone =
     let lost : IsLost (sight v) slot = lost_behind v slot (subst (λ (x : Core). IsLost (sight x) slot) (sym e.bare) gone) in
     let freed : is_in slot (freed_over v (amid.first ++ amid.second)) ≡ true = elim (cases_Bool (is_in slot (freed_over v (amid.first ++ amid.second)))) [
       | inl freed_ ↦ freed_
-      | inr unfreed_ ↦ absurd (all_freed v amid.first amid.second e.kept both.0 (ap (λ (x : Core). x.config.policy.least_roots) e.bare ∙ always) st
+      | inr unfreed_ ↦ absurd (all_freed v amid.first amid.second e.kept both.0 (ap (λ (x : Core). x.config.policy.least_roots) e.bare ∙ always) w.collector.collections st (omega (arith, amid_many, enough))
           (ap (λ (x : Core). x.collector.phase) first.1.bare ∙ amid.idle) (omega (arith, begun, way, before, amid_many, same_first, enough)) (ap (λ (x : Core). x.collector.phase) end_bare ∙ at.idle) (omega (arith, amid_many, end_many, enough)) few slot unfreed_ lost)
     ] in
     let there : is_in slot (freed_over w at.first) ≡ true = ap (λ (xs : List Move). is_in slot (freed_over w xs)) (sym amid.both) ∙ ap (is_in slot) (freed_behind v w (amid.first ++ amid.second) e parts) ∙ freed in
     subst (λ (xs : List Move). is_in slot (freed_over w xs) ≡ true) at.both (ap (is_in slot) (over_both freed_in w at.first at.second) ∙ is_in-left slot (freed_over w at.first) (freed_over (after_moves w at.first) at.second) there)
 
-pub cycles_idle : (w : Core) (ms : List Move) (slot : ℕ) → IsConfig w.config → EndsRun w → w.config.policy.least_roots ≡ 0 → w.collector.phase ≡ Idle → AllFit w ms → refused_sets (after_moves w ms) ≡ 0 → Complete 3 w ms → IsLost (sight w) slot → IsFreed w ms slot
-cycles_idle w ms slot config run always idle fit none complete gone = freed_by_third w ms slot 3 config run always fit none (omega (arith, ap under_way idle)) complete gone
+-- no set was refused before moves by whose end none was
+none_before : (w : Core) (ms : List Move) → IsConfig w.config → EndsRun w → AllFit w ms → refused_sets (after_moves w ms) ≡ 0 → refused_sets w ≡ 0
+none_before w ms config run fit none =
+    let (v, e) = end_explained w config run in
+    let all = moves_explained v w ms e fit in
+    omega (arith, none, ap refused_sets e.bare, ap refused_sets all.1.bare, moves_refused v ms e.kept all.0)
+
+pub cycles_idle : (w : Core) (ms : List Move) (slot : ℕ) → IsConfig w.config → EndsRun w → w.config.policy.least_roots ≡ 0 → w.collector.phase ≡ Idle → AllFit w ms → IsCovered w → refused_sets (after_moves w ms) ≡ refused_sets w → Complete 3 w ms → IsLost (sight w) slot → IsFreed w ms slot
+cycles_idle w ms slot config run always idle fit cover none complete gone =
+    let (v, e) = end_explained w config run in
+    let at : v.collector.phase ≡ Idle = ap (λ (x : Core). x.collector.phase) e.bare ∙ idle in
+    let watched : IsWatched v = record { covers = covered_behind v w e cover; follows = λ m trying. (let n : Idle ≡ Trying m = sym at ∙ trying in absurd (cc)) } in
+    let st : Stands w.collector.collections v = record { watched = watched; found = λ found. inl (ap before_tests at, ap (λ (x : Core). x.collector.collections) e.bare) } in
+    freed_by_third w ms slot 3 config run v e st always fit none (omega (arith, ap under_way idle)) complete gone
 
 pub cycles_under_way : (w : Core) (ms : List Move) (slot : ℕ) → IsConfig w.config → EndsRun w → w.config.policy.least_roots ≡ 0 → AllFit w ms → refused_sets (after_moves w ms) ≡ 0 → Complete 4 w ms → IsLost (sight w) slot → IsFreed w ms slot
-cycles_under_way w ms slot config run always fit none complete gone = freed_by_third w ms slot 4 config run always fit none (omega (arith, under_way_most w.collector.phase)) complete gone
+cycles_under_way w ms slot config run always fit none complete gone =
+    let none_w : refused_sets w ≡ 0 = none_before w ms config run fit none in
+    let (v, e, st) = stands_behind w config run none_w always in
+    freed_by_third w ms slot 4 config run v e st always fit (none ∙ sym none_w) (omega (arith, under_way_most w.collector.phase)) complete gone
+
+pub cycles_run : (w : Core) (ms : List Move) (slot : ℕ) → IsConfig w.config → EndsRun w → w.config.policy.least_roots ≡ 0 → w.collector.phase ≡ Idle → AllFit w ms → refused_sets (after_moves w ms) ≡ 0 → Complete 3 w ms → IsLost (sight w) slot → IsFreed w ms slot
+cycles_run w ms slot config run always idle fit none complete gone =
+    let none_w : refused_sets w ≡ 0 = none_before w ms config run fit none in
+    cycles_idle w ms slot config run always idle fit (run_covers w config run none_w) (none ∙ sym none_w) complete gone

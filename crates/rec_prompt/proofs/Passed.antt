@@ -49,7 +49,11 @@ found_more w before after s more f slot taken plain = elim (f slot taken plain) 
   | inr trail ↦ inr (all_on_trails w (λ y. before y ⊎ ((slot_at s y).released ≡ true)) (Trails w (λ y. after y ⊎ ((slot_at s y).released ≡ true))) (λ y is. Trails.first (elim is [ inl p ↦ inl (more y p) | inr gone ↦ inr gone ])) (λ m n path leads. Trails.along path leads) slot trail)
 ]
 
-module _ (v : Core) (op : Op) (kept : IsKept true v) (after : IsKept true (turned_by v op (cell (cells_of v) op))) (i : IsWatched v) (always : v.config.policy.least_roots ≡ 0) (f : has_found v.collector.phase ≡ true → FoundIn (sight v) (IsPending v) v.collector.counts) where
+-- before the tests of the collection after so many, whose trial isn't made yet
+abbrev pub IsSoon : (since : ℕ) → collectors.Private → Type 0
+IsSoon since p = (before_tests p.phase ≡ true) × (p.collections ≡ since)
+
+module _ (v : Core) (op : Op) (kept : IsKept true v) (after : IsKept true (turned_by v op (cell (cells_of v) op))) (i : IsWatched v) (always : v.config.policy.least_roots ≡ 0) (since : ℕ) (f : has_found v.collector.phase ≡ true → IsSoon since v.collector ⊎ FoundIn (sight v) (IsPending v) v.collector.counts) where
   open v use {collector as c}
 
   abbrev its_word : ℕ
@@ -65,7 +69,7 @@ module _ (v : Core) (op : Op) (kept : IsKept true v) (after : IsKept true (turne
   u = turned_by v op its_word
 
   abbrev IsFoundNext : Type 0
-  IsFoundNext = has_found q.phase ≡ true → FoundIn (sight u) (IsPending u) q.counts
+  IsFoundNext = has_found q.phase ≡ true → IsSoon since q ⊎ FoundIn (sight u) (IsPending u) q.counts
 
   abbrev StaysNear : Type 0
   StaysNear = (n x : ℕ) → is_in x (freed_by (Some op)) ≡ false → IsNear n c x → IsNear n q x
@@ -82,10 +86,17 @@ module _ (v : Core) (op : Op) (kept : IsKept true v) (after : IsKept true (turne
   near_same on same n x unfreed (inl (early, many, own)) = let next = on early in inl (next.0, next.1 ∙ many, subst (λ (s : State). IsOwned s x) (sym same) own)
   near_same on same n x unfreed (inr gone) = inr (ap (λ (s : State). (slot_at s x).released) same ∙ gone)
 
+  -- past the tests it is found
+  was_found : before_tests c.phase ≡ false → has_found c.phase ≡ true → FoundIn (sight v) (IsPending v) c.counts
+  was_found late found = elim (f found) [ inl soon ↦ absurd (false≢true (sym late ∙ soon.0)) | inr was ↦ was ]
+
   -- of a gathering
   gathers : (phase : Phase) → c.phase ≡ phase → has_found phase ≡ true → before_tests q.phase ≡ true → q.collections ≡ c.collections → q.counts ≡ c.counts → u.words ≡ v.words → u.headers ≡ v.headers → ((x : ℕ) → IsPending v x → IsPending u x) → IsPassed
   gathers phase at found early many same words headers more = inl (
-    λ next. subst (FoundIn (sight u) (IsPending u)) (sym same) (found_to v.words (IsPending v) c.counts words headers more (f (ap has_found at ∙ found))),
+    λ next. elim (f (ap has_found at ∙ found)) [
+      | inl soon ↦ inl (early, many ∙ soon.1)
+      | inr was ↦ inr (subst (FoundIn (sight u) (IsPending u)) (sym same) (found_to v.words (IsPending v) c.counts words headers more was))
+    ],
     near_same (λ _. (early, many)) same,
   )
 
@@ -96,7 +107,7 @@ module _ (v : Core) (op : Op) (kept : IsKept true v) (after : IsKept true (turne
       → ((has_found q.phase ≡ true → FoundIn (sight (record w { words = words })) pending q.counts) × ((x : ℕ) → IsOwned s x → IsNear w.collector.collections q x) × ((x : ℕ) → (slot_at s x).released ≡ true → (slot_at q.counts x).released ≡ true)) ⊎ (r < refused q.sets) → IsPassed
   cleared_passed words w crossing_of pending s same_sight is headers more own gone r same_sets many (inr less) = inr (omega (arith, less, same_sets))
   cleared_passed words w crossing_of pending s same_sight is headers more own gone r same_sets many (inl all) = inl (
-    λ next. found_to words pending q.counts is headers more (subst (λ (k : Sight). FoundIn k pending q.counts) same_sight (all.0 next)),
+    λ next. inr (found_to words pending q.counts is headers more (subst (λ (k : Sight). FoundIn k pending q.counts) same_sight (all.0 next))),
     near,
   )
     where
@@ -169,10 +180,10 @@ module _ (v : Core) (op : Op) (kept : IsKept true v) (after : IsKept true (turne
       let tried = trialled v m kept at place (sym named ∙ ap (λ o. Some o) its) (i.follows m at) i.covers in
       let its_on = subst (λ n. step.TriesOn c (parts_of c) (trials.took_of (record { machine = m; counts = c.counts }) (visible c.counts n)) q turn) found_is on in
       inl (
-        λ next. found_to v.words (IsPending v) q.counts (ap (λ (o : Op). (with_cell (cells_of v) o (written o its_word)).words) its ∙ ap (slice_set v.words place) found_is ∙ set-get_or v.words place 0)
+        λ next. inr (found_to v.words (IsPending v) q.counts (ap (λ (o : Op). (with_cell (cells_of v) o (written o its_word)).words) its ∙ ap (slice_set v.words place) found_is ∙ set-get_or v.words place 0)
             (ap (λ (o : Op). (with_cell (cells_of v) o (written o its_word)).headers) its)
             (λ x is. late_pends v op kept after i (plain_boxes v op kept after i (Trying m) at refl) (tries_rows c q (parts_of c) _ turn its_on) x (late_of v (ap has_batched at) x is))
-            (tries_found v v.crossing v.words (IsPending v) q turn c (parts_of c) _ its_on tried.found next),
+            (tries_found v v.crossing v.words (IsPending v) q turn c (parts_of c) _ its_on tried.found next)),
         λ n x unfreed near. elim near [
           | inl old ↦ absurd (false≢true (sym (ap before_tests at) ∙ old.0))
           | inr gone ↦ inr (tries_keeps v v.crossing v.words (IsPending v) q turn c (parts_of c) _ its_on x (tried.gone x gone))
@@ -188,10 +199,10 @@ module _ (v : Core) (op : Op) (kept : IsKept true v) (after : IsKept true (turne
       let h : Heeds c.counts s = heeds_others c.counts s (took_others (record { machine = m; counts = c.counts }) its_word) in
       let same : q.counts ≡ s = prepares_counts v v.crossing v.words (IsPending v) q turn c (parts_of c) _ on in
       inl (
-        λ next. found_to v.words (IsPending v) q.counts (ap (λ (o : Op). (with_cell (cells_of v) o (written o its_word)).words) its ∙ ap (slice_set v.words place) found_is ∙ set-get_or v.words place 0)
+        λ next. inr (found_to v.words (IsPending v) q.counts (ap (λ (o : Op). (with_cell (cells_of v) o (written o its_word)).words) its ∙ ap (slice_set v.words place) found_is ∙ set-get_or v.words place 0)
             (ap (λ (o : Op). (with_cell (cells_of v) o (written o its_word)).headers) its)
             (λ x is_. late_pends v op kept after i (plain_boxes v op kept after i (Preparing m) at refl) (prepares_rows c q (parts_of c) _ turn on) x (late_of v (ap has_batched at) x is_))
-            (subst (FoundIn (sight v) (IsPending v)) (sym same) (heeds_found (sight v) (IsPending v) c.counts s h (f (ap has_found at)))),
+            (subst (FoundIn (sight v) (IsPending v)) (sym same) (heeds_found (sight v) (IsPending v) c.counts s h (was_found (ap before_tests at) (ap has_found at))))),
         λ n x unfreed near. elim near [
           | inl old ↦ absurd (false≢true (sym (ap before_tests at) ∙ old.0))
           | inr gone ↦ inr (ap (λ (k : State). (slot_at k x).released) same ∙ h.gone x gone)
@@ -203,13 +214,13 @@ module _ (v : Core) (op : Op) (kept : IsKept true v) (after : IsKept true (turne
   sweeps_on phase at found batched_ late its same rows boxes =
       let calm = quiet v op kept after i ops.AddFreed its refl refl in
       inl (
-        λ next. subst (FoundIn (sight u) (IsPending u)) (sym same) (found_to v.words (IsPending v) c.counts calm.0 calm.1 (λ x is. late_pends v op kept after i boxes rows x (late_of v (ap has_batched at ∙ batched_) x is)) (f (ap has_found at ∙ found))),
+        λ next. inr (subst (FoundIn (sight u) (IsPending u)) (sym same) (found_to v.words (IsPending v) c.counts calm.0 calm.1 (λ x is. late_pends v op kept after i boxes rows x (late_of v (ap has_batched at ∙ batched_) x is)) (was_found (ap before_tests at ∙ late) (ap has_found at ∙ found)))),
         near_same (λ early. absurd (false≢true (sym (ap before_tests at ∙ late) ∙ early))) same,
       )
 
   -- a slot is swept
   swept_passed : (x n : ℕ) (next : Phase) → c.phase ≡ Sweeping (Some x) n → op ≡ ops.FreeHeader x → q ≡ record c { counts = swept c.counts x; freed = c.freed + 1; phase = next; turns = c.turns + 1 } → IsPassed
-  swept_passed x n next at its is = inl (λ found. found_then, near)
+  swept_passed x n next at its is = inl (λ found. inr found_then, near)
     where
       words : u.words ≡ v.words
       words = ap (λ (o : Op). (with_cell (cells_of v) o (written o its_word)).words) its
@@ -255,7 +266,7 @@ module _ (v : Core) (op : Op) (kept : IsKept true v) (after : IsKept true (turne
       found_then slot taken plain =
           let apart : slot ≢ x = not_swept slot taken in
           let was : IsTaken (sight v) slot = subst (λ k. 0 < k) (ap (λ hs. slice_index_or hs slot 0) headers ∙ get_or-set_other v.headers x slot 0 0 apart) taken in
-          elim (f (ap has_found at) slot was (sym (ap (λ (s : Slot). is_green s.colour) (same_slot slot apart)) ∙ plain)) [
+          elim (was_found (ap before_tests at) (ap has_found at) slot was (sym (ap (λ (s : Slot). is_green s.colour) (same_slot slot apart)) ∙ plain)) [
             | inl own ↦ inl (owned slot apart own)
             | inr trail ↦ elim (trails slot trail) [ inl same ↦ absurd (apart same) | inr there ↦ inr there ]
           ]

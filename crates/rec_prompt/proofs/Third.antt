@@ -1,6 +1,6 @@
 -- Where no set was refused, each lost slot is freed by the end of the third collection: the trial of the second one has found it, and the
 -- tests of the third release it.
-use Rattle.std.proofs.Common.{◌≡◌, ◌⊎◌, inl, inr, ℕ, suc, ◌+◌, ◌/◌, ◌<◌, ◌≤◌, true, false, Option, None, Some, List, [], ◌∷◌, length, map, slice_index_or, sym, ap, subst, ◌∙◌, arith}
+use Rattle.std.proofs.Common.{◌≡◌, ◌⊎◌, inl, inr, ℕ, suc, ◌+◌, ◌/◌, ◌<◌, ◌≤◌, true, false, Option, None, Some, List, [], ◌∷◌, length, map, slice_index_or, sym, ap, subst, ◌∙◌, arith, refl}
 use Rattle.std.proofs.lemmas.Bool.{cases_lt, false≢true, ne_eqb}
 use Rattle.std.proofs.lemmas.List.{get_or_past}
 use Rattle.rec_core.proofs.Common.{place_of, target_of, is_green, is_node, one, one_if_same, node_of, named, old_target, slot_at, Write, Contents, Entry, AllFit, Core, Fits, Idle, IsKept, Move, after_move, after_moves, buffer_at, nobody, sight, writes_in, births_in, dated_birth}
@@ -29,14 +29,14 @@ use Rattle.rec_prompt.proofs.Hanging.{all_on_trails, Trails}
 use Rattle.rec_prompt.proofs.Heeding.{FoundIn, IsOwned}
 use Rattle.rec_prompt.proofs.Moves.{not_second}
 use Rattle.rec_prompt.proofs.Mutators.{begun_hides, Hides, hides_trails_too, step_hides}
-use Rattle.rec_prompt.proofs.Passed.{found_more, passed_rule}
+use Rattle.rec_prompt.proofs.Passed.{found_more, IsSoon, passed_rule}
 use Rattle.rec_prompt.proofs.Turned.{IsWatched}
 use Rattle.rec_prompt.proofs.Watched.{move_refused, move_watched, moves_refused, offering_pends}
 
--- each slot hangs on something, and is found while no trial or test is at work
-pub record Stands (v : Core) : Type 0 where
+-- Each slot hangs on something, and is found while no trial or test is at work; or it is before the tests of the collection after so many.
+pub record Stands (since : ℕ) (v : Core) : Type 0 where
   pub watched : IsWatched v
-  pub found : has_found v.collector.phase ≡ true → FoundIn (sight v) (IsPending v) v.collector.counts
+  pub found : has_found v.collector.phase ≡ true → IsSoon since v.collector ⊎ FoundIn (sight v) (IsPending v) v.collector.counts
 
 -- what mutators do leaves what is found
 hides_found : (v u : Core) → Hides v u → FoundIn (sight v) (IsPending v) v.collector.counts → FoundIn (sight u) (IsPending u) u.collector.counts
@@ -50,46 +50,46 @@ hides_found v u h f slot taken plain = elim (h.taken slot taken) [
 ]
 
 -- one move
-Next : (v : Core) (m : Move) → Type 0
-Next v m = (Stands (after_move v m) × ((n x : ℕ) → is_in x (freed_in v m) ≡ false → IsNear n v.collector x → IsNear n (after_move v m).collector x)) ⊎ (refused v.collector.sets < refused (after_move v m).collector.sets)
+Next : (since : ℕ) (v : Core) (m : Move) → Type 0
+Next since v m = (Stands since (after_move v m) × ((n x : ℕ) → is_in x (freed_in v m) ≡ false → IsNear n v.collector x → IsNear n (after_move v m).collector x)) ⊎ (refused v.collector.sets < refused (after_move v m).collector.sets)
 
-hides_next : (v u : Core) → Hides v u → Stands v → (has_found v.collector.phase ≡ true → FoundIn (sight u) (IsPending u) u.collector.counts)
-hides_next v u h st found = hides_found v u h (st.found found)
+hides_next : {since : ℕ} (v u : Core) → u.collector ≡ v.collector → Hides v u → Stands since v → (has_found v.collector.phase ≡ true → IsSoon since u.collector ⊎ FoundIn (sight u) (IsPending u) u.collector.counts)
+hides_next {since} v u same h st found = elim (st.found found) [ inl soon ↦ inl (subst (IsSoon since) (sym same) soon) | inr was ↦ inr (hides_found v u h was) ]
 
-move_stands : (v : Core) (m : Move) → IsKept true v → v.config.policy.least_roots ≡ 0 → Fits v m → Stands v → Next v m
+move_stands : (since : ℕ) (v : Core) (m : Move) → IsKept true v → v.config.policy.least_roots ≡ 0 → Fits v m → Stands since v → Next since v m
 unfolding Next
-move_stands v (Move.Begins t work from) kept always fits st = elim (move_watched v (Move.Begins t work from) kept fits st.watched) [
-  | inl there ↦ inl (record { watched = there; found = hides_next v (after_move v (Move.Begins t work from)) (begun_hides v t work from fits.0 kept) st }, λ n x unfreed near. near)
+move_stands since v (Move.Begins t work from) kept always fits st = elim (move_watched v (Move.Begins t work from) kept fits st.watched) [
+  | inl there ↦ inl (record { watched = there; found = hides_next v (after_move v (Move.Begins t work from)) refl (begun_hides v t work from fits.0 kept) st }, λ n x unfreed near. near)
   | inr more ↦ absurd (omega (arith, more))
 ]
-move_stands v (Move.Steps t) kept always fits st = elim (move_watched v (Move.Steps t) kept fits st.watched) [
-  | inl there ↦ inl (record { watched = there; found = hides_next v (after_move v (Move.Steps t)) (step_hides v t kept fits.0 fits.1) st }, λ n x unfreed near. near)
+move_stands since v (Move.Steps t) kept always fits st = elim (move_watched v (Move.Steps t) kept fits st.watched) [
+  | inl there ↦ inl (record { watched = there; found = hides_next v (after_move v (Move.Steps t)) refl (step_hides v t kept fits.0 fits.1) st }, λ n x unfreed near. near)
   | inr more ↦ absurd (omega (arith, more))
 ]
-move_stands v Move.Offers kept always fits st = elim (move_watched v Move.Offers kept fits st.watched) [
-  | inl there ↦ inl (record { watched = there; found = λ found. found_more (sight v) (IsPending v) (IsPending (after_move v Move.Offers)) v.collector.counts (offering_pends v) (st.found found) }, λ n x unfreed near. near)
+move_stands since v Move.Offers kept always fits st = elim (move_watched v Move.Offers kept fits st.watched) [
+  | inl there ↦ inl (record { watched = there; found = λ found. elim (st.found found) [ inl soon ↦ inl soon | inr was ↦ inr (found_more (sight v) (IsPending v) (IsPending (after_move v Move.Offers)) v.collector.counts (offering_pends v) was) ] }, λ n x unfreed near. near)
   | inr more ↦ absurd (omega (arith, more))
 ]
-move_stands v Move.Turns kept always fits st = elim (move_watched v Move.Turns kept fits st.watched) [
+move_stands since v Move.Turns kept always fits st = elim (move_watched v Move.Turns kept fits st.watched) [
   | inr more ↦ inr more
-  | inl there ↦ elim (turn_case v (λ o u. IsKept true u → ((has_found u.collector.phase ≡ true → FoundIn (sight u) (IsPending u) u.collector.counts) × ((n x : ℕ) → is_in x (freed_by o) ≡ false → IsNear n v.collector x → IsNear n u.collector x)) ⊎ (refused v.collector.sets < refused u.collector.sets))
-      (λ none after. inl (st.found, λ n x unfreed near. near)) (λ op named after. passed_rule v op kept after st.watched always st.found (rule_of v op kept named)) (turned_kept v kept)) [
+  | inl there ↦ elim (turn_case v (λ o u. IsKept true u → ((has_found u.collector.phase ≡ true → IsSoon since u.collector ⊎ FoundIn (sight u) (IsPending u) u.collector.counts) × ((n x : ℕ) → is_in x (freed_by o) ≡ false → IsNear n v.collector x → IsNear n u.collector x)) ⊎ (refused v.collector.sets < refused u.collector.sets))
+      (λ none after. inl (st.found, λ n x unfreed near. near)) (λ op named after. passed_rule v op kept after st.watched always since st.found (rule_of v op kept named)) (turned_kept v kept)) [
         | inl both ↦ inl (record { watched = there; found = both.0 }, both.1)
         | inr more ↦ inr more
       ]
 ]
 
 -- some moves over which no set is refused
-pub moves_stand : (v : Core) (ms : List Move) → IsKept true v → v.config.policy.least_roots ≡ 0 → AllFit v ms → refused (after_moves v ms).collector.sets ≤ refused v.collector.sets → Stands v
-    → Stands (after_moves v ms) × ((n x : ℕ) → is_in x (freed_over v ms) ≡ false → IsNear n v.collector x → IsNear n (after_moves v ms).collector x)
+pub moves_stand : (since : ℕ) (v : Core) (ms : List Move) → IsKept true v → v.config.policy.least_roots ≡ 0 → AllFit v ms → refused (after_moves v ms).collector.sets ≤ refused v.collector.sets → Stands since v
+    → Stands since (after_moves v ms) × ((n x : ℕ) → is_in x (freed_over v ms) ≡ false → IsNear n v.collector x → IsNear n (after_moves v ms).collector x)
 unfolding Next
-moves_stand v [] kept always fit few st = (st, λ n x unfreed near. near)
-moves_stand v (m ∷ ms) kept always fit few st =
+moves_stand since v [] kept always fit few st = (st, λ n x unfreed near. near)
+moves_stand since v (m ∷ ms) kept always fit few st =
     let after : IsKept true (after_move v m) = move_kept v m kept fit.0 in
-    elim (move_stands v m kept always fit.0 st) [
+    elim (move_stands since v m kept always fit.0 st) [
       | inr more ↦ absurd (omega (arith, few, more, moves_refused (after_move v m) ms after fit.1))
       | inl one_ ↦
-          let rest = moves_stand (after_move v m) ms after (ap (λ k. k.policy.least_roots) (config_after v (m ∷ [])) ∙ always) fit.1 (omega (arith, few, move_refused v m kept fit.0)) one_.0 in
+          let rest = moves_stand since (after_move v m) ms after (ap (λ k. k.policy.least_roots) (config_after v (m ∷ [])) ∙ always) fit.1 (omega (arith, few, move_refused v m kept fit.0)) one_.0 in
           (rest.0, λ n x unfreed near. rest.1 n x (not_second x (freed_in v m) (freed_over (after_move v m) ms) unfreed) (one_.1 n x (not_in-left x (freed_in v m) (freed_over (after_move v m) ms) unfreed) near))
     ]
 

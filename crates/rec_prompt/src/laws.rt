@@ -31,10 +31,12 @@ pub fn lost_slots_stay_lost()
 /// Every lost slot is freed by the end of the third collection, as long as no set is refused, garbage cycles too. Take any state of any run
 /// of a heap that makes a trial in each collection, in which no collection is under way, and any moves from there over which three
 /// collections become complete. If by their end no set of the run was refused, a turn among these moves frees each slot that held an object in
-/// that state and that no register reached there. From a state in which a collection is under way, four collections are enough.
+/// that state and that no register reached there. From a state in which a collection is under way, four collections are enough. What was
+/// refused before that state doesn't matter if each slot hangs there on something (`nothing_is_forgotten`).
 pub fn lost_slots_are_freed_while_no_set_is_refused()
     ensures idle { (w : Core) (moves : List Move) (slot : ℕ) → IsConfig w.config → EndsRun w → w.config.policy.least_roots ≡ 0 → w.collector.phase ≡ Idle → AllFit w moves → refused_sets (after_moves w moves) ≡ 0 → Complete 3 w moves → IsLost (sight w) slot → IsFreed w moves slot }
     ensures under_way { (w : Core) (moves : List Move) (slot : ℕ) → IsConfig w.config → EndsRun w → w.config.policy.least_roots ≡ 0 → AllFit w moves → refused_sets (after_moves w moves) ≡ 0 → Complete 4 w moves → IsLost (sight w) slot → IsFreed w moves slot }
+    ensures covered { (w : Core) (moves : List Move) (slot : ℕ) → IsConfig w.config → EndsRun w → w.config.policy.least_roots ≡ 0 → w.collector.phase ≡ Idle → AllFit w moves → IsCovered w → refused_sets (after_moves w moves) ≡ refused_sets w → Complete 3 w moves → IsLost (sight w) slot → IsFreed w moves slot }
 {}
 
 /// Nothing is forgotten, as long as no set is refused. A slot hangs on something that the collector still has to look at if it is pending
