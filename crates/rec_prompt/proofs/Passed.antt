@@ -24,6 +24,7 @@ use Rattle.rec_core.proofs.Freeing.{freed_lands}
 use Rattle.rec_core.proofs.Gathering.{awaits_kept}
 use Rattle.rec_core.proofs.Landed.{HasCleared}
 use Rattle.rec_core.proofs.Phases.{clears_in}
+use Rattle.rec_core.proofs.PlainWords.{crosses_none, waits_other}
 use Rattle.rec_core.proofs.Preparing.{loads_due}
 use Rattle.rec_core.proofs.Releasing.{released_lands}
 use Rattle.rec_core.proofs.Trying.{loads_child}
@@ -292,7 +293,10 @@ module _ (v : Core) (op : Op) (kept : IsKept true v) (after : IsKept true (turne
       let awaits : Awaits v b = Awaits.alone at (λ last. more (ap (λ n. n + 1) kept.collector.epoch ∙ last)) gone in
       batched turn b (length c.newer) (awaits_kept v b kept awaits) refl refl refl refl refl always (covers_more (sight b) (IsPending v) (IsPending b) c.counts (awaits_more v op kept after i b refl refl refl refl refl) i.covers)
       (λ x late. late_pends v op kept after i (plain_boxes v op kept after i Idle at refl) (rows_as refl refl refl (clears_rows (requested c) q turn on)) x (same_late v op kept after i b refl refl refl x late)) calm.0 calm.1 (clears_in b.collector.phase on)
-  passed_rule {turn} (step.Step.wait t at other is same turn_is) =
+  passed_rule (step.Step.cross_for t next at crosses is n g) = absurd (crosses_none v t kept at op its_word is refl crosses)
+  passed_rule (step.Step.cross_for_last t at crosses is gone on) = absurd (crosses_none v t kept at op its_word is refl crosses)
+  passed_rule {turn} (step.Step.wait t at stays is same turn_is) =
+      let other : its_word ≢ crossing_word c.epoch Retired = waits_other v t kept at op its_word is refl stays in
       let its : op ≡ ops.LookBox t c.epoch = some_op op (ops.LookBox t c.epoch) is in
       let calm = quiet v op kept after i (ops.LookBox t c.epoch) its refl refl in
       let then_ : q.phase ≡ Looking t = ap (λ (x : collectors.Private). x.phase) same ∙ at in

@@ -15,11 +15,12 @@ use Rattle.rec_trial.specs.Trial as trials
 use Rattle.rec_collector.specs.Kept as collector_kept
 use Rattle.rec_collector.specs.Private as collectors
 use Rattle.rec_collector.specs.Step as step
-use Rattle.rec_collector.specs.Took.{step_of}
+use Rattle.rec_collector.specs.Took.{crossed_for, step_of}
 use Rattle.rec_core.proofs.Begun.{applied_lands}
 use Rattle.rec_core.proofs.Gathering.{awaits_kept}
 use Rattle.rec_core.proofs.Landed.{HasCleared}
 use Rattle.rec_core.proofs.Shapes.{same_boxes}
+use Rattle.rec_core.proofs.PlainWords.{crosses_none, takes_retired, waits_other}
 use Rattle.rec_core.proofs.TurnCases.{Awaits, giving_back, requesting}
 use Rattle.rec_core.proofs.Turning.{mutator_at, some_op}
 use Rattle.rec_core.proofs.Applying.{counted}
@@ -442,11 +443,14 @@ module _ (v : Core) (op : Op) (kept : IsKept true v) (after : IsKept true (turne
       let awaits : Awaits v b = Awaits.alone at (λ last. more (ap (λ n. n + 1) kept.collector.epoch ∙ last)) gone in
       batch_on turn b (length c.newer) (awaits_kept v b kept awaits) refl refl refl (covers_more (sight b) (IsPending v) (IsPending b) c.counts (awaits_more b refl refl refl refl refl) i.covers)
       (λ x late. late_pends (plain_boxes Idle at refl) (rows_as refl refl refl (clears_rows (requested c) q turn on)) x (same_late b refl refl refl x late)) calm.0 calm.1 (clears_in b.collector.phase on) refl
-  by_rule {turn} (step.Step.wait t at other is same turn_is) =
+  by_rule (step.Step.cross_for t next at crosses is n g) = absurd (crosses_none v t kept at op its_word is refl crosses)
+  by_rule (step.Step.cross_for_last t at crosses is gone on) = absurd (crosses_none v t kept at op its_word is refl crosses)
+  by_rule {turn} (step.Step.wait t at stays is same turn_is) =
+      let other : its_word ≢ crossing_word c.epoch Retired = waits_other v t kept at op its_word is refl stays in
       let its : op ≡ ops.LookBox t c.epoch = some_op op (ops.LookBox t c.epoch) is in
       let calm = quiet (ops.LookBox t c.epoch) its refl refl in
       inl (before_batch turn (Looking t) (Looking t) at (cond-false (its_word == crossing_word c.epoch Retired) (collectors.spare c) (box v t) (ne_eqb its_word (crossing_word c.epoch Retired) other)) (ap (λ (x : collectors.Private). x.phase) same ∙ at) refl refl (λ m e. cc) (ap (λ (x : collectors.Private). x.counts) same) (ap (λ (x : collectors.Private). x.newer) same) (ap (λ (x : collectors.Private). x.older) same) calm.0 calm.1)
-  by_rule {turn} (step.Step.gather t at crossed is g) = let calm = quiet (ops.LookBox t c.epoch) (some_op op (ops.LookBox t c.epoch) is) refl refl in inl (gathered turn t at crossed g calm.0 calm.1)
+  by_rule {turn} (step.Step.gather t at takes is g) = let crossed = takes_retired v t kept at op its_word is refl takes in let calm = quiet (ops.LookBox t c.epoch) (some_op op (ops.LookBox t c.epoch) is) refl refl in inl (gathered turn t at crossed g calm.0 calm.1)
   by_rule {turn} (step.Step.give_back t next at is n g) =
       let calm = quiet (ops.ReturnBox t c.epoch) (some_op op (ops.ReturnBox t c.epoch) is) refl refl in
       inl (before_batch turn (Returning t) (Looking next) at refl (ap (λ (x : collectors.Private). x.phase) g.after) refl refl (λ m e. cc) (ap (λ (x : collectors.Private). x.counts) g.after) (ap (λ (x : collectors.Private). x.newer) g.after) (ap (λ (x : collectors.Private). x.older) g.after) calm.0 calm.1)
@@ -491,6 +495,8 @@ module _ (v : Core) (op : Op) where
   rule_refused {turn} (step.Step.request_alone at more is gone on) = clears_refused v v.crossing v.words (IsLate v) r turn (requested v.collector) on
   rule_refused (step.Step.wait t at other is same turn_is) = from_sets (ap (λ (x : collectors.Private). x.sets) same)
   rule_refused (step.Step.gather t at crossed is g) = from_sets (ap (λ (x : collectors.Private). x.sets) g.after)
+  rule_refused (step.Step.cross_for t next at crosses is n g) = from_sets (ap (λ (x : collectors.Private). x.sets) g.after)
+  rule_refused {turn} (step.Step.cross_for_last t at crosses is gone on) = clears_refused v v.crossing v.words (IsLate v) r turn (crossed_for v.collector t) on
   rule_refused (step.Step.give_back t next at is n g) = from_sets (ap (λ (x : collectors.Private). x.sets) g.after)
   rule_refused {turn} (step.Step.apply t at is gone on) = clears_refused v v.crossing v.words (IsLate v) r turn (noted v.collector t) on
   rule_refused {turn} (step.Step.release m at is on) = clears_refused v v.crossing v.words (IsLate v) r turn v.collector on
