@@ -1,9 +1,8 @@
 -- What the crossing word tells of a mutator that parks or unparks, and that it comes back as it was.
-use Rattle.std.proofs.Common.{◌≡◌, ◌≢◌, ℕ, ◌+◌, ◌-◌, ◌*◌, ◌/◌, ◌%◌, ◌^◌, ◌<◌, ◌≤◌, ◌==◌, Bool, true, false, if◌then◌else◌, refl, sym, ap, subst, ◌∙◌, arith}
+use Rattle.std.proofs.Common.{◌≡◌, ◌≢◌, ℕ, ◌+◌, ◌-◌, ◌/◌, ◌%◌, ◌^◌, ◌<◌, ◌==◌, Bool, true, false, if◌then◌else◌, refl, sym, ap, subst, ◌∙◌, arith}
 use Rattle.std.proofs.lemmas.Bool.{eq-eqb, eqb-true, false≢true}
 use Rattle.rec_word.specs.Mailbox.{epoch_in, holds, is_parked, mailbox_of}
-use Rattle.rec_word.specs.Op.{amount_of, written}
-use Rattle.rec_word.specs.declared.mailbox.Mailbox.{Mailbox}
+use Rattle.rec_word.specs.Op.{written}
 use Rattle.rec_word.specs.declared.mailbox.Mailbox.TheVariants.{Spare, WithMutator, Retired, WithCollector}
 use Rattle.rec_word.specs.declared.op.Op.{Op}
 use Rattle.rec_word.specs.declared.op.Op.TheVariants as ops
@@ -14,12 +13,12 @@ use Rattle.rec_model.specs.declared.answer.Answer.TheVariants as answers
 use Rattle.rec_model.specs.declared.command.Cmd.TheVariants as commands
 use Rattle.rec_model.specs.Asking.{plain}
 use Rattle.rec_mutator.specs.Next.{next_of}
-use Rattle.rec_mutator.specs.Parking.{berthed_at, berthed_of, deposit_of, parked_by, parking_of, passage_of, unparked_by, unparking_of, ComesBack, IsPassing, Passes, TellsParked}
-use Rattle.rec_mutator.specs.Private.{IsAt, IsMachine, IsOnPassage, Private}
-use Rattle.rec_mutator.specs.Took.{awoken, nulls_of, took_at, took_of, FindsShift, IsFound}
+use Rattle.rec_mutator.specs.Parking.{berthed_at, berthed_of, parked_by, parking_of, passage_of, unparking_of, ComesBack, IsPassing, Passes, TellsParked}
+use Rattle.rec_mutator.specs.Private.{IsMachine, IsOnPassage, Private}
+use Rattle.rec_mutator.specs.Took.{awoken, nulls_of, retired, took_at, took_of, FindsShift, IsFound}
 use Rattle.rec_mutator.specs.declared.made.Made.TheVariants as makes
 use Rattle.rec_mutator.specs.declared.passage.Passage.{Passage}
-use Rattle.rec_mutator.specs.declared.passage.Passage.TheVariants.{Parks, Deposits, Unparks, Frees}
+use Rattle.rec_mutator.specs.declared.passage.Passage.TheVariants.{Parks, Frees}
 use Rattle.rec_mutator.specs.declared.phase.Phase.TheVariants.{Finished, Passing}
 use Rattle.rec_mutator.specs.declared.work.Work.TheVariants as works
 use Rattle.rec_mutator.proofs.Passages.{passage_made}
@@ -105,6 +104,6 @@ comes_back p first second third fourth berth awake null held epoch = record {
   parked = refl;
   spare_log = refl;
   back =
-      ap (λ (deposit : Bool). passage_of (berthed_of (awoken (unparking_of (parked_by p first second berth)) third deposit) (deposit_of p)) fourth berth) held
+      ap (λ (deposit : Bool). passage_of (berthed_of (awoken (unparking_of (parked_by p first second berth)) third deposit) (retired p)) fourth berth) held
       ∙ (λ i. record p { epoch = epoch i; parked = sym awake i; log = record p.log { snapshot = sym null i }; phase = Finished (works.Command commands.Unpark) (makes.Answered (plain answers.Done)); steps = 2 });
 }

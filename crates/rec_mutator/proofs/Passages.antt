@@ -1,22 +1,17 @@
 -- The steps of parking and unparking: they follow their rules, keep sizes and work, and come back to where they began.
-use Rattle.std.proofs.Common.{◌≡◌, ◌⊎◌, inl, inr, ℕ, ◌+◌, ◌≤◌, ◌^◌, Bool, true, false, Some, None, length, replicate, refl, sym, ap, subst, ◌∙◌}
-use Rattle.std.proofs.lemmas.Bool.{cases_Bool, false≢true}
-use Rattle.rec_word.specs.Mailbox.{epoch_in, holds}
+use Rattle.std.proofs.Common.{◌≡◌, inl, inr, ℕ, ◌+◌, Bool, true, false, refl, sym, ap, subst, ◌∙◌}
+use Rattle.std.proofs.lemmas.Bool.{cases_Bool}
+use Rattle.rec_word.specs.Mailbox.{holds}
 use Rattle.rec_word.specs.declared.shift.Shift.TheVariants as shifts
 use Rattle.rec_log.specs.declared.contents.Contents.{Contents}
-use Rattle.rec_model.specs.declared.answer.Answer.TheVariants as answers
-use Rattle.rec_model.specs.declared.command.Cmd.TheVariants as commands
-use Rattle.rec_model.specs.Asking.{plain}
 use Rattle.rec_mutator.specs.Next.{next_at, next_of}
-use Rattle.rec_mutator.specs.Parking.{berth_left_at, berth_left_of, berthed_at, berthed_of, parking_of, passage_of, unparking_of, IsPassing, Passes}
+use Rattle.rec_mutator.specs.Parking.{berth_left_at, berth_left_of, berthed_at, berthed_of, passage_of, IsPassing, Passes}
 use Rattle.rec_mutator.specs.Private.{KeepsSizes, Private, work_at, work_of}
 use Rattle.rec_mutator.specs.Took.{awoken, passed, took_at, took_of, IsFound, FindsShift}
-use Rattle.rec_mutator.specs.declared.made.Made.TheVariants as makes
 use Rattle.rec_mutator.specs.declared.passage.Passage.{Passage}
 use Rattle.rec_mutator.specs.declared.passage.Passage.TheVariants.{Parks, Holds, Deposits, Unparks, Reopens, Frees}
 use Rattle.rec_mutator.specs.declared.phase.Phase.{Phase}
-use Rattle.rec_mutator.specs.declared.phase.Phase.TheVariants.{Finished, Passing}
-use Rattle.rec_mutator.specs.declared.work.Work.TheVariants as works
+use Rattle.rec_mutator.specs.declared.phase.Phase.TheVariants.{Passing}
 
 -- sizes and work stay, whatever the mark that the mutator is parked, and the step counts
 abbrev Counts : (p q : Private) → Type 0

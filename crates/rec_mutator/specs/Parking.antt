@@ -1,5 +1,5 @@
 -- How a mutator parks and unparks: how that begins, what becomes of the buffer in the present mailbox, and the rules of the steps.
-use Rattle.std.specs.Prelude.{◌≡◌, ℕ, ◌+◌, ◌≤◌, Bool, true, false, None, length, replicate}
+use Rattle.std.specs.Prelude.{◌≡◌, ℕ, ◌≤◌, true, false, None, length, replicate}
 use Rattle.rec_word.specs.Mailbox.{epoch_in, holds, is_parked, mailbox_of}
 use Rattle.rec_word.specs.declared.op.Op.{Op}
 use Rattle.rec_word.specs.declared.op.Op.TheVariants as ops
@@ -10,7 +10,7 @@ use Rattle.rec_model.specs.declared.command.Cmd.TheVariants as commands
 use Rattle.rec_model.specs.Asking.{plain}
 use Rattle.rec_log.specs.declared.contents.Contents.{Contents}
 use Rattle.rec_mutator.specs.Private.{Private}
-use Rattle.rec_mutator.specs.Took.{answered, moved, took_of}
+use Rattle.rec_mutator.specs.Took.{answered, moved, retired, took_of}
 use Rattle.rec_mutator.specs.declared.made.Made.TheVariants as makes
 use Rattle.rec_mutator.specs.declared.passage.Passage.{Passage}
 use Rattle.rec_mutator.specs.declared.passage.Passage.TheVariants.{Parks, Holds, Deposits, Unparks, Reopens, Frees}
@@ -109,13 +109,9 @@ pub record TellsParked (found left : ℕ) (q : Private) : Type 0 where
   pub own_epoch : epoch_in left ≡ q.epoch
   pub past : mailbox_of left ≡ mailbox_of found
 
--- the log as it lies in the present mailbox while its mutator is parked
-abbrev pub deposit_of : Private → Contents
-deposit_of p = record p.log { snapshot = p.registers }
-
--- Who parks and finds these words, with this spare in the present mailbox.
+-- Who parks and finds these words, with this spare in the present mailbox. Its log lies there, as it is retired, while it is parked.
 abbrev pub parked_by : Private → (first second : ℕ) → (berth : Contents) → Private
-parked_by p first second berth = passage_of (passage_of (parking_of p) first berth) second (deposit_of p)
+parked_by p first second berth = passage_of (passage_of (parking_of p) first berth) second (retired p)
 
 -- Who unparks and finds these words, with this deposit in the present mailbox.
 abbrev pub unparked_by : Private → (first second : ℕ) → (deposit : Contents) → Private
@@ -126,5 +122,5 @@ unparked_by q first second deposit = passage_of (passage_of (unparking_of q) fir
 pub record ComesBack (p : Private) (first second third fourth : ℕ) (berth : Contents) : Type 0 where
   pub parked : (parked_by p first second berth).parked ≡ true
   pub spare_log : (parked_by p first second berth).log ≡ berth
-  pub back : unparked_by (parked_by p first second berth) third fourth (deposit_of p)
+  pub back : unparked_by (parked_by p first second berth) third fourth (retired p)
       ≡ record p { phase = Finished (works.Command commands.Unpark) (makes.Answered (plain answers.Done)); steps = 2 }

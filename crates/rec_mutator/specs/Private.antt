@@ -1,5 +1,5 @@
 -- A mutator's machine as a whole: plain data, and what every machine keeps.
-use Rattle.std.specs.Prelude.{◌≡◌, ℕ, ◌+◌, ◌-◌, ◌%◌, ◌^◌, ◌<◌, ◌≤◌, ◌==◌, Bool, true, false, Option, None, Some, List, [], ◌∷◌, All, length, replicate, slice_index_or}
+use Rattle.std.specs.Prelude.{◌≡◌, ℕ, ◌+◌, ◌%◌, ◌^◌, ◌<◌, ◌≤◌, ◌==◌, Bool, true, false, Option, None, Some, List, [], All, length, replicate, slice_index_or}
 use Rattle.rec_word.specs.Bare.{dated_word}
 use Rattle.rec_word.specs.Word.{packed, IsTarget}
 use Rattle.rec_word.specs.declared.stamps.Stamp.{Stamp}

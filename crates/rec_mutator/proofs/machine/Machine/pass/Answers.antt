@@ -5,7 +5,7 @@ use Rattle.rec_mutator.specs.Took.{took_at}
 use Rattle.rec_mutator.specs.declared.passage.Passage.{Passage}
 use Rattle.rec_mutator.specs.declared.passage.Passage.TheVariants.{Parks, Deposits, Unparks, Frees}
 use Rattle.rec_mutator.specs.declared.phase.Phase.TheVariants.{Passing}
-use Rattle.rec_mutator.proofs.Passages.{found_parked, learns_passage, Learns}
+use Rattle.rec_mutator.proofs.Passages.{found_parked, learns_passage}
 use Rattle.rec_mutator.proofs.machine.Machine.pass.Goals as goal
 
 -- the phase that the machine is in
