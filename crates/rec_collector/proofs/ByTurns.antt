@@ -9,7 +9,7 @@ use Rattle.rec_release.proofs.Kept.{sweep_kept}
 use Rattle.rec_sigma.specs.Prepare as preps
 use Rattle.rec_trial.specs.Rules.{LeadsToUnreleased, visible}
 use Rattle.rec_trial.specs.Trial as trials
-use Rattle.rec_collector.proofs.Common.{Op, State, Next, IsGiven, IsGivenAt, IsMachine, IsWork, KeepsSizes, Private, came, parts_of, Phase, Freeing, Trying, Preparing, Sweeping, followed, prepared, relieved, slot_at, swept_phase, swept_clean, took_at, took_of, tried, turn_at, turn_of, worked}
+use Rattle.rec_collector.proofs.Common.{Op, State, Next, IsGiven, IsGivenAt, IsMachine, IsWork, KeepsSizes, Private, parts_of, Phase, Freeing, Trying, Preparing, Sweeping, followed, prepared, relieved, slot_at, swept_phase, swept_clean, took_at, took_of, tried, turn_at, turn_of, worked}
 use Rattle.rec_collector.specs.Given.{IsLooped}
 use Rattle.rec_collector.specs.Inside.{private}
 use Rattle.rec_collector.specs.Next.{next_at, next_of}
@@ -151,7 +151,7 @@ module _ (stands after : ℕ → Private → Turn → Type 0) (p : Private) (n :
         is = sweep_took;
         turned = subst (λ (t : Turn). Turned p (n + 1) (took_of r.now word) t) sweep_turn (Turned.more n r.now word r.turned g);
         machine = sweep_machine;
-        sizes = subst (KeepsSizes p) (sym sweep_took) (sizes_on p (swept_on p r.swept n w) (swept_on p r.swept (n + 1) behind) (subst (KeepsSizes p) r.is r.sizes) (record { slots = sweep_many; fields = refl; registers = refl; capacity = refl; policy = refl; mutators = refl }));
+        sizes = subst (KeepsSizes p) (sym sweep_took) (sizes_on {b = swept_on p r.swept n w} {d = swept_on p r.swept (n + 1) behind} (subst (KeepsSizes p) r.is r.sizes) (record { slots = sweep_many; fields = refl; registers = refl; capacity = refl; policy = refl; mutators = refl }));
         stood = subst (λ (t : Turn). after (n + 1) (took_of r.now word) t) sweep_turn s;
       }
 
@@ -167,7 +167,7 @@ keeps_work p word phase w e k g =
     let lands : IsMachine (landed p n) = turned_keeps p p word phase n k refl e g w refl in
     let took = (work_took p word phase w).0 in (
       subst IsMachine took (came_keeps p n lands),
-      subst (KeepsSizes p) took (sizes_on p (landed p n) (came p n) (landed_sizes p (landed p n) n (work_lands p word phase k e g w) (same_sizes (landed p n))) (ended_sizes (landed p n) n.phase lands)),
+      subst (KeepsSizes p) took (sizes_on (landed_sizes p (landed p n) n (work_lands p word phase k e g w) (same_sizes (landed p n))) (ended_sizes (landed p n) n.phase lands)),
     )
 
 pub loop_keeps : (p : Private) (word : ℕ) → IsLooped p.phase → IsMachine p → IsGiven p word → IsMachine (took_of p word) × KeepsSizes p (took_of p word)

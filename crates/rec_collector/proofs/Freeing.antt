@@ -1,7 +1,7 @@
 -- From a batch to the next trial: what holds where a word came out of a member of the set that is freed.
 use Rattle.std.proofs.Common.{◌≡◌, ℕ, ◌+◌, ◌-◌, ◌*◌, ◌<◌, ◌≤◌, true, None, Some, length, refl, arith, ◌∙◌, ap, subst, inl, inr}
 use Rattle.std.proofs.lemmas.Bool.{cases_lt}
-use Rattle.rec_collector.proofs.Common.{State, IsKept, times, times-append, IsReady, KeepsMost, freeing_left, HasExchanged, IsFreeing, IsTidy, with_freed, Parts, Freeing}
+use Rattle.rec_collector.proofs.Common.{State, IsKept, times, times-append, IsReady, freeing_left, HasExchanged, IsFreeing, IsTidy, with_freed, Parts, Freeing}
 use Rattle.rec_word.specs.Word.{target_of}
 use Rattle.rec_release.proofs.Freeing.{off_work}
 use Rattle.rec_release.proofs.Kept.{off_kept, members_listed}
@@ -29,14 +29,13 @@ module _ (m : frees.Machine) (w : Parts) (word n : ℕ) (counted : Counted w.cou
   abbrev off : State
   off = freed_off w word
 
-  most : KeepsMost w.counts off
-  most = freed_most w word
+  open (freed_most w word) use {free as still_free, released as still_released, slots as still_slots, work as still_work}
 
   at_work : frees.IsAtWork (record { fields = m.fields; at = Some a }) w.counts
   at_work = subst (λ o. frees.IsAtWork (record { fields = m.fields; at = o }) w.counts) e c.freeing
 
-  still_work : frees.IsAtWork (record { fields = m.fields; at = Some a }) off
-  still_work = off_work m.fields w.counts (target_of word) a at_work
+  off_at_work : frees.IsAtWork (record { fields = m.fields; at = Some a }) off
+  off_at_work = off_work m.fields w.counts (target_of word) a at_work
 
   tidy : IsTidy w.fields off None
   tidy = tidy_off true w.counts (target_of word) None counted c.freeing.ready c.freeing.released c.tidy
@@ -48,26 +47,26 @@ module _ (m : frees.Machine) (w : Parts) (word n : ℕ) (counted : Counted w.cou
   many_left = ap (freeing_left w.fields w.counts.work) e
 
   same_work : length off.work ≡ length w.counts.work
-  same_work = ap length most.work
+  same_work = ap length still_work
 
   -- another field comes next
   on_clears : 0 < w.fields → (b : Member) → b.field < m.fields → IsOf off.work b → freeing_left w.fields off.work (Some b) + 1 ≤ freeing_left w.fields w.counts.work m.at → Clears (freed_on m w word b) (n + 1)
   on_clears wide b field of left = record {
     wide = wide;
     counts = kept;
-    clearing = record { fields = c.fields; busy = refl; tidy = tidy; freeing = record { field = field; held = of; unlisted = still_work.unlisted; released = still_work.released; ready = still_work.ready } };
-    exchanges = exchanged_as w off n (n + 1) most.slots most.released (omega (arith, left)) h;
+    clearing = record { fields = c.fields; busy = refl; tidy = tidy; freeing = record { field = field; held = of; unlisted = off_at_work.unlisted; released = off_at_work.released; ready = off_at_work.ready } };
+    exchanges = exchanged_as w off n (n + 1) still_slots still_released (omega (arith, left)) h;
   }
 
   ends_clear : 0 < w.fields → Clears (freed_last w word) (n + 1)
   ends_clear wide =
-      zeros_clear true (freed_listed w word) (n + 1) wide (members_listed off (λ x t. ap (times x) most.free ∙ c.freeing.unlisted x (subst (λ xs. 0 < times x xs) most.work t)) kept) (tidy_listed off tidy) (listed_ready (record { fields = m.fields; at = Some a }) off still_work) refl
-      (exchanged_as w (frees.listed off) n (n + 1) most.slots most.released (omega (arith, at_work.field, c.fields, many_left)) h)
+      zeros_clear true (freed_listed w word) (n + 1) wide (members_listed off (λ x t. ap (times x) still_free ∙ c.freeing.unlisted x (subst (λ xs. 0 < times x xs) still_work t)) kept) (tidy_listed off tidy) (listed_ready (record { fields = m.fields; at = Some a }) off off_at_work) refl
+      (exchanged_as w (frees.listed off) n (n + 1) still_slots still_released (omega (arith, at_work.field, c.fields, many_left)) h)
 
 pub freed_clears : (m : frees.Machine) (w : Parts) (word n : ℕ) → Counted w.counts word → Clears (record { parts = w; phase = Some (Freeing m) }) n → Clears (with_freed m w word) (n + 1)
 freed_clears m w word n counted c = freed_by (λ b. Clears b (n + 1)) m w word c.clearing.busy
     (λ a e l.
-    let of : IsOf (freed_off w word).work a = (still_work m w word n counted c.clearing c.counts c.exchanges a e).held in
+    let of : IsOf (freed_off w word).work a = (off_at_work m w word n counted c.clearing c.counts c.exchanges a e).held in
     on_clears m w word n counted c.clearing c.counts c.exchanges a e c.wide (field_behind a) l (record { index = of.index; slot = of.slot })
     (omega (arith, l, c.clearing.fields, many_left m w word n counted c.clearing c.counts c.exchanges a e, ap (λ i. (i - (a.index + 1)) * w.fields) (same_work m w word n counted c.clearing c.counts c.exchanges a e))))
     (λ a e l i.

@@ -1,5 +1,5 @@
 -- Rows of buffers.
-use Rattle.std.proofs.Common.{◌≡◌, ℕ, suc, zero, ◌+◌, ◌-◌, ◌*◌, ◌<◌, Option, List, [], ◌∷◌, ◌++◌, length, map, take, drop, get_or, set, replicate, refl, arith, sym, ◌∙◌, ap, append_assoc, length-drop}
+use Rattle.std.proofs.Common.{◌≡◌, ℕ, suc, zero, ◌+◌, ◌*◌, ◌<◌, Option, List, [], ◌∷◌, ◌++◌, length, map, take, drop, get_or, set, replicate, refl, arith, sym, ◌∙◌, ap, append_assoc, length-drop}
 use Rattle.std.proofs.Math.Nat.{suc-mul}
 use Rattle.std.proofs.lemmas.List.{get_or-map, get_or-replicate, length-map, length-replicate, length-take}
 use Rattle.rec_collector.proofs.Common.{Contents, IsSized, AreSized, AreSpare, Private, blank, retired, spare, buffer_at, cleared, ended}

@@ -14,8 +14,8 @@ use Rattle.rec_collector.proofs.Landing.{Lands, landed, landed_sizes}
 pub same_sizes : (p : Private) → KeepsSizes p p
 same_sizes p = record { slots = refl; fields = refl; registers = refl; capacity = refl; policy = refl; mutators = refl }
 
-pub sizes_on : (a b d : Private) → KeepsSizes a b → KeepsSizes b d → KeepsSizes a d
-sizes_on a b d x y = record { slots = y.slots ∙ x.slots; fields = y.fields ∙ x.fields; registers = y.registers ∙ x.registers; capacity = y.capacity ∙ x.capacity; policy = y.policy ∙ x.policy; mutators = y.mutators ∙ x.mutators }
+pub sizes_on : {a b d : Private} → KeepsSizes a b → KeepsSizes b d → KeepsSizes a d
+sizes_on x y = record { slots = y.slots ∙ x.slots; fields = y.fields ∙ x.fields; registers = y.registers ∙ x.registers; capacity = y.capacity ∙ x.capacity; policy = y.policy ∙ x.policy; mutators = y.mutators ∙ x.mutators }
 
 pub ended_sizes : (p : Private) (phase : Phase) → IsMachine p → KeepsSizes p (ended_if phase p)
 ended_sizes p (Closing n) k = record { slots = refl; fields = refl; registers = refl; capacity = refl; policy = refl; mutators = length-map p.older cleared ∙ k.both }
@@ -88,7 +88,7 @@ module _ (p : Private) (n : ℕ) (phase : Phase) (counts : State) (word : ℕ) (
     is = step_took;
     answers = step_turn;
     machine = subst IsMachine landed_is machine_lands;
-    sizes = subst (KeepsSizes p) landed_is (sizes_on p q (landed q next) sizes sizes_land);
+    sizes = subst (KeepsSizes p) landed_is (sizes_on sizes sizes_land);
     fits = omega (arith, turns_fit q k, ap (λ (x : Private). x.turns) at);
   }
 
@@ -99,7 +99,7 @@ module _ (p : Private) (n : ℕ) (phase : Phase) (counts : State) (word : ℕ) (
   step_machine = subst IsMachine came_took (came_keeps q next machine_lands)
 
   step_sizes : KeepsSizes p (took_of q word)
-  step_sizes = subst (KeepsSizes p) came_took (sizes_on p (landed q next) (came q next) (sizes_on p q (landed q next) sizes sizes_land) (ended_sizes (landed q next) next.phase machine_lands))
+  step_sizes = subst (KeepsSizes p) came_took (sizes_on (sizes_on sizes sizes_land) (ended_sizes (landed q next) next.phase machine_lands))
 
   -- while something is due it goes on in this phase
   step_busy : (later : Phase) (s : State) → IsWork later → next ≡ next_in later (with_counts (parts_of p) s) → (took_of q word ≡ midway p (n + 1) later s) × (turn_of q word ≡ Moved)
@@ -143,5 +143,5 @@ module _ (p : Private) (n : ℕ) (next : Next) (q : Private) (turn : Turn) (l : 
   run_told now answer ends answers sizes = (
     l.is ∙ sym (ends ∙ (λ i. ended_if (is i).phase (behind_is i))),
     l.answers ∙ sym (answers ∙ ap (λ (x : Next). came_turn p.epoch x.phase) is),
-    sizes_on p (landed (before_last p n) next) now l.sizes (subst (λ (x : Private). KeepsSizes x now) behind_is sizes),
+    sizes_on l.sizes (subst (λ (x : Private). KeepsSizes x now) behind_is sizes),
   )

@@ -1,5 +1,5 @@
 -- Runs of turns for the machine that is at work: words that it learns one after another, each by a turn.
-use Rattle.std.specs.Prelude.{◌≡◌, ℕ, ◌+◌, ◌-◌, ◌^◌, ◌<◌, false, Option, IsSome, []}
+use Rattle.std.specs.Prelude.{◌≡◌, ℕ, ◌+◌, ◌-◌, ◌^◌, ◌<◌, Option, IsSome, []}
 use Rattle.rec_word.specs.declared.op.Op.{Op}
 use Rattle.rec_counts.specs.Counts.{State}
 use Rattle.rec_release.specs.CycleFree as frees

@@ -295,21 +295,18 @@ swapped_out : (q : Private) (b : Contents) (t : ℕ) → q.phase ≡ Swapping t 
 unfolding swapped_of swapped_at
 swapped_out q b t is = ap (swapped_at q b) is
 
-step_is : (p : Private) (word : ℕ) (b : Contents) → step_of p word b ≡ swapped_of (took_of p word) b
-unfolding step_of
-step_is p word b = refl
-
 pub hit_sized : (p q : Private) (b : Contents) (m : Option Contents) → KeepsSizes p q → m ≡ Some b → IsSized p.registers p.capacity b → IsSized q.registers q.capacity (held m)
 hit_sized p q b m same is sized = subst (λ (y : ℕ × ℕ × Contents). IsSized y.0 y.1 y.2) (λ k. (sym same.registers k, sym same.capacity k, held (sym is k))) sized
 
 pub hit_turn : (p q r : Private) (t word : ℕ) (b : Contents) (m m' : Option Contents) → word < 2 ^ 32 → p.phase ≡ Looking t → word ≡ crossing_word p.epoch Retired → q ≡ took_of p word → m ≡ Some b → r ≡ swapped_of q (held m) → m' ≡ Some (left_of q (held m))
     → (r ≡ step_of p word b) × ((t - 1, m') ∷ [] ≡ boxes_out r) × KeepsSizes p r × IsBetween r.phase
+unfolding step_of
 hit_turn p q r t word b m m' plain is hit took is_m swapped left =
     let q_is : q ≡ moved p (Swapping t) = took ∙ took_hit p t word plain is hit in
     let at_swap : q.phase ≡ Swapping t = ap (λ (x : Private). x.phase) q_is in
     let r_is : r ≡ record p { phase = Returning t; turns = p.turns + 1; newer = slice_set p.newer (t - 1) (held m) } = swapped ∙ swapped_out q (held m) t at_swap ∙ (λ k. record (q_is k) { phase = Returning t; newer = slice_set (q_is k).newer (t - 1) (held m) }) in
     let m_is : m' ≡ Some (spare r) = left ∙ ap (λ (x : Contents). Some x) (leaves_spare q (held m) t at_swap) ∙ (λ k. Some (spare (q_is k))) ∙ (λ k. Some (spare (sym r_is k))) in (
-      swapped ∙ (λ k. swapped_of (took k) (held (is_m k))) ∙ sym (step_is p word b),
+      swapped ∙ (λ k. swapped_of (took k) (held (is_m k))),
       (λ k. (t - 1, m_is k) ∷ []) ∙ (λ k. boxes_at r (ap (λ (x : Private). x.phase) (sym r_is) k)),
       record {
         slots = ap (λ (x : Private). length x.counts.slots) r_is;
@@ -356,14 +353,6 @@ turn_there key op opened p words world is keeps machine named wide =
     let low = row_within (cells_of key) op (collector_within key op (world_kept key world) names) in
     omega (arith, low, wide)
 
-look_number : Op → ℕ
-look_number (ops.LookBox t e) = t
-look_number _ = 0
-
-look_epoch : Op → ℕ
-look_epoch (ops.LookBox t e) = e
-look_epoch _ = 0
-
 abbrev IsLookOp : Op → Type 0
 IsLookOp (ops.LookBox t e) = Unit {0}
 IsLookOp _ = ⊥
@@ -377,11 +366,10 @@ not_look ops.AddFreed a b = b
 not_look _ a b = a
 
 pub looking_of : (p : Private) (op : Op) (t e : ℕ) → IsBetween p.phase → ◌≡◌ {A = Option Op} (next_of p) (Some op) → op ≡ ops.LookBox t e → (p.phase ≡ Looking t) × (p.epoch ≡ e)
-unfolding look_number look_epoch
 looking_of p op t e between named is = by (kind p op between named)
   where
     by : Kind p op → (p.phase ≡ Looking t) × (p.epoch ≡ e)
-    by (Kind.at_box u phase o) = (phase ∙ ap (λ k. Looking k) (ap look_number (sym o ∙ is)), ap look_epoch (sym o ∙ is))
+    by (Kind.at_box u phase o) = let same : ops.LookBox u p.epoch ≡ ops.LookBox t e = sym o ∙ is in (phase ∙ ap (λ k. Looking k) (cc), cc)
     by (Kind.gives_box u phase o) = absurd (subst IsLookOp (sym is ∙ o) tt)
     by (Kind.lone phase o) = absurd (not_look op o (subst IsLookOp (sym is) tt))
 

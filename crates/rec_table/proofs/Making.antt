@@ -380,13 +380,9 @@ no_else p op is between load swap claim take give = by op (subst (IsOwnOp p) (sy
     by (ops.ShiftBox x y) own n l s c t g = n tt
     by _ own n l s c t g = own
 
-box_of : Op → ℕ
-box_of (ops.TakeBox t e) = t
-box_of _ = 0
-
 pub takes_own : (p : Private) (op : Op) (t e : ℕ) → op ≡ next_of p → IsBetween p.phase → op ≡ ops.TakeBox t e → t ≡ p.number
-unfolding box_of
-takes_own p op t e is between takes = ap box_of (sym takes ∙ is ∙ takes_op p (taking_phase p op is between (subst IsTakeOp (sym takes) tt)))
+takes_own p op t e is between takes =
+    let same : ops.TakeBox t e ≡ ops.TakeBox p.number (p.epoch + 1) = sym takes ∙ is ∙ takes_op p (taking_phase p op is between (subst IsTakeOp (sym takes) tt)) in cc
 
 pub out_at : (p : Private) (word slot : ℕ) (l : List (ℕ × Option Contents)) → TakesBox p.phase → slot ≡ p.number - 1 → l ≡ taken_by p word p.phase → l ≡ (slot, Some (spare (took_of p word))) ∷ []
 out_at p word slot l takes is out = out ∙ taking_taken p word p.phase takes ∙ (λ k. (sym is k, Some (spare (took_of p word))) ∷ [])

@@ -26,10 +26,6 @@ abbrev IsClaimOp : Op → Type 0
 IsClaimOp (ops.ClaimHeader slot header) = Unit {0}
 IsClaimOp _ = ⊥
 
-slot_of : Op → ℕ
-slot_of (ops.ClaimHeader slot header) = slot
-slot_of _ = 0
-
 new_claims : (p : Private) (full : Bool) → IsClaimOp (new_op p full) → ⊥
 new_claims p true is = is
 new_claims p false is = is
@@ -65,7 +61,7 @@ pub record Claims (p : Private) (slot : ℕ) : Type 0 where
   pub comes : slot ≡ probe_of p probed
 
 pub claims : (p : Private) (slot header : ℕ) → next_of p ≡ ops.ClaimHeader slot header → Claims p slot
-unfolding next_of next_at slot_of
+unfolding next_of next_at
 claims p slot header is = by p.phase refl
   where
     no : (phase : phases.Phase) → p.phase ≡ phase → (IsClaimOp (next_at p phase) → ⊥) → Claims p slot
@@ -75,8 +71,8 @@ claims p slot header is = by p.phase refl
     by at.Idle e = no at.Idle e (λ x. x)
     by (at.Begun work) e = no (at.Begun work) e (begun_claims p work)
     by (at.Scanning reg label leaf before probed) e =
-        let same : probe_of p probed ≡ slot = ap slot_of (sym (ap (next_at p) e) ∙ is) in
-        record { reg = reg; label = label; leaf = leaf; before = before; probed = probed; phase = e; comes = sym same }
+        let same : next_at p (at.Scanning reg label leaf before probed) ≡ ops.ClaimHeader slot header = sym (ap (next_at p) e) ∙ is in
+        record { reg = reg; label = label; leaf = leaf; before = before; probed = probed; phase = e; comes = cc }
     by (at.Scanned reg label leaf before) e = no (at.Scanned reg label leaf before) e (λ x. x)
     by (at.Storing src f val s) e = no (at.Storing src f val s) e (λ x. x)
     by at.Crossing e = no at.Crossing e (λ x. x)

@@ -13,6 +13,7 @@ use Rattle.rec_collector.specs.declared.phase.Phase.TheVariants.{Freeing, Trying
 use Rattle.rec_collector.specs.declared.turn.Turn.{Turn}
 use Rattle.rec_collector.specs.declared.turn.Turn.TheVariants as turns
 use Rattle.rec_collector.proofs.ByTurns.{loop_keeps}
+use Rattle.rec_collector.proofs.Running.{sizes_on}
 use Rattle.rec_table.proofs.Common.{Op, Contents, Core, CollectorView, collector_view, collecting_of, collecting_more, boxes_at, boxes_out, NotLooking, Saw, CollectorSeat, View, Collects}
 use Rattle.rec_table.specs.TurnRuns.{Made, Stands}
 use Rattle.rec_table.specs.Turn.{MakesSome, MakesTurn, MakesTurns, MovesTo}
@@ -70,9 +71,6 @@ kinds_loop (Preparing m) l = tt
 kinds_loop (Sweeping due n) l = tt
 kinds_loop _ l = absurd l
 
-sizes_on : (a b d : Private) → KeepsSizes a b → KeepsSizes b d → KeepsSizes a d
-sizes_on a b d x y = record { slots = y.slots ∙ x.slots; fields = y.fields ∙ x.fields; registers = y.registers ∙ x.registers; capacity = y.capacity ∙ x.capacity; policy = y.policy ∙ x.policy; mutators = y.mutators ∙ x.mutators }
-
 module _ (z : TableId) (key : Core) (start : CollectorSeat) (table : TableId) (me : Me (Option Contents) View) (n : ℕ) (p : Private) (op : Op) (s : Stands z key start table me n p turns.Moved) (l : IsLooped p.phase) (named : ◌≡◌ {A = Option Op} (next_of p) (Some op)) where
   -- one turn more
   pub stands_on : (table' : TableId) (me' : Me (Option Contents) View) (word : ℕ) → table' ≡ table → me' ≡ (Collects (collecting_more (collecting_of me.0) (Saw word)), []) → IsGiven p word → Stands z key start table' me' (n + 1) (took_of p word) (turn_of p word)
@@ -93,7 +91,7 @@ module _ (z : TableId) (key : Core) (start : CollectorSeat) (table : TableId) (m
         same = (λ k. collecting_of (view k).0) ∙ (λ k. record (s.same k) { log = c.log ++ Saw word ∷ [] }) ∙ (λ k. record start { log = (collecting_of (sym view k).0).log });
         is = turn_log key.collector p q c (Saw word) me' s.is refl seated;
         kept = next.0;
-        sizes = sizes_on key.collector p q s.sizes next.1;
+        sizes = sizes_on s.sizes next.1;
         between = out.1;
         made = Made.more n u v (turn_of p word) (made_moves (collector_view z key.collector start) u n turns.Moved s.made refl) makes;
         frees = frees_on key (collector_view z key.collector start) u v (turn_of p word) p op word s.frees makes (λ k. collecting_of (view k).0) s.is

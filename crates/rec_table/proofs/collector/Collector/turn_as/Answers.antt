@@ -5,7 +5,8 @@ use Rattle.rec_word.specs.Header.{IsTakenHeader}
 use Rattle.rec_word.specs.declared.op.Op.TheVariants as ops
 use Rattle.rec_table.specs.Rule.{FindsHeader}
 use Rattle.rec_collector.specs.Given.{IsGiven}
-use Rattle.rec_collector.specs.Kept.{IsMachine, KeepsSizes}
+use Rattle.rec_collector.specs.Kept.{IsMachine}
+use Rattle.rec_collector.proofs.Running.{sizes_on}
 use Rattle.rec_collector.specs.Kind.{kind_of}
 use Rattle.rec_collector.specs.Next.{next_of}
 use Rattle.rec_collector.specs.Private.{Private}
@@ -42,9 +43,6 @@ there : (c : In-Some) → index_of (length (key c).words) (length (key c).header
 there c =
     let wide = c.args.board.now.wide in
     turn_there (key c) c.in-Some.op c.self.inside.opened.value c.self.inside.machine c.args.board.now.table.shared.table_id.words c.requires.world (opened c) c.self.invariant.2 c.turns-turns.ensures.kept (named c) (omega (arith, wide.0, wide.1, wide.2))
-
-keeps : (a b d : Private) → KeepsSizes a b → KeepsSizes b d → KeepsSizes a d
-keeps a b d x y = record { slots = y.slots ∙ x.slots; fields = y.fields ∙ x.fields; registers = y.registers ∙ x.registers; capacity = y.capacity ∙ x.capacity; policy = y.policy ∙ x.policy; mutators = y.mutators ∙ x.mutators }
 
 looking : (c : In-Some) (t e : ℕ) → c.in-Some.op ≡ ops.LookBox t e → (c.self.inside.machine.phase ≡ Looking t) × (c.self.inside.machine.epoch ≡ e)
 looking c t e is = looking_of c.self.inside.machine c.in-Some.op t e c.self.invariant.3 (named c) is
@@ -126,7 +124,7 @@ invariant_of-self c =
     let t = c.look-turn.ensures.turned in (
       turn_me (collecting a) t.0 c.look-turn.new.machine c.look-turn.new.seat.me t.1,
       turn_log s.opened.value s.machine c.look-turn.new.machine (collecting a) t.0 c.look-turn.new.seat.me c.self.invariant.1 t.2 t.1,
-      keeps s.opened.value s.machine c.look-turn.new.machine c.self.invariant.2 c.look-turn.ensures.same,
+      sizes_on c.self.invariant.2 c.look-turn.ensures.same,
       c.look-turn.ensures.between,
     )
 
@@ -139,7 +137,7 @@ invariant_of-self-in_default-op c =
     let seated : c.make_turn-word.new.seat.me ≡ (Collects (collecting_more (collecting a) b), boxes_out c.took_as.new.self) = c.make_turn-word.ensures.view ∙ (λ k. (Collects (collecting_more (collecting a) b), sym out.0 k)) in (
       turn_me (collecting a) b c.took_as.new.self c.make_turn-word.new.seat.me seated,
       turn_log s.opened.value s.machine c.took_as.new.self (collecting a) b c.make_turn-word.new.seat.me c.self.invariant.1 c.took_as.ensures.took seated,
-      keeps s.opened.value s.machine c.took_as.new.self c.self.invariant.2 c.took_as.ensures.same,
+      sizes_on c.self.invariant.2 c.took_as.ensures.same,
       out.1,
     )
 
