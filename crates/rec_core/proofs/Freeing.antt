@@ -15,6 +15,12 @@ use Rattle.rec_core.proofs.Taken as taken
 use Rattle.rec_core.proofs.Turns.{cycles_in, emptied_in, now_at}
 use Rattle.rec_core.proofs.Zeros.{HasCome, AreEmpty, cleared, empty_uncounted, listed_come, zeros_come}
 
+-- what the freeing of a set knows of the field that it comes to
+pub record Empties (w : Core) (m : Machine) (a : Member) : Type 0 where
+  pub clearing : IsFreeing (parts_of w.collector) m
+  pub fields : m.fields ≡ w.config.fields
+  pub may_empty : taken.MayEmpty w a.slot a.field
+
 module _ (w : Core) (m : Machine) (a : Member) (kept : IsKept true w) (phase : w.collector.phase ≡ Freeing m) (at : m.at ≡ Some a) where
   open w use {collector as c}
   open (taken.emptied_at w a.slot a.field) use {place, word, words}
@@ -22,30 +28,28 @@ module _ (w : Core) (m : Machine) (a : Member) (kept : IsKept true w) (phase : w
   now : collector_kept.IsTesting c (Freeing m)
   now = now_at w (Freeing m) kept phase
 
-  clearing : IsFreeing (parts_of c) m
-  clearing = now.clearing
-
   at_work : IsAtWork (record { fields = m.fields; at = Some a }) c.counts
-  at_work = subst (λ o. IsAtWork (record { fields = m.fields; at = o }) c.counts) at clearing.freeing
+  at_work = subst (λ o. IsAtWork (record { fields = m.fields; at = o }) c.counts) at now.clearing.freeing
 
-  fields : m.fields ≡ w.config.fields
-  fields = clearing.fields ∙ kept.collector.fields
-
-  -- the member at work stands in the work list
-  in_work : 0 < times a.slot c.counts.work
-  in_work = subst (λ x. 0 < times x c.counts.work) (sym at_work.held.slot) (times_at c.counts.work a.index at_work.held.index)
-
-  -- its field may be emptied
-  pub may_empty : taken.MayEmpty w a.slot a.field
-  may_empty =
+  -- the field may be emptied, as its member stands in the work list
+  pub empties : Empties w m a
+  empties =
+      let fields : m.fields ≡ w.config.fields = now.clearing.fields ∙ kept.collector.fields in
+      let in_work : 0 < times a.slot c.counts.work = subst (λ x. 0 < times x c.counts.work) (sym at_work.held.slot) (times_at c.counts.work a.index at_work.held.index) in
       let there : a.slot < length c.counts.slots = in_range_once (length c.counts.slots) c.counts.work a.slot kept.collector.machine.counts.work_once in_work in
       record {
-        kept = kept;
-        unswept = subst (IsUnswept w.epoch) (sym phase) (record { way = refl; still = refl; applied = refl; older = refl; stands = λ s. refl; held = λ v. tt; between = tt; some = tt });
-        below = omega (arith, there, kept.collector.slots);
-        within = omega (arith, at_work.field, fields);
-        released = at_work.released a.slot in_work;
+        clearing = now.clearing;
+        fields = fields;
+        may_empty = record {
+          kept = kept;
+          unswept = subst (IsUnswept w.epoch) (sym phase) (record { way = refl; still = refl; applied = refl; older = refl; stands = λ s. refl; held = λ v. tt; between = tt; some = tt });
+          below = omega (arith, there, kept.collector.slots);
+          within = omega (arith, at_work.field, fields);
+          released = at_work.released a.slot in_work;
+        };
       }
+
+  open empties use {clearing, fields, may_empty}
 
   -- the counts then
   abbrev off : State

@@ -72,10 +72,6 @@ module _ (w : Core) (c : collectors.Private) (before : Phase) (some : 2 ≤ w.ep
   abbrev complete : (turns collections : ℕ) → Core
   complete turns collections = record w { collector = record c { phase = Idle; turns = turns; collections = collections; newer = map cleared c.older; older = c.newer } }
 
-  -- one of the older buffers
-  older_there : (i : ℕ) → i < length c.older → IsBufferOf true w.config (w.epoch - 2) (slice_index_or c.older i (collectors.blank 0 0))
-  older_there = buffer_there w.config (w.epoch - 2) c.older both filed_older
-
   -- cleared buffers add nothing
   cleared_row : {Y : Type 0} (g : Y → ℕ) (f : Filed → List Y) (e : ℕ) → ((b : Contents) → share g f e (cleared b) ≡ 0) → (row : List Contents) → sum_by (share g f e) (map cleared row) ≡ 0
   cleared_row g f e none [] = refl
@@ -103,7 +99,7 @@ module _ (w : Core) (c : collectors.Private) (before : Phase) (some : 2 ≤ w.ep
       λ weight none. omega (
         arith,
         complete_sums weight (λ (b : Filed). writes_in b.buffer.entries) turns collections (λ b. refl),
-        none_of (share weight (λ (b : Filed). writes_in b.buffer.entries) (w.epoch - 2)) c.older (collectors.blank 0 0) (λ i below. early_writes weight (w.epoch - 2) (w.epoch - 1) (slice_index_or c.older i (collectors.blank 0 0)).entries (omega arith) none (older_there i below).made),
+        none_of (share weight (λ (b : Filed). writes_in b.buffer.entries) (w.epoch - 2)) c.older (collectors.blank 0 0) (λ i below. early_writes weight (w.epoch - 2) (w.epoch - 1) (slice_index_or c.older i (collectors.blank 0 0)).entries (omega arith) none (buffer_there w.config (w.epoch - 2) c.older both filed_older i below).made),
       ),
     );
     births = (

@@ -137,7 +137,7 @@ turned_at_keeps w op (Freeing m) kept is named = go m.at refl
     go (Some a) at =
         let fields : m.fields ≡ w.config.fields = (now_at w (Freeing m) kept is).clearing.fields ∙ kept.collector.fields in
         let its : op ≡ ops.ClearField (place_of a.slot a.field w.config.fields) = some_op op (ops.ClearField (place_of a.slot a.field w.config.fields)) (sym named ∙ ap (freeing_op_at m.fields) at ∙ ap (λ n. Some (ops.ClearField (place_of a.slot a.field n))) fields) in
-        subst (λ o. KeepsReached (sight w) (sight (turned_at w (Some o)))) (sym its) (keeps_others_field w a.slot a.field kept (freeing.may_empty w m a kept is at).within (freeing.may_empty w m a kept is at).released)
+        subst (λ o. KeepsReached (sight w) (sight (turned_at w (Some o)))) (sym its) (keeps_others_field w a.slot a.field kept (freeing.empties w m a kept is at).may_empty.within (freeing.empties w m a kept is at).may_empty.released)
 turned_at_keeps w op (Trying m) kept is named = let (place, its) = loads_child m op (sym named) in load_keeps w op place its
 turned_at_keeps w op (Preparing m) kept is named = let (a, at, its) = loads_due m op named in load_keeps w op (place_of a.member.slot a.member.field m.fields) its
 turned_at_keeps w op Opening kept is named = subst (λ o. KeepsReached (sight w) (sight (turned_at w (Some o)))) (sym (some_op op ops.AddFreed (sym named))) (keeps_all (sight w))

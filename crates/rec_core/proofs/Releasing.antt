@@ -29,16 +29,13 @@ module _ (w : Core) (m : Machine) (a : At) (kept : IsKept true w) (phase : w.col
   at_work : IsAtWork (record { fields = m.fields; at = Some a; lowers = m.lowers }) c.counts
   at_work = subst (λ o. IsAtWork (record { fields = m.fields; at = o; lowers = m.lowers }) c.counts) at clearing.release
 
-  fields : m.fields ≡ w.config.fields
-  fields = clearing.fields ∙ kept.collector.fields
-
   -- its field may be emptied
   pub may_empty : taken.MayEmpty w a.slot a.field
   may_empty = record {
     kept = kept;
     unswept = subst (IsUnswept w.epoch) (sym phase) (record { way = refl; still = refl; applied = refl; older = refl; stands = λ s. refl; held = λ v. tt; between = tt; some = tt });
     below = omega (arith, at_work.held.in_range, kept.collector.slots);
-    within = omega (arith, at_work.field, fields);
+    within = omega (arith, at_work.field, clearing.fields, kept.collector.fields);
     released = at_work.held.released;
   }
 
@@ -77,7 +74,7 @@ module _ (w : Core) (m : Machine) (a : At) (kept : IsKept true w) (phase : w.col
   -- or the slot is emptied, and the next of the zeros is released
   next : m.fields ≤ a.field + 1 → HasCome w w.crossing words (released_last m (parts_of c) word a)
   next last =
-      let h = came None refl (λ x f there in_range is. elim (left x f there in_range is) [ inl due ↦ absurd (omega (arith, due.1, in_range, last, fields)) | inr e ↦ inr e ]) in
+      let h = came None refl (λ x f there in_range is. elim (left x f there in_range is) [ inl due ↦ absurd (omega (arith, due.1, in_range, last, clearing.fields, kept.collector.fields)) | inr e ↦ inr e ]) in
       let ready : IsReady (emptied off a.slot) = ready_emptied off a.slot (still_released a.slot ∙ at_work.held.released) (ready_off m.lowers c.counts (target_of word) clearing.release.ready) in
       let many : length off.slots ≡ w.config.slots = still_slots ∙ kept.collector.slots in
       next_come m.fields m.lowers (listed_come (emptied off a.slot) h (emptied_alike off a.slot) (emptied_sets off a.slot) ready.free (emptied_kept off a.slot (omega (arith, may_empty.below, many)) (ap (times a.slot) still_free ∙ at_work.held.unlisted) h.landed.counts)) ready

@@ -85,7 +85,7 @@ given_at w op (Freeing m) kept is named = go m.at refl
         let fields : m.fields ≡ w.config.fields = (now_at w (Freeing m) kept is).clearing.fields ∙ kept.collector.fields in
         let its : op ≡ ops.ClearField place = some_op op (ops.ClearField place) (sym named ∙ ap (freeing_op_at m.fields) at ∙ ap (λ n. Some (ops.ClearField (place_of a.slot a.field n))) fields) in
         let found : cell (cells_of w) op ≡ slice_index_or w.words place 0 = ap (cell (cells_of w)) its in
-        subst (λ n. IfSome (target_of n) (λ slot. 0 < (slot_at w.collector.counts slot).count)) (sym found) (taken.counted_word w a.slot a.field (freeing.may_empty w m a kept is at))
+        subst (λ n. IfSome (target_of n) (λ slot. 0 < (slot_at w.collector.counts slot).count)) (sym found) (taken.counted_word w a.slot a.field (freeing.empties w m a kept is at).may_empty)
 given_at w op (Trying m) kept is named =
     let (place, its) = loads_child m op (sym named) in
     subst (λ o. LeadsToUnreleased w.collector.counts (cell (cells_of w) o)) (sym its) (loaded_leads w m kept is place (named ∙ ap (λ o. Some o) its))

@@ -51,12 +51,13 @@ first_left members x f some = go (slice_get members 0) refl
     go None is = absurd (omega (arith, some, ap (times x) (nothing_first members is), times-nil x))
     go (Some y) is = let at = stands x members some in (at.place, omega arith, at.within, at.is, λ e. omega arith)
 
+-- the number of the last set
+abbrev pub last_number : State → ℕ
+last_number s = length s.sets - 1
+
 -- Nothing is at work, and a set is left.
 module _ (w : Core) (crossing words : List ℕ) (v : Parts) (h : HasCleared w crossing words (still v)) (some : 0 < length v.counts.sets) where
   open v use {counts as s}
-
-  abbrev number : ℕ
-  number = length s.sets - 1
 
   l : HasLanded w crossing words (still v)
   l = h.landed
@@ -70,7 +71,7 @@ module _ (w : Core) (crossing words : List ℕ) (v : Parts) (h : HasCleared w cr
   empty : AreEmpty w.config.slots w.config.fields words s
   empty = landed_empty l
 
-  judged : AreOrange s number → cyclic_sum s number ≡ 0 → IsJudged (landed_pending w words s) s number
+  judged : AreOrange s (last_number s) → cyclic_sum s (last_number s) ≡ 0 → IsJudged (landed_pending w words s) s (last_number s)
   judged orange none = record {
     kept = l.counts;
     apart = idle.apart;
@@ -81,10 +82,10 @@ module _ (w : Core) (crossing words : List ℕ) (v : Parts) (h : HasCleared w cr
   }
 
   -- a set that passes is given up, and its first member's first field is due
-  given_lands : AreOrange s number → cyclic_sum s number ≡ 0 → IsFreeable s → (at : Option Member) → first_member (slice_get (last_set s.sets) 0) ≡ at
+  given_lands : AreOrange s (last_number s) → cyclic_sum s (last_number s) ≡ 0 → IsFreeable s → (at : Option Member) → first_member (slice_get (last_set s.sets) 0) ≡ at
       → HasCome w crossing words (record { parts = (last_given v).parts; phase = freeing_at (record { fields = v.fields; at = at }) at })
   given_lands orange none f at first =
-      let given = set_given_up (landed_pending w words s) (landed_pending w words (given_up s)) s number l.accounted h.tests (judged orange none) (set_release (applied_pending w) words s) in
+      let given = set_given_up (landed_pending w words s) (landed_pending w words (given_up s)) s (last_number s) l.accounted h.tests (judged orange none) (set_release (applied_pending w) words s) in
       let released : (x : ℕ) → one (slot_at (given_up s) x).released ≡ one (slot_at s x).released + times x (last_set s.sets) = λ x. given_released s x l.counts f in
       let many : length (given_up s).slots ≡ w.config.slots = given_many s ∙ l.slots in
       let before : (x : ℕ) → (slot_at (given_up s) x).released ≡ true → ((slot_at s x).released ≡ true) ⊎ (0 < times x (last_set s.sets))
@@ -164,7 +165,7 @@ module _ (w : Core) (crossing words : List ℕ) (v : Parts) (h : HasCleared w cr
   -- where the test of the last set comes to
   last_lands : HasCleared w crossing words (last_tested v)
   last_lands = cleared (last_by (HasCome w crossing words) v
-      (λ passed. let says = verdict_passed s number passed in given_lands says.0 says.1 (last_freeable v some passed l.counts idle) (first_member (slice_get (last_set s.sets) 0)) refl)
+      (λ passed. let says = verdict_passed s (last_number s) passed in given_lands says.0 says.1 (last_freeable v some passed l.counts idle) (first_member (slice_get (last_set s.sets) 0)) refl)
       (λ verdict. let ready = refurbished_ready v some l.counts idle in zeros_come true (refused_comes (counted_by verdict v.sets) ready) ready))
       (last_clear h.exchanged v some h.clears)
 

@@ -1,5 +1,5 @@
 -- What a watch is shown of moves that follow one another.
-use Rattle.std.proofs.Common.{◌≡◌, List, [], ◌∷◌, ◌++◌, refl, sym, ap, subst, ◌∙◌}
+use Rattle.std.proofs.Common.{List, [], ◌∷◌, ◌++◌, refl, sym, ap, subst, ◌∙◌}
 use Rattle.std.proofs.lemmas.List.{append-nil}
 use Rattle.rec_collector.specs.Shown.{Shown}
 use Rattle.rec_core.specs.Core.{Core}

@@ -3,7 +3,7 @@ use Rattle.std.proofs.Common.{◌≡◌, ◌≢◌, inl, inr, ℕ, ◌+◌, ◌-
 use Rattle.std.specs.Option.{is_none}
 use Rattle.std.proofs.lemmas.Bool.{false≢true}
 use Rattle.std.proofs.lemmas.List.{set-set, set-get_or}
-use Rattle.rec_core.proofs.Common.{crossing_word, Spare, next_of, Private, IsAt, is_busy, is_busy_at, work_of, work_at, answer_of, answer_at, limit_of, Step, begun_of, step_made, IsMutator, Core, crossing_of, nobody, spare_of, box, mutator, with_mutator, IsKept, begun_from, stepped, found_by, Config}
+use Rattle.rec_core.proofs.Common.{crossing_word, Spare, next_of, Private, is_busy, is_busy_at, work_of, work_at, answer_of, answer_at, limit_of, Step, begun_of, step_made, IsMutator, Core, crossing_of, nobody, spare_of, box, mutator, with_mutator, IsKept, begun_from, stepped, found_by, Config}
 use Rattle.rec_model.specs.declared.answer.Answer.TheVariants as answers
 use Rattle.rec_model.specs.declared.command.Cmd.TheVariants as commands
 use Rattle.rec_mutator.specs.Took.{step_of}
@@ -11,11 +11,11 @@ use Rattle.rec_mutator.specs.declared.made.Made.{Made}
 use Rattle.rec_mutator.specs.declared.made.Made.TheVariants as makes
 use Rattle.rec_mutator.specs.Private.{command_of}
 use Rattle.rec_mutator.specs.declared.phase.Phase.{Phase}
-use Rattle.rec_mutator.specs.declared.phase.Phase.TheVariants.{Idle, Begun, Scanning, Scanned, Storing, Crossing, Swapping, Giving, Leaving, Retiring, Parting, Finished, Passing}
+use Rattle.rec_mutator.specs.declared.phase.Phase.TheVariants.{Idle, Begun, Scanning, Scanned, Storing, Giving, Leaving, Retiring, Parting, Finished, Passing}
 use Rattle.rec_mutator.specs.declared.work.Work.{Work}
 use Rattle.rec_mutator.specs.declared.work.Work.TheVariants as works
 use Rattle.rec_mutator.proofs.Leaving.{parts_from}
-use Rattle.rec_mutator.proofs.Machines.{allocation_limit, within_passage}
+use Rattle.rec_mutator.proofs.Machines.{within_limit}
 use Rattle.rec_mutator.proofs.Polls.{poll_has_cause}
 use Rattle.rec_mutator.proofs.Sizes.{step_keeps, step_counts}
 use Rattle.rec_core.specs.Unfinished.{OnlyWorks, IsQuiet, HasFound, HasLetGo, Waits}
@@ -169,27 +169,11 @@ step_busy w t kept is busy =
 pub steps_counted : {dated : Bool} → (w : Core) (t : ℕ) → IsKept dated w → IsMutator w.config t → is_busy (mutator w t) ≡ true → (mutator (stepped w t) t).steps ≡ (mutator w t).steps + 1
 steps_counted w t kept is busy = ap (λ (p : Private). p.steps) (stepped_mutator w t kept is) ∙ step_counts (its_step w t kept is busy)
 
--- the steps of a work are within its limit
-limit_at : (p : Private) (at : Phase) → IsAt p at → IfSome (work_at at) (λ work. p.steps ≤ limit_of p.slots work)
-limit_at p Idle is = tt
-limit_at p (Begun work) is = let none : p.steps ≡ 0 = is.1 in omega arith
-limit_at p (Scanning reg label leaf before probed) is = let there : probed < p.slots = is.1 in let steps : p.steps ≡ probed + 1 = is.2 in omega (arith, allocation_limit p.slots reg label leaf)
-limit_at p (Scanned reg label leaf before) is = let steps : p.steps ≡ p.slots + 1 = is.1 in omega (arith, allocation_limit p.slots reg label leaf)
-limit_at p (Storing src f val slot) is = let one : p.steps ≡ 1 = is.1 in omega arith
-limit_at p Crossing is = let one : p.steps ≡ 1 = is.0 in omega arith
-limit_at p Swapping is = let two : p.steps ≡ 2 = is.0 in omega arith
-limit_at p Giving is = let two : p.steps ≡ 2 = is.0 in omega arith
-limit_at p Leaving is = let one : p.steps ≡ 1 = is.0 in omega arith
-limit_at p Retiring is = let two : p.steps ≡ 2 = is.0 in omega arith
-limit_at p Parting is = let two : p.steps ≡ 2 = is.0 in omega arith
-limit_at p (Finished work made) is = is
-limit_at p (Passing passage) is = within_passage p passage is.steps
-
--- those of a mutator
+-- the steps of a mutator's work are within its limit
 pub steps_limited : {dated : Bool} → (w : Core) (t : ℕ) → IsKept dated w → IsMutator w.config t → IfSome (work_of (mutator w t)) (λ work. (mutator w t).steps ≤ limit_of w.config.slots work)
 steps_limited w t kept is =
     let own = (actor_of w t kept is).own in
-    subst (λ n. IfSome (work_of (mutator w t)) (λ work. (mutator w t).steps ≤ limit_of n work)) own.slots (limit_at (mutator w t) (mutator w t).phase own.machine.now)
+    subst (λ n. IfSome (work_of (mutator w t)) (λ work. (mutator w t).steps ≤ limit_of n work)) own.slots (within_limit (mutator w t) own.machine)
 
 -- no work takes more steps than an allocation may
 most_at : (slots steps : ℕ) (x : Option Work) (work : Work) → 0 < slots → x ≡ Some work → IfSome x (λ one. steps ≤ limit_of slots one) → steps ≤ slots + 2

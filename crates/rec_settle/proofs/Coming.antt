@@ -132,18 +132,14 @@ behind_few Trying = omega arith
 behind_few Freeing = omega arith
 behind_few _ = omega arith
 
--- the collections that were completed, as epochs count them
-abbrev completed : Core → ℕ
-completed w = w.config.first_epoch + w.collector.collections
-
 -- as many in the midst of a collection as at its beginning
-amid_same : (first : Core) (number epoch : ℕ) (start v : Core) → HasCollected epoch number first start → IsAmid start v → completed v ≡ completed first + number
+amid_same : (first : Core) (number epoch : ℕ) (start v : Core) → HasCollected epoch number first start → IsAmid start v → v.config.first_epoch + v.collector.collections ≡ first.config.first_epoch + first.collector.collections + number
 amid_same first number epoch start v h path =
     let amid = quiet_amid epoch start v h.kept h.quiet path in
     omega (arith, amid.collections, h.collections, ap (λ (c : Config). c.first_epoch) amid.config, ap (λ (c : Config). c.first_epoch) h.config)
 
 -- in each stage no more collections are completed than epochs were requested before it
-few_completed : (s : Settling) (first w : Core) → Collects s → IsKept false first → AreIdle first → Settles s first w → completed w ≤ first.epoch + behind s
+few_completed : (s : Settling) (first w : Core) → Collects s → IsKept false first → AreIdle first → Settles s first w → w.config.first_epoch + w.collector.collections ≤ first.epoch + behind s
 few_completed (Finishing requested) first w collects kept idle (same, IsFinishing.one _ path) =
     let amid = quiet_amid (first.epoch + 1) first w kept (quiet_begun first kept idle) path in
     omega (arith, amid.collections, ap (λ (c : Config). c.first_epoch) amid.config, kept.collector.begun)
@@ -168,7 +164,7 @@ same_left Freeing w v config same = refl
 same_left Settled w v config same = refl
 
 -- a collection more is complete
-one_less : (s : Settling) (w v : Core) (epoch : ℕ) → Collects s → v.config ≡ w.config → v.collector.collections ≡ w.collector.collections + 1 → ((requested : ℕ) → s ≡ Finishing requested → completed w ≤ requested)
+one_less : (s : Settling) (w v : Core) (epoch : ℕ) → Collects s → v.config ≡ w.config → v.collector.collections ≡ w.collector.collections + 1 → ((requested : ℕ) → s ≡ Finishing requested → w.config.first_epoch + w.collector.collections ≤ requested)
     → collections_left (stage_after s epoch) v + 1 ≤ collections_left s w
 one_less (Finishing requested) w v epoch collects config more few = go (epoch == requested)
   where
@@ -190,7 +186,7 @@ module _ (first : Core) (s : Settling) (w v : Core) (collects : Collects s) (com
   kept : IsKept false first
   kept = world_kept first come.kept
 
-  few : completed w ≤ first.epoch + behind s
+  few : w.config.first_epoch + w.collector.collections ≤ first.epoch + behind s
   few = few_completed s first w collects kept come.idle come.settles
 
   -- it came nearer to the end of the collection
@@ -228,7 +224,7 @@ module _ (first : Core) (s : Settling) (w v : Core) (collects : Collects s) (com
       grows : (n m : ℕ) → n * m + m ≡ (n + 1) * m
       grows n m = omega arith
 
-      finishing : (requested : ℕ) → s ≡ Finishing requested → completed w ≤ requested
+      finishing : (requested : ℕ) → s ≡ Finishing requested → w.config.first_epoch + w.collector.collections ≤ requested
       finishing requested at =
           let settles : Settles (Finishing requested) first w = subst (λ x. Settles x first w) at come.settles in
           omega (arith, few, ap behind at, settles.0)

@@ -111,10 +111,6 @@ module _ (w : Core) (t : ℕ) (kept : IsKeptBy true (stand_at w.collector.left O
     (retired : (s : ℕ) → IsMutator w.config s → IsRetired (mutator w s).registers (buffer_at w.collector.newer (s - 1)) × IsRetired (mutator w s).registers (buffer_at w.collector.older (s - 1)))
     (rested : SetsRest w w.words [] w.collector.counts) where
   open w use {collector as c}
-
-  abbrev s : State
-  s = applied c.policy.steady c.counts c.newer c.older
-
   open (subst (IsAt c) phase kept.collector.machine.now) use {rest}
 
   -- no register names a member
@@ -149,10 +145,10 @@ module _ (w : Core) (t : ℕ) (kept : IsKeptBy true (stand_at w.collector.left O
       taken_by x (mutator w (place + 1)).registers (buffer_at c.older place) o.2 (unnamed x i (place + 1) is o.0)) in
       omega (arith, up, down, unborn x, touches_named c.policy.steady x c.newer c.older (rows_alike c kept.collector.machine))
 
-  is : IsApplied c.policy.steady c.counts c.newer c.older s
+  is : IsApplied c.policy.steady c.counts c.newer c.older (batched c).counts
   is = is_counted w t kept phase
 
-  rested_then : SetsRest w w.words [] s
+  rested_then : SetsRest w w.words [] (batched c).counts
   rested_then = record {
     unheld = unheld_batch w.config.fields w.words [] is spared rested.unheld;
     found = λ x unreleased other none. rested.found x (sym (is.rest.released x) ∙ unreleased) (sym (is.greens x (leaves_told c.policy.steady x c.newer c.older ∙ unborn x)) ∙ other) (sym (is.rest.set x) ∙ none);
@@ -164,4 +160,4 @@ module _ (w : Core) (t : ℕ) (kept : IsKeptBy true (stand_at w.collector.left O
   frees_rest_applied counted =
       let before : IsCleared (parts_of c) = resting_cleared (parts_of c) rest in
       let tidy = batched_clear is (none_released rest) before.tidy rest.counted before.ready before.work in
-      greens_released w w.words false (batched c) tidy.1 (leaves_landed (batch_comes w t kept phase).landed) (green_zeros_rest w w.words [] s (is.rest.slots ∙ kept.collector.slots) is.zeros tidy.0.apart counted rested_then) rested_then
+      greens_released w w.words false (batched c) tidy.1 (leaves_landed (batch_comes w t kept phase).landed) (green_zeros_rest w w.words [] (batched c).counts (is.rest.slots ∙ kept.collector.slots) is.zeros tidy.0.apart counted rested_then) rested_then

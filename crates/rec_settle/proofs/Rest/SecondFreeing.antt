@@ -9,15 +9,14 @@ use Rattle.rec_word.specs.Walk.{places_left}
 use Rattle.rec_release.proofs.TakenOff.{ready_off}
 use Rattle.rec_collector.proofs.Tidy.{tidy_off}
 use Rattle.rec_core.proofs.TurnCases.{word_at, words_without}
-use Rattle.rec_core.proofs.Freeing as freeing
+use Rattle.rec_core.proofs.Freeing.{empties}
 use Rattle.rec_core.proofs.Taken as taken
 use Rattle.rec_settle.proofs.Rest.SecondBatch.{FreesOn, greens_released}
 use Rattle.rec_settle.proofs.Rest.SecondReach.{green_zeros_rest, reached_still}
 use Rattle.rec_settle.proofs.Rest.SettlingTests.{unheld_alike, unheld_cleared}
-use Rattle.rec_core.proofs.Turns.{now_at}
 use Rattle.std.proofs.Math.Nat.{mod-lt, div-add-mod, mul_comm}
 use Rattle.std.proofs.lemmas.Bool.{cases_eq}
-use Rattle.rec_core.proofs.Common.{place_of, places_from, places_of, target_of, State, slot_at, Member, listed, IsAtWork, IsReady, taken_off, IsFreeing, IsTidy, with_freed, parts_of, Freeing, field_behind, freed_by, freed_last, freed_listed, freed_on, member_behind, Core, sight, IsKept, is_green, times, word_in}
+use Rattle.rec_core.proofs.Common.{place_of, places_from, places_of, target_of, State, slot_at, Member, listed, IsAtWork, IsReady, taken_off, IsTidy, with_freed, parts_of, Freeing, field_behind, freed_by, freed_last, freed_listed, freed_on, member_behind, Core, sight, IsKept, is_green, times, word_in}
 use Rattle.rec_settle.specs.Resting.{AreCounted, FreesRest, SetsRest, AreLeaves}
 use Rattle.rec_settle.specs.Settling.{AreUnheld}
 use Rattle.rec_release.proofs.Freeing.{off_work}
@@ -48,10 +47,7 @@ module _ (w : Core) (m : Machine) (a : Member) (kept : IsKept true w) (phase : w
     (counted : AreCounted w (words_without w a.slot a.field) (taken_off true w.collector.counts (target_of (word_at w a.slot a.field)))) (rested : FreesRest w w.words (record { machine = m; counts = w.collector.counts })) where
   open w use {collector as c}
   open (taken.emptied_at w a.slot a.field) use {place, word, words}
-
-  may : taken.MayEmpty w a.slot a.field
-  may = freeing.may_empty w m a kept phase at
-
+  open (empties w m a kept phase at) use {clearing as clear, fields as same_fields, may_empty as may}
   open may use {within, released}
 
   -- the counts then
@@ -59,12 +55,6 @@ module _ (w : Core) (m : Machine) (a : Member) (kept : IsKept true w) (phase : w
   off = taken_off true c.counts (target_of word)
 
   open (taken.most w a.slot a.field may true) use {green as still_green, released as still_released, set as still_set, slots as still_slots, work as still_work}
-
-  clear : IsFreeing (parts_of c) m
-  clear = (now_at w (Freeing m) kept phase).clearing
-
-  same_fields : m.fields ≡ w.config.fields
-  same_fields = clear.fields ∙ kept.collector.fields
 
   -- the places that are still to be exchanged
   abbrev behind : List ℕ

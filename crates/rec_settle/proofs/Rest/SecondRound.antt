@@ -17,7 +17,7 @@ use Rattle.rec_settle.specs.Resting.ComesTo.{goes_on}
 use Rattle.rec_core.proofs.Landed.{HasCleared}
 use Rattle.rec_settle.proofs.Rest.SecondBatch.{FreesIn, FreesOn}
 use Rattle.rec_settle.proofs.Rest.SettlingPasses.{IsGivenUp, given, still_in, unheld_given_up, unheld_passes}
-use Rattle.rec_core.proofs.SetTests.{tested_lands}
+use Rattle.rec_core.proofs.SetTests.{last_number, tested_lands}
 use Rattle.rec_core.proofs.Zeros.{some_fields}
 
 -- all fields of the members are still to be exchanged as the freeing of a set begins
@@ -28,17 +28,14 @@ places_begun fields (x ∷ xs) = refl
 module _ (w : Core) (words : List ℕ) (v : Parts) (fields : 0 < w.config.fields) (own_fields : v.fields ≡ w.config.fields) (kept : IsKept v.counts) (clear : IsCleared v) (rested : SetsRest w words [] v.counts) where
   open v use {counts as s}
 
-  abbrev number : ℕ
-  number = length s.sets - 1
-
-  passes : AreOrange s number × (cyclic_sum s number ≡ 0)
+  passes : AreOrange s (last_number s) × (cyclic_sum s (last_number s) ≡ 0)
   passes = unheld_passes w.config.fields words s kept rested.unheld
 
   -- what is left is found as before: members of the last set are released now
   found : (x : ℕ) → (slot_at (given_up s) x).released ≡ false → (slot_at (given_up s) x).set ≡ None → (slot_at s x).released ≡ false × ((slot_at s x).set ≡ None) × (is_green (slot_at s x).colour ≡ is_green (slot_at (given_up s) x).colour)
-  found x unreleased none = go (is_in number (slot_at s x).set) refl (given s x)
+  found x unreleased none = go (is_in (last_number s) (slot_at s x).set) refl (given s x)
     where
-      go : (b : Bool) → is_in number (slot_at s x).set ≡ b → IsGivenUp b (slot_at s x) (slot_at (given_up s) x) → (slot_at s x).released ≡ false × ((slot_at s x).set ≡ None) × (is_green (slot_at s x).colour ≡ is_green (slot_at (given_up s) x).colour)
+      go : (b : Bool) → is_in (last_number s) (slot_at s x).set ≡ b → IsGivenUp b (slot_at s x) (slot_at (given_up s) x) → (slot_at s x).released ≡ false × ((slot_at s x).set ≡ None) × (is_green (slot_at s x).colour ≡ is_green (slot_at (given_up s) x).colour)
       go true q g = absurd (false≢true (sym unreleased ∙ (g.members refl).0))
       go false q g = let same : slot_at s x ≡ slot_at (given_up s) x = sym (g.others refl) in (ap (λ (o : Slot). o.released) same ∙ unreleased, ap (λ (o : Slot). o.set) same ∙ none, ap (λ (o : Slot). is_green o.colour) same)
 

@@ -14,7 +14,7 @@ use Rattle.rec_collector.proofs.Trying.{took_others}
 use Rattle.rec_settle.specs.Quiet.{AreQuiet, AreGathered}
 use Rattle.rec_core.proofs.TurnCases.{Awaits, TurnCase, word_at, words_without}
 use Rattle.rec_core.proofs.Begun.{applied_lands, batch_comes}
-use Rattle.rec_core.proofs.Freeing.{freed_lands, may_empty}
+use Rattle.rec_core.proofs.Freeing.{empties, freed_lands}
 use Rattle.rec_core.proofs.Landed.{HasCleared, HasLanded}
 use Rattle.rec_settle.proofs.Rest.FirstRound.{all_gathered}
 use Rattle.rec_settle.proofs.Rest.QuietCounts.{accounted_count, landed_count, stands_over}
@@ -51,7 +51,7 @@ module _ (first : ℕ) (w : Core) (kept : IsKept true w) (quiet : AreQuiet first
   exchanged_count : (m : frees.Machine) (a : Member) (phase : w.collector.phase ≡ Freeing m) (at : m.at ≡ Some a) → first < w.epoch
       → AreCounted w (words_without w a.slot a.field) (taken_off true w.collector.counts (target_of (word_at w a.slot a.field)))
   exchanged_count m a phase at early =
-      let may : MayEmpty w a.slot a.field = may_empty w m a kept phase at in
+      let may : MayEmpty w a.slot a.field = (empties w m a kept phase at).may_empty in
       let slots : length w.collector.counts.slots ≡ w.config.slots = kept.collector.slots in
       accounted_count first w (words_without w a.slot a.field) (taken_off true w.collector.counts (target_of (word_at w a.slot a.field))) kept.whole kept.mutators
       (λ t. stands_over w.collector.left w.collector.phase t (ap (λ f. stand_in f t) phase)) (ap under_way phase) (ap (older_at w.epoch) phase)

@@ -4,6 +4,7 @@ use Rattle.std.proofs.lemmas.Bool.Decides.{eqb_tells}
 use Rattle.std.proofs.lemmas.Bool.{false≢true}
 use Rattle.std.proofs.lemmas.List.Sums.{sum_by-cons}
 use Rattle.rec_core.proofs.Common.{target_of, is_slot, places_of, only_if, sum_at_same, Slot, State, slot_at, one, times, is_in, unbuffered_if, one-same, times-nil, times-cons, one-some, set_there, dead_if, given_up, members_of}
+use Rattle.rec_core.proofs.SetTests.{last_number}
 use Rattle.rec_settle.specs.Settling.{leading, leading_outside, outside_sum, AreUnheld}
 use Rattle.rec_model.proofs.Places.{sum_at_none-from_get_or}
 use Rattle.rec_counts.specs.Counts.{IsKept}
@@ -95,7 +96,7 @@ sum_of_none f (x ∷ xs) h =
 
 module _ (fields : ℕ) (words : List ℕ) (s : State) (k : IsKept s) (u : AreUnheld fields words [] s) where
   abbrev number : ℕ
-  number = length s.sets - 1
+  number = last_number s
 
   in_last : (x : ℕ) → 0 < times x (members_of s number) → (slot_at s x).set ≡ Some number
   in_last x m = in_set number (slot_at s x).set (one-some (is_in number (slot_at s x).set) (omega (arith, k.numbers number x, m)))
