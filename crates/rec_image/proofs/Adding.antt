@@ -10,7 +10,7 @@ use Rattle.rec_image.specs.declared.objects.Objects.{Objects}
 use Rattle.rec_image.specs.declared.meeting.Meeting.{Meeting}
 use Rattle.rec_io.specs.Text.{EndsNumeral}
 use Rattle.rec_image.specs.Drafts.{unmet, begins, meets_all, walks, names, meeting, objects_of, objects_in, AreFieldsRead, AreFieldsUnread, IsNodeRead, AreObjects, IsObjectRead, IsOfHeap, NoObjectNext}
-use Rattle.rec_image.specs.Image.{Node, ImageContents, IsPlace, IsNode, IsImage, word, told_fields, node_head, object_line}
+use Rattle.rec_image.specs.Image.{Node, ImageContents, IsOneOf, IsNode, IsImage, word, told_fields, node_head, object_line}
 use Rattle.rec_image.proofs.Continuing.{has_room}
 use Rattle.rec_image.proofs.Meetings.{walks-append}
 use Rattle.rec_model.proofs.Opened.{named-nones}
@@ -40,7 +40,7 @@ pub leaf_fields : (slots fields : ℕ) (leaf : Bool) (bytes rest : List ℕ) (be
 leaf_fields slots fields leaf bytes rest before after is e nodes more met = record {
   own = replicate fields None;
   number = length-replicate fields None;
-  places = All-replicate (IsPlace slots) fields None tt;
+  places = All-replicate (IsOneOf slots) fields None tt;
   null = λ _. refl;
   line = e ∙ ap (λ (b : Bool). flat_map word (told_fields b (replicate fields None)) ++ 10 ∷ rest) (sym is);
   nodes = nodes;

@@ -10,7 +10,7 @@ use Rattle.std.proofs.Math.Nat.{suc-mul}
 use Rattle.rec_model.specs.Heap.{roots}
 use Rattle.rec_model.specs.Numbering.{IsNumbering}
 use Rattle.rec_model.specs.Reach.{named}
-use Rattle.rec_image.specs.Image.{Node, ImageContents, IsPlace, IsNode, AreRegisters, IsImage, IsContinued, nothing, children, text, header_line, heap_line, object_line, registers_line, end_line}
+use Rattle.rec_image.specs.Image.{Node, ImageContents, IsOneOf, IsNode, AreRegisters, IsImage, IsContinued, nothing, children, text, header_line, heap_line, object_line, registers_line, end_line}
 use Rattle.rec_image.specs.declared.meeting.Meeting.{Meeting}
 use Rattle.rec_image.specs.Drafts.{unmet, meets, begins, meets_all, walks, names, meeting, naming, least, so_far, IsOpen, CanClose, with_more}
 use Rattle.rec_image.proofs.Growing.{Grows, highest, Follows, highest_all, follows_left, follows_join, follows-length, highest_all-append, AreOf, IsGrown, grown_from, numbered_from, grows_left, grows_right, grows_join, highest-append, highest-most, highest-le}
@@ -117,12 +117,12 @@ completed v can =
     }
 
 -- no more is met than there are slots
-meets_within : (slots : ℕ) (m : Meeting) (fields : List (Option ℕ)) → m.met ≤ slots → All (IsPlace slots) fields → (meets_all m (named fields)).met ≤ slots
+meets_within : (slots : ℕ) (m : Meeting) (fields : List (Option ℕ)) → m.met ≤ slots → All (IsOneOf slots) fields → (meets_all m (named fields)).met ≤ slots
 meets_within slots m [] h places = h
-meets_within slots m (None ∷ fields) h places = meets_within slots m fields h (All-tail (IsPlace slots) None fields places)
+meets_within slots m (None ∷ fields) h places = meets_within slots m fields h (All-tail (IsOneOf slots) None fields places)
 meets_within slots m (Some n ∷ fields) h places =
-    let here : n < slots = All-head (IsPlace slots) (Some n) fields places in
-    meets_within slots (meets m n) fields (omega arith) (All-tail (IsPlace slots) (Some n) fields places)
+    let here : n < slots = All-head (IsOneOf slots) (Some n) fields places in
+    meets_within slots (meets m n) fields (omega arith) (All-tail (IsOneOf slots) (Some n) fields places)
 
 walks_within : (slots width : ℕ) (m : Meeting) (j : ℕ) (objects : List Node) → m.met ≤ slots → All (IsNode slots width) objects → (walks m j (map names objects)).met ≤ slots
 walks_within slots width m j [] h are = h

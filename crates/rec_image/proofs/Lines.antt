@@ -12,7 +12,7 @@ use Rattle.rec_report.specs.Text.{line_feed}
 use Rattle.rec_image.specs.declared.meeting.Meeting.{Meeting}
 use Rattle.rec_io.specs.Text.{EndsNumeral}
 use Rattle.rec_image.specs.Drafts.{AreRead, AreRegistersRead, AreUnread, meets, meets_all}
-use Rattle.rec_image.specs.Image.{AreRegisters, IsPlace, IsSized, heap_line, registers_line, word}
+use Rattle.rec_image.specs.Image.{AreRegisters, IsOneOf, IsSized, heap_line, registers_line, word}
 use Rattle.rec_image.proofs.Prefixes.{words_end, feed_ends}
 use Rattle.rec_model.proofs.Named.{named-append}
 
@@ -20,32 +20,32 @@ use Rattle.rec_model.proofs.Named.{named-append}
 pub record AreReading (count slots i : ℕ) (bytes rest : List ℕ) (before after : List (Option ℕ)) (met now : Meeting) : Type 0 where
   pub words : List (Option ℕ)
   pub number : length words ≡ i
-  pub places : All (IsPlace slots) words
+  pub places : All (IsOneOf slots) words
   pub line : bytes ≡ flat_map word words ++ rest
   pub more : after ≡ before ++ words
   pub meeting : now ≡ meets_all met (named words)
-  pub left : (own : List (Option ℕ)) (t : List ℕ) → length own ≡ count → All (IsPlace slots) own → bytes ≡ flat_map word own ++ 10 ∷ t → rest ≡ flat_map word (drop i own) ++ 10 ∷ t
+  pub left : (own : List (Option ℕ)) (t : List ℕ) → length own ≡ count → All (IsOneOf slots) own → bytes ≡ flat_map word own ++ 10 ∷ t → rest ≡ flat_map word (drop i own) ++ 10 ∷ t
 
 pub meets-append : (m : Meeting) (xs ys : List ℕ) → meets_all m (xs ++ ys) ≡ meets_all (meets_all m xs) ys
 meets-append m [] ys = refl
 meets-append m (x ∷ xs) ys = meets-append (meets m x) xs ys
 
 -- the words that are left begin with the next one
-next_left : (slots i : ℕ) (own : List (Option ℕ)) (t rest : List ℕ) → i < length own → All (IsPlace slots) own → rest ≡ flat_map word (drop i own) ++ 10 ∷ t
-    → IsPlace slots (get_or own i None) × EndsNumeral (flat_map word (drop (i + 1) own) ++ 10 ∷ t) × (rest ≡ word (get_or own i None) ++ (flat_map word (drop (i + 1) own) ++ 10 ∷ t))
+next_left : (slots i : ℕ) (own : List (Option ℕ)) (t rest : List ℕ) → i < length own → All (IsOneOf slots) own → rest ≡ flat_map word (drop i own) ++ 10 ∷ t
+    → IsOneOf slots (get_or own i None) × EndsNumeral (flat_map word (drop (i + 1) own) ++ 10 ∷ t) × (rest ≡ word (get_or own i None) ++ (flat_map word (drop (i + 1) own) ++ 10 ∷ t))
 next_left slots i own t rest within places e = (
-  All-get_or (IsPlace slots) own i None within places,
+  All-get_or (IsOneOf slots) own i None within places,
   words_end (drop (i + 1) own) (10 ∷ t) (feed_ends t),
   e ∙ ap (λ (xs : List (Option ℕ)). flat_map word xs ++ 10 ∷ t) (drop_more own i None within) ∙ append_assoc (word (get_or own i None)) (flat_map word (drop (i + 1) own)) (10 ∷ t),
 )
 
 pub reading_next : (count slots i : ℕ) (bytes rest behind : List ℕ) (before after more : List (Option ℕ)) (met now later : Meeting) (x : Option ℕ) → i < count → AreReading count slots i bytes rest before after met now
-    → rest ≡ word x ++ behind → IsPlace slots x → ((y : Option ℕ) (t : List ℕ) → IsPlace slots y → EndsNumeral t → rest ≡ word y ++ t → (y ≡ x) × (t ≡ behind))
+    → rest ≡ word x ++ behind → IsOneOf slots x → ((y : Option ℕ) (t : List ℕ) → IsOneOf slots y → EndsNumeral t → rest ≡ word y ++ t → (y ≡ x) × (t ≡ behind))
     → more ≡ after ++ x ∷ [] → later ≡ meets_all now (named (x ∷ [])) → AreReading count slots (i + 1) bytes behind before more met later
 reading_next count slots i bytes rest behind before after more met now later x within so e place only added met_now = record {
   words = so.words ++ x ∷ [];
   number = omega (arith, length-append so.words (x ∷ []), so.number);
-  places = All-push (IsPlace slots) so.words x so.places place;
+  places = All-push (IsOneOf slots) so.words x so.places place;
   line = so.line ∙ ap (λ (bs : List ℕ). flat_map word so.words ++ bs) e
       ∙ sym (append_assoc (flat_map word so.words) (word x) behind)
       ∙ ap (λ (bs : List ℕ). (flat_map word so.words ++ bs) ++ behind) (sym (append-nil (word x)))
@@ -57,7 +57,7 @@ reading_next count slots i bytes rest behind before after more met now later x w
       sym (only (get_or own i None) (flat_map word (drop (i + 1) own) ++ 10 ∷ t) next.0 next.1 next.2).1;
 }
 
-pub no_next : (count slots i : ℕ) (bytes rest : List ℕ) (before after : List (Option ℕ)) (met now : Meeting) → i < count → AreReading count slots i bytes rest before after met now → ((y : Option ℕ) (t : List ℕ) → IsPlace slots y → EndsNumeral t → rest ≡ word y ++ t → ⊥) → AreUnread count slots bytes
+pub no_next : (count slots i : ℕ) (bytes rest : List ℕ) (before after : List (Option ℕ)) (met now : Meeting) → i < count → AreReading count slots i bytes rest before after met now → ((y : Option ℕ) (t : List ℕ) → IsOneOf slots y → EndsNumeral t → rest ≡ word y ++ t → ⊥) → AreUnread count slots bytes
 no_next count slots i bytes rest before after met now within so none = λ own t size places e.
     let next = next_left slots i own t rest (omega arith) places (so.left own t size places e) in
     none (get_or own i None) (flat_map word (drop (i + 1) own) ++ 10 ∷ t) next.0 next.1 next.2

@@ -9,7 +9,7 @@ use Rattle.std.proofs.lemmas.List.Elements.{All-nil, All-cons, All-append, All-r
 use Rattle.std.proofs.Math.Nat.{suc-mul}
 use Rattle.rec_model.specs.Heap.{roots}
 use Rattle.rec_model.specs.Reach.{named}
-use Rattle.rec_image.specs.Image.{Node, IsPlace, IsNode, AreRegisters}
+use Rattle.rec_image.specs.Image.{Node, IsOneOf, IsNode, AreRegisters}
 use Rattle.rec_image.specs.Drafts.{names}
 use Rattle.rec_model.proofs.Opened.{named-nones}
 use Rattle.rec_image.proofs.Growing.{Grows, highest, Follows, highest_all, grows_join, highest-append}
@@ -24,7 +24,7 @@ pub null_is_node : (slots fields : ℕ) → IsNode slots fields (null_node field
 null_is_node slots fields = record {
   label = omega arith;
   width = length-replicate fields None;
-  places = All-replicate (IsPlace slots) fields None tt;
+  places = All-replicate (IsOneOf slots) fields None tt;
   leaf = λ e. absurd (true≢false (sym e));
 }
 
@@ -67,9 +67,9 @@ range_highest m (suc k) =
     ap (λ (i : ℕ). highest i (range_with_len (m + 1) k)) (let e : max m (m + 1) ≡ m + 1 = omega arith in e)
     ∙ range_highest (m + 1) k ∙ (let e : (m + 1) + k ≡ m + suc k = omega arith in e)
 
-some_places : (slots m k : ℕ) → m + k ≤ slots → All (IsPlace slots) (map Some (range_with_len m k))
-some_places slots m zero h = All-nil (IsPlace slots)
-some_places slots m (suc k) h = All-cons (IsPlace slots) (Some m) (map Some (range_with_len (m + 1) k)) (omega arith) (some_places slots (m + 1) k (omega arith))
+some_places : (slots m k : ℕ) → m + k ≤ slots → All (IsOneOf slots) (map Some (range_with_len m k))
+some_places slots m zero h = All-nil (IsOneOf slots)
+some_places slots m (suc k) h = All-cons (IsOneOf slots) (Some m) (map Some (range_with_len (m + 1) k)) (omega arith) (some_places slots (m + 1) k (omega arith))
 
 both_sizes : (xs ys : List (Option ℕ)) (a b n : ℕ) → length xs ≡ a → length ys ≡ b → a + b ≡ n → length (xs ++ ys) ≡ n
 both_sizes xs ys a b n e f g = omega (arith, length-append xs ys)
@@ -80,8 +80,8 @@ next_are slots registers «from» left h = record {
       (length-map (range_with_len «from» (min registers left)) Some ∙ length-range_with_len «from» (min registers left))
       (length-replicate (registers - min registers left) None)
       (omega arith);
-  places = All-append (IsPlace slots) (map Some (range_with_len «from» (min registers left))) (replicate (registers - min registers left) None)
-      (some_places slots «from» (min registers left) (omega arith)) (All-replicate (IsPlace slots) (registers - min registers left) None tt);
+  places = All-append (IsOneOf slots) (map Some (range_with_len «from» (min registers left))) (replicate (registers - min registers left) None)
+      (some_places slots «from» (min registers left) (omega arith)) (All-replicate (IsOneOf slots) (registers - min registers left) None tt);
 }
 
 pub all_are : (slots mutators registers «from» left : ℕ) → «from» + left ≤ slots → All (AreRegisters slots registers) (all_registers mutators registers «from» left)

@@ -7,7 +7,7 @@ use Rattle.std.proofs.lemmas.List.{take-append-drop}
 use Rattle.std.proofs.Math.Seq.{take-append_seam}
 use Rattle.rec_io.specs.Text.{EndsNumeral}
 use Rattle.rec_io.proofs.Numerals.{byte_ends}
-use Rattle.rec_image.specs.Image.{IsPlace, word}
+use Rattle.rec_image.specs.Image.{IsOneOf, word}
 use Rattle.rec_image.proofs.Prefixes.{numeral_front}
 
 -- what follows from what a clause says of both variants
@@ -40,7 +40,7 @@ no_size bytes rest most end found limit small is none n t low high e =
 -- ---- what a field leads to
 
 -- the number that was found, behind ` #`
-pub only_number : (slots : ℕ) (bytes rest : List ℕ) (found : ℕ) → slots ≤ 65535 → (bytes ≡ decimal found ++ rest) × (found < 2 ^ 32) × EndsNumeral rest → (found ≡ 0 → ⊥) → (x : Option ℕ) (t : List ℕ) → IsPlace slots x → EndsNumeral t → 32 ∷ 35 ∷ bytes ≡ word x ++ t → (x ≡ Some (found - 1)) × (t ≡ rest)
+pub only_number : (slots : ℕ) (bytes rest : List ℕ) (found : ℕ) → slots ≤ 65535 → (bytes ≡ decimal found ++ rest) × (found < 2 ^ 32) × EndsNumeral rest → (found ≡ 0 → ⊥) → (x : Option ℕ) (t : List ℕ) → IsOneOf slots x → EndsNumeral t → 32 ∷ 35 ∷ bytes ≡ word x ++ t → (x ≡ Some (found - 1)) × (t ≡ rest)
 only_number slots bytes rest found small is some None t place ends e = absurd (let clash : 35 ≡ 45 = ap (λ (bs : List ℕ). get_or bs 1 0) e in omega arith)
 only_number slots bytes rest found small is some (Some n) t place ends e =
     let behind : bytes ≡ decimal (n + 1) ++ t = cc in

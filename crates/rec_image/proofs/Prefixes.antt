@@ -9,7 +9,7 @@ use Rattle.std.proofs.lemmas.List.Sums.{sum_by-append}
 use Rattle.rec_report.specs.Text.{line_feed}
 use Rattle.rec_io.specs.Text.{EndsNumeral}
 use Rattle.rec_io.proofs.Numerals.{AreDigits, digits_of, same_numeral}
-use Rattle.rec_image.specs.Image.{Node, IsPlace, IsNode, AreRegisters, word, told_fields, node_head, object_line, registers_line, feeds}
+use Rattle.rec_image.specs.Image.{Node, IsOneOf, IsNode, AreRegisters, word, told_fields, node_head, object_line, registers_line, feeds}
 
 -- ---- numerals
 
@@ -29,7 +29,7 @@ pub words_end : (xs : List (Option ℕ)) (bytes : List ℕ) → EndsNumeral byte
 words_end [] bytes ends = ends
 words_end (x ∷ xs) bytes ends = subst EndsNumeral (sym (append_assoc (word x) (flat_map word xs) bytes)) (word_ends x (flat_map word xs ++ bytes))
 
-word_front : (slots : ℕ) (x y : Option ℕ) (s t : List ℕ) → slots ≤ 65535 → IsPlace slots x → IsPlace slots y → EndsNumeral s → EndsNumeral t → word x ++ s ≡ word y ++ t → (x ≡ y) × (s ≡ t)
+word_front : (slots : ℕ) (x y : Option ℕ) (s t : List ℕ) → slots ≤ 65535 → IsOneOf slots x → IsOneOf slots y → EndsNumeral s → EndsNumeral t → word x ++ s ≡ word y ++ t → (x ≡ y) × (s ≡ t)
 word_front slots None None s t small a b p q e = (refl, let rest : s ≡ t = cc in rest)
 word_front slots None (Some m) s t small a b p q e = absurd (let clash : 45 ≡ 35 = ap (λ (bs : List ℕ). get_or bs 1 0) e in omega arith)
 word_front slots (Some n) None s t small a b p q e = absurd (let clash : 35 ≡ 45 = ap (λ (bs : List ℕ). get_or bs 1 0) e in omega arith)
@@ -39,15 +39,15 @@ word_front slots (Some n) (Some m) s t small a b p q e =
     let same : n ≡ m = omega (arith, found.0) in
     (ap Some same, found.1)
 
-words_front : (slots : ℕ) (xs ys : List (Option ℕ)) (s t : List ℕ) → slots ≤ 65535 → length xs ≡ length ys → All (IsPlace slots) xs → All (IsPlace slots) ys → EndsNumeral s → EndsNumeral t → flat_map word xs ++ s ≡ flat_map word ys ++ t → (xs ≡ ys) × (s ≡ t)
+words_front : (slots : ℕ) (xs ys : List (Option ℕ)) (s t : List ℕ) → slots ≤ 65535 → length xs ≡ length ys → All (IsOneOf slots) xs → All (IsOneOf slots) ys → EndsNumeral s → EndsNumeral t → flat_map word xs ++ s ≡ flat_map word ys ++ t → (xs ≡ ys) × (s ≡ t)
 words_front slots [] [] s t small size a b p q e = (refl, e)
 words_front slots [] (y ∷ ys) s t small size a b p q e = absurd (omega arith)
 words_front slots (x ∷ xs) [] s t small size a b p q e = absurd (omega arith)
 words_front slots (x ∷ xs) (y ∷ ys) s t small size a b p q e =
     let first : (x ≡ y) × (flat_map word xs ++ s ≡ flat_map word ys ++ t) =
-    word_front slots x y (flat_map word xs ++ s) (flat_map word ys ++ t) small (All-head (IsPlace slots) x xs a) (All-head (IsPlace slots) y ys b) (words_end xs s p) (words_end ys t q)
+    word_front slots x y (flat_map word xs ++ s) (flat_map word ys ++ t) small (All-head (IsOneOf slots) x xs a) (All-head (IsOneOf slots) y ys b) (words_end xs s p) (words_end ys t q)
     (sym (append_assoc (word x) (flat_map word xs) s) ∙ e ∙ append_assoc (word y) (flat_map word ys) t) in
-    let later : (xs ≡ ys) × (s ≡ t) = words_front slots xs ys s t small (omega arith) (All-tail (IsPlace slots) x xs a) (All-tail (IsPlace slots) y ys b) p q first.1 in
+    let later : (xs ≡ ys) × (s ≡ t) = words_front slots xs ys s t small (omega arith) (All-tail (IsOneOf slots) x xs a) (All-tail (IsOneOf slots) y ys b) p q first.1 in
     (cc (first.0, later.0), later.1)
 
 -- ---- lines
@@ -81,7 +81,7 @@ head_front true false s t e = absurd (let clash : 108 ≡ 111 = ap (λ (bs : Lis
 head_front false true s t e = absurd (let clash : 111 ≡ 108 = ap (λ (bs : List ℕ). get_or bs 0 0) e in omega arith)
 head_front false false s t e = (refl, let rest : s ≡ t = cc in rest)
 
-told_places : (slots fields : ℕ) (x : Bool) (fs : List (Option ℕ)) → All (IsPlace slots) fs → All (IsPlace slots) (told_fields x fs)
+told_places : (slots fields : ℕ) (x : Bool) (fs : List (Option ℕ)) → All (IsOneOf slots) fs → All (IsOneOf slots) (told_fields x fs)
 told_places slots fields true fs all = λ k d lt. absurd (omega arith)
 told_places slots fields false fs all = all
 
@@ -134,14 +134,14 @@ no_feed_digits (d ∷ ds) are =
 pub no_feed_numeral : (n : ℕ) → n < 2 ^ 32 → feeds (decimal n) ≡ 0
 no_feed_numeral n fits = no_feed_digits (decimal n) (digits_of n (omega arith))
 
-no_feed_word : (slots : ℕ) (x : Option ℕ) → slots ≤ 65535 → IsPlace slots x → feeds (word x) ≡ 0
+no_feed_word : (slots : ℕ) (x : Option ℕ) → slots ≤ 65535 → IsOneOf slots x → feeds (word x) ≡ 0
 no_feed_word slots None small is = refl
 no_feed_word slots (Some n) small is = no_feed_numeral (n + 1) (omega arith)
 
-no_feed_words : (slots : ℕ) (xs : List (Option ℕ)) → slots ≤ 65535 → All (IsPlace slots) xs → feeds (flat_map word xs) ≡ 0
+no_feed_words : (slots : ℕ) (xs : List (Option ℕ)) → slots ≤ 65535 → All (IsOneOf slots) xs → feeds (flat_map word xs) ≡ 0
 no_feed_words slots [] small all = refl
 no_feed_words slots (x ∷ xs) small all =
-    omega (arith, feeds-append (word x) (flat_map word xs), no_feed_word slots x small (All-head (IsPlace slots) x xs all), no_feed_words slots xs small (All-tail (IsPlace slots) x xs all))
+    omega (arith, feeds-append (word x) (flat_map word xs), no_feed_word slots x small (All-head (IsOneOf slots) x xs all), no_feed_words slots xs small (All-tail (IsOneOf slots) x xs all))
 
 -- bytes that end with their one LF
 pub record IsLine (line : List ℕ) : Type 0 where

@@ -16,7 +16,7 @@ use Rattle.rec_model.proofs.Members.{all_of, is_in-head, is_in-tail}
 use Rattle.rec_model.proofs.Numbered.{numbering_distinct, one_numbering}
 use Rattle.rec_core.specs.Config.{IsConfig}
 use Rattle.rec_core.specs.Core.{Core, sight}
-use Rattle.rec_core.specs.Objects.{AreObjects, IsOneOf, Objects, rows_of}
+use Rattle.rec_core.specs.Objects.{AreObjects, IsOneOf, rows_of}
 use Rattle.rec_core.specs.declared.config.Config.{Config}
 use Rattle.rec_core.proofs.OpenedFromSeen as seen
 use Rattle.rec_image.specs.Image.{ImageContents, IsImage, Node, children, nothing}
@@ -63,26 +63,23 @@ module _ (v : ImageContents) (log_entries : ℕ) (policy : Policy) (image : IsIm
   abbrev config : Config
   config = config_of v log_entries policy
 
-  abbrev o : Objects
-  o = objects_in v
-
   abbrev w : Core
   w = restored v log_entries policy
 
   abbrev range : List ℕ
   range = range_with_len 0 (length v.objects)
 
-  are : AreObjects config o
+  are : AreObjects config (objects_in v)
   are = are_objects v image log_entries policy
 
   registers_are : (sight w).registers ≡ v.held
-  registers_are = seen.registers_are config o is are (have_labels v image) ∙ ap (λ n. rows_of v.registers n o.registers) (sym image.mutators) ∙ rows_again v.slots v.registers v.held image.registers
+  registers_are = seen.registers_are config (objects_in v) is are (have_labels v image) ∙ ap (λ n. rows_of v.registers n (objects_in v).registers) (sym image.mutators) ∙ rows_again v.slots v.registers v.held image.registers
 
-  in_many : (n : ℕ) → n < length v.objects → n < length o.nodes
+  in_many : (n : ℕ) → n < length v.objects → n < length (objects_in v).nodes
   in_many n below = omega (arith, below, nodes_many v image)
 
   targets_are : (n : ℕ) → n < length v.objects → map target_of (words_of (sight w) n) ≡ (get_or v.objects n nothing).fields
-  targets_are n below = seen.targets_at config o is are (have_labels v image) n (in_many n below) ∙ fields_own v image n below
+  targets_are n below = seen.targets_at config (objects_in v) is are (have_labels v image) n (in_many n below) ∙ fields_own v image n below
 
   range_below : (n : ℕ) → is_in n range ≡ true → n < length v.objects
   range_below n there = omega (arith, in_range v image n (length v.objects) 0 there)
@@ -94,7 +91,7 @@ module _ (v : ImageContents) (log_entries : ℕ) (policy : Policy) (image : IsIm
       = same_children (children v.objects) (targets_of (sight w)) range (λ n there. ap named (sym (targets_are n (range_below n there)))) in
       record {
         order = image.numbered.order ∙ (λ i. firsts (roots (sym registers_are i) ++ agree i));
-        reached = all_of (Reaches (sight w)) range (λ n there. seen.slot_reached config o is are (have_labels v image) n (in_many n (range_below n there)));
+        reached = all_of (Reaches (sight w)) range (λ n there. seen.slot_reached config (objects_in v) is are (have_labels v image) n (in_many n (range_below n there)));
       }
 
   places_same : (n : ℕ) → n < length v.objects → place_in range n ≡ n
@@ -105,7 +102,7 @@ module _ (v : ImageContents) (log_entries : ℕ) (policy : Policy) (image : IsIm
   node_same : (n : ℕ) → n < length v.objects → node_of (sight w) range n ≡ get_or v.objects n nothing
   node_same n below =
       let node : Node = get_or v.objects n nothing in
-      let own = subst (λ (x : ℕ × Bool). IsHeaderOf x.1 x.0 (get_or w.headers n 0)) (node_own v image n below) (seen.header_taken_is config o is are (have_labels v image) n (in_many n below)) in
+      let own = subst (λ (x : ℕ × Bool). IsHeaderOf x.1 x.0 (get_or w.headers n 0)) (node_own v image n below) (seen.header_taken_is config (objects_in v) is are (have_labels v image) n (in_many n below)) in
       let label : label_of (get_or w.headers n 0) ≡ node.label = omega (arith, own.label) in
       let leaf : is_leaf (get_or w.headers n 0) ≡ node.leaf = own.leaf in
       let fields : map (λ word. option_map (place_in range) (target_of word)) (words_of (sight w) n) ≡ node.fields

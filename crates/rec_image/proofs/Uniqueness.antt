@@ -3,7 +3,7 @@ use Rattle.std.proofs.Common.{◌≡◌, ◌⊎◌, inl, inr, ℕ, ◌+◌, ◌=
 use Rattle.std.proofs.lemmas.List.Sums.{sum_by-cons}
 use Rattle.std.proofs.lemmas.Bool.{eqb-true}
 use Rattle.rec_report.specs.Text.{line_feed}
-use Rattle.rec_image.specs.Image.{AreWhole, IsContinued, StopsAt, feeds, text}
+use Rattle.rec_image.specs.Image.{AreWhole, StopsAt, feeds}
 
 -- ---- two fronts of the same bytes
 

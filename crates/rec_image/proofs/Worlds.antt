@@ -19,7 +19,7 @@ use Rattle.rec_core.specs.Settled.{IsSettled}
 use Rattle.rec_world.specs.World.{Core, IsWorld, sight}
 use Rattle.rec_world.proofs.Filled.{fields_end, reached_below}
 use Rattle.rec_world.proofs.Names.{names_sound}
-use Rattle.rec_image.specs.Image.{AreRegisters, ImageContents, IsImage, IsNode, IsPlace, Node, children, end_line, header_line, heap_line, object_line, registers_line, text}
+use Rattle.rec_image.specs.Image.{AreRegisters, ImageContents, IsImage, IsNode, IsOneOf, Node, children, end_line, header_line, heap_line, object_line, registers_line, text}
 use Rattle.rec_image.specs.Standing.{IsOfWorld, StandsFor, held_of, image_of, node_of, place_in}
 use Rattle.rec_image.proofs.Carrying.{at_place, numbered, object_at, place_one}
 
@@ -27,11 +27,11 @@ listed : (w : Core) (slots : List ℕ) → NumbersSlots (sight w) slots → (slo
 listed w slots numbers slot reached = (lists_reached (roots (sight w).registers) (targets_of (sight w)) slots numbers slot).0 reached
 
 -- what leads to listed slots has places below their number
-places_below : (slots : List ℕ) (most : ℕ) (xs : List (Option ℕ)) → length slots ≤ most → ((n : ℕ) → is_in n (named xs) ≡ true → is_in n slots ≡ true) → All (IsPlace most) (map (option_map (place_in slots)) xs)
-places_below slots most [] few each = All-nil (IsPlace most)
-places_below slots most (None ∷ xs) few each = All-cons (IsPlace most) None (map (option_map (place_in slots)) xs) tt (places_below slots most xs few each)
+places_below : (slots : List ℕ) (most : ℕ) (xs : List (Option ℕ)) → length slots ≤ most → ((n : ℕ) → is_in n (named xs) ≡ true → is_in n slots ≡ true) → All (IsOneOf most) (map (option_map (place_in slots)) xs)
+places_below slots most [] few each = All-nil (IsOneOf most)
+places_below slots most (None ∷ xs) few each = All-cons (IsOneOf most) None (map (option_map (place_in slots)) xs) tt (places_below slots most xs few each)
 places_below slots most (Some n ∷ xs) few each =
-    All-cons (IsPlace most) (Some (place_in slots n)) (map (option_map (place_in slots)) xs)
+    All-cons (IsOneOf most) (Some (place_in slots n)) (map (option_map (place_in slots)) xs)
     (let lt : place_in slots n < length slots = (at_place slots n (each n (is_in-head n (named xs)))).0 in omega arith)
     (places_below slots most xs few (λ m h. each m (is_in-tail m n (named xs) h)))
 
@@ -72,7 +72,7 @@ module _ (w : Core) (slots : List ℕ) (world : IsWorld w) (numbers : NumbersSlo
       record {
         label = omega (arith, head.some, head.few);
         width = length-map (words_of (sight w) slot) (λ word. option_map (place_in slots) (target_of word)) ∙ width slot there;
-        places = subst (All (IsPlace w.config.slots)) (sym (two_maps (place_in slots) (words_of (sight w) slot)))
+        places = subst (All (IsOneOf w.config.slots)) (sym (two_maps (place_in slots) (words_of (sight w) slot)))
             (places_below slots w.config.slots (map target_of (words_of (sight w) slot)) few (λ n named_there. listed w slots numbers n (child slot n reached named_there)));
         leaf = λ is. ap (map (λ word. option_map (place_in slots) (target_of word))) (world.shaped.sound.leaves slot is) ∙ no_targets (place_in slots) w.config.fields;
       }

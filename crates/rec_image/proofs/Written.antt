@@ -87,15 +87,14 @@ node_line w fields n i slot wide again label leaf found words now line world num
 
 -- ---- one line after another
 
-next_piece : {A : Type 0} (line : A → List ℕ) (xs : List A) (i : ℕ) (d : A) → i < length xs → flat_map line (take (i + 1) xs) ≡ flat_map line (take i xs) ++ line (get_or xs i d)
-next_piece line xs i d within =
-    ap (flat_map line) (take_more xs i d within) ∙ flat_map-append line (take i xs) (get_or xs i d ∷ []) ∙ ap (λ (bs : List ℕ). flat_map line (take i xs) ++ bs) (append-nil (line (get_or xs i d)))
-
 more_written : {A : Type 0} (line : A → List ℕ) (xs : List A) (i : ℕ) (d : A) (first so_far piece more : List ℕ) → i < length xs → so_far ≡ first ++ flat_map line (take i xs) → piece ≡ line (get_or xs i d) → more ≡ so_far ++ piece → more ≡ first ++ flat_map line (take (i + 1) xs)
 more_written line xs i d first so_far piece more within e f g =
     g ∙ ap (λ (bs : List ℕ). bs ++ piece) e ∙ append_assoc first (flat_map line (take i xs)) piece
     ∙ ap (λ (bs : List ℕ). first ++ (flat_map line (take i xs) ++ bs)) f
-    ∙ ap (λ (bs : List ℕ). first ++ bs) (sym (next_piece line xs i d within))
+    ∙ ap (λ (bs : List ℕ). first ++ bs) (sym next_piece)
+  where
+    next_piece : flat_map line (take (i + 1) xs) ≡ flat_map line (take i xs) ++ line (get_or xs i d)
+    next_piece = ap (flat_map line) (take_more xs i d within) ∙ flat_map-append line (take i xs) (get_or xs i d ∷ []) ∙ ap (λ (bs : List ℕ). flat_map line (take i xs) ++ bs) (append-nil (line (get_or xs i d)))
 
 pub node_written : (w : Core) (n : Numbered) (i : ℕ) (now first so_far piece more : List ℕ) → now ≡ n.list → i < length now → so_far ≡ first ++ flat_map object_line (map (node_of (sight w) n.list) (take i n.list)) → piece ≡ object_line (node_of (sight w) n.list (get_or n.list i 0)) → more ≡ so_far ++ piece → more ≡ first ++ flat_map object_line (map (node_of (sight w) n.list) (take (i + 1) n.list))
 node_written w n i now first so_far piece more same within e f g =

@@ -7,7 +7,7 @@ use Rattle.rec_image.specs.declared.held.Held.{Held}
 use Rattle.rec_image.specs.declared.line.Heap.{Heap}
 use Rattle.rec_image.specs.declared.objects.Objects.{Objects}
 use Rattle.rec_image.specs.declared.meeting.Meeting.{Meeting}
-use Rattle.rec_image.specs.Image.{Node, ImageContents, IsPlace, IsImage, word, told_fields, IsNode, AreRegisters, IsSized, header_line, heap_line, object_line, registers_line}
+use Rattle.rec_image.specs.Image.{Node, ImageContents, IsOneOf, IsImage, word, told_fields, IsNode, AreRegisters, IsSized, header_line, heap_line, object_line, registers_line}
 
 -- nothing is met
 abbrev pub unmet : Meeting
@@ -83,14 +83,14 @@ with_more v objects held = record v { objects = v.objects ++ objects; held = v.h
 pub record AreRead (count slots : ℕ) (bytes rest : List ℕ) (before after : List (Option ℕ)) (met now : Meeting) : Type 0 where
   pub words : List (Option ℕ)
   pub number : length words ≡ count
-  pub places : All (IsPlace slots) words
+  pub places : All (IsOneOf slots) words
   pub line : bytes ≡ flat_map word words ++ 10 ∷ rest
   pub more : after ≡ before ++ words
   pub meeting : now ≡ meets_all met (named words)
 
 -- there are no such words at the front
 abbrev pub AreUnread : (count slots : ℕ) → (bytes : List ℕ) → Type 0
-AreUnread count slots bytes = (words : List (Option ℕ)) (rest : List ℕ) → length words ≡ count → All (IsPlace slots) words → bytes ≢ flat_map word words ++ 10 ∷ rest
+AreUnread count slots bytes = (words : List (Option ℕ)) (rest : List ℕ) → length words ≡ count → All (IsOneOf slots) words → bytes ≢ flat_map word words ++ 10 ∷ rest
 
 -- the line of a mutator was read from the front, its registers added to others and met in order
 pub record AreRegistersRead (slots registers : ℕ) (bytes rest : List ℕ) (before after : List (Option ℕ)) (met now : Meeting) : Type 0 where
@@ -122,7 +122,7 @@ objects_in heap x = objects_of heap.fields x.nodes.items x.targets.items
 pub record AreFieldsRead (slots fields : ℕ) (leaf : Bool) (bytes rest : List ℕ) (before after : Objects) : Type 0 where
   pub own : List (Option ℕ)
   pub number : length own ≡ fields
-  pub places : All (IsPlace slots) own
+  pub places : All (IsOneOf slots) own
   pub null : leaf ≡ true → own ≡ replicate fields None
   pub line : bytes ≡ flat_map word (told_fields leaf own) ++ 10 ∷ rest
   pub nodes : after.nodes.items ≡ before.nodes.items
@@ -130,7 +130,7 @@ pub record AreFieldsRead (slots fields : ℕ) (leaf : Bool) (bytes rest : List �
   pub meeting : after.meeting ≡ meets_all before.meeting (named own)
 
 abbrev pub AreFieldsUnread : (slots fields : ℕ) (leaf : Bool) (bytes : List ℕ) → Type 0
-AreFieldsUnread slots fields leaf bytes = (own : List (Option ℕ)) (rest : List ℕ) → length own ≡ fields → All (IsPlace slots) own → bytes ≢ flat_map word (told_fields leaf own) ++ 10 ∷ rest
+AreFieldsUnread slots fields leaf bytes = (own : List (Option ℕ)) (rest : List ℕ) → length own ≡ fields → All (IsOneOf slots) own → bytes ≢ flat_map word (told_fields leaf own) ++ 10 ∷ rest
 
 -- the line of an object was read from the front, and the object added to others
 pub record IsNodeRead (slots fields : ℕ) (bytes rest : List ℕ) (before after : Objects) : Type 0 where

@@ -1,11 +1,12 @@
 -- An image of a heap: what it holds, which values are images, their text, and the first line of other bytes that no image goes on with.
-use Rattle.std.specs.Prelude.{◌≡◌, ℕ, ◌+◌, ◌<◌, ◌≤◌, ◌^◌, ◌==◌, ◌⊎◌, Bool, true, false, List, [], ◌++◌, Option, None, IfSome, option_map, All, codes, count_by, length, replicate, slice_index_or}
+use Rattle.std.specs.Prelude.{◌≡◌, ℕ, ◌+◌, ◌<◌, ◌≤◌, ◌^◌, ◌==◌, ◌⊎◌, Bool, true, false, List, [], ◌++◌, Option, None, option_map, All, codes, count_by, length, replicate, slice_index_or}
 use Rattle.std.specs.Fmt.{decimal}
 use Rattle.std.specs.List.{flat_map, range_with_len}
 use Rattle.rec_model.specs.declared.limits.TheConstants.{MOST_MUTATORS}
 use Rattle.rec_model.specs.Heap.{roots}
 use Rattle.rec_model.specs.Numbering.{IsNumbering}
 use Rattle.rec_model.specs.Reach.{named}
+pub use Rattle.rec_core.specs.Objects.{IsOneOf}
 use Rattle.rec_report.specs.Text.{field_word, line_feed}
 use Rattle.rec_script.specs.Script.{IsHeap}
 
@@ -33,21 +34,17 @@ nothing = record { label = 0; leaf = false; fields = [] }
 abbrev pub children : List Node → ℕ → List ℕ
 children objects n = named (slice_index_or objects n nothing).fields
 
--- null, or an object that such a heap has room for
-abbrev pub IsPlace : (slots : ℕ) → Option ℕ → Type 0
-IsPlace slots x = IfSome x (λ n. n < slots)
-
 -- the limits of an object; the fields of a leaf are null
 pub record IsNode (slots fields : ℕ) (node : Node) : Type 0 where
   pub label : node.label < 2 ^ 32
   pub width : length node.fields ≡ fields
-  pub places : All (IsPlace slots) node.fields
+  pub places : All (IsOneOf slots) node.fields
   pub leaf : node.leaf ≡ true → node.fields ≡ replicate fields None
 
 -- the limits of a mutator's registers
 pub record AreRegisters (slots registers : ℕ) (held : List (Option ℕ)) : Type 0 where
   pub number : length held ≡ registers
-  pub places : All (IsPlace slots) held
+  pub places : All (IsOneOf slots) held
 
 -- the limits of a heap, and of its number of mutators
 pub record IsSized (slots fields registers mutators : ℕ) : Type 0 where

@@ -3,7 +3,7 @@
 ghost use Rattle.std.specs.Prelude.{◌≡◌, ◌≢◌, ℕ, ◌+◌, ◌<◌, ◌≤◌, ◌^◌, ◌++◌, [], ◌∷◌, List, Option, IfSome, IfNone, MatchOption, length, slice_index};
 ghost use Rattle.std.specs.Fmt.{decimal};
 ghost use Rattle.rec_io.specs.Text.{EndsNumeral};
-ghost use Rattle.rec_image.specs.Image.{IsPlace, word as word_of};
+ghost use Rattle.rec_image.specs.Image.{IsOneOf, word as word_of};
 
 use rec_io::behind_byte;
 
@@ -67,10 +67,10 @@ pub(crate) fn two_sizes(most: (u32, u32), end: u8, bytes: &[u8]) -> Option<(u32,
 #[inline(always)]
 pub(crate) fn word(slots: u32, bytes: &[u8]) -> Option<(Option<u16>, &[u8])>
     requires { slots ≤ 65535 }
-    ensures found { IfSome result (λ x. (bytes.now ≡ word_of x.0 ++ x.1.now) × IsPlace slots x.0) }
+    ensures found { IfSome result (λ x. (bytes.now ≡ word_of x.0 ++ x.1.now) × IsOneOf slots x.0) }
     ensures only { MatchOption result
-        ((x : Option ℕ) (t : List ℕ) → IsPlace slots x → EndsNumeral t → bytes.now ≢ word_of x ++ t)
-        (λ found. (x : Option ℕ) (t : List ℕ) → IsPlace slots x → EndsNumeral t → bytes.now ≡ word_of x ++ t
+        ((x : Option ℕ) (t : List ℕ) → IsOneOf slots x → EndsNumeral t → bytes.now ≢ word_of x ++ t)
+        (λ found. (x : Option ℕ) (t : List ℕ) → IsOneOf slots x → EndsNumeral t → bytes.now ≡ word_of x ++ t
         → (x ≡ found.0) × (t ≡ found.1.now)) }
 {
     match bytes {
@@ -84,10 +84,10 @@ pub(crate) fn word(slots: u32, bytes: &[u8]) -> Option<(Option<u16>, &[u8])>
 #[inline(always)]
 fn numbered(slots: u32, bytes: &[u8]) -> Option<(Option<u16>, &[u8])>
     requires { slots ≤ 65535 }
-    ensures found { IfSome result (λ x. (32 ∷ 35 ∷ bytes.now ≡ word_of x.0 ++ x.1.now) × IsPlace slots x.0) }
+    ensures found { IfSome result (λ x. (32 ∷ 35 ∷ bytes.now ≡ word_of x.0 ++ x.1.now) × IsOneOf slots x.0) }
     ensures only { MatchOption result
         ((n : ℕ) (t : List ℕ) → n < slots → EndsNumeral t → bytes.now ≢ decimal (n + 1) ++ t)
-        (λ found. (x : Option ℕ) (t : List ℕ) → IsPlace slots x → EndsNumeral t → 32 ∷ 35 ∷ bytes.now ≡ word_of x ++ t
+        (λ found. (x : Option ℕ) (t : List ℕ) → IsOneOf slots x → EndsNumeral t → 32 ∷ 35 ∷ bytes.now ≡ word_of x ++ t
         → (x ≡ found.0) × (t ≡ found.1.now)) }
 {
     let (number, rest) = numeral(bytes)?;
