@@ -3,7 +3,6 @@ use Rattle.std.proofs.Common.{◌≡◌, ℕ, Bool, true, false, ◌||◌, ◌==
 use Rattle.std.specs.List.{list_any}
 use Rattle.std.proofs.lemmas.Bool.{or_cases, false≢true}
 use Rattle.std.proofs.lemmas.List.{take-append-drop}
-use Rattle.std.proofs.Math.Bool.{or-true}
 use Rattle.rec_model.specs.Reach.{is_in, IsReached}
 use Rattle.rec_model.specs.Reach.IsReached.{root, child}
 use Rattle.rec_model.proofs.Members.{is_in-left, is_in-right, is_in-cases}

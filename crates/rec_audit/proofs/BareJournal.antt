@@ -15,9 +15,9 @@ use Rattle.rec_log.specs.declared.entry.Entry.TheVariants as entries
 use Rattle.rec_collector.specs.Bare.{bare_buffers, bare_private}
 use Rattle.rec_collector.specs.Next.{next_of}
 use Rattle.rec_collector.specs.Private.{Private}
-use Rattle.rec_collector.specs.Shown.{Batch, Shown, applied_in, applied_newer, applied_newer_in, applied_of, batch_of, batch_with, completed_in, completed_of, passed_in, passed_of, shown_of}
+use Rattle.rec_collector.specs.Shown.{Batch, Shown, applied_in, applied_newer, applied_newer_in, applied_of, batch_of, batch_with, completed_in, completed_of, passed_of, shown_of}
 use Rattle.rec_collector.specs.declared.phase.Phase.{Phase}
-use Rattle.rec_collector.specs.declared.phase.Phase.TheVariants.{Returning, Idle, Looking, Freeing}
+use Rattle.rec_collector.specs.declared.phase.Phase.TheVariants.{Returning, Idle, Looking}
 use Rattle.rec_collector.proofs.Bare as collecting
 use Rattle.rec_core.specs.Bare.{bare_core}
 use Rattle.rec_core.specs.Cells.{cell}

@@ -1,7 +1,7 @@
 -- The lines that a run of dated words would have, and those of bare words, which a journal has: a path in these is one in those.
 use Rattle.std.proofs.Common.{◌≡◌, ◌⊎◌, inl, inr, ℕ, suc, zero, ◌-◌, ◌/◌, ◌==◌, ◌||◌, ◌&&◌, not, nat_lt, Bool, true, false, cond, Some, List, [], ◌∷◌, ◌++◌, map, filter, refl, sym, ap, subst, ◌∙◌, arith, append-nil}
 use Rattle.std.specs.List.{Contains, flat_map, list_any, range_with_len, sum_by}
-use Rattle.std.proofs.Math.Bool.{or-false, or-true}
+use Rattle.std.proofs.Math.Bool.{or-false}
 use Rattle.std.proofs.lemmas.Bool.{eq-eqb, eqb-true, false≢true, or_cases}
 use Rattle.std.proofs.lemmas.List.Concat.{flat_map-append}
 use Rattle.std.proofs.lemmas.List.Elements.{Contains-append_cases, Contains-append_left, Contains-append_right}
@@ -17,7 +17,7 @@ use Rattle.rec_audit.specs.Graph.{HasReached, IsReachedAt, closes, earlier_block
 use Rattle.rec_audit.specs.Graphs.{closing_in, named_in}
 use Rattle.rec_audit.specs.Lines.{Line}
 use Rattle.rec_audit.specs.declared.kind.Kind.TheVariants as kinds
-use Rattle.rec_audit.proofs.Grown.{any_closing, any_more, dead_epoch, dead_out, dead_same, earlier_more, earlier_new, heap_same, last_more, taken_same, this_more, this_new}
+use Rattle.rec_audit.proofs.LinesGrown.{any_closing, any_more, dead_epoch, dead_out, dead_same, earlier_more, earlier_new, heap_same, last_more, taken_same, this_more, this_new}
 use Rattle.rec_audit.proofs.Rising.{both_of}
 use Rattle.rec_audit.proofs.RunReach.{LeadsTo, target_member}
 use Rattle.rec_audit.proofs.Marking.{or_left, or_right}

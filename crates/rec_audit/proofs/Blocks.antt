@@ -17,7 +17,7 @@ use Rattle.rec_audit.specs.Lines.{Line}
 use Rattle.rec_audit.specs.declared.kind.Kind.{Kind}
 use Rattle.rec_audit.specs.declared.kind.Kind.TheVariants as kinds
 use Rattle.rec_audit.proofs.Forming.{part}
-use Rattle.rec_audit.proofs.Grown.{any_closing, dead_epoch, dead_out, dead_same, heap_same, taken_born, taken_same, this_more, this_new}
+use Rattle.rec_audit.proofs.LinesGrown.{any_closing, dead_epoch, dead_out, dead_same, heap_same, taken_born, taken_same, this_more, this_new}
 
 -- ---- elements
 

@@ -1,5 +1,5 @@
 -- Lines that may stand so are the beginning of a journal in form.
-use Rattle.std.proofs.Common.{◌≡◌, ◌<◌, ◌≤◌, ◌+◌, ◌-◌, ◌^◌, ◌⊎◌, ℕ, zero, suc, Bool, true, false, cond, nat_lt, List, [], ◌∷◌, ◌++◌, get_or, replicate, Some, inl, inr, refl, sym, ap, ◌∙◌, subst, arith, append_assoc, append-nil}
+use Rattle.std.proofs.Common.{◌≡◌, ◌<◌, ◌≤◌, ◌+◌, ◌-◌, ◌^◌, ℕ, zero, suc, Bool, true, false, cond, nat_lt, List, [], ◌∷◌, ◌++◌, get_or, replicate, Some, inl, inr, refl, sym, ap, ◌∙◌, subst, arith, append_assoc, append-nil}
 use Rattle.std.proofs.lemmas.Bool.{cases_lt}
 use Rattle.std.proofs.lemmas.Bool.Decides.{nat_tests}
 use Rattle.std.proofs.lemmas.List.{length-replicate}
@@ -11,7 +11,7 @@ use Rattle.rec_audit.specs.declared.form.Stage.TheVariants as stages
 use Rattle.rec_audit.specs.declared.form.Form.{Form}
 use Rattle.rec_audit.specs.Lines.{Line, AreNumbers}
 use Rattle.rec_audit.specs.Form.{IsInForm, MayStand, Stand, form_of, heap_in, heap_of, is_heap, is_numbering, leads_to, next_block, number_behind, stage_behind}
-use Rattle.rec_audit.proofs.Knowing.{heap_more, next_more, split_push, stage_more}
+use Rattle.rec_audit.proofs.Knowing.{heap_more, next_more, stage_more}
 use Rattle.rec_audit.proofs.Forming.{stand_more}
 use Rattle.rec_audit.specs.Journal.{line_of}
 

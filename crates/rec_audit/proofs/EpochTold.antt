@@ -1,8 +1,7 @@
 -- The block that a step begins tells all that the buffers of its heap still have of that epoch.
-use Rattle.std.proofs.Common.{◌≡◌, ◌≢◌, inl, inr, ℕ, zero, suc, ◌+◌, ◌-◌, ◌<◌, ◌≤◌, ◌==◌, ◌||◌, if◌then◌else◌, Bool, true, false, Option, None, Some, List, [], ◌∷◌, map, length, replicate, slice_index_or, refl, sym, ap, subst, ◌∙◌, arith}
+use Rattle.std.proofs.Common.{◌≡◌, ◌≢◌, inl, inr, ℕ, zero, suc, ◌+◌, ◌-◌, ◌<◌, ◌≤◌, ◌==◌, if◌then◌else◌, Bool, true, false, Option, None, Some, List, [], ◌∷◌, map, length, replicate, slice_index_or, refl, sym, ap, subst, ◌∙◌, arith}
 use Rattle.std.specs.List.{Contains, enumerate_from, flat_map, sum_by, zip}
 use Rattle.std.specs.Option.{option_map}
-use Rattle.std.proofs.Math.Bool.{or-true}
 use Rattle.std.proofs.lemmas.Bool.{cases_eq, eq-eqb}
 use Rattle.std.proofs.lemmas.Bool.Decides.{nat_tests}
 use Rattle.std.proofs.lemmas.List.Elements.{Contains-append_left, Contains-append_right}
@@ -21,9 +20,8 @@ use Rattle.rec_collector.specs.Bare as collectors_bare
 use Rattle.rec_collector.specs.Bare.{bare_buffers}
 use Rattle.rec_collector.specs.Kept.{under_way}
 use Rattle.rec_collector.specs.Next.{next_of}
-use Rattle.rec_collector.specs.Private.{Private, blank, buffer_at}
+use Rattle.rec_collector.specs.Private.{blank, buffer_at}
 use Rattle.rec_collector.specs.Shown.{Batch, Shown, batch_made, batch_of, shown_of}
-use Rattle.rec_collector.specs.Took.{step_of}
 use Rattle.rec_collector.specs.declared.phase.Phase.{Phase}
 use Rattle.rec_collector.specs.declared.phase.Phase.TheVariants.{Idle, Looking, Returning, Swapping}
 use Rattle.rec_collector.proofs.Bare as collecting

@@ -9,7 +9,7 @@ use Rattle.rec_audit.specs.declared.form.Form.{Form}
 use Rattle.rec_audit.specs.Lines.{Line}
 use Rattle.rec_audit.specs.Form.{MayStand, Stand, behind, form_of, heap_in, heap_of, is_heap, is_numbering, last_that, leads_to, next_block, next_in, number, number_behind, stage_behind, stage_in, stage_of}
 use Rattle.rec_audit.specs.Verdicts.{AreClean, IsClean}
-use Rattle.rec_audit.proofs.Grown.{last_more, last_new}
+use Rattle.rec_audit.proofs.LinesGrown.{last_more, last_new}
 
 -- ---- a line among others and one more
 

@@ -7,7 +7,7 @@ use Rattle.std.proofs.lemmas.List.{set-get_or, get_or-set_other}
 use Rattle.std.proofs.lemmas.List.Elements.{Contains-append_left, Contains-append_right, Contains-get_or}
 use Rattle.std.proofs.lemmas.List.Sums.{sum_by-cons, sum_by-set}
 use Rattle.rec_mutator.specs.Step.{TakesBox}
-use Rattle.rec_core.proofs.Common.{has_left, noted, requested, crossing_word, Retired, place_of, Op, only_if, epoch_of, Write, Cleared, Contents, Private, is_busy, IsMachine, word_for, IsStore, probe_of, next_of, Step, Decides, GoesOn, LeavesBox, HasRoom, begun_of, left_of, took_of, whole_made, Parts, with_parts, Begun, cleared, Phase, Idle, Looking, Swapping, Returning, Turn, Cells, cell, with_cell, IsMutator, Core, cells_of, mutator, box, nobody, crossing_of, IsBufferOf, IsHandshake, IsKept, Handshake, stand_at, Fits, Move, after_move, begun_from, found_by, left_by, looked_at, offering, stepped, turned, turned_by, older_at, writes_in, writes_of, header_word, stamp_of}
+use Rattle.rec_core.proofs.Common.{has_left, noted, requested, crossing_word, Retired, place_of, Op, only_if, epoch_of, Write, Cleared, Contents, Private, is_busy, IsMachine, word_for, IsStore, probe_of, next_of, Step, Decides, GoesOn, LeavesBox, HasRoom, begun_of, left_of, took_of, whole_made, Parts, with_parts, Begun, cleared, Phase, Idle, Looking, Swapping, Returning, Turn, Cells, cell, with_cell, IsMutator, Core, cells_of, mutator, box, nobody, crossing_of, IsBufferOf, IsHandshake, IsKept, Handshake, stand_at, Fits, Move, after_move, begun_from, found_by, left_by, looked_at, offering, stepped, turned, older_at, writes_in, writes_of, header_word, stamp_of}
 use Rattle.rec_word.specs.Op.{written}
 use Rattle.rec_word.specs.declared.op.Op.TheVariants as ops
 use Rattle.rec_model.specs.declared.command.Cmd.{Cmd}
@@ -22,7 +22,6 @@ use Rattle.rec_collector.specs.Kept as collector_kept
 use Rattle.rec_collector.specs.Next as collectors_next
 use Rattle.rec_collector.specs.Private as collectors
 use Rattle.rec_collector.specs.Step as collectors_step
-use Rattle.rec_collector.specs.Took as collectors_took
 use Rattle.rec_collector.specs.Touched.{tried_at}
 use Rattle.rec_collector.proofs.Always.{names_word}
 use Rattle.rec_core.specs.Loads.{cleared_by, cleared_in, IsKnown, Loaded, tried_in}

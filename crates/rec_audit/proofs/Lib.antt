@@ -17,6 +17,7 @@ pub mod Covering
 pub mod Covered
 mod ReachAnswers
 pub mod Grown
+pub mod LinesGrown
 pub mod Pruning
 pub mod Marking
 pub mod Asked

@@ -12,7 +12,6 @@ use Rattle.rec_log.specs.declared.entry.Entry.TheVariants as entries
 use Rattle.rec_collector.specs.Private as collectors
 use Rattle.rec_collector.specs.Shown.{Batch, batch_made}
 use Rattle.rec_collector.specs.Step.{NamesWord, Step}
-use Rattle.rec_collector.specs.Took as collectors_took
 use Rattle.rec_audit.specs.Logged.{works_in}
 use Rattle.rec_audit.proofs.Journalled.{StandsIn}
 use Rattle.rec_audit.proofs.Newborn.{IsUntold, none_in}

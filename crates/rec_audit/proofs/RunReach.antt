@@ -1,7 +1,7 @@
 -- No member of a set that a run gives up is on a path of its journal's references from a root.
 use Rattle.std.proofs.Common.{◌≡◌, ◌≢◌, ◌⊎◌, inl, inr, ℕ, suc, ◌+◌, ◌-◌, ◌/◌, ◌<◌, ◌≤◌, ◌==◌, if◌then◌else◌, not, nat_lt, Bool, true, false, cond, Option, None, Some, List, [], ◌∷◌, filter, map, length, slice_index_or, refl, sym, ap, subst, ◌∙◌, arith}
 use Rattle.std.specs.List.{Contains, flat_map, range_with_len}
-use Rattle.std.proofs.lemmas.Bool.{cases_lt, eqb-true, false≢true, lt-ltb}
+use Rattle.std.proofs.lemmas.Bool.{cases_lt, eqb-true, false≢true, lt-ltb, not-true}
 use Rattle.std.proofs.lemmas.Bool.Decides.{nat_tests}
 use Rattle.std.proofs.lemmas.List.Elements.{Contains-append_cases, Contains-append_right}
 use Rattle.rec_model.specs.Pending.{epoch_of, home, node_of}
@@ -114,10 +114,6 @@ member_times n (x ∷ xs) is = elim (is_in-cons n x xs is) [
   | inl same ↦ subst (λ m. 0 < times n (m ∷ xs)) (sym same) (omega (arith, times-cons n n xs, one-same n))
   | inr later ↦ omega (arith, times-cons n x xs, member_times n xs later)
 ]
-
-not_true : (b : Bool) → not b ≡ true → b ≡ false
-not_true true is = absurd (false≢true is)
-not_true false is = refl
 
 -- ---- the lines of a block
 
@@ -236,7 +232,7 @@ module _ (ls : List Line) (v : Core) (kept : IsKept true v) (tells : Tells ls v)
           | inl part ↦ inl (named_root n l.0 part l.2)
           | inr late ↦ absurd (false≢true (sym (ap (is_in n) (late_names l.0.kind l.0.numbers late)) ∙ l.2))
         ]
-    | inr free ↦ untaken_root n (not_true (is_taken ls n) (filter_member (λ slot. not (is_taken ls slot)) n (range_with_len 0 (heap_of ls).slots) free))
+    | inr free ↦ untaken_root n (not-true (is_taken ls n) (filter_member (λ slot. not (is_taken ls slot)) n (range_with_len 0 (heap_of ls).slots) free))
   ]
 
   at_target : (m n : ℕ) → IsReachedAt ls m → MayBe m → is_in n (targets ls m) ≡ true → MayBe n
@@ -249,7 +245,7 @@ module _ (ls : List Line) (v : Core) (kept : IsKept true v) (tells : Tells ls v)
       let at : number 1 l.line / v.config.fields ≡ m = ap (λ k. number 1 l.line / k) (sym fields) ∙ eqb-true (number 1 l.line / (heap_of ls).fields) m both.1 in
       let target : 0 < target_bits (number 2 l.line) = tested (target_bits (number 2 l.line)) put.1 in
       let node : target_bits (number 2 l.line) ≡ n + 1 = omega (arith, target, l.leads) in
-      inl (reference_leads (number 1 l.line) (number 2 l.line) m n (reference_lasts l.line l.listed both.0 (not_true (is_dead ls (number 2 l.line)) l.second)) (opens_some l.line both.0) node (tells.early l.line l.listed both.0) at may)
+      inl (reference_leads (number 1 l.line) (number 2 l.line) m n (reference_lasts l.line l.listed both.0 (not-true (is_dead ls (number 2 l.line)) l.second)) (opens_some l.line both.0) node (tells.early l.line l.listed both.0) at may)
 
   reached_may : (n : ℕ) → IsReachedAt ls n → MayBe n
   reached_may n reached = all_reached MayBe (roots ls) (targets ls) at_root at_target n reached

@@ -16,7 +16,7 @@ use Rattle.rec_collector.specs.Next.{next_of}
 use Rattle.rec_collector.specs.Private.{Private, buffer_at}
 use Rattle.rec_collector.specs.Shown.{Batch, batch_made, batch_of}
 use Rattle.rec_collector.specs.Step.{NamesWord, Step}
-use Rattle.rec_collector.specs.Took.{step_of, turn_of}
+use Rattle.rec_collector.specs.Took.{turn_of}
 use Rattle.rec_collector.specs.Touched.{tried_at}
 use Rattle.rec_collector.specs.declared.phase.Phase.{Phase}
 use Rattle.rec_collector.specs.declared.phase.Phase.TheVariants.{Freeing, Idle, Looking, Releasing, Returning, Swapping}
@@ -47,7 +47,7 @@ use Rattle.rec_audit.specs.Lines.{Line}
 use Rattle.rec_audit.specs.Runs.{heap_for, place_of}
 use Rattle.rec_audit.specs.declared.kind.Kind.TheVariants as kinds
 use Rattle.rec_audit.proofs.Blocks.{Each, IsLineOf, block_more, block_new, dead_closed, dead_more, each_at, each_both, entry_has_line, heap_more_lines, heap_new, is_late, late_plain, line_is_of, parts_are, taken_epoch, taken_in, taken_more}
-use Rattle.rec_audit.proofs.Grown.{dead_out, taken_same, taken_sweep}
+use Rattle.rec_audit.proofs.LinesGrown.{dead_out, taken_same, taken_sweep}
 use Rattle.rec_audit.proofs.OneTurn.{one_turn, ops_of, some_epoch}
 use Rattle.rec_audit.proofs.Placing.{HasBegun, Placed, is_unswept, step_placed, step_unswept, worked_in}
 use Rattle.rec_audit.proofs.RunGraph.{HasBlock, Status, Tells}

@@ -4,7 +4,7 @@ use Rattle.std.specs.List.{All, sum_by}
 use Rattle.std.proofs.lemmas.Bool.{cases_eq, cases_lt, cond-false, eq-eqb, eqb-true, ne_eqb}
 use Rattle.std.proofs.lemmas.List.{get_or-set_other, get_or-set_same, get_or_past, length-set, set-get_or}
 use Rattle.std.proofs.lemmas.List.Elements.{All-head, All-tail}
-use Rattle.rec_core.proofs.Common.{AllFit, Core, Fits, IsConfig, IsKept, IsMutator, IsStart, IsTarget, Move, Op, Private, Write, after_move, after_moves, cell, cells_of, epoch_of, is_busy, mutator, stamp_of, stepped, turned, turned_by, whole_made, with_cell, writes_of}
+use Rattle.rec_core.proofs.Common.{AllFit, Core, Fits, IsConfig, IsKept, IsMutator, IsStart, IsTarget, Move, Op, Write, after_move, after_moves, cell, cells_of, epoch_of, is_busy, mutator, stamp_of, stepped, turned, turned_by, whole_made, with_cell, writes_of}
 use Rattle.rec_word.specs.Op.{written}
 use Rattle.rec_word.specs.declared.op.Op.TheVariants as ops
 use Rattle.rec_word.specs.declared.stamps.Stamp.{Stamp}
@@ -72,11 +72,8 @@ set_dated words at word place all is = elim (cases_eq place at) [
 -- ---- moves
 
 module _ (v : Core) (t : ℕ) (kept : IsKept true v) (is : IsMutator v.config t) (busy : is_busy (mutator v t) ≡ true) (all : AreDatedSo v) where
-  abbrev p : Private
-  p = mutator v t
-
   -- the word that is put
-  new_dated : (new : ℕ) → epoch_of new ≡ p.epoch → (stamp_of new).epoch ≡ p.epoch → (stamp_of new).writer ≡ p.number → IsDatedSo new
+  new_dated : (new : ℕ) → epoch_of new ≡ (mutator v t).epoch → (stamp_of new).epoch ≡ (mutator v t).epoch → (stamp_of new).writer ≡ (mutator v t).number → IsDatedSo new
   new_dated new date epoch writer =
       let own = (actor_of v t kept is).own in
       let some : (stamp_of new).writer == 0 ≡ false = ne_eqb (stamp_of new).writer 0 (λ none. omega (arith, none, writer, own.number, is.0)) in
@@ -85,7 +82,7 @@ module _ (v : Core) (t : ℕ) (kept : IsKept true v) (is : IsMutator v.config t)
   step_dated : AreDatedSo (stepped v t)
   step_dated =
       let actor = actor_of v t kept is in
-      let whole = whole_made p (found_by v t) (box v t) busy actor.own.between in
+      let whole = whole_made (mutator v t) (found_by v t) (box v t) busy actor.own.between in
       elim (step_logs actor.own.dates actor.own.machine whole.own whole.mailbox) [
         | inl plain ↦ record {
           words = λ place. subst (λ ws. IsDatedSo (slice_index_or ws place 0)) (sym (plain.words (cells_of v) refl)) (all.words place);

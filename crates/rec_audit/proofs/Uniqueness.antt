@@ -1,5 +1,5 @@
 -- A journal has one verdict.
-use Rattle.std.proofs.Common.{◌≡◌, ◌+◌, ◌⊎◌, ℕ, Bool, true, false, ◌&&◌, List, [], ◌∷◌, ◌++◌, length, count_by, inl, inr, refl, sym, ap, ◌∙◌, subst, arith, append_assoc, append-nil}
+use Rattle.std.proofs.Common.{◌≡◌, ◌+◌, ◌⊎◌, ℕ, Bool, true, false, ◌&&◌, List, [], ◌∷◌, ◌++◌, length, inl, inr, refl, sym, ap, ◌∙◌, subst, arith, append_assoc, append-nil}
 use Rattle.std.proofs.lemmas.Bool.{false≢true}
 use Rattle.rec_audit.specs.declared.form.Stage.TheVariants as stages
 use Rattle.rec_audit.specs.declared.verdict.Rule.{Rule}
@@ -8,7 +8,7 @@ use Rattle.rec_audit.specs.declared.verdict.Verdict.{Verdict}
 use Rattle.rec_audit.specs.declared.verdict.Verdict.TheVariants.{Yes, No}
 use Rattle.rec_audit.specs.Lines.{Line, AreNumbers, text_of, text_of_line}
 use Rattle.rec_audit.specs.Form.{number, stage_behind}
-use Rattle.rec_audit.specs.Graph.{has_target, is_free, is_put}
+use Rattle.rec_audit.specs.Graph.{has_target, is_put}
 use Rattle.rec_audit.specs.Verdicts.{AreClean, GoesOn, HasFault, HasReachFault, HasStampFault, IsVerdict}
 use Rattle.rec_audit.specs.Verdicts.HasFault.{form as unfit, stamp as repeated, reach as reaches}
 use Rattle.rec_audit.specs.Verdicts.IsVerdict.{yes, long, no as first_fault}

@@ -14,7 +14,6 @@ use Rattle.rec_collector.specs.Next.{next_of as collector_next}
 use Rattle.rec_collector.specs.Private as collectors
 use Rattle.rec_collector.specs.Shown.{Batch, batch_made, batch_of}
 use Rattle.rec_collector.specs.Step.{NamesWord, Step}
-use Rattle.rec_collector.specs.Took.{step_of}
 use Rattle.rec_core.specs.Core.{heap_by}
 use Rattle.rec_core.specs.Config.{IsConfig}
 use Rattle.rec_core.specs.Objects.{first_object}
@@ -37,7 +36,7 @@ use Rattle.rec_audit.specs.Logged.{works_in}
 use Rattle.rec_audit.specs.declared.kind.Kind.TheVariants as kinds
 use Rattle.rec_audit.proofs.OneTurn.{one_turn, ops_of}
 use Rattle.rec_audit.proofs.Blocks.{IsLineOf, line_is_of}
-use Rattle.rec_audit.proofs.Grown.{last_same, taken_same, taken_sweep}
+use Rattle.rec_audit.proofs.LinesGrown.{last_same, taken_same, taken_sweep}
 use Rattle.rec_audit.proofs.JournalReach.{born_late, from_birth, birth_weighs, tells_births, zip_weighs}
 use Rattle.rec_audit.proofs.Journalled.{StandsIn, applied_in, box_later, log_later}
 use Rattle.rec_audit.proofs.Newborn.{IsUntold, none_in, untold_before}
@@ -246,12 +245,10 @@ module _ (ls : List Line) (w : Core) (op : Op) (kept : IsKept true w) (named_is 
   abbrev its_box : Contents
   its_box = box w (looked_at c.phase)
 
-  abbrev q : collectors.Private
-  q = step_of c found its_box
-
   abbrev v : Core
   v = turned_by w op found
 
+  open v use {collector as q}
   open (one_turn w op kept named_is still) use {s, shown}
 
   -- where a batch was applied nothing is gathered

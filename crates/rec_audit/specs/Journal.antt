@@ -1,7 +1,9 @@
 -- The journal of a list of steps that a collector made: a title, a heap, and the lines that each step is told by.
-use Rattle.std.specs.Prelude.{◌≡◌, ℕ, ◌+◌, ◌==◌, if◌then◌else◌, Option, None, Some, List, [], ◌∷◌, ◌++◌, map}
+use Rattle.std.specs.Prelude.{◌≡◌, ℕ, ◌==◌, if◌then◌else◌, Option, None, Some, List, [], ◌∷◌, ◌++◌, map}
 use Rattle.std.specs.List.{count_by, flat_map, enumerate_from}
 use Rattle.std.specs.Option.{is_some}
+-- a register is written as one more than the slot that it holds, or 0
+pub use Rattle.rec_word.specs.Word.{low_bits as register_number}
 use Rattle.rec_word.specs.declared.op.Op.{Op}
 use Rattle.rec_word.specs.declared.op.Op.TheVariants.{ClearField, FreeHeader}
 use Rattle.rec_log.specs.declared.contents.Contents.{Contents}
@@ -22,11 +24,6 @@ line_of kind numbers = record { kind = kind; numbers = numbers }
 abbrev pub entry_line : (mutator : ℕ) → Entry → Line
 entry_line t (Put place new old) = line_of kinds.Put (t ∷ place ∷ new ∷ old ∷ [])
 entry_line t (Born slot leaf) = line_of kinds.Born (t ∷ slot ∷ [])
-
--- a register, by one more than the slot that it holds, or by 0
-abbrev pub register_number : Option ℕ → ℕ
-register_number None = 0
-register_number (Some slot) = slot + 1
 
 abbrev pub snap_line : (mutator : ℕ) → List (Option ℕ) → Line
 snap_line t registers = line_of kinds.Snap (t ∷ map register_number registers)

@@ -1,5 +1,5 @@
 -- The contract of `no_edges`: as many empty lists as there are slots.
-use Rattle.std.proofs.Common.{◌≡◌, ℕ, List, [], ◌∷◌, ◌++◌, map, replicate, ap, ◌∙◌, arith, Vec, Global}
+use Rattle.std.proofs.Common.{◌≡◌, ℕ, List, [], ◌∷◌, ◌++◌, replicate, ap, ◌∙◌, arith, Vec, Global}
 use Rattle.std.proofs.lemmas.List.{map_push, replicate_more}
 use Rattle.rec_audit.specs.declared.references.Edge.{Edge}
 use Rattle.rec_audit.proofs.references.no_edges.Goals as goal

@@ -1,7 +1,6 @@
 -- The contract of `put`: a word is put into a field of a slot, and replaces another one.
-use Rattle.std.proofs.Common.{◌≡◌, ℕ, ◌%◌, ◌-◌, true, cond, ◌||◌, ◌&&◌, ◌==◌, nat_lt, nat_eq, refl, sym, ap, ◌∙◌, arith}
+use Rattle.std.proofs.Common.{◌≡◌, ◌%◌, ◌-◌, true, cond, ◌||◌, ◌&&◌, ◌==◌, nat_eq, refl, sym, ap, ◌∙◌, arith}
 use Rattle.std.specs.HashSet.{contains}
-use Rattle.std.proofs.lemmas.Bool.Decides.{nat_tests}
 use Rattle.rec_audit.specs.Graph.{has_target}
 use Rattle.rec_audit.specs.States.{back_edge, edge_of, edges_of, into_of, with_edge}
 use Rattle.rec_audit.proofs.references.References.put.Goals as goal
