@@ -27,7 +27,7 @@ use Rattle.rec_core.specs.Cells.{births_of}
 use Rattle.rec_core.specs.Config.{IsMutator, HasLabel}
 use Rattle.rec_core.specs.Core.{Core, sight, mutator}
 use Rattle.rec_core.specs.Kept.{IsKept}
-use Rattle.rec_core.specs.Moves.{Move, Fits, AllFit, after_move, after_moves, begun, stepped, turned, found_by}
+use Rattle.rec_core.specs.Moves.{Move, Fits, AllFit, after_move, after_moves, begun, stepped, found_by}
 use Rattle.rec_core.specs.StepAnswers.{IsDecided}
 use Rattle.rec_core.specs.Worked.{StepsTo, IsWorked}
 use Rattle.rec_core.proofs.BareRuns.{move_kept}
@@ -35,7 +35,6 @@ use Rattle.rec_core.proofs.Asked.{begun_sight}
 use Rattle.rec_core.proofs.Runs.{after_both, fit_both}
 use Rattle.rec_core.proofs.Leaving.{IsStayingIn, leaves_or_stays, polls_stay, told_as}
 use Rattle.rec_core.proofs.Showing.{Says, step_says, leaving_decided, parting_says, mutator_left, stepped_mutator}
-use Rattle.rec_core.proofs.Turning.{turn_case}
 use Rattle.rec_core.proofs.Unfinished.{its_step, work_stays}
 use Rattle.rec_order.specs.Naming.{Naming, NamesGoOn, born_in, named_by, named_after, named_after_all}
 use Rattle.rec_order.specs.Events.{events_in, events_of}

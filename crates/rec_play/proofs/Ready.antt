@@ -1,5 +1,5 @@
 -- Journals and orders as they are opened, and the numbers of a heap.
-use Rattle.std.proofs.Common.{false, ◌≡◌, inl, inr, ℕ, ◌+◌, ◌-◌, ◌<◌, ◌≤◌, zero, suc, List, [], ◌∷◌, ◌++◌, Some, slice_index_or, length, map, take, sym, ap, subst, ◌∙◌, arith}
+use Rattle.std.proofs.Common.{◌≡◌, inl, inr, ℕ, ◌+◌, ◌-◌, ◌<◌, ◌≤◌, zero, suc, List, [], ◌∷◌, ◌++◌, Some, slice_index_or, length, map, take, sym, ap, subst, ◌∙◌, arith}
 use Rattle.std.specs.List.{slice_get, sum, All, Any}
 use Rattle.std.proofs.lemmas.Bool.{cases_lt}
 use Rattle.std.proofs.lemmas.List.{take_more, take_all, length-map, get_or-map, get_or_past}

@@ -100,16 +100,15 @@ module _ (w : Watched) (q : Player) (world : Core) (playing : w.stage ≡ Playin
 
 -- The rule has no turn left.
 module _ (w : Watched) (playing : w.stage ≡ Playing) (is : IsWatched w) (none : to_come w.rest ≡ []) where
-  at_end : IsPlaying w
-  at_end = playing_of w playing is
-
   has_played : HasPlayed w w.world
-  has_played = record {
-    events = at_end.events;
-    names = at_end.names;
-    run = subst (λ acted. IsPlayedRun w.script (opened (config_of w.script)) first_naming acted at_end.events at_end.names w.world) (sym (append-nil at_end.acted) ∙ ap (λ later. at_end.acted ++ later) (sym none) ∙ at_end.all) at_end.run;
-    all = all_made (player_of w) is.due none;
-  }
+  has_played =
+      let so : IsPlaying w = playing_of w playing is in
+      record {
+        events = so.events;
+        names = so.names;
+        run = subst (λ acted. IsPlayedRun w.script (opened (config_of w.script)) first_naming acted so.events so.names w.world) (sym (append-nil so.acted) ∙ ap (λ later. so.acted ++ later) (sym none) ∙ so.all) so.run;
+        all = all_made (player_of w) is.due none;
+      }
 
   -- Settling begins,
   pub begins : (to : to_settle.Settling) → HasCome w.world to w.world → IsWatched (record w { stage = Settling to })

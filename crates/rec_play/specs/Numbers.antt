@@ -1,5 +1,5 @@
 -- The numbers of the heap that a script runs on.
-use Rattle.std.specs.Prelude.{false, ℕ, max, List, [], ◌∷◌, length}
+use Rattle.std.specs.Prelude.{ℕ, max, List, [], ◌∷◌, length}
 use Rattle.rec_collector.specs.Private.{plain}
 use Rattle.rec_model.specs.declared.command.Cmd.{Cmd}
 use Rattle.rec_core.specs.declared.config.Config.{Config}

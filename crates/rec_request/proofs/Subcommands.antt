@@ -1,5 +1,6 @@
 -- Commands that join another as its subcommands.
-use Rattle.std.proofs.Common.{◌≡◌, ◌∙◌, Bool, true, false, not, Result, Ok, Err, refl, ap}
+use Rattle.std.proofs.Common.{◌≡◌, ◌∙◌, true, false, Result, Ok, Err, ap}
+use Rattle.std.proofs.lemmas.Bool.{not-true}
 use Rattle.std.specs.Result.{IfOk, IsOk}
 use Rattle.std.specs.declared.alloc.AllocError.{AllocError}
 use Rattle.clap.specs.Words.{App, Shape, app_of}
@@ -8,13 +9,9 @@ use Rattle.clap.specs.declared.builder.command.Command.TheViews.{out-Command}
 use Rattle.clap.proofs.WalkLemmas.{both}
 use Rattle.rec_request.specs.CommandLine.{app_with}
 
-not_true : (b : Bool) → not b ≡ true → b ≡ false
-not_true true is = cc
-not_true false is = refl
-
 -- a plain command has no global arguments
 pub no_globals : (command : Command) → (app_of command).top.is_plain ≡ true → (out-Command command).has_globals ≡ false
-no_globals command plain = not_true _ (both _ _ (both _ _ (both _ _ plain).1).1).0
+no_globals command plain = not-true _ (both _ _ (both _ _ (both _ _ plain).1).1).0
 
 -- one that was made plain is
 pub is_plain : (made : Result Command AllocError) (shape : Shape) → shape.is_plain ≡ true → IfOk made (λ sub. app_of sub ≡ app_with shape) → IfOk made (λ sub. (app_of sub).top.is_plain ≡ true)

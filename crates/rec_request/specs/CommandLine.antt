@@ -33,17 +33,9 @@ run name = record (new_shape name) { rules = option (codes "seed") ∷ option (c
 abbrev pub play : Shape
 play = record (new_shape (codes "play")) { rules = option (codes "seed") ∷ option (codes "turns") ∷ flag (codes "summary") ∷ flag (codes "trace") ∷ flag (codes "audit") ∷ flag (codes "image") ∷ [] }
 
--- the subcommand `threads`, which has no options
-abbrev pub threads : Shape
-threads = new_shape (codes "threads")
-
 -- the subcommand `make` and its options
 abbrev pub make : Shape
 make = record (new_shape (codes "make")) { rules = option (codes "seed") ∷ option (codes "mutators") ∷ option (codes "commands") ∷ [] }
-
--- the subcommand `audit`, which has no options
-abbrev pub audit : Shape
-audit = new_shape (codes "audit")
 
 -- the subcommand `resume` and its options
 abbrev pub resume : Shape
@@ -53,7 +45,7 @@ resume = run (codes "resume")
 abbrev pub app_with : Shape → App
 app_with shape = record { top = shape; subs = [] }
 
--- the program's command: a subcommand is required, and there is neither help nor a version
+-- the program's command: a subcommand is required, and there is neither help nor a version; `threads` and `audit` have no options
 abbrev pub recycler : App
 recycler =
     record {
@@ -65,7 +57,7 @@ recycler =
             disable_version_flag = true;
             subcommand_required = true;
           };
-      subs = play ∷ threads ∷ make ∷ audit ∷ resume ∷ [];
+      subs = play ∷ new_shape (codes "threads") ∷ make ∷ new_shape (codes "audit") ∷ resume ∷ [];
     }
 
 -- An option says a number up to this most: a plus or none, and then decimal digits. Where it isn't given it says its default.

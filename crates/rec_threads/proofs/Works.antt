@@ -71,9 +71,6 @@ made_on xs ys ds es a b d first then = record {
       ∙ ap (λ by. (mutator_now a.mutator).left || by) (sym (list_any-append has_left_by first.lines then.lines));
 }
 
-same_sizes : (p : Private) → KeepsSizes p p
-same_sizes p = record { number = refl; slots = refl; fields = refl; registers = refl; capacity = refl; parked = refl }
-
 -- nothing is made
 pub made_none : (w : Worker) → HasMade [] [] w w
 made_none w = record {
@@ -84,7 +81,7 @@ made_none w = record {
   told = record { beats = []; grows = sym (append-nil w.mutator.log); tells = refl };
   begins = refl;
   mutator = refl;
-  sizes = same_sizes (mutator_now w.mutator);
+  sizes = record { number = refl; slots = refl; fields = refl; registers = refl; capacity = refl; parked = refl };
   left = sym (or-false (mutator_now w.mutator).left);
 }
 

@@ -32,12 +32,6 @@ appends_nothing : (a : Option (List ℕ)) → Appends a a []
 appends_nothing None = tt
 appends_nothing (Some xs) = sym (append-nil xs)
 
-appends_both : (a b c : Option (List ℕ)) (x y : List ℕ) → Appends a b x → Appends b c y → Appends a c (x ++ y)
-appends_both None b c x y f g = tt
-appends_both (Some us) None c x y f g = absurd f
-appends_both (Some us) (Some vs) None x y f g = absurd g
-appends_both (Some us) (Some vs) (Some ws) x y f g = g ∙ ap (λ zs. zs ++ y) f ∙ append_assoc us x y
-
 -- the moves from a number on are told
 pub record Told (before : Watched) (made : ℕ) (after : Watched) (made_after : ℕ) (old new : Option (List ℕ)) : Type 0 where
   pub moves : List Move
@@ -61,6 +55,12 @@ told_more before mid after made made_mid made_after old new newer move t is next
       counted = number ∙ (let e : length (t.moves ++ move ∷ []) ≡ length t.moves + 1 = length-append t.moves (move ∷ []) in omega arith);
       written = appends_both old new newer t.text text t.written piece;
     }
+  where
+    appends_both : (a b c : Option (List ℕ)) (x y : List ℕ) → Appends a b x → Appends b c y → Appends a c (x ++ y)
+    appends_both None b c x y f g = tt
+    appends_both (Some us) None c x y f g = absurd f
+    appends_both (Some us) (Some vs) None x y f g = absurd g
+    appends_both (Some us) (Some vs) (Some ws) x y f g = g ∙ ap (λ zs. zs ++ y) f ∙ append_assoc us x y
 
 -- the next move is told
 pub told_next : (goes_on : Bool) (before mid after : Watched) (made made_mid made_after : ℕ) (old new newer : Option (List ℕ)) → goes_on ≡ true → Told before made mid made_mid old new → IsNext goes_on mid made_mid after made_after new newer → Told before made after made_after old newer

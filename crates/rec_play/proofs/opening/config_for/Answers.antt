@@ -1,5 +1,5 @@
 -- The contract of `config_for`: the numbers of the heap that a script is played on.
-use Rattle.std.proofs.Common.{false, ◌≡◌, max, length, sym, ap, subst, ◌∙◌}
+use Rattle.std.proofs.Common.{◌≡◌, max, length, sym, ap, subst, ◌∙◌}
 use Rattle.rec_collector.specs.Private.{plain}
 use Rattle.rec_core.specs.Config.{IsConfig}
 use Rattle.rec_core.specs.declared.config.Config.{Config}

@@ -1,6 +1,7 @@
 -- The contract of `Schedule::take`: takes one command off those that a mutator, by its index, has left.
-use Rattle.std.proofs.Common.{◌≡◌, ℕ, ◌-◌, ◌<◌, ◌++◌, zero, suc, List, slice_index_or, slice_set, length, take, drop, refl, sym, ap, subst, ◌∙◌, arith}
+use Rattle.std.proofs.Common.{◌≡◌, ℕ, ◌-◌, ◌<◌, ◌++◌, List, slice_index_or, slice_set, length, take, drop, sym, ap, subst, ◌∙◌}
 use Rattle.std.specs.List.{refill, slice_index}
+use Rattle.std.proofs.Math.Nat.{pos_of_ne-zero}
 use Rattle.std.proofs.Math.Seq.{take-append_seam}
 use Rattle.std.proofs.lemmas.List.{get_or-set_same, length-set}
 use Rattle.rec_play.specs.declared.schedule.Schedule.TheInside.{Inside}
@@ -23,10 +24,6 @@ view_is s now at left is new =
     ap (λ (l : List ℕ). let r : Rest = record { left = l; generator = s.generator; turns = s.turns } in r) new
     ∙ ap (λ (r : Rest). let q : Rest = record r { left = slice_set r.left at (slice_index r.left at - 1) } in q) is
 
-positive : (n : ℕ) → (n ≡ 0 → ⊥) → 0 < n
-positive zero not = absurd (not refl)
-positive (suc n) not = omega arith
-
 pub invariant_of-self-else-deref-at-eq0 : goal.invariant_of-self-else-deref-at-eq0
 invariant_of-self-else-deref-at-eq0 c =
     let s : Inside = c.self.inside in
@@ -34,7 +31,7 @@ invariant_of-self-else-deref-at-eq0 c =
     let there : c.args.at < length s.left.items = subst (λ (r : Rest). c.args.at < length r.left) (sym c.self.view_is) c.requires.there in
     let some : 0 < slice_index_or s.left.items c.args.at 0 = subst (λ (r : Rest). 0 < slice_index r.left c.args.at) (sym c.self.view_is) c.requires.some in
     let new = written s.left.items c.deref_mut.result.now c.args.at c.deref_mut.ensures.value in
-    let more : 0 < v = positive v (λ none. c.if-deref-at-eq0.false (ap (λ (l : List ℕ). slice_index_or l c.args.at 0) (c.deref.ensures.0 ∙ new) ∙ get_or-set_same s.left.items c.args.at v 0 there ∙ none)) in
+    let more : 0 < v = pos_of_ne-zero (λ none. c.if-deref-at-eq0.false (ap (λ (l : List ℕ). slice_index_or l c.args.at 0) (c.deref.ensures.0 ∙ new) ∙ get_or-set_same s.left.items c.args.at v 0 there ∙ none)) in
     c.self.invariant ∙ sym (ap unfinished new ∙ still_unfinished 1 s.left.items c.args.at v some more)
 
 pub returns-then-deref-at-eq0 : goal.returns-then-deref-at-eq0
