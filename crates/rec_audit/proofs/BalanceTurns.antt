@@ -17,13 +17,13 @@ use Rattle.rec_collector.specs.Step.{NamesWord}
 use Rattle.rec_collector.specs.Took.{step_of}
 use Rattle.rec_core.specs.Kept as of_core
 use Rattle.rec_core.specs.Loads.{tried_in}
-use Rattle.rec_core.specs.Pending.{older_at, writes_of}
+use Rattle.rec_core.specs.Pending.{older_at, writes_of, has_batched}
 use Rattle.rec_audit.proofs.Lasting.{op_keeps, op_less, wrote}
 use Rattle.rec_audit.specs.Form.{number}
 use Rattle.rec_audit.specs.Graph.{has_target, is_out, is_put}
 use Rattle.rec_audit.specs.Journal.{batch_lines, op_lines}
 use Rattle.rec_audit.specs.Lines.{Line}
-use Rattle.rec_audit.specs.Logged.{last_batch, works_in}
+use Rattle.rec_audit.specs.Logged.{last_batch}
 use Rattle.rec_audit.proofs.Balance.{Balanced, BalancedAt, after, batch_puts, batch_replaces, batch_takes, both_less, both_more, early, late_null, late_puts, late_replaces, none_late, op_weighs, put_by, puts, replaced_by, replaces, takes_out}
 use Rattle.rec_audit.proofs.Journalled.{StandsIn, applied_in, last_sum}
 use Rattle.rec_audit.proofs.Newly.{row_weighs}
@@ -50,13 +50,13 @@ last_made w place new old kept (i, below, c) = go w.collector.phase refl
         let own : Contains (buffer_at row i).entries (entries.Put place new old) = subst (λ xs. Contains (buffer_at xs i).entries (entries.Put place new old)) last c in
         subst (of_core.IsMadeIn e) own.2 (its.made own.0 (entries.Put place new old) own.1)
 
-    older : (phase : Phase) → w.collector.phase ≡ phase → works_in phase ≡ false → older_at w.epoch phase ≡ applied_at w.epoch phase → epoch_of new ≡ applied_in w
+    older : (phase : Phase) → w.collector.phase ≡ phase → has_batched phase ≡ false → older_at w.epoch phase ≡ applied_at w.epoch phase → epoch_of new ≡ applied_in w
     older phase is waits same =
-        made w.collector.older (older_at w.epoch w.collector.phase) (kept.collector.machine.both ∙ kept.collector.mutators) kept.collector.older (ap (λ b. if b then w.collector.newer else w.collector.older) (ap works_in is ∙ waits))
+        made w.collector.older (older_at w.epoch w.collector.phase) (kept.collector.machine.both ∙ kept.collector.mutators) kept.collector.older (ap (λ b. if b then w.collector.newer else w.collector.older) (ap has_batched is ∙ waits))
         ∙ ap (older_at w.epoch) is ∙ same ∙ sym (ap (applied_at w.epoch) is)
 
-    newer : (phase : Phase) → w.collector.phase ≡ phase → works_in phase ≡ true → applied_at w.epoch phase ≡ w.epoch - 1 → epoch_of new ≡ applied_in w
-    newer phase is works same = made w.collector.newer (w.epoch - 1) kept.collector.mutators kept.collector.newer (ap (λ b. if b then w.collector.newer else w.collector.older) (ap works_in is ∙ works)) ∙ sym same ∙ sym (ap (applied_at w.epoch) is)
+    newer : (phase : Phase) → w.collector.phase ≡ phase → has_batched phase ≡ true → applied_at w.epoch phase ≡ w.epoch - 1 → epoch_of new ≡ applied_in w
+    newer phase is works same = made w.collector.newer (w.epoch - 1) kept.collector.mutators kept.collector.newer (ap (λ b. if b then w.collector.newer else w.collector.older) (ap has_batched is ∙ works)) ∙ sym same ∙ sym (ap (applied_at w.epoch) is)
 
     go : (phase : Phase) → w.collector.phase ≡ phase → epoch_of new ≡ applied_in w
     go Idle is = older Idle is refl refl

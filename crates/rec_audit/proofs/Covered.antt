@@ -19,14 +19,14 @@ use Rattle.rec_model.proofs.Counted.{closed_out_of, edge_sum, opened_from, root_
 use Rattle.rec_model.proofs.Members.{is_in-cons}
 use Rattle.rec_model.proofs.Reaching.{all_in_reach}
 use Rattle.rec_core.specs.Loads.{Loaded}
-use Rattle.rec_core.specs.Pending.{births_of, older_at, snapshots_of, writes_of}
+use Rattle.rec_core.specs.Pending.{births_of, older_at, snapshots_of, writes_of, has_batched}
 use Rattle.rec_audit.proofs.Lasting.{Lasts, closes, some_weighs, wrote}
-use Rattle.rec_core.proofs.Sums.{box_share, buffers_sum, log_share, share}
+use Rattle.rec_core.proofs.Sums.{box_share, buffers_sum, log_share, share, some_of}
 use Rattle.rec_audit.specs.Form.{heap_of, is_epoch, number}
 use Rattle.rec_audit.specs.Graph.{IsReachedAt, closes as closes_line, earlier_blocks, has_target, held, is_dead, is_out, is_put, is_taken, named_by, opens, opens_from, roots, takes, target_in, targets, this_block}
 use Rattle.rec_audit.specs.Journal.{entry_line, parts_lines, register_number, snap_line}
 use Rattle.rec_audit.specs.Lines.{Line}
-use Rattle.rec_audit.specs.Logged.{last_batch, works_in}
+use Rattle.rec_audit.specs.Logged.{last_batch}
 use Rattle.rec_audit.specs.Runs.{IsReachedIn}
 use Rattle.rec_audit.specs.declared.form.Heap.{Heap}
 use Rattle.rec_audit.proofs.Balance.{after, both_more, early, puts, replaced_by, replaces, rows_weigh, takes_out}
@@ -43,13 +43,6 @@ use Rattle.rec_word.proofs.Bare.{bits_bare}
 use Rattle.rec_audit.proofs.Marking.{or_left, or_right}
 
 -- ---- lists
-
-some_at : {X : Type 0} (f : X → ℕ) (xs : List X) (d : X) → 0 < sum_by f xs → (i : ℕ) × (i < length xs) × (0 < f (slice_index_or xs i d))
-some_at f [] d some = absurd (omega (arith, some))
-some_at f (x ∷ xs) d some = elim (cases_lt 0 (f x)) [
-  | inl here ↦ (0, omega arith, here)
-  | inr none ↦ (let more = some_at f xs d (omega (arith, some, none, sum_by-cons f x xs)) in (suc more.0, omega (arith, more.1), more.2))
-]
 
 some_word : (f : ℕ → ℕ → ℕ) (xs : List ℕ) → 0 < sum_at f xs → (i : ℕ) × (i < length xs) × (0 < f i (slice_index_or xs i 0))
 some_word f [] some = absurd (omega (arith, some))
@@ -150,7 +143,7 @@ early_row g e [] none = refl
 early_row g e (b ∷ row) none = omega (arith, sum_by-cons (share g tells_births e) b row, early_births g e b.entries none, early_row g e row none)
 
 -- a birth after the epoch of a batch that is worked on is in a log or a mailbox
-later_birth : (w : Core) (node : ℕ) → IsKept true w → works_in w.collector.phase ≡ true → 0 < sum_by (is_from (applied_in w + 1) node) (births_of w) → (slot : ℕ) × IsUntold w slot × (slot + 1 ≡ node)
+later_birth : (w : Core) (node : ℕ) → IsKept true w → has_batched w.collector.phase ≡ true → 0 < sum_by (is_from (applied_in w + 1) node) (births_of w) → (slot : ℕ) × IsUntold w slot × (slot + 1 ≡ node)
 later_birth w node kept works some =
     let g : Dated → ℕ = is_from (applied_in w + 1) node in
     let now : applied_in w ≡ w.epoch - 1 = worked_epoch w.epoch w.collector.phase works in
@@ -158,7 +151,7 @@ later_birth w node kept works some =
     let older : sum_by (share g tells_births (older_at w.epoch w.collector.phase)) w.collector.older ≡ 0
     = early_row g (older_at w.epoch w.collector.phase) w.collector.older (λ d same. before (applied_in w) node d (omega (arith, same, now, older_low w.epoch w.collector.phase))) in
     elim (cases_lt 0 (sum_by (log_share g tells_births) w.mutators)) [
-      | inl logs ↦ in_logs (some_at (log_share g tells_births) w.mutators nobody logs)
+      | inl logs ↦ in_logs (some_of (log_share g tells_births) w.mutators nobody logs)
       | inr none ↦ in_boxes (some_both (box_share g tells_births) w.mutators w.boxes nobody (blank 0 0) (omega (arith, some, none, newer, older, buffers_sum g tells_births w)))
     ]
   where
@@ -217,7 +210,7 @@ split_late a g p y none = go (has_target y) refl
     go true is = both (epoch_of y) (g p y)
     go false is = omega (arith, none is)
 
-module _ (ls bs : List Line) (v : Core) (kept : IsKept true v) (told : Tells ls v) (covers : Covers ls v) (alike : Alike ls bs) (works : works_in v.collector.phase ≡ true) (once : (b : ℕ) → sum_by (puts (marks b)) bs ≤ 1) where
+module _ (ls bs : List Line) (v : Core) (kept : IsKept true v) (told : Tells ls v) (covers : Covers ls v) (alike : Alike ls bs) (works : has_batched v.collector.phase ≡ true) (once : (b : ℕ) → sum_by (puts (marks b)) bs ≤ 1) where
   abbrev a : ℕ
   a = applied_in v
 

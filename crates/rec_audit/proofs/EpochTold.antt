@@ -33,7 +33,7 @@ use Rattle.rec_core.specs.Config.{IsConfig, IsMutator}
 use Rattle.rec_core.specs.Core.{Core, box, cells_of, heap_by, mutator, nobody, opened}
 use Rattle.rec_core.specs.Kept.{IsKept}
 use Rattle.rec_core.specs.Moves.{AllFit, Move, after_moves, turned, turned_at, turned_by}
-use Rattle.rec_core.specs.Pending.{Filed, applied_at, births_in, births_of, buffers, dated_names, epoch_at, older_at, snapshots_of, writes_of}
+use Rattle.rec_core.specs.Pending.{Filed, applied_at, births_in, births_of, buffers, dated_names, epoch_at, older_at, snapshots_of, writes_of, has_batched}
 use Rattle.rec_core.specs.Shown.{shown_behind, turn_shown}
 use Rattle.rec_core.specs.Turn.{seen_at}
 use Rattle.rec_core.specs.declared.config.Config.{Config}
@@ -47,7 +47,7 @@ use Rattle.rec_core.proofs.Sums.{box_share, buffers_sum, log_share, share, zip_s
 use Rattle.rec_core.proofs.Turns.{now_at}
 use Rattle.rec_audit.specs.Journal.{batch_lines, entry_line, line_of, part_lines, parts_lines, register_number, snap_line}
 use Rattle.rec_audit.specs.Lines.{Line}
-use Rattle.rec_audit.specs.Logged.{last_batch, works_in}
+use Rattle.rec_audit.specs.Logged.{last_batch}
 use Rattle.rec_audit.specs.Runs.{TellEpoch}
 use Rattle.rec_audit.specs.declared.kind.Kind.TheVariants as kinds
 use Rattle.rec_audit.proofs.BareJournal.{bare_batch, batch_is, shown_bare}
@@ -137,20 +137,20 @@ module _ (w : Core) (kept : IsKept true w) (f : Filed → List Dated) (h : Dated
   abbrev last_share : ℕ
   last_share = sum_by (share h f (applied_in w)) (last_batch w.collector)
 
-  gathered : (phase : Phase) → w.collector.phase ≡ phase → works_in phase ≡ false → applied_at w.epoch phase ≡ w.epoch - 2 → older_at w.epoch phase ≡ w.epoch - 2 → under_way phase ≡ 1 → newer_sum + older_sum ≡ last_share
+  gathered : (phase : Phase) → w.collector.phase ≡ phase → has_batched phase ≡ false → applied_at w.epoch phase ≡ w.epoch - 2 → older_at w.epoch phase ≡ w.epoch - 2 → under_way phase ≡ 1 → newer_sum + older_sum ≡ last_share
   gathered phase is waits at before way =
       let epoch : applied_in w ≡ w.epoch - 2 = ap (applied_at w.epoch) is ∙ at in
       let under : under_way w.collector.phase ≡ 1 = ap under_way is ∙ way in
       let older : older_at w.epoch w.collector.phase ≡ applied_in w = ap (older_at w.epoch) is ∙ before ∙ sym epoch in
-      let last : last_batch w.collector ≡ w.collector.older = ap (λ p. if works_in p then w.collector.newer else w.collector.older) is ∙ ap (λ b. if b then w.collector.newer else w.collector.older) waits in
+      let last : last_batch w.collector ≡ w.collector.older = ap (λ p. if has_batched p then w.collector.newer else w.collector.older) is ∙ ap (λ b. if b then w.collector.newer else w.collector.older) waits in
       omega (arith, row_none (w.epoch - 1) w.collector.newer (omega (arith, epoch, some_epoch w kept, under)), ap (λ e. sum_by (share h f e) w.collector.older) older, ap (sum_by (share h f (applied_in w))) last)
 
-  worked : (phase : Phase) → w.collector.phase ≡ phase → works_in phase ≡ true → applied_at w.epoch phase ≡ w.epoch - 1 → older_at w.epoch phase ≡ w.epoch - 2 → under_way phase ≡ 1 → newer_sum + older_sum ≡ last_share
+  worked : (phase : Phase) → w.collector.phase ≡ phase → has_batched phase ≡ true → applied_at w.epoch phase ≡ w.epoch - 1 → older_at w.epoch phase ≡ w.epoch - 2 → under_way phase ≡ 1 → newer_sum + older_sum ≡ last_share
   worked phase is works at before way =
       let epoch : applied_in w ≡ w.epoch - 1 = ap (applied_at w.epoch) is ∙ at in
       let under : under_way w.collector.phase ≡ 1 = ap under_way is ∙ way in
       let older : older_at w.epoch w.collector.phase ≡ w.epoch - 2 = ap (older_at w.epoch) is ∙ before in
-      let last : last_batch w.collector ≡ w.collector.newer = ap (λ p. if works_in p then w.collector.newer else w.collector.older) is ∙ ap (λ b. if b then w.collector.newer else w.collector.older) works in
+      let last : last_batch w.collector ≡ w.collector.newer = ap (λ p. if has_batched p then w.collector.newer else w.collector.older) is ∙ ap (λ b. if b then w.collector.newer else w.collector.older) works in
       omega (
         arith,
         row_none (older_at w.epoch w.collector.phase) w.collector.older (omega (arith, older, epoch, some_epoch w kept, under)),
@@ -161,7 +161,7 @@ module _ (w : Core) (kept : IsKept true w) (f : Filed → List Dated) (h : Dated
   rows : (phase : Phase) → w.collector.phase ≡ phase → newer_sum + older_sum ≡ last_share
   rows Idle is =
       let epoch : older_at w.epoch w.collector.phase ≡ applied_in w = ap (older_at w.epoch) is ∙ sym (ap (applied_at w.epoch) is) in
-      let last : last_batch w.collector ≡ w.collector.older = ap (λ p. if works_in p then w.collector.newer else w.collector.older) is in
+      let last : last_batch w.collector ≡ w.collector.older = ap (λ p. if has_batched p then w.collector.newer else w.collector.older) is in
       let none : newer_sum ≡ 0 = none_of (share h f (w.epoch - 1)) w.collector.newer (blank 0 0) (λ i below. ap (share h f (w.epoch - 1)) ((now_at w Idle kept is).1 i (omega arith) below) ∙ spare (w.epoch - 1) w.collector.registers w.collector.capacity) in
       omega (arith, none, ap (λ e. sum_by (share h f e) w.collector.older) epoch, ap (sum_by (share h f (applied_in w))) last)
   rows (Looking t) is = gathered (Looking t) is refl refl refl refl

@@ -14,8 +14,7 @@ use Rattle.rec_core.specs.Core.{sight}
 use Rattle.rec_model.proofs.Counted.{closed_out_of, edge_sum, opened_from}
 use Rattle.rec_model.proofs.Ledgers.{node_of_null}
 use Rattle.rec_model.proofs.Reaching.{root_in_reach, target_in_reach}
-use Rattle.rec_audit.specs.Logged.{works_in}
-use Rattle.rec_core.specs.Pending.{writes_of}
+use Rattle.rec_core.specs.Pending.{writes_of, has_batched}
 use Rattle.rec_audit.proofs.Journalled.{StandsIn, applied_in, box_later, log_later}
 use Rattle.rec_audit.proofs.Lasting.{Lasts, closes}
 use Rattle.rec_audit.proofs.Newborn.{IsUntold, none_in}
@@ -79,7 +78,7 @@ zip_weighs f (x ∷ xs) (y ∷ ys) zero d e there here = omega (arith, sum_by-co
 zip_weighs f (x ∷ xs) (y ∷ ys) (suc i) d e there here = omega (arith, sum_by-cons f (x, y) (zip xs ys), zip_weighs f xs ys i d e (omega arith) (omega arith))
 
 -- while a batch is worked on its epoch is that of the newer buffers
-pub worked_epoch : (epoch : ℕ) (phase : Phase) → works_in phase ≡ true → applied_at epoch phase ≡ epoch - 1
+pub worked_epoch : (epoch : ℕ) (phase : Phase) → has_batched phase ≡ true → applied_at epoch phase ≡ epoch - 1
 worked_epoch epoch Idle works = absurd (false≢true works)
 worked_epoch epoch (Looking t) works = absurd (false≢true works)
 worked_epoch epoch (Swapping t) works = absurd (false≢true works)
@@ -105,7 +104,7 @@ from_birth w slot epoch leaf late = one (applied_in w) epoch (slot + 1) leaf lat
 
 module _ (w : Core) (kept : IsKept true w) (slot : ℕ) where
   -- a birth that a batch told, or that none has told yet, is one of the epoch or a later one
-  pub batch_root : (leaf : Bool) → works_in w.collector.phase ≡ true → StandsIn w.collector.newer (entries.Born slot leaf) → IsInReach (pending w) (applied_in w) (slot + 1)
+  pub batch_root : (leaf : Bool) → has_batched w.collector.phase ≡ true → StandsIn w.collector.newer (entries.Born slot leaf) → IsInReach (pending w) (applied_in w) (slot + 1)
   batch_root leaf works (i, below, c) =
       let epoch : applied_in w ≡ w.epoch - 1 = worked_epoch w.epoch w.collector.phase works in
       root_in_reach (pending w) (applied_in w) (slot + 1) (omega arith)
@@ -117,7 +116,7 @@ module _ (w : Core) (kept : IsKept true w) (slot : ℕ) where
         from_birth w slot (w.epoch - 1) leaf (omega (arith, epoch)),
       ))
 
-  pub untold_root : works_in w.collector.phase ≡ true → IsUntold w slot → IsInReach (pending w) (applied_in w) (slot + 1)
+  pub untold_root : has_batched w.collector.phase ≡ true → IsUntold w slot → IsInReach (pending w) (applied_in w) (slot + 1)
   untold_root works (IsUntold.in_log t leaf is c) = elim (log_later w t kept is) [
     | inr none ↦ absurd (none_in (entries.Born slot leaf) (mutator w t).log.entries none c)
     | inl later ↦ root_in_reach (pending w) (applied_in w) (slot + 1) (omega arith) (omega (
@@ -141,7 +140,7 @@ module _ (w : Core) (kept : IsKept true w) (slot : ℕ) where
   untold_root works (IsUntold.gathered t leaf is waits c) = absurd (false≢true (sym waits ∙ works))
 
   -- what a snapshot of the batch names
-  pub snapshot_root : (i r : ℕ) → works_in w.collector.phase ≡ true → i < length w.collector.newer → slice_index_or (buffer_at w.collector.newer i).snapshot r None ≡ Some slot → IsInReach (pending w) (applied_in w) (slot + 1)
+  pub snapshot_root : (i r : ℕ) → has_batched w.collector.phase ≡ true → i < length w.collector.newer → slice_index_or (buffer_at w.collector.newer i).snapshot r None ≡ Some slot → IsInReach (pending w) (applied_in w) (slot + 1)
   snapshot_root i r works below names =
       let epoch : applied_in w ≡ w.epoch - 1 = worked_epoch w.epoch w.collector.phase works in
       let g : Dated → ℕ = is_at (applied_in w) (slot + 1) in

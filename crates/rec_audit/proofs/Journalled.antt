@@ -9,8 +9,8 @@ use Rattle.rec_core.proofs.Common.{only_if, epoch_of, Write, Dated, is_at, is_wr
 use Rattle.rec_log.specs.declared.entry.Entry.TheVariants as entries
 use Rattle.rec_collector.specs.Kept.{under_way}
 use Rattle.rec_core.specs.Loads.{Loaded}
-use Rattle.rec_audit.specs.Logged.{last_batch, works_in}
-use Rattle.rec_core.specs.Pending.{writes_of}
+use Rattle.rec_audit.specs.Logged.{last_batch}
+use Rattle.rec_core.specs.Pending.{writes_of, has_batched}
 use Rattle.rec_core.proofs.Actors.{crossed_here, epoch_here, epoch_next, idle_here}
 use Rattle.rec_core.proofs.Batches.{none_of}
 use Rattle.rec_core.proofs.Crossings.{due_gathers}
@@ -143,24 +143,24 @@ last_sum w g kept of = omega (arith, writes_sum g w, logs, boxes, rows w.collect
     spares : w.collector.phase ≡ Idle → sum_by (wrote g) w.collector.newer ≡ 0
     spares idle = none_of (wrote g) w.collector.newer (blank 0 0) (λ i below. ap (wrote g) ((now_at w Idle kept idle).1 i (omega arith) below))
 
-    gathered : (phase : Phase) → w.collector.phase ≡ phase → works_in phase ≡ false → applied_at w.epoch phase ≡ w.epoch - 2 → under_way phase ≡ 1 → sum_by (wrote g) w.collector.newer + sum_by (wrote g) w.collector.older ≡ sum_by (wrote g) (last_batch w.collector)
+    gathered : (phase : Phase) → w.collector.phase ≡ phase → has_batched phase ≡ false → applied_at w.epoch phase ≡ w.epoch - 2 → under_way phase ≡ 1 → sum_by (wrote g) w.collector.newer + sum_by (wrote g) w.collector.older ≡ sum_by (wrote g) (last_batch w.collector)
     gathered phase is waits at way =
         let epoch : applied_in w ≡ w.epoch - 2 = ap (applied_at w.epoch) is ∙ at in
         let under : under_way w.collector.phase ≡ 1 = ap under_way is ∙ way in
-        let last : last_batch w.collector ≡ w.collector.older = ap (λ f. if works_in f then w.collector.newer else w.collector.older) is ∙ ap (λ b. if b then w.collector.newer else w.collector.older) waits in
+        let last : last_batch w.collector ≡ w.collector.older = ap (λ f. if has_batched f then w.collector.newer else w.collector.older) is ∙ ap (λ b. if b then w.collector.newer else w.collector.older) waits in
         omega (arith, newer_none (λ same. omega (arith, same, epoch, some, under)), ap (sum_by (wrote g)) last)
 
-    worked : (phase : Phase) → w.collector.phase ≡ phase → works_in phase ≡ true → applied_at w.epoch phase ≡ w.epoch - 1 → older_at w.epoch phase ≡ w.epoch - 2 → under_way phase ≡ 1 → sum_by (wrote g) w.collector.newer + sum_by (wrote g) w.collector.older ≡ sum_by (wrote g) (last_batch w.collector)
+    worked : (phase : Phase) → w.collector.phase ≡ phase → has_batched phase ≡ true → applied_at w.epoch phase ≡ w.epoch - 1 → older_at w.epoch phase ≡ w.epoch - 2 → under_way phase ≡ 1 → sum_by (wrote g) w.collector.newer + sum_by (wrote g) w.collector.older ≡ sum_by (wrote g) (last_batch w.collector)
     worked phase is works at before way =
         let epoch : applied_in w ≡ w.epoch - 1 = ap (applied_at w.epoch) is ∙ at in
         let under : under_way w.collector.phase ≡ 1 = ap under_way is ∙ way in
         let older : older_at w.epoch w.collector.phase ≡ w.epoch - 2 = ap (older_at w.epoch) is ∙ before in
-        let last : last_batch w.collector ≡ w.collector.newer = ap (λ f. if works_in f then w.collector.newer else w.collector.older) is ∙ ap (λ b. if b then w.collector.newer else w.collector.older) works in
+        let last : last_batch w.collector ≡ w.collector.newer = ap (λ f. if has_batched f then w.collector.newer else w.collector.older) is ∙ ap (λ b. if b then w.collector.newer else w.collector.older) works in
         omega (arith, older_none (λ same. omega (arith, same, older, epoch, some, under)), ap (sum_by (wrote g)) last)
 
     rows : (phase : Phase) → w.collector.phase ≡ phase → sum_by (wrote g) w.collector.newer + sum_by (wrote g) w.collector.older ≡ sum_by (wrote g) (last_batch w.collector)
     rows Idle is =
-        let last : last_batch w.collector ≡ w.collector.older = ap (λ f. if works_in f then w.collector.newer else w.collector.older) is in
+        let last : last_batch w.collector ≡ w.collector.older = ap (λ f. if has_batched f then w.collector.newer else w.collector.older) is in
         omega (arith, spares is, ap (sum_by (wrote g)) last)
     rows (Looking t) is = gathered (Looking t) is refl refl refl
     rows (Swapping t) is = gathered (Swapping t) is refl refl refl

@@ -1,5 +1,6 @@
 -- Each birth that no batch has told yet stands in a log, in a mailbox or in a buffer that was gathered, until a batch tells it.
 use Rattle.std.proofs.Common.{◌≡◌, ◌≢◌, ◌⊎◌, inl, inr, ℕ, zero, suc, ◌-◌, ◌<◌, ◌==◌, Bool, true, false, Option, List, [], ◌∷◌, ◌++◌, length, slice_index_or, slice_set, refl, sym, ap, subst, ◌∙◌, arith}
+use Rattle.rec_core.specs.Pending.{has_batched}
 use Rattle.std.specs.List.{Contains}
 use Rattle.std.proofs.lemmas.Bool.{cases_eq, cond-false, ne_eqb}
 use Rattle.std.proofs.lemmas.List.{get_or-set_other, get_or-set_same, set-get_or}
@@ -14,7 +15,6 @@ use Rattle.rec_mutator.specs.Step.{TakesBox}
 use Rattle.rec_mutator.specs.Took.{step_of}
 use Rattle.rec_mutator.specs.declared.phase.Phase as phases
 use Rattle.rec_mutator.specs.declared.phase.Phase.TheVariants as at
-use Rattle.rec_audit.specs.Logged.{works_in}
 use Rattle.rec_core.proofs.Crossings.{behind_of}
 use Rattle.rec_core.proofs.Leaving.{leaving_of}
 use Rattle.rec_core.proofs.Steps.{actor_of, in_list}
@@ -23,7 +23,7 @@ use Rattle.rec_core.proofs.Steps.{actor_of, in_list}
 pub data IsUntold (w : Core) (slot : ℕ) : Type 0 where
   in_log : (t : ℕ) (leaf : Bool) → IsMutator w.config t → Contains (mutator w t).log.entries (entries.Born slot leaf) → IsUntold w slot
   in_box : (t : ℕ) (leaf : Bool) → IsMutator w.config t → Contains (box w t).entries (entries.Born slot leaf) → IsUntold w slot
-  gathered : (t : ℕ) (leaf : Bool) → IsMutator w.config t → works_in w.collector.phase ≡ false → Contains (buffer_at w.collector.newer (t - 1)).entries (entries.Born slot leaf) → IsUntold w slot
+  gathered : (t : ℕ) (leaf : Bool) → IsMutator w.config t → has_batched w.collector.phase ≡ false → Contains (buffer_at w.collector.newer (t - 1)).entries (entries.Born slot leaf) → IsUntold w slot
 
 pub none_in : (e : Entry) (es : List Entry) → es ≡ [] → Contains es e → ⊥
 none_in e es none c = let below : c.1 ≡ c.1 = refl in absurd (omega (arith, c.1, ap (length {A = Entry}) none))

@@ -1,5 +1,6 @@
 -- Each birth that no batch has told yet is kept by each turn of the collector, unless its batch tells it.
 use Rattle.std.proofs.Common.{◌≡◌, ◌≢◌, ◌⊎◌, inl, inr, ℕ, ◌-◌, ◌<◌, ◌==◌, Bool, true, false, Option, None, Some, List, length, slice_index_or, slice_set, refl, sym, ap, subst, ◌∙◌, arith}
+use Rattle.rec_core.specs.Pending.{has_batched}
 use Rattle.std.specs.List.{Contains}
 use Rattle.std.proofs.lemmas.Bool.{cases_eq, cases_lt, cond-false, false≢true, ne_eqb}
 use Rattle.std.proofs.lemmas.List.{get_or-set_other, get_or-set_same, get_or_past, length-set}
@@ -12,7 +13,6 @@ use Rattle.rec_log.specs.declared.entry.Entry.TheVariants as entries
 use Rattle.rec_collector.specs.Private as collectors
 use Rattle.rec_collector.specs.Shown.{Batch, batch_made}
 use Rattle.rec_collector.specs.Step.{NamesWord, Step}
-use Rattle.rec_audit.specs.Logged.{works_in}
 use Rattle.rec_audit.proofs.Journalled.{StandsIn}
 use Rattle.rec_audit.proofs.Newborn.{IsUntold, none_in}
 use Rattle.rec_core.proofs.Runs.{looked_is}
@@ -57,13 +57,13 @@ module _ {dated : Bool} (w : Core) (op : Op) (kept : IsKept dated w) where
   ]
 
   -- a turn that leaves the newer buffers and gathers none, in a gathering
-  waits_on : (batch : Option Batch) (slot : ℕ) → q.newer ≡ c.newer → works_in q.phase ≡ false → ((t : ℕ) → (c.phase ≡ Looking t) × (found ≡ crossing_word c.epoch Retired) → ⊥) → IsUntold w slot → IsTold batch slot
+  waits_on : (batch : Option Batch) (slot : ℕ) → q.newer ≡ c.newer → has_batched q.phase ≡ false → ((t : ℕ) → (c.phase ≡ Looking t) × (found ≡ crossing_word c.epoch Retired) → ⊥) → IsUntold w slot → IsTold batch slot
   waits_on batch slot newer waits none (IsUntold.in_log t leaf is e) = IsTold.still (IsUntold.in_log t leaf is e)
   waits_on batch slot newer waits none (IsUntold.in_box t leaf is e) = in_mailbox batch slot t leaf is (none t) e
   waits_on batch slot newer waits none (IsUntold.gathered t leaf is before e) = IsTold.still (IsUntold.gathered t leaf is waits (subst (λ (row : List Contents). Contains (buffer_at row (t - 1)).entries (entries.Born slot leaf)) (sym newer) e))
 
   -- a turn on a batch that was applied before
-  works_on : (batch : Option Batch) (slot : ℕ) → works_in c.phase ≡ true → ((t : ℕ) → (c.phase ≡ Looking t) × (found ≡ crossing_word c.epoch Retired) → ⊥) → IsUntold w slot → IsTold batch slot
+  works_on : (batch : Option Batch) (slot : ℕ) → has_batched c.phase ≡ true → ((t : ℕ) → (c.phase ≡ Looking t) × (found ≡ crossing_word c.epoch Retired) → ⊥) → IsUntold w slot → IsTold batch slot
   works_on batch slot works none (IsUntold.in_log t leaf is e) = IsTold.still (IsUntold.in_log t leaf is e)
   works_on batch slot works none (IsUntold.in_box t leaf is e) = in_mailbox batch slot t leaf is (none t) e
   works_on batch slot works none (IsUntold.gathered t leaf is before e) = absurd (false≢true (sym before ∙ works))
@@ -76,7 +76,7 @@ module _ {dated : Bool} (w : Core) (op : Op) (kept : IsKept dated w) where
       IsTold.told (record { epoch = epoch; newer = c.newer }) leaf refl (t - 1, (let many : length c.newer ≡ w.config.mutators = kept.collector.mutators in omega (arith, is.0, is.1)), e)
 
   -- a turn that gathers one
-  gathers_it : (u slot : ℕ) → c.phase ≡ Looking u → q.newer ≡ slice_set c.newer (u - 1) its_box → works_in q.phase ≡ false → IsUntold w slot → IsTold None slot
+  gathers_it : (u slot : ℕ) → c.phase ≡ Looking u → q.newer ≡ slice_set c.newer (u - 1) its_box → has_batched q.phase ≡ false → IsUntold w slot → IsTold None slot
   gathers_it u slot looks newer waits (IsUntold.in_log t leaf is e) = IsTold.still (IsUntold.in_log t leaf is e)
   gathers_it u slot looks newer waits (IsUntold.in_box t leaf is e) = elim (box_after t is) [
     | inl same ↦ IsTold.still (IsUntold.in_box t leaf is (subst (λ (b : Contents). Contains b.entries (entries.Born slot leaf)) (sym same) e))
@@ -105,21 +105,21 @@ module _ {dated : Bool} (w : Core) (op : Op) (kept : IsKept dated w) where
 
   pub turned_told : {turn : Turn} (s : Step c found its_box (Some op) q turn) (slot : ℕ) → IsUntold w slot → IsTold (batch_made s) slot
   turned_told (Step.spent idle last is same answer) slot u = absurd (let no : ◌≡◌ {A = Option Op} (Some op) None = is in cc)
-  turned_told (Step.request next idle more is present g) slot u = waits_on None slot (ap (λ (x : collectors.Private). x.newer) g.after) (ap (λ (x : collectors.Private). works_in x.phase) g.after) (unlooked Idle idle (λ t e. cc)) u
+  turned_told (Step.request next idle more is present g) slot u = waits_on None slot (ap (λ (x : collectors.Private). x.newer) g.after) (ap (λ (x : collectors.Private). has_batched x.phase) g.after) (unlooked Idle idle (λ t e. cc)) u
   turned_told (Step.request_alone idle more is alone on) slot u = applies_it c.epoch slot (unlooked Idle idle (λ t e. cc)) u
   turned_told (Step.cross_for t next looks crosses is present g) slot u = absurd (crosses_none w t kept looks op found is refl crosses)
   turned_told (Step.cross_for_last t looks crosses is left on) slot u = absurd (crosses_none w t kept looks op found is refl crosses)
-  turned_told (Step.wait t looks stays is same answer) slot u = waits_on None slot (ap (λ (x : collectors.Private). x.newer) same) (ap (λ (x : collectors.Private). works_in x.phase) same ∙ ap works_in looks) (λ s takes. waits_other w t kept looks op found is refl stays takes.1) u
-  turned_told (Step.gather t looks word_is is g) slot u = gathers_it t slot looks (ap (λ (x : collectors.Private). x.newer) g.after) (ap (λ (x : collectors.Private). works_in x.phase) g.after) u
-  turned_told (Step.give_back t next returning is present g) slot u = waits_on None slot (ap (λ (x : collectors.Private). x.newer) g.after) (ap (λ (x : collectors.Private). works_in x.phase) g.after) (unlooked (Returning t) returning (λ s e. cc)) u
+  turned_told (Step.wait t looks stays is same answer) slot u = waits_on None slot (ap (λ (x : collectors.Private). x.newer) same) (ap (λ (x : collectors.Private). has_batched x.phase) same ∙ ap has_batched looks) (λ s takes. waits_other w t kept looks op found is refl stays takes.1) u
+  turned_told (Step.gather t looks word_is is g) slot u = gathers_it t slot looks (ap (λ (x : collectors.Private). x.newer) g.after) (ap (λ (x : collectors.Private). has_batched x.phase) g.after) u
+  turned_told (Step.give_back t next returning is present g) slot u = waits_on None slot (ap (λ (x : collectors.Private). x.newer) g.after) (ap (λ (x : collectors.Private). has_batched x.phase) g.after) (unlooked (Returning t) returning (λ s e. cc)) u
   turned_told (Step.apply t returning is left on) slot u = applies_it (c.epoch - 1) slot (unlooked (Returning t) returning (λ s e. cc)) u
-  turned_told (Step.release m releasing is on) slot u = works_on None slot (ap works_in releasing) (unlooked _ releasing (λ s e. cc)) u
-  turned_told (Step.freeing m freeing is on) slot u = works_on None slot (ap works_in freeing) (unlooked _ freeing (λ s e. cc)) u
-  turned_told (Step.trial m trying is on) slot u = works_on None slot (ap works_in trying) (unlooked _ trying (λ s e. cc)) u
-  turned_told (Step.preparation m preparing is on) slot u = works_on None slot (ap works_in preparing) (unlooked _ preparing (λ s e. cc)) u
-  turned_told (Step.begin_sweep opening is g) slot u = works_on None slot (ap works_in opening) (unlooked _ opening (λ s e. cc)) u
-  turned_told (Step.sweep due swept x phase sweeping is which next g) slot u = works_on None slot (ap works_in sweeping) (unlooked _ sweeping (λ s e. cc)) u
-  turned_told (Step.end_sweep swept closing is e) slot u = works_on None slot (ap works_in closing) (unlooked _ closing (λ s e. cc)) u
+  turned_told (Step.release m releasing is on) slot u = works_on None slot (ap has_batched releasing) (unlooked _ releasing (λ s e. cc)) u
+  turned_told (Step.freeing m freeing is on) slot u = works_on None slot (ap has_batched freeing) (unlooked _ freeing (λ s e. cc)) u
+  turned_told (Step.trial m trying is on) slot u = works_on None slot (ap has_batched trying) (unlooked _ trying (λ s e. cc)) u
+  turned_told (Step.preparation m preparing is on) slot u = works_on None slot (ap has_batched preparing) (unlooked _ preparing (λ s e. cc)) u
+  turned_told (Step.begin_sweep opening is g) slot u = works_on None slot (ap has_batched opening) (unlooked _ opening (λ s e. cc)) u
+  turned_told (Step.sweep due swept x phase sweeping is which next g) slot u = works_on None slot (ap has_batched sweeping) (unlooked _ sweeping (λ s e. cc)) u
+  turned_told (Step.end_sweep swept closing is e) slot u = works_on None slot (ap has_batched closing) (unlooked _ closing (λ s e. cc)) u
 
 -- ---- headers
 

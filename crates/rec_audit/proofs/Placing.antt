@@ -21,16 +21,16 @@ use Rattle.rec_collector.specs.Took.{batched, noted, requested}
 use Rattle.rec_collector.specs.declared.phase.Phase.{Phase}
 use Rattle.rec_collector.specs.declared.phase.Phase.TheVariants.{Freeing, Idle, Looking, Opening, Preparing, Releasing, Returning, Swapping, Trying}
 use Rattle.rec_collector.specs.declared.turn.Turn.{Turn}
-use Rattle.rec_audit.specs.Logged.{last_batch, works_in}
+use Rattle.rec_audit.specs.Logged.{last_batch}
 use Rattle.rec_collector.specs.Took.{crossed_for}
-use Rattle.rec_core.specs.Pending.{applied_at}
+use Rattle.rec_core.specs.Pending.{applied_at, has_batched}
 use Rattle.rec_audit.specs.Keeping.{with_batch}
 use Rattle.rec_audit.specs.Runs.{place_of}
 
 -- no mailbox is looked at or held: a step that left this phase worked on a batch, unless it only requested an epoch
 abbrev pub worked_in : Phase → Bool
 worked_in Idle = true
-worked_in phase = works_in phase
+worked_in phase = has_batched phase
 
 -- ---- what a step that works on a batch leaves
 
@@ -39,14 +39,14 @@ record Worked (p q : Private) : Type 0 where
   phase : worked_in q.phase ≡ true
   last : last_batch q ≡ p.newer
 
-works_worked : (phase : Phase) → works_in phase ≡ true → worked_in phase ≡ true
+works_worked : (phase : Phase) → has_batched phase ≡ true → worked_in phase ≡ true
 works_worked Idle is = refl
 works_worked (Looking t) is = is
 works_worked (Swapping t) is = is
 works_worked (Returning t) is = is
 works_worked phase is = is
 
-going : (p : Private) {r q : Private} {turn : Turn} {next : Phase} → r.epoch ≡ p.epoch → r.newer ≡ p.newer → works_in next ≡ true → GoesOn r q turn next → Worked p q
+going : (p : Private) {r q : Private} {turn : Turn} {next : Phase} → r.epoch ≡ p.epoch → r.newer ≡ p.newer → has_batched next ≡ true → GoesOn r q turn next → Worked p q
 going p {r} {q} {turn} {next} same newer is g = record {
   epoch = ap (λ (x : Private). x.epoch) g.after ∙ same;
   phase = ap (λ (x : Private). worked_in x.phase) g.after ∙ works_worked next is;
@@ -68,7 +68,7 @@ tries p q turn w v (TriesOn.prepares none on) = prepares p q turn _ _ on
 -- what was begun, if something was, is a release or a freeing
 abbrev IsBegun : Option Phase → Type 0
 IsBegun None = Unit {0}
-IsBegun (Some phase) = works_in phase ≡ true
+IsBegun (Some phase) = has_batched phase ≡ true
 
 release_begun : (m : releases.Machine) (at : Option At) → IsBegun (releasing_at m at)
 release_begun m None = tt
@@ -124,7 +124,7 @@ pub record Placed (p : Private) (batch : Option Batch) (q : Private) : Type 0 wh
   pub last : last_batch q ≡ last_of p batch
 
 -- a step on a batch that was applied before
-works : (p q : Private) → works_in p.phase ≡ true → Worked p q → Placed p None q
+works : (p q : Private) → has_batched p.phase ≡ true → Worked p q → Placed p None q
 works p q is done = record {
   next = ap (λ e. e + 1) (applied_worked p.epoch p.phase (works_worked p.phase is) ∙ ap (λ e. e - 1) (sym done.epoch) ∙ sym (applied_worked q.epoch q.phase done.phase));
   working = is ∙ sym done.phase;
@@ -140,14 +140,14 @@ applies p r q epoch is done = record {
 }
 
 -- a step in a gathering
-gathers : (p q : Private) → works_in p.phase ≡ false → worked_in q.phase ≡ false → applied_at q.epoch q.phase ≡ applied_at p.epoch p.phase → q.older ≡ p.older → Placed p None q
+gathers : (p q : Private) → has_batched p.phase ≡ false → worked_in q.phase ≡ false → applied_at q.epoch q.phase ≡ applied_at p.epoch p.phase → q.older ≡ p.older → Placed p None q
 gathers p q before after same older = record {
   next = ap (λ e. e + 1) (sym same);
   working = before ∙ sym after;
   last = ap (λ b. if b then q.newer else q.older) (waits q.phase after) ∙ older ∙ sym (ap (λ b. if b then p.newer else p.older) before);
 }
   where
-    waits : (phase : Phase) → worked_in phase ≡ false → works_in phase ≡ false
+    waits : (phase : Phase) → worked_in phase ≡ false → has_batched phase ≡ false
     waits Idle is = refl
     waits (Looking t) is = refl
     waits (Swapping t) is = refl
@@ -164,41 +164,41 @@ step_placed {p} {q} begun (Step.spent idle last is same answer) = let no : ◌�
 step_placed {p} {q} begun (Step.request next idle more is present g) =
     let epoch : q.epoch ≡ p.epoch + 1 = ap (λ (x : Private). x.epoch) g.after in
     let phase : q.phase ≡ Looking next = ap (λ (x : Private). x.phase) g.after in
-    gathers p q (ap works_in idle) (ap worked_in phase)
+    gathers p q (ap has_batched idle) (ap worked_in phase)
     (ap (applied_at q.epoch) phase ∙ (let same : q.epoch - 2 ≡ p.epoch - 1 = omega (arith, epoch) in same) ∙ sym (ap (applied_at p.epoch) idle))
     (ap (λ (x : Private). x.older) g.after)
 step_placed {p} {q} begun (Step.request_alone idle more is alone on) = applies p (requested p) q p.epoch refl (clears (requested p) q _ _ (zeros_begun false p.fields (batched (requested p)).counts) on)
 step_placed {p} {q} begun (Step.wait t looks other is same answer) =
     let phase : q.phase ≡ Looking t = ap (λ (x : Private). x.phase) same ∙ looks in
-    gathers p q (ap works_in looks) (ap worked_in phase) (ap (λ (x : Private). applied_at x.epoch x.phase) same) (ap (λ (x : Private). x.older) same)
+    gathers p q (ap has_batched looks) (ap worked_in phase) (ap (λ (x : Private). applied_at x.epoch x.phase) same) (ap (λ (x : Private). x.older) same)
 step_placed {p} {q} begun (Step.gather t looks word_is is g) =
     let phase : q.phase ≡ Returning t = ap (λ (x : Private). x.phase) g.after in
-    gathers p q (ap works_in looks) (ap worked_in phase) (ap (λ (x : Private). applied_at x.epoch x.phase) g.after ∙ sym (ap (applied_at p.epoch) looks)) (ap (λ (x : Private). x.older) g.after)
+    gathers p q (ap has_batched looks) (ap worked_in phase) (ap (λ (x : Private). applied_at x.epoch x.phase) g.after ∙ sym (ap (applied_at p.epoch) looks)) (ap (λ (x : Private). x.older) g.after)
 step_placed {p} {q} begun (Step.cross_for t next looks crosses is present g) =
     let phase : q.phase ≡ Looking next = ap (λ (x : Private). x.phase) g.after in
-    gathers p q (ap works_in looks) (ap worked_in phase) (ap (λ (x : Private). applied_at x.epoch x.phase) g.after ∙ sym (ap (applied_at p.epoch) looks)) (ap (λ (x : Private). x.older) g.after)
+    gathers p q (ap has_batched looks) (ap worked_in phase) (ap (λ (x : Private). applied_at x.epoch x.phase) g.after ∙ sym (ap (applied_at p.epoch) looks)) (ap (λ (x : Private). x.older) g.after)
 step_placed {p} {q} begun (Step.cross_for_last t looks crosses is left on) =
     let some : 1 + under_way p.phase ≤ p.epoch = begun in
     let one : under_way p.phase ≡ 1 = ap under_way looks in
     applies p (crossed_for p t) q (p.epoch - 1) (omega arith) (clears (crossed_for p t) q _ _ (zeros_begun false p.fields (batched (crossed_for p t)).counts) on)
 step_placed {p} {q} begun (Step.give_back t next returning is present g) =
     let phase : q.phase ≡ Looking next = ap (λ (x : Private). x.phase) g.after in
-    gathers p q (ap works_in returning) (ap worked_in phase) (ap (λ (x : Private). applied_at x.epoch x.phase) g.after ∙ sym (ap (applied_at p.epoch) returning)) (ap (λ (x : Private). x.older) g.after)
+    gathers p q (ap has_batched returning) (ap worked_in phase) (ap (λ (x : Private). applied_at x.epoch x.phase) g.after ∙ sym (ap (applied_at p.epoch) returning)) (ap (λ (x : Private). x.older) g.after)
 step_placed {p} {q} begun (Step.apply t returning is left on) =
     let some : 1 + under_way p.phase ≤ p.epoch = begun in
     let one : under_way p.phase ≡ 1 = ap under_way returning in
     applies p (noted p t) q (p.epoch - 1) (omega arith) (clears (noted p t) q _ _ (zeros_begun false p.fields (batched (noted p t)).counts) on)
-step_placed {p} {q} {word} begun (Step.release m releasing is on) = works p q (ap works_in releasing) (let v : releases.Work = releases.took_of (record { machine = m; counts = p.counts }) word in clears p q _ _ (release_begun v.machine v.machine.at) on)
-step_placed {p} {q} {word} begun (Step.freeing m freeing is on) = works p q (ap works_in freeing) (clears p q _ _ (freed_begun m (parts_of p) word) on)
-step_placed {p} {q} begun (Step.trial m trying is on) = works p q (ap works_in trying) (tries p q _ _ _ on)
-step_placed {p} {q} begun (Step.preparation m preparing is on) = works p q (ap works_in preparing) (prepares p q _ _ _ on)
-step_placed {p} {q} begun (Step.begin_sweep opening is g) = works p q (ap works_in opening) (going p refl refl refl g)
-step_placed {p} {q} begun (Step.sweep due swept w phase sweeping is which next g) = works p q (ap works_in sweeping) (going p refl refl (sweeping_on next) g)
+step_placed {p} {q} {word} begun (Step.release m releasing is on) = works p q (ap has_batched releasing) (let v : releases.Work = releases.took_of (record { machine = m; counts = p.counts }) word in clears p q _ _ (release_begun v.machine v.machine.at) on)
+step_placed {p} {q} {word} begun (Step.freeing m freeing is on) = works p q (ap has_batched freeing) (clears p q _ _ (freed_begun m (parts_of p) word) on)
+step_placed {p} {q} begun (Step.trial m trying is on) = works p q (ap has_batched trying) (tries p q _ _ _ on)
+step_placed {p} {q} begun (Step.preparation m preparing is on) = works p q (ap has_batched preparing) (prepares p q _ _ _ on)
+step_placed {p} {q} begun (Step.begin_sweep opening is g) = works p q (ap has_batched opening) (going p refl refl refl g)
+step_placed {p} {q} begun (Step.sweep due swept w phase sweeping is which next g) = works p q (ap has_batched sweeping) (going p refl refl (sweeping_on next) g)
   where
-    sweeping_on : IsNext swept w phase → works_in phase ≡ true
-    sweeping_on (IsNext.more some is) = ap works_in is
-    sweeping_on (IsNext.last none is) = ap works_in is
-step_placed {p} {q} begun (Step.end_sweep swept closing is e) = works p q (ap works_in closing) (ending p refl refl e)
+    sweeping_on : IsNext swept w phase → has_batched phase ≡ true
+    sweeping_on (IsNext.more some is) = ap has_batched is
+    sweeping_on (IsNext.last none is) = ap has_batched is
+step_placed {p} {q} begun (Step.end_sweep swept closing is e) = works p q (ap has_batched closing) (ending p refl refl e)
 
 -- ---- before the sweep
 

@@ -1,5 +1,6 @@
 -- What a run's journal reaches where a set is given up is what the run reaches there, and what is free.
 use Rattle.std.proofs.Common.{◌≡◌, inl, inr, ℕ, ◌<◌, ◌≤◌, ◌==◌, ◌&&◌, Bool, true, false, Option, None, Some, IfSome, List, [], ◌∷◌, ◌++◌, length, refl, sym, ap, subst, ◌∙◌, arith, append-nil, append_assoc}
+use Rattle.rec_core.specs.Pending.{has_batched}
 use Rattle.std.specs.List.{flat_map, sum_by}
 use Rattle.std.proofs.lemmas.Bool.{cases_eq, cases_lt, ne_eqb}
 use Rattle.std.proofs.lemmas.List.Concat.{flat_map-append}
@@ -35,7 +36,6 @@ use Rattle.rec_audit.specs.Graph.{has_target, is_put, opens}
 use Rattle.rec_audit.specs.Journal.{batch_lines, completed_lines, journal, lines_of, op_lines, opening_lines, passed_lines}
 use Rattle.rec_audit.specs.Keeping.{behind_steps, first_place}
 use Rattle.rec_audit.specs.Lines.{Line}
-use Rattle.rec_audit.specs.Logged.{works_in}
 use Rattle.rec_audit.specs.Runs.{ReachesAsRun, heap_for}
 use Rattle.rec_audit.proofs.Balance.{puts}
 use Rattle.rec_audit.proofs.BalanceTurns.{turned_balance}
@@ -131,11 +131,11 @@ journal_once config moves step is fit shown b =
 
 -- ---- the step that gives a set up
 
-passed_freeing : (v : Core) (members : List ℕ) → passed_of v.collector ≡ Some members → works_in v.collector.phase ≡ true
+passed_freeing : (v : Core) (members : List ℕ) → passed_of v.collector ≡ Some members → has_batched v.collector.phase ≡ true
 passed_freeing v members passed = go v.collector.phase refl passed
   where
-    go : (phase : Phase) → v.collector.phase ≡ phase → passed_in v.collector phase ≡ Some members → works_in v.collector.phase ≡ true
-    go (Freeing m) is shown = ap works_in is
+    go : (phase : Phase) → v.collector.phase ≡ phase → passed_in v.collector phase ≡ Some members → has_batched v.collector.phase ≡ true
+    go (Freeing m) is shown = ap has_batched is
     go _ is shown = absurd (cc)
 
 reaches_at : (u : Core) (ls bs : List Line) (step : Shown) (members : List ℕ) → IsKept true u → Tells ls u → Covers ls u → Alike ls bs

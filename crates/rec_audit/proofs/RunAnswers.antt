@@ -1,5 +1,6 @@
 -- No line of a run's journal is at fault, so it is answered yes.
 use Rattle.std.proofs.Common.{◌≡◌, ℕ, ◌≤◌, true, false, Option, None, Some, IfSome, List, [], ◌∷◌, ◌++◌, length, refl, sym, ap, subst, ◌∙◌, append_assoc}
+use Rattle.rec_core.specs.Pending.{has_batched}
 use Rattle.std.specs.List.{flat_map}
 use Rattle.rec_word.specs.declared.op.Op.{Op}
 use Rattle.rec_collector.specs.Next.{next_of}
@@ -10,7 +11,6 @@ use Rattle.rec_core.specs.Cells.{cell}
 use Rattle.rec_core.specs.Config.{IsConfig}
 use Rattle.rec_core.specs.Core.{Core, cells_of, heap_by, opened}
 use Rattle.rec_core.specs.Kept.{IsKept}
-use Rattle.rec_audit.specs.Logged.{works_in}
 use Rattle.rec_core.specs.Moves.{AllFit, Move, after_moves, turned, turned_by}
 use Rattle.rec_core.specs.Shown.{Shows, shown_behind, shown_over, turn_shown}
 use Rattle.rec_core.specs.Turn.{seen_at}
@@ -101,7 +101,7 @@ reach_is_of_run config moves step members slot is fit shown passed reached =
     subst (λ (w : Core). Behind (turned w) (λ v. IsReachedIn v slot)) e.bare
     (reach_at u _ _ step members slot e.kept (whole_run config moves is fit).tells (beside_run config moves is fit).alike (ap turn_shown e.bare ∙ shown) passed reached)
 
-pub run_answered : (config : Config) (shown : List Shown) (end : Core) → IsConfig config → Shows (opened config) shown end → works_in end.collector.phase ≡ false → length (text_of (journal (heap_for config) shown)) ≤ 16777216 → IsVerdict (text_of (journal (heap_for config) shown)) (Yes (sets_passed shown))
+pub run_answered : (config : Config) (shown : List Shown) (end : Core) → IsConfig config → Shows (opened config) shown end → has_batched end.collector.phase ≡ false → length (text_of (journal (heap_for config) shown)) ≤ 16777216 → IsVerdict (text_of (journal (heap_for config) shown)) (Yes (sets_passed shown))
 run_answered config shown end is s idle short =
     let keeps = run_keeps config shown end is s in
     answered (heap_for config) shown (are_numbers config is) keeps.keep (ap (λ (at : Place). at.working) keeps.ends ∙ idle)

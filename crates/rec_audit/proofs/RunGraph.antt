@@ -9,9 +9,9 @@ use Rattle.rec_core.specs.Core.{Core}
 use Rattle.rec_core.specs.Kept.{IsKept}
 use Rattle.rec_core.specs.declared.config.Config.{Config}
 use Rattle.rec_core.specs.Loads.{tried_in}
-use Rattle.rec_audit.specs.Logged.{last_batch, works_in}
-use Rattle.rec_core.specs.Moves.{Fits, Move, after_move, stepped}
-use Rattle.rec_core.specs.Pending.{applied_at}
+use Rattle.rec_audit.specs.Logged.{last_batch}
+use Rattle.rec_core.specs.Moves.{Fits, Move, after_move, stepped, IsNoTurn}
+use Rattle.rec_core.specs.Pending.{applied_at, has_batched}
 use Rattle.rec_audit.proofs.Journalled.{StandsIn, applied_in}
 use Rattle.rec_audit.proofs.Lasting.{Keeps, Lasts, lasts_on, move_keeps}
 use Rattle.rec_audit.proofs.Newborn.{IsUntold, stepped_taken, stepped_untold}
@@ -36,7 +36,7 @@ pub data Status (lines : List Line) (w : Core) (place word : ℕ) : Type 0 where
 
 -- The block that stands open tells the last batch, and what the collector did since; or there was none yet.
 pub data HasBlock (lines : List Line) (w : Core) : Type 0 where
-  none : works_in w.collector.phase ≡ false → ((e : Entry) → StandsIn (last_batch w.collector) e → ⊥) → HasBlock lines w
+  none : has_batched w.collector.phase ≡ false → ((e : Entry) → StandsIn (last_batch w.collector) e → ⊥) → HasBlock lines w
   some : (rest : List Line) → Each is_late rest → this_block lines ≡ parts_lines (last_batch w.collector) ++ rest → HasBlock lines w
 
 -- What some lines tell of a heap.
@@ -91,15 +91,10 @@ keeps_graph lines w v kept still k t = record {
     put place word (Status.lasts x) = Status.lasts (subst (λ e. Lasts v [] (record { place = place; word = word; epoch = e })) (sym tried) (lasts_on w v [] (record { place = place; word = word; epoch = tried_in w }) k.words x))
 
     block : HasBlock lines w → HasBlock lines v
-    block (HasBlock.none waits empty) = HasBlock.none (ap works_in k.phase ∙ waits) (λ e c. empty e (subst (λ row. StandsIn row e) k.last c))
+    block (HasBlock.none waits empty) = HasBlock.none (ap has_batched k.phase ∙ waits) (λ e c. empty e (subst (λ row. StandsIn row e) k.last c))
     block (HasBlock.some rest late is) = HasBlock.some rest late (is ∙ ap (λ row. parts_lines row ++ rest) (sym k.last))
 
--- a mutator moves, or all slots are to be offered
-abbrev ShowsNothing : Move → Type 0
-ShowsNothing Move.Turns = ⊥
-ShowsNothing m = Unit {0}
-
-pub quiet_tells : (lines : List Line) (w : Core) (m : Move) → ShowsNothing m → IsKept true w → Fits w m → Tells lines w → Tells lines (after_move w m)
+pub quiet_tells : (lines : List Line) (w : Core) (m : Move) → IsNoTurn m → IsKept true w → Fits w m → Tells lines w → Tells lines (after_move w m)
 quiet_tells lines w (Move.Begins t work from) quiet kept fits tells = keeps_graph lines w (after_move w (Move.Begins t work from)) kept (move_kept w (Move.Begins t work from) kept fits) (record {
   config = refl;
   phase = refl;

@@ -23,8 +23,8 @@ use Rattle.rec_core.specs.Core.{Core}
 use Rattle.rec_core.specs.Kept.{IsKept}
 use Rattle.rec_core.specs.Kept as of_core
 use Rattle.rec_core.specs.Loads.{tried_in}
-use Rattle.rec_audit.specs.Logged.{last_batch, works_in}
-use Rattle.rec_core.specs.Pending.{applied_at, pending}
+use Rattle.rec_audit.specs.Logged.{last_batch}
+use Rattle.rec_core.specs.Pending.{applied_at, pending, has_batched}
 use Rattle.rec_core.proofs.Freed.{shown_is_gone, shown_is_taken}
 use Rattle.rec_audit.proofs.JournalReach.{batch_root, free_word, leads_on, replaced_home, snapshot_root, untold_root, worked_epoch}
 use Rattle.rec_audit.proofs.Journalled.{StandsIn, applied_in, replaced_when}
@@ -125,7 +125,7 @@ late_names kinds.Sweep numbers is = refl
 late_names kinds.End numbers is = refl
 late_names _ numbers is = absurd (false≢true is)
 
-module _ (ls : List Line) (v : Core) (kept : IsKept true v) (tells : Tells ls v) (works : works_in v.collector.phase ≡ true) (unswept : is_unswept v.collector.phase ≡ true) (tried : tried_in v ≡ applied_in v) where
+module _ (ls : List Line) (v : Core) (kept : IsKept true v) (tells : Tells ls v) (works : has_batched v.collector.phase ≡ true) (unswept : is_unswept v.collector.phase ≡ true) (tried : tried_in v ≡ applied_in v) where
   -- the buffers of the batch that is worked on
   newer_are : last_batch v.collector ≡ v.collector.newer
   newer_are = ap (λ b. if b then v.collector.newer else v.collector.older) works
@@ -256,7 +256,7 @@ pub shown_reach : (ls : List Line) (v : Core) (members : List ℕ) → IsKept tr
 shown_reach ls v members kept tells passed slot reached = go v.collector.phase refl passed
   where
     go : (phase : Phase) → v.collector.phase ≡ phase → passed_in v.collector phase ≡ Some members → IsInReach (pending v) (applied_in v) (slot + 1) ⊎ (slice_index_or v.headers slot 0 ≡ 0)
-    go (Freeing m) is shown = reached_may ls v kept tells (ap works_in is) (ap is_unswept is) (ap (tried_at v.epoch) is ∙ sym (ap (applied_at v.epoch) is)) slot reached
+    go (Freeing m) is shown = reached_may ls v kept tells (ap has_batched is) (ap is_unswept is) (ap (tried_at v.epoch) is ∙ sym (ap (applied_at v.epoch) is)) slot reached
     go _ is shown = absurd (cc)
 
 -- So no member of the set is reached.

@@ -27,9 +27,9 @@ use Rattle.rec_core.specs.Core.{Core, box, cells_of}
 use Rattle.rec_core.specs.Kept.{IsKept}
 use Rattle.rec_core.specs.Kept as of_core
 use Rattle.rec_core.specs.Loads.{cleared_by, tried_in}
-use Rattle.rec_audit.specs.Logged.{last_batch, works_in}
+use Rattle.rec_audit.specs.Logged.{last_batch}
 use Rattle.rec_core.specs.Moves.{looked_at, turned_by}
-use Rattle.rec_core.specs.Pending.{applied_at, writes_of}
+use Rattle.rec_core.specs.Pending.{applied_at, writes_of, has_batched}
 use Rattle.rec_core.proofs.Freed.{frees_while_sweeping}
 use Rattle.rec_audit.proofs.Journalled.{StandsIn, applied_in, replaced_when}
 use Rattle.rec_audit.proofs.Lasting.{Lasts, closes, lasts_on, op_keeps}
@@ -75,7 +75,7 @@ tried_near epoch (Freeing m) = omega arith
 tried_near epoch phase = omega arith
 
 -- before the batch of its collection a collector has made the trial of the one before
-tried_waits : (epoch : ℕ) (phase : Phase) → 1 + under_way phase ≤ epoch → works_in phase ≡ false → applied_at epoch phase + 1 ≤ tried_at epoch phase
+tried_waits : (epoch : ℕ) (phase : Phase) → 1 + under_way phase ≤ epoch → has_batched phase ≡ false → applied_at epoch phase + 1 ≤ tried_at epoch phase
 tried_waits epoch Idle some waits = omega (arith, some)
 tried_waits epoch (Looking t) some waits = omega (arith, some)
 tried_waits epoch (Swapping t) some waits = omega (arith, some)
@@ -85,7 +85,7 @@ tried_waits epoch phase some waits = absurd (false≢true (sym waits))
 -- ---- the batch of a step
 
 pub record IsBatchOf (p : Private) (x : Batch) : Type 0 where
-  pub waits : works_in p.phase ≡ false
+  pub waits : has_batched p.phase ≡ false
   pub next : x.epoch ≡ (place_of p).next
   pub newer : x.newer ≡ p.newer
 
@@ -96,7 +96,7 @@ step_batch {p} begun none (Step.request_alone idle more is alone on) x made =
     let y : Batch = record { epoch = p.epoch; newer = p.newer } in
     let same : y ≡ x = cc in
     let epoch : p.epoch ≡ p.epoch - 1 + 1 = omega (arith, begun) in
-    subst (IsBatchOf p) same (record { waits = ap works_in idle; next = epoch ∙ ap (λ f. applied_at p.epoch f + 1) (sym idle); newer = refl })
+    subst (IsBatchOf p) same (record { waits = ap has_batched idle; next = epoch ∙ ap (λ f. applied_at p.epoch f + 1) (sym idle); newer = refl })
 step_batch begun none (Step.wait t looks other is same answer) x made = absurd (cc)
 step_batch begun none (Step.gather t looks word_is is g) x made = absurd (cc)
 step_batch begun none (Step.cross_for t next looks crosses is present g) x made = absurd (cc)
@@ -107,7 +107,7 @@ step_batch {p} begun none (Step.apply t returning is left on) x made =
     let same : y ≡ x = cc in
     let one : under_way p.phase ≡ 1 = ap under_way returning in
     let epoch : p.epoch - 1 ≡ p.epoch - 2 + 1 = omega (arith, begun, one) in
-    subst (IsBatchOf p) same (record { waits = ap works_in returning; next = epoch ∙ ap (λ f. applied_at p.epoch f + 1) (sym returning); newer = refl })
+    subst (IsBatchOf p) same (record { waits = ap has_batched returning; next = epoch ∙ ap (λ f. applied_at p.epoch f + 1) (sym returning); newer = refl })
 step_batch begun none (Step.release m releasing is on) x made = absurd (cc)
 step_batch begun none (Step.freeing m freeing is on) x made = absurd (cc)
 step_batch begun none (Step.trial m trying is on) x made = absurd (cc)
@@ -241,7 +241,7 @@ module _ (lines : List Line) (w : Core) (op : Op) (kept : IsKept true w) (named 
   abbrev lines_behind : Option Batch → List Line
   lines_behind batch = behind_batch lines batch ++ op_lines op (cell (cells_of w) op)
 
-  waits_on : (phase : Phase) → worked_in phase ≡ false → works_in phase ≡ false
+  waits_on : (phase : Phase) → worked_in phase ≡ false → has_batched phase ≡ false
   waits_on Idle is = refl
   waits_on (Looking t) is = refl
   waits_on (Swapping t) is = refl
@@ -283,7 +283,7 @@ module _ (lines : List Line) (w : Core) (op : Op) (kept : IsKept true w) (named 
       go (inr (inr out)) = Status.dead (op_out (behind_batch lines batch) w op place wd some out)
 
   -- what the batch puts
-  gathered_epoch : (place new old : ℕ) → works_in w.collector.phase ≡ false → StandsIn w.collector.newer (entries.Put place new old) → epoch_of new ≡ applied_in w + 1
+  gathered_epoch : (place new old : ℕ) → has_batched w.collector.phase ≡ false → StandsIn w.collector.newer (entries.Put place new old) → epoch_of new ≡ applied_in w + 1
   gathered_epoch place new old waits (i, below, c) = go w.collector.phase refl waits
     where
       is : IsMutator w.config (i + 1)
@@ -298,14 +298,14 @@ module _ (lines : List Line) (w : Core) (op : Op) (kept : IsKept true w) (named 
       gathered : (phase : Phase) → w.collector.phase ≡ phase → applied_at w.epoch phase ≡ w.epoch - 2 → under_way phase ≡ 1 → epoch_of new ≡ applied_in w + 1
       gathered phase at epoch way = omega (arith, made, ap (applied_at w.epoch) at, epoch, (some_epoch w kept), ap under_way at, way)
 
-      go : (phase : Phase) → w.collector.phase ≡ phase → works_in phase ≡ false → epoch_of new ≡ applied_in w + 1
+      go : (phase : Phase) → w.collector.phase ≡ phase → has_batched phase ≡ false → epoch_of new ≡ applied_in w + 1
       go Idle at waits = absurd (none_in (entries.Put place new old) (buffer_at w.collector.newer i).entries (ap (λ (x : Buffer). x.entries) ((now_at w Idle kept at).1 i (omega arith) below)) c)
       go (Looking t) at waits = gathered (Looking t) at refl refl
       go (Swapping t) at waits = gathered (Swapping t) at refl refl
       go (Returning t) at waits = gathered (Returning t) at refl refl
       go phase at waits = absurd (false≢true (sym waits))
 
-  new_status : (place new old : ℕ) → works_in w.collector.phase ≡ false → StandsIn w.collector.newer (entries.Put place new old) → Status lines w place new
+  new_status : (place new old : ℕ) → has_batched w.collector.phase ≡ false → StandsIn w.collector.newer (entries.Put place new old) → Status lines w place new
   new_status place new old waits c = go (put_lasts w place new old kept c (omega (arith, gathered_epoch place new old waits c)))
     where
       go : Lasts w [] (record { place = place; word = new; epoch = applied_in w }) → Status lines w place new

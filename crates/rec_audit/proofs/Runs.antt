@@ -33,9 +33,9 @@ use Rattle.rec_core.specs.Bare.{bare_core}
 use Rattle.rec_core.specs.Core.{Core, box, cells_of, heap_by, opened}
 use Rattle.rec_core.specs.Kept.{IsKept}
 use Rattle.rec_core.specs.Kept as of_core
-use Rattle.rec_audit.specs.Logged.{HasOwnBuffers, IsOwnBuffer, IsOwnEntry, works_in}
+use Rattle.rec_audit.specs.Logged.{HasOwnBuffers, IsOwnBuffer, IsOwnEntry}
 use Rattle.rec_core.specs.Moves.{AllFit, Fits, Move, after_move, after_moves, looked_at, turned, turned_by}
-use Rattle.rec_core.specs.Pending.{applied_at}
+use Rattle.rec_core.specs.Pending.{applied_at, has_batched}
 use Rattle.rec_core.specs.Shown.{Shows, shown_behind, shown_in, shown_over, turn_shown}
 use Rattle.rec_core.specs.Turn.{seen_at}
 use Rattle.rec_core.specs.declared.config.Config.{Config}
@@ -61,7 +61,7 @@ use Rattle.rec_audit.proofs.ByStamps.{bare_stamp}
 -- ---- the order
 
 -- words come out of fields, and slots are swept, while a batch is worked on
-clears_works : (p : Private) (phase : Phase) (place : ℕ) → ◌≡◌ {A = Option Op} (next_at p phase) (Some (ops.ClearField place)) → works_in phase ≡ true
+clears_works : (p : Private) (phase : Phase) (place : ℕ) → ◌≡◌ {A = Option Op} (next_at p phase) (Some (ops.ClearField place)) → has_batched phase ≡ true
 unfolding next_at
 clears_works p Idle place named = absurd (not_so (is_spent p) named)
   where
@@ -73,7 +73,7 @@ clears_works p (Swapping t) place named = absurd (cc)
 clears_works p (Returning t) place named = absurd (cc)
 clears_works p _ place named = refl
 
-frees_works : (p : Private) (phase : Phase) (slot : ℕ) → ◌≡◌ {A = Option Op} (next_at p phase) (Some (ops.FreeHeader slot)) → works_in phase ≡ true
+frees_works : (p : Private) (phase : Phase) (slot : ℕ) → ◌≡◌ {A = Option Op} (next_at p phase) (Some (ops.FreeHeader slot)) → has_batched phase ≡ true
 unfolding next_at
 frees_works p Idle slot named = absurd (not_so (is_spent p) named)
   where
@@ -94,16 +94,16 @@ passed_works p _ members is = absurd (cc)
 completes : (at : Place) (q : Private) → at.next ≡ applied_at q.epoch q.phase + 1 → at.working ≡ worked_in q.phase → 1 ≤ q.epoch → (q.phase ≡ Idle → completed_of q ≡ Some (q.epoch - 1)) → KeepsCompleted at (completed_of q) × (with_end at (completed_of q) ≡ place_of q)
 completes at q next working some between = go q.phase refl
   where
-    stays : (phase : Phase) → q.phase ≡ phase → worked_in phase ≡ works_in phase → at ≡ place_of q
+    stays : (phase : Phase) → q.phase ≡ phase → worked_in phase ≡ has_batched phase → at ≡ place_of q
     stays phase is same =
         let make : ℕ → Bool → Place = λ n b. record { next = n; working = b } in
-        ap (λ n. make n at.working) next ∙ ap (make (applied_at q.epoch q.phase + 1)) (working ∙ ap worked_in is ∙ same ∙ ap works_in (sym is))
+        ap (λ n. make n at.working) next ∙ ap (make (applied_at q.epoch q.phase + 1)) (working ∙ ap worked_in is ∙ same ∙ ap has_batched (sym is))
 
     go : (phase : Phase) → q.phase ≡ phase → KeepsCompleted at (completed_in q phase) × (with_end at (completed_in q phase) ≡ place_of q)
     go Idle is =
         let make : ℕ → Bool → Place = λ n b. record { next = n; working = b } in
         subst (λ o. KeepsCompleted at o × (with_end at o ≡ place_of q)) (sym (between is) ∙ ap (completed_in q) is)
-        ((working ∙ ap worked_in is, sym (next ∙ ap (λ f. applied_at q.epoch f + 1) is)), ap (λ n. make n false) next ∙ ap (make (applied_at q.epoch q.phase + 1)) (ap works_in (sym is)))
+        ((working ∙ ap worked_in is, sym (next ∙ ap (λ f. applied_at q.epoch f + 1) is)), ap (λ n. make n false) next ∙ ap (make (applied_at q.epoch q.phase + 1)) (ap has_batched (sym is)))
     go (Looking t) is = (tt, stays (Looking t) is refl)
     go (Swapping t) is = (tt, stays (Swapping t) is refl)
     go (Returning t) is = (tt, stays (Returning t) is refl)
@@ -161,7 +161,7 @@ batch_keeps w q word b op turn kept own none = go
     go (Step.request next idle more is present g) = tt
     go (Step.request_alone idle more is alone on) =
         let next : w.collector.epoch ≡ w.collector.epoch - 1 + 1 = omega (arith, some) in
-        (ap works_in idle, of w.collector.epoch (next ∙ ap (λ f. applied_at w.collector.epoch f + 1) (sym idle)) last)
+        (ap has_batched idle, of w.collector.epoch (next ∙ ap (λ f. applied_at w.collector.epoch f + 1) (sym idle)) last)
     go (Step.wait t looks other is same answer) = tt
     go (Step.gather t looks word_is is g) = tt
     go (Step.cross_for t next looks crosses is present g) = tt
@@ -170,7 +170,7 @@ batch_keeps w q word b op turn kept own none = go
     go (Step.apply t returning is left on) =
         let one : under_way w.collector.phase ≡ 1 = ap under_way returning in
         let next : w.collector.epoch - 1 ≡ w.collector.epoch - 2 + 1 = omega (arith, some, one) in
-        (ap works_in returning, of (w.collector.epoch - 1) (next ∙ ap (λ f. applied_at w.collector.epoch f + 1) (sym returning)) (omega (arith, last)))
+        (ap has_batched returning, of (w.collector.epoch - 1) (next ∙ ap (λ f. applied_at w.collector.epoch f + 1) (sym returning)) (omega (arith, last)))
     go (Step.release m releasing is on) = tt
     go (Step.freeing m freeing is on) = tt
     go (Step.trial m trying is on) = tt

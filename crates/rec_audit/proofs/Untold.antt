@@ -21,7 +21,7 @@ use Rattle.rec_core.specs.declared.config.Config.{Config}
 use Rattle.rec_core.proofs.Opened.{first_labels, first_objects, opened_kept}
 use Rattle.rec_core.proofs.OpenedFrom.{pending_begins}
 use Rattle.rec_core.specs.Moves.{begun_from, offering, stepped}
-use Rattle.rec_core.specs.Pending.{births_of}
+use Rattle.rec_core.specs.Pending.{births_of, has_batched}
 use Rattle.rec_core.proofs.Reach.{steps_keep_taken}
 use Rattle.rec_core.proofs.Steps.{in_list}
 use Rattle.rec_core.proofs.Sums.{box_share, buffers_sum, log_share, share}
@@ -32,7 +32,6 @@ use Rattle.rec_audit.specs.Graph.{is_taken, taken_by, tells}
 use Rattle.rec_audit.specs.Journal.{batch_lines, line_of, op_lines, opening_lines}
 use Rattle.rec_audit.specs.Runs.{heap_for}
 use Rattle.rec_audit.specs.Lines.{Line}
-use Rattle.rec_audit.specs.Logged.{works_in}
 use Rattle.rec_audit.specs.declared.kind.Kind.TheVariants as kinds
 use Rattle.rec_audit.proofs.OneTurn.{one_turn, ops_of}
 use Rattle.rec_audit.proofs.Blocks.{IsLineOf, line_is_of}
@@ -252,10 +251,10 @@ module _ (ls : List Line) (w : Core) (op : Op) (kept : IsKept true w) (named_is 
   open (one_turn w op kept named_is still) use {s, shown}
 
   -- where a batch was applied nothing is gathered
-  landed : (t slot : ℕ) (leaf : Bool) → IsMutator w.config t → works_in q.phase ≡ false → Contains (buffer_at q.newer (t - 1)).entries (entries.Born slot leaf) → worked_in q.phase ≡ true → ⊥
+  landed : (t slot : ℕ) (leaf : Bool) → IsMutator w.config t → has_batched q.phase ≡ false → Contains (buffer_at q.newer (t - 1)).entries (entries.Born slot leaf) → worked_in q.phase ≡ true → ⊥
   landed t slot leaf is waits e done = go q.phase refl waits done
     where
-      go : (phase : Phase) → q.phase ≡ phase → works_in phase ≡ false → worked_in phase ≡ true → ⊥
+      go : (phase : Phase) → q.phase ≡ phase → has_batched phase ≡ false → worked_in phase ≡ true → ⊥
       go Idle at waits done =
           let below : t - 1 < length q.newer = (let many : length q.newer ≡ w.config.mutators = still.collector.mutators in omega (arith, is.0, is.1)) in
           none_in (entries.Born slot leaf) (buffer_at q.newer (t - 1)).entries (ap (λ (x : Contents). x.entries) ((now_at v Idle still at).1 (t - 1) (omega arith) below)) e
@@ -276,14 +275,14 @@ module _ (ls : List Line) (w : Core) (op : Op) (kept : IsKept true w) (named_is 
         absurd (none_in (entries.Born slot leaf) (box v t).entries (ap (λ (b : Contents). b.entries) here) e)
   ]
 
-  module _ (t slot : ℕ) (leaf : Bool) (is : IsMutator w.config t) (waits : works_in q.phase ≡ false) (e : Contains (buffer_at q.newer (t - 1)).entries (entries.Born slot leaf)) where
-    same_newer : works_in c.phase ≡ false → q.newer ≡ c.newer → IsUntold w slot
+  module _ (t slot : ℕ) (leaf : Bool) (is : IsMutator w.config t) (waits : has_batched q.phase ≡ false) (e : Contains (buffer_at q.newer (t - 1)).entries (entries.Born slot leaf)) where
+    same_newer : has_batched c.phase ≡ false → q.newer ≡ c.newer → IsUntold w slot
     same_newer before newer = IsUntold.gathered t leaf is before (subst (λ (row : List Contents). Contains (buffer_at row (t - 1)).entries (entries.Born slot leaf)) newer e)
 
     applied : (b : Batch) → Placed c (Some b) q → IsUntold w slot
     applied b p = absurd (landed t slot leaf is waits e (sym p.working))
 
-    working : works_in c.phase ≡ true → Placed c None q → IsUntold w slot
+    working : has_batched c.phase ≡ true → Placed c None q → IsUntold w slot
     working works p = absurd (landed t slot leaf is waits e (sym p.working ∙ works))
 
     gathers : (u : ℕ) → c.phase ≡ Looking u → q.newer ≡ slice_set c.newer (u - 1) its_box → IsUntold w slot
@@ -297,26 +296,26 @@ module _ (ls : List Line) (w : Core) (op : Op) (kept : IsKept true w) (named_is 
           let first : 0 < u = (now_at w (Looking u) kept looks).first in
           let apart : (t - 1) ≢ (u - 1) = λ same. other (omega (arith, same, is.0, first)) in
           let stays : buffer_at q.newer (t - 1) ≡ buffer_at c.newer (t - 1) = ap (λ row. buffer_at row (t - 1)) newer ∙ get_or-set_other c.newer (u - 1) (t - 1) its_box (blank 0 0) apart in
-          IsUntold.gathered t leaf is (ap works_in looks) (subst (λ (x : Contents). Contains x.entries (entries.Born slot leaf)) stays e)
+          IsUntold.gathered t leaf is (ap has_batched looks) (subst (λ (x : Contents). Contains x.entries (entries.Born slot leaf)) stays e)
     ]
 
     by_rule : {turn : Turn} (r : Step c found its_box (Some op) q turn) → Placed c (batch_made r) q → IsUntold w slot
     by_rule (Step.spent idle last none same answer) p = absurd (let no : ◌≡◌ {A = Option Op} (Some op) None = none in cc)
-    by_rule (Step.request next idle more its present g) p = same_newer (ap works_in idle) (ap (λ (x : collectors.Private). x.newer) g.after)
+    by_rule (Step.request next idle more its present g) p = same_newer (ap has_batched idle) (ap (λ (x : collectors.Private). x.newer) g.after)
     by_rule (Step.request_alone idle more its alone on) p = applied _ p
     by_rule (Step.cross_for u next looks crosses its present g) p = absurd (crosses_none w u kept looks op found its refl crosses)
     by_rule (Step.cross_for_last u looks crosses its left on) p = absurd (crosses_none w u kept looks op found its refl crosses)
-    by_rule (Step.wait u looks other its same answer) p = same_newer (ap works_in looks) (ap (λ (x : collectors.Private). x.newer) same)
+    by_rule (Step.wait u looks other its same answer) p = same_newer (ap has_batched looks) (ap (λ (x : collectors.Private). x.newer) same)
     by_rule (Step.gather u looks word_is its g) p = gathers u looks (ap (λ (x : collectors.Private). x.newer) g.after)
-    by_rule (Step.give_back u next returning its present g) p = same_newer (ap works_in returning) (ap (λ (x : collectors.Private). x.newer) g.after)
+    by_rule (Step.give_back u next returning its present g) p = same_newer (ap has_batched returning) (ap (λ (x : collectors.Private). x.newer) g.after)
     by_rule (Step.apply u returning its left on) p = applied _ p
-    by_rule (Step.release m releasing its on) p = working (ap works_in releasing) p
-    by_rule (Step.freeing m freeing its on) p = working (ap works_in freeing) p
-    by_rule (Step.trial m trying its on) p = working (ap works_in trying) p
-    by_rule (Step.preparation m preparing its on) p = working (ap works_in preparing) p
-    by_rule (Step.begin_sweep opening its g) p = working (ap works_in opening) p
-    by_rule (Step.sweep due swept x phase sweeping its which next g) p = working (ap works_in sweeping) p
-    by_rule (Step.end_sweep swept closing its e) p = working (ap works_in closing) p
+    by_rule (Step.release m releasing its on) p = working (ap has_batched releasing) p
+    by_rule (Step.freeing m freeing its on) p = working (ap has_batched freeing) p
+    by_rule (Step.trial m trying its on) p = working (ap has_batched trying) p
+    by_rule (Step.preparation m preparing its on) p = working (ap has_batched preparing) p
+    by_rule (Step.begin_sweep opening its g) p = working (ap has_batched opening) p
+    by_rule (Step.sweep due swept x phase sweeping its which next g) p = working (ap has_batched sweeping) p
+    by_rule (Step.end_sweep swept closing its e) p = working (ap has_batched closing) p
 
   untold_back : (slot : ℕ) → IsUntold v slot → IsUntold w slot
   untold_back slot (IsUntold.in_log t leaf is e) = IsUntold.in_log t leaf is e

@@ -1,5 +1,6 @@
 -- What the buffers of a heap with its collector hold: entries about places and slots of the heap, and each write under a stamp of its own.
 use Rattle.std.specs.Prelude.{◌≡◌, ℕ, ◌-◌, ◌*◌, ◌<◌, ◌≤◌, ◌^◌, Bool, true, false, if◌then◌else◌, None, Some, List, length, slice_index_or}
+use Rattle.rec_core.specs.Pending.{has_batched}
 use Rattle.rec_word.specs.Word.{stamp_of, target_bits}
 use Rattle.rec_log.specs.declared.contents.Contents.{Contents}
 use Rattle.rec_log.specs.declared.entry.Entry.{Entry}
@@ -40,14 +41,6 @@ pub record HasOwnBuffers (w : Core) : Type 0 where
   pub boxes : (t : ℕ) → IsMutator w.config t → IsOwnBuffer w.config t (box w t)
   pub newer : (t : ℕ) → IsMutator w.config t → IsOwnBuffer w.config t (buffer_at w.collector.newer (t - 1))
 
--- a batch was applied, and its collection isn't complete
-abbrev pub works_in : Phase → Bool
-works_in Idle = false
-works_in (Looking t) = false
-works_in (Swapping t) = false
-works_in (Returning t) = false
-works_in _ = true
-
 -- the newer buffers of the last batch: once the next collection gathers, and where this one is complete, they are the older ones
 abbrev pub last_batch : Private → List Contents
-last_batch p = if works_in p.phase then p.newer else p.older
+last_batch p = if has_batched p.phase then p.newer else p.older

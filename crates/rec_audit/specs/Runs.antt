@@ -6,9 +6,8 @@ use Rattle.rec_model.specs.Pending.{Dated, Write, epoch_of}
 use Rattle.rec_model.specs.Reach.{is_in}
 use Rattle.rec_model.specs.References.{IsInReach}
 use Rattle.rec_collector.specs.Private.{Private}
-use Rattle.rec_audit.specs.Logged.{works_in}
 use Rattle.rec_core.specs.Core.{Core}
-use Rattle.rec_core.specs.Pending.{applied_at, births_of, pending, snapshots_of, writes_of}
+use Rattle.rec_core.specs.Pending.{applied_at, births_of, pending, snapshots_of, writes_of, has_batched}
 use Rattle.rec_core.specs.declared.config.Config.{Config}
 use Rattle.rec_audit.specs.Graph.{IsReachedAt}
 use Rattle.rec_audit.specs.Journal.{line_of}
@@ -23,7 +22,7 @@ heap_for config = record { slots = config.slots; fields = config.fields; registe
 
 -- where a collector stands: behind the epoch of its last batch
 abbrev pub place_of : Private → Place
-place_of p = record { next = applied_at p.epoch p.phase + 1; working = works_in p.phase }
+place_of p = record { next = applied_at p.epoch p.phase + 1; working = has_batched p.phase }
 
 -- a slot is in the reach of the epoch of the last batch, or is free
 abbrev pub IsReachedIn : Core → (slot : ℕ) → Type 0

@@ -1,11 +1,12 @@
 //! What holds of the journal of every run from an opening, each law as the contract of a function that does nothing.
 
 ghost use Rattle.std.specs.Prelude.{◌≡◌, ◌≤◌, ◌++◌, ◌∷◌, ℕ, [], false, List, Some, length};
+ghost use Rattle.rec_core.specs.Pending.{has_batched};
 ghost use Rattle.rec_collector.specs.Shown.{Batch, Shown};
 ghost use Rattle.rec_core.specs.Bare.{Behind};
 ghost use Rattle.rec_core.specs.Config.{IsConfig};
 ghost use Rattle.rec_core.specs.Core.{Core, opened};
-ghost use Rattle.rec_audit.specs.Logged.{HasOwnBuffers, works_in};
+ghost use Rattle.rec_audit.specs.Logged.{HasOwnBuffers};
 ghost use Rattle.rec_core.specs.Moves.{AllFit, Move, RunsFrom, after_moves, turned};
 ghost use Rattle.rec_core.specs.Shown.{Shows, shown_over, turn_shown};
 ghost use Rattle.rec_core.specs.declared.config.Config.{Config};
@@ -33,7 +34,7 @@ pub fn journals_of_runs_are_in_form()
     ensures stand { (config : Config) (shown : List Shown) (end : Core) → IsConfig config → Shows (opened config) shown end
         → Stand (journal (heap_for config) shown) }
     ensures whole { (config : Config) (shown : List Shown) (end : Core) → IsConfig config → Shows (opened config) shown end
-        → works_in end.collector.phase ≡ false → IsInForm (journal (heap_for config) shown) }
+        → has_batched end.collector.phase ≡ false → IsInForm (journal (heap_for config) shown) }
 {}
 
 /// No word of such a journal names two references: no line puts a word with a target that an earlier one has put too.
@@ -73,7 +74,7 @@ pub fn blocks_of_runs_tell_their_epoch()
 /// tests, unless its text is too long. No other verdict is that of its text.
 pub fn journals_of_runs_are_answered_yes()
     ensures { (config : Config) (shown : List Shown) (end : Core) → IsConfig config → Shows (opened config) shown end
-        → works_in end.collector.phase ≡ false → length (text_of (journal (heap_for config) shown)) ≤ MOST_BYTES
+        → has_batched end.collector.phase ≡ false → length (text_of (journal (heap_for config) shown)) ≤ MOST_BYTES
         → IsVerdict (text_of (journal (heap_for config) shown)) (Yes (sets_passed shown)) }
 {}
 

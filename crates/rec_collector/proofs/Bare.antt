@@ -55,7 +55,7 @@ new_bare [] = refl
 new_bare (entries.Put place new old ∷ es) = let at : target_of (bare new) ≡ target_of new = target_of_bare new in let rest = new_bare es in (λ i. at i ∷ rest i)
 new_bare (entries.Born slot leaf ∷ es) = let rest = new_bare es in (λ i. None ∷ rest i)
 
-old_bare : (es : List Entry) → map old_target (map (entry_by bare) es) ≡ map old_target es
+pub old_bare : (es : List Entry) → map old_target (map (entry_by bare) es) ≡ map old_target es
 old_bare [] = refl
 old_bare (entries.Put place new old ∷ es) = let at : target_of (bare old) ≡ target_of old = target_of_bare old in let rest = old_bare es in (λ i. at i ∷ rest i)
 old_bare (entries.Born slot leaf ∷ es) = let rest = old_bare es in (λ i. Some slot ∷ rest i)

@@ -1,10 +1,19 @@
 -- Sums over the buffers and the registers of a heap, where one mutator and its mailbox change.
 use Rattle.std.proofs.Common.{◌≡◌, ℕ, zero, suc, ◌+◌, ◌-◌, ◌<◌, ◌≤◌, if◌then◌else◌, List, [], ◌∷◌, ◌++◌, Option, None, Some, length, map, slice_index_or, slice_set, refl, sym, ap, ◌∙◌, arith, Bool, true, false}
 use Rattle.std.specs.List.{sum_by, flat_map, zip}
+use Rattle.std.proofs.lemmas.Bool.{cases_lt}
 use Rattle.std.proofs.lemmas.List.{set-get_or}
 use Rattle.std.proofs.lemmas.List.Sums.{sum_by-append, sum_by-cons, sum_by-set}
 use Rattle.rec_core.proofs.Common.{Write, Dated, dated, dated_birth, sum_by-flat_map, sum_by-map, Contents, Entry, Private, blank, Core, mutator, box, nobody, Filed, filed, filed_box, code, writes_in, births_in, dated_names, dated_all, dated_registers, has_let_go, older_at, epoch_at, buffers}
 use Rattle.rec_log.specs.declared.entry.Entry.TheVariants as entries
+
+-- a sum that isn't zero has an element that isn't
+pub some_of : {X : Type 0} (f : X → ℕ) (xs : List X) (d : X) → 0 < sum_by f xs → (i : ℕ) × (i < length xs) × (0 < f (slice_index_or xs i d))
+some_of f [] d some = absurd (omega (arith, some))
+some_of f (x ∷ xs) d some = elim (cases_lt 0 (f x)) [
+  | inl here ↦ (0, omega arith, here)
+  | inr none ↦ let rest = some_of f xs d (omega (arith, some, none, sum_by-cons f x xs)) in (suc rest.0, omega (arith, rest.1), rest.2)
+]
 
 -- Two rows side by side.
 module _ {X Y : Type 0} where

@@ -89,6 +89,11 @@ pub data Move : Type 0 where
   Turns : Move
   Offers : Move
 
+-- the move isn't a turn of the collector
+abbrev pub IsNoTurn : Move → Type 0
+IsNoTurn Move.Turns = ⊥
+IsNoTurn _ = Unit {0}
+
 -- after a move
 abbrev pub after_move : Core → Move → Core
 after_move w (Move.Begins t work from) = begun_from w t work from

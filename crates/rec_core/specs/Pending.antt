@@ -50,6 +50,14 @@ dated_names epoch names = map (λ slot. dated epoch (slot + 1)) (named names)
 abbrev pub dated_all : (epoch : ℕ) → List (Option ℕ) → List Dated
 dated_all epoch names = map (λ x. dated epoch (code x)) names
 
+-- a batch was applied, and its collection isn't complete
+abbrev pub has_batched : Phase → Bool
+has_batched Idle = false
+has_batched (Looking t) = false
+has_batched (Swapping t) = false
+has_batched (Returning t) = false
+has_batched _ = true
+
 -- The epoch of the last batch: the one before the requested epoch, and while a collection gathers, the one before that.
 abbrev pub applied_at : (requested : ℕ) → Phase → ℕ
 applied_at requested (Looking t) = requested - 2

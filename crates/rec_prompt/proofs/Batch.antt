@@ -23,7 +23,8 @@ use Rattle.rec_prompt.specs.Cover.{Covers, IsListed, IsPending, takes}
 use Rattle.rec_prompt.specs.Cover.Hangs.{later, listed, behind}
 use Rattle.rec_prompt.proofs.Heeding.{IsOwned}
 use Rattle.rec_prompt.proofs.Hanging.{all_on_trails, carried, IsHung, LeadersCount, Trails}
-use Rattle.rec_prompt.proofs.Pended.{reach_trails, some_of}
+use Rattle.rec_core.proofs.Sums.{some_of}
+use Rattle.rec_prompt.proofs.Pended.{reach_trails}
 
 -- A batch after the next takes something off the slot: by a log, by what a mailbox holds, or by a newer buffer.
 pub data IsLate (w : Core) (slot : ℕ) : Type 0 where
@@ -43,9 +44,6 @@ module _ (u : Core) (t : ℕ) (kept : IsKeptBy true (stand_at u.collector.left O
   abbrev s : State
   s = counted u t kept phase
 
-  is : IsApplied c.policy.steady c.counts c.newer c.older s
-  is = is_counted u t kept phase
-
   open (now_in u (Returning t) kept phase) use {rest}
 
   abbrev told_newer : List Contents
@@ -54,11 +52,8 @@ module _ (u : Core) (t : ℕ) (kept : IsKeptBy true (stand_at u.collector.left O
   abbrev told_older : List Contents
   told_older = told_buffers c.policy.steady c.older c.newer
 
-  both : AreAlike c.newer c.older
-  both = rows_alike c kept.collector.machine
-
   lists : IsKeptCounts s
-  lists = is.lists kept.collector.machine.counts
+  lists = (is_counted u t kept phase).lists kept.collector.machine.counts
 
   unreleased : (x : ℕ) → IsTaken (sight u) x → (slot_at c.counts x).released ≡ false
   unreleased x taken_ =
@@ -76,15 +71,15 @@ module _ (u : Core) (t : ℕ) (kept : IsKeptBy true (stand_at u.collector.left O
   -- what something was taken off
   told_hung : (x : ℕ) → 0 < taken x told_older → IsHung (sight u) (IsLate u) s x
   told_hung x told there plain = elim (cases_lt 0 (slot_at s x).count) [
-    | inl left ↦ let root = is.roots x (unreleased x there) told plain left in listed (in_buffer x (ap is_purple root.0) root.1)
-    | inr none ↦ listed (IsListed.zero (is.all_zeros (λ y live zero. absurd (omega (arith, zero, rest.counted y live))) x (is.rest.released x ∙ unreleased x there) (omega (arith, none))))
+    | inl left ↦ let root = (is_counted u t kept phase).roots x (unreleased x there) told plain left in listed (in_buffer x (ap is_purple root.0) root.1)
+    | inr none ↦ listed (IsListed.zero ((is_counted u t kept phase).all_zeros (λ y live zero. absurd (omega (arith, zero, rest.counted y live))) x ((is_counted u t kept phase).rest.released x ∙ unreleased x there) (omega (arith, none))))
   ]
 
   taken_hung : (x : ℕ) → 0 < taken x c.older → IsHung (sight u) (IsLate u) s x
   taken_hung x some there plain = elim (cases_lt 0 (taken x told_older)) [
     | inl told ↦ told_hung x told there plain
     | inr untold ↦
-        let names_ : 0 < held x c.newer = omega (arith, some, untold, told_even c.policy.steady x c.newer c.older both, added_parts x c.newer, added_parts x told_newer, written_told c.policy.steady x c.newer c.older) in
+        let names_ : 0 < held x c.newer = omega (arith, some, untold, told_even c.policy.steady x c.newer c.older (rows_alike c kept.collector.machine), added_parts x c.newer, added_parts x told_newer, written_told c.policy.steady x c.newer c.older) in
         let (i, below, one_) = some_of (λ (b : Contents). named x b.snapshot) c.newer (collectors.blank 0 0) names_ in
         later (IsLate.newer i (omega (arith, one_)))
   ]
@@ -123,18 +118,18 @@ module _ (u : Core) (t : ℕ) (kept : IsKeptBy true (stand_at u.collector.left O
     root_hung : (x : ℕ) → 0 < times x c.counts.roots → is_purple (slot_at c.counts x).colour ≡ true → IsHung (sight u) (IsLate u) s x
     root_hung x root purple there plain = elim (cases_lt 0 (names x told_newer told_older)) [
       | inr none ↦
-          let same : slot_at s x ≡ slot_at c.counts x = is.same x (omega (arith, none)) in
+          let same : slot_at s x ≡ slot_at c.counts x = (is_counted u t kept phase).same x (omega (arith, none)) in
           let before : one (slot_at c.counts x).buffered ≡ times x c.counts.roots + times x (concat c.counts.sets) = sym (kept.collector.machine.counts.buffers x) in
           listed (in_buffer x (ap (λ (v : Slot). is_purple v.colour) same ∙ purple) (one-some (slot_at s x).buffered (omega (arith, root, before, ap (λ (v : Slot). one v.buffered) same))))
       | inl some ↦ elim (cases_lt 0 (taken x told_older)) [
         | inl told ↦ told_hung x told there plain
         | inr untold ↦ elim (cases_lt 0 (leaves x told_newer)) [
-          | inl born ↦ absurd (false≢true (sym plain ∙ is.born x born))
+          | inl born ↦ absurd (false≢true (sym plain ∙ (is_counted u t kept phase).born x born))
           | inr unborn ↦ elim (cases_lt 0 (held x c.newer)) [
             | inl snapshot ↦
                 let (i, below, one_) = some_of (λ (b : Contents). named x b.snapshot) c.newer (collectors.blank 0 0) snapshot in
                 later (IsLate.newer i (omega (arith, one_)))
-            | inr none ↦ written_hung x (omega (arith, some, untold, unborn, none, told_even c.policy.steady x c.newer c.older both, added_parts x c.newer)) there plain
+            | inr none ↦ written_hung x (omega (arith, some, untold, unborn, none, told_even c.policy.steady x c.newer c.older (rows_alike c kept.collector.machine), added_parts x c.newer)) there plain
           ]
         ]
       ]
@@ -144,8 +139,8 @@ module _ (u : Core) (t : ℕ) (kept : IsKeptBy true (stand_at u.collector.left O
     list_hung x (IsListed.released gone) there plain = absurd (false≢true (sym (unreleased x there) ∙ gone))
     list_hung x (IsListed.zero some) there plain = absurd (omega (arith, some, ap (times x) rest.zeros, times-nil x))
     list_hung x (IsListed.root some purple) there plain = root_hung x some purple there plain
-    list_hung x (IsListed.member some) there plain = listed (IsListed.member (omega (arith, some, ap (λ (xss : List (List ℕ)). times x (concat xss)) is.rest.sets)))
-    list_hung x (IsListed.marked some) there plain = listed (IsListed.marked (omega (arith, some, ap (times x) is.rest.marked)))
+    list_hung x (IsListed.member some) there plain = listed (IsListed.member (omega (arith, some, ap (λ (xss : List (List ℕ)). times x (concat xss)) (is_counted u t kept phase).rest.sets)))
+    list_hung x (IsListed.marked some) there plain = listed (IsListed.marked (omega (arith, some, ap (times x) (is_counted u t kept phase).rest.marked)))
 
     -- So each slot hangs on something after the batch.
     pub batch_covers : Covers (sight u) (IsPending u) c.counts → Covers (sight u) (IsLate u) s
@@ -155,12 +150,12 @@ module _ (u : Core) (t : ℕ) (kept : IsKeptBy true (stand_at u.collector.left O
     ]
       where
         still_green : (x : ℕ) → is_green (slot_at c.counts x).colour ≡ true → is_green (slot_at s x).colour ≡ true
-        still_green x green = elim (cases_lt 0 (leaves x told_newer)) [ inl born ↦ is.born x born | inr none ↦ is.greens x (omega (arith, none)) ∙ green ]
+        still_green x green = elim (cases_lt 0 (leaves x told_newer)) [ inl born ↦ (is_counted u t kept phase).born x born | inr none ↦ (is_counted u t kept phase).greens x (omega (arith, none)) ∙ green ]
 
   -- and what was a member or released is so after it
   pub batch_owned : (x : ℕ) → IsOwned c.counts x → IsOwned s x
-  batch_owned x (inl gone) = inl (is.rest.released x ∙ gone)
-  batch_owned x (inr member) = inr (omega (arith, member, ap (λ (xss : List (List ℕ)). times x (concat xss)) is.rest.sets))
+  batch_owned x (inl gone) = inl ((is_counted u t kept phase).rest.released x ∙ gone)
+  batch_owned x (inr member) = inr (omega (arith, member, ap (λ (xss : List (List ℕ)). times x (concat xss)) (is_counted u t kept phase).rest.sets))
 
   pub batch_gone : (x : ℕ) → (slot_at c.counts x).released ≡ true → (slot_at s x).released ≡ true
-  batch_gone x gone = is.rest.released x ∙ gone
+  batch_gone x gone = (is_counted u t kept phase).rest.released x ∙ gone

@@ -1,5 +1,6 @@
 -- The laws of what hangs on something: of the heap's own words, by the heap of dated words behind it.
 use Rattle.std.proofs.Common.{◌≡◌, ℕ, ◌+◌, ◌≤◌, true, Some, List, [], ◌∷◌, map, slice_index_or, refl, sym, ap, subst, ◌∙◌, arith}
+use Rattle.rec_core.specs.Moves.{IsNoTurn}
 use Rattle.std.proofs.Math.ListN.{get_or-map}
 use Rattle.rec_core.proofs.Common.{place_of, target_of, IsTaken, Reaches, Contents, Entry, Private, named, old_target, AllFit, Core, Fits, Idle, IsConfig, IsKept, IsStart, Move, Trying, after_move, after_moves, nobody, sight, EndsRun}
 use Rattle.rec_word.specs.Bare.{bare}
@@ -8,24 +9,20 @@ use Rattle.rec_log.specs.Words.{buffer_by, entry_by}
 use Rattle.rec_log.specs.declared.entry.Entry.TheVariants as entries
 use Rattle.rec_mutator.specs.Bare as mutators
 use Rattle.rec_collector.specs.Private as collectors
+use Rattle.rec_collector.proofs.Bare.{old_bare}
 use Rattle.rec_core.specs.Bare.{bare_core}
 use Rattle.rec_core.specs.Core.{opened_from}
 use Rattle.rec_core.proofs.BareSeen.{reached_too}
 use Rattle.rec_core.proofs.Dated.{Explains, end_explained, move_explained, moves_explained}
 use Rattle.rec_core.proofs.OpenedFromSeen.{seen_settled}
 use Rattle.rec_core.proofs.Runs.{config_after, move_kept}
-use Rattle.rec_prompt.specs.Cover.{Hangs, IsCovered, IsNoTurn, IsPending, refused_sets, takes}
+use Rattle.rec_prompt.specs.Cover.{Hangs, IsCovered, IsPending, refused_sets, takes}
 use Rattle.rec_prompt.specs.Cover.Hangs.{later, listed, behind}
 use Rattle.rec_prompt.proofs.Mutators.{begun_hides, hides_covers, step_hides}
 use Rattle.rec_prompt.proofs.Turned.{IsWatched}
 use Rattle.rec_prompt.proofs.Watched.{moves_watched, offering_covers, opened_watched}
 
 -- a buffer with bare words takes off what it takes off with dated ones
-old_bare : (es : List Entry) → map old_target (map (entry_by bare) es) ≡ map old_target es
-old_bare [] = refl
-old_bare (entries.Put place new old ∷ es) = let first : target_of (bare old) ≡ target_of old = target_of_bare old in let rest = old_bare es in (λ i. first i ∷ rest i)
-old_bare (entries.Born slot leaf ∷ es) = let rest = old_bare es in (λ i. Some slot ∷ rest i)
-
 takes_bare : (slot : ℕ) (b : Contents) → takes slot (buffer_by bare b) ≡ takes slot b
 takes_bare slot b = ap (λ ts. named slot ts + named slot b.snapshot) (old_bare b.entries)
 

@@ -21,7 +21,6 @@ pub mod Pended
 pub mod Prompt
 pub mod Sees
 pub mod Stays
-pub mod Steps
 pub mod Third
 pub mod Trialled
 pub mod Tried

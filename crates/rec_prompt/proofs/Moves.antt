@@ -7,7 +7,7 @@ use Rattle.rec_model.proofs.Members.{is_in-cases, is_in-right, not_in-left}
 use Rattle.rec_core.proofs.Runs.{move_kept, moves_kept}
 use Rattle.rec_prompt.specs.Prompt.{freed_in, freed_over}
 use Rattle.rec_prompt.proofs.Forgets.{Forgets}
-use Rattle.rec_prompt.proofs.Steps.{begun_forgets, step_forgets}
+use Rattle.rec_prompt.proofs.Mutators.{begun_forgets, step_forgets}
 use Rattle.rec_prompt.proofs.Turns.{turn_forgets}
 use Rattle.rec_prompt.specs.Lost.{IsLost}
 use Rattle.rec_prompt.proofs.Begun.{starts_forgetting}
@@ -28,7 +28,7 @@ same_lost late first lost also v to from f = record {
 -- a move frees one slot at most; the others stay forgotten
 move_forgets : (late : ℕ) (first : Core) (lost : ℕ → Type 0) (v : Core) (m : Move) → IsKept true v → Fits v m → Forgets late first lost v → Forgets late first (λ slot. lost slot × (is_in slot (freed_in v m) ≡ false)) (after_move v m)
 move_forgets late first lost v (Move.Begins t work from) kept fits f = same_lost late first lost _ (after_move v (Move.Begins t work from)) (λ slot gone. (gone, refl)) (λ slot gone. gone.0) (begun_forgets late first lost v t work from kept fits.0 fits.1 f)
-move_forgets late first lost v (Move.Steps t) kept fits f = same_lost late first lost _ (after_move v (Move.Steps t)) (λ slot gone. (gone, refl)) (λ slot gone. gone.0) (step_forgets late first lost v t kept fits.0 fits.1 f)
+move_forgets late first lost v (Move.Steps t) kept fits f = same_lost late first lost _ (after_move v (Move.Steps t)) (λ slot gone. (gone, refl)) (λ slot gone. gone.0) (step_forgets v t kept fits.0 fits.1 late first lost f)
 move_forgets late first lost v Move.Turns kept fits f = turn_forgets late first lost v kept f
 move_forgets late first lost v Move.Offers kept fits f = same_lost late first lost _ (after_move v Move.Offers) (λ slot gone. (gone, refl)) (λ slot gone. gone.0) (record {
   taken = f.taken;

@@ -1,6 +1,7 @@
 -- A turn of the collector, where no set is refused: what the last trial found stays found up to the next batch, and what is released or a
 -- member before the tests is released after them.
 use Rattle.std.proofs.Common.{◌≡◌, ◌≢◌, ◌⊎◌, inl, inr, ℕ, ◌+◌, ◌<◌, ◌==◌, true, false, Option, None, Some, List, [], ◌∷◌, length, slice_index_or, slice_set, refl, sym, ap, subst, ◌∙◌, arith}
+use Rattle.rec_core.specs.Pending.{has_batched}
 use Rattle.std.specs.List.{concat}
 use Rattle.std.proofs.lemmas.Bool.{cases_eq, cond-false, false≢true, ne_eqb}
 use Rattle.std.proofs.lemmas.List.{get_or-set_other, set-get_or}
@@ -31,7 +32,7 @@ use Rattle.rec_core.proofs.Trying.{loads_child}
 use Rattle.rec_core.proofs.TurnCases.{Awaits, giving_back, requesting}
 use Rattle.rec_core.proofs.Turning.{mutator_at, some_op}
 use Rattle.rec_core.proofs.Turns.{now_at}
-use Rattle.rec_prompt.specs.Cover.{Covers, has_batched, IsPending}
+use Rattle.rec_prompt.specs.Cover.{Covers, IsPending}
 use Rattle.rec_prompt.specs.Lost.{Leads}
 use Rattle.rec_prompt.specs.Prompt.{freed_by}
 use Rattle.rec_prompt.proofs.Batch.{batch_covers, batch_gone, batch_owned, IsLate}

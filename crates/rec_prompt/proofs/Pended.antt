@@ -1,6 +1,7 @@
 -- What is still to be taken off by the epochs of what is pending is so by a buffer that the collector hasn't applied yet. So what is in
 -- the reach of the last batch's epoch hangs on what is pending: each root of that epoch is pending, and so is what a write replaced since.
 use Rattle.std.proofs.Common.{◌≡◌, ◌⊎◌, inl, inr, ℕ, suc, ◌+◌, ◌-◌, ◌/◌, ◌%◌, ◌<◌, ◌≤◌, ◌==◌, nat_le, true, false, Bool, List, [], ◌∷◌, Option, None, Some, length, map, slice_index_or, refl, ap, subst, ◌∙◌, arith}
+use Rattle.rec_core.specs.Pending.{has_batched}
 use Rattle.std.specs.List.{All, sum_by, flat_map, zip}
 use Rattle.std.proofs.Math.Nat.{mod-lt, div-add-mod, mul_comm}
 use Rattle.std.proofs.lemmas.Bool.{cases_lt, eqb-true, lt-leb, ne_eqb}
@@ -15,19 +16,11 @@ use Rattle.rec_model.specs.References.{IsInReach, opened_to}
 use Rattle.rec_model.proofs.Counted.{closed_out_of, edge_sum, opened_from, root_sum}
 use Rattle.rec_model.proofs.Reaching.{all_in_reach}
 use Rattle.rec_core.proofs.Batches.{buffer_there, same_name, same_word}
-use Rattle.rec_core.proofs.Sums.{share, log_share, box_share, buffers_sum}
-use Rattle.rec_prompt.specs.Cover.{has_batched, IsPending, takes}
+use Rattle.rec_core.proofs.Sums.{share, log_share, box_share, buffers_sum, some_of}
+use Rattle.rec_prompt.specs.Cover.{IsPending, takes}
 use Rattle.rec_prompt.specs.Lost.{Leads}
 use Rattle.rec_prompt.proofs.Counts.{counted_leads, some_at}
 use Rattle.rec_prompt.proofs.Hanging.{Trails}
-
--- a sum that isn't zero has an element that isn't
-pub some_of : {X : Type 0} (f : X → ℕ) (xs : List X) (d : X) → 0 < sum_by f xs → (i : ℕ) × (i < length xs) × (0 < f (slice_index_or xs i d))
-some_of f [] d some = absurd (omega (arith, some))
-some_of f (x ∷ xs) d some = elim (cases_lt 0 (f x)) [
-  | inl here ↦ (0, omega arith, here)
-  | inr none ↦ let rest = some_of f xs d (omega (arith, some, none, sum_by-cons f x xs)) in (suc rest.0, omega (arith, rest.1), rest.2)
-]
 
 some_pair : {X Y : Type 0} (f : X × Y → ℕ) (xs : List X) (ys : List Y) (d : X) (e : Y) → 0 < sum_by f (zip xs ys) → (i : ℕ) × (0 < f (slice_index_or xs i d, slice_index_or ys i e))
 some_pair f [] ys d e some = absurd (omega (arith, some))

@@ -1,5 +1,6 @@
 -- A turn of the collector leaves each slot on something, unless it refuses a set.
 use Rattle.std.proofs.Common.{◌≡◌, ◌≢◌, ◌⊎◌, inl, inr, ℕ, ◌+◌, ◌-◌, ◌*◌, ◌<◌, ◌≤◌, ◌==◌, true, false, Bool, Option, None, Some, IsSome, List, [], ◌∷◌, length, map, slice_index_or, slice_set, refl, sym, ap, subst, ◌∙◌, arith}
+use Rattle.rec_core.specs.Pending.{has_batched}
 use Rattle.std.proofs.lemmas.Bool.{cases_eq, false≢true, cond-false, ne_eqb}
 use Rattle.std.proofs.lemmas.List.{get_or-set_same, get_or-set_other, set-get_or}
 use Rattle.rec_core.proofs.Common.{crossing_word, Retired, place_of, target_of, Op, is_green, State, slot_at, times, absent, Slot, taken_off, IsApart, emptied, Sight, IsTaken, Contents, buffer_at, Parts, parts_of, relieved_at, with_released, with_freed, zeros_released, ClearsOn, TriesOn, PreparesOn, Begun, noted, requested, Phase, Idle, Looking, Returning, Releasing, Freeing, Trying, Preparing, Opening, Sweeping, Closing, Turn, Machine, cell, with_cell, Core, cells_of, box, nobody, sight, stand_at, IsKept, IsKeptBy, left_by, looked_at, turned_by, At, Member, swept, swept_clean, visible, freed_by, freed_last, freed_listed, released_by}
@@ -26,7 +27,7 @@ use Rattle.rec_core.proofs.Turning.{mutator_at, some_op}
 use Rattle.rec_core.proofs.Applying.{counted}
 use Rattle.rec_core.proofs.Phases.{clears_in}
 use Rattle.rec_core.proofs.Turns.{now_at}
-use Rattle.rec_prompt.specs.Cover.{Covers, Hangs, has_batched, IsCovered, IsListed, IsPending, takes}
+use Rattle.rec_prompt.specs.Cover.{Covers, Hangs, IsCovered, IsListed, IsPending, takes}
 use Rattle.rec_prompt.specs.Cover.Hangs.{later, listed, behind}
 use Rattle.rec_prompt.specs.Lost.{Leads}
 use Rattle.rec_prompt.proofs.Batch.{batch_covers, IsLate}

@@ -1,5 +1,6 @@
 -- What the collector still has to look at, and what hangs on that.
 use Rattle.std.specs.Prelude.{◌≡◌, ℕ, ◌+◌, ◌<◌, Bool, true, false, map, slice_index_or}
+use Rattle.rec_core.specs.Pending.{has_batched}
 use Rattle.std.specs.List.{concat}
 use Rattle.rec_model.specs.Sight.{Sight, IsTaken}
 use Rattle.rec_log.specs.declared.contents.Contents.{Contents}
@@ -8,23 +9,12 @@ use Rattle.rec_counts.specs.Counts.{State, slot_at}
 use Rattle.rec_counts.specs.Lists.{times}
 use Rattle.rec_counts.specs.Targets.{named, old_target}
 use Rattle.rec_collector.specs.Private as collectors
-use Rattle.rec_collector.specs.declared.phase.Phase.{Phase}
-use Rattle.rec_collector.specs.declared.phase.Phase.TheVariants.{Idle, Looking, Swapping, Returning}
 use Rattle.rec_core.specs.Core.{Core, nobody, sight}
-use Rattle.rec_core.specs.Moves.{Move}
 use Rattle.rec_prompt.specs.Lost.{Leads}
 
 -- how many of its references a batch takes off the slot by this buffer: the targets that its writes replaced, its births, its snapshot
 abbrev pub takes : (slot : ℕ) → Contents → ℕ
 takes slot b = named slot (map old_target b.entries) + named slot b.snapshot
-
--- the collection under way has applied its batch
-abbrev pub has_batched : Phase → Bool
-has_batched Idle = false
-has_batched (Looking t) = false
-has_batched (Swapping t) = false
-has_batched (Returning t) = false
-has_batched _ = true
 
 -- A batch to come takes something off the slot: by a log, by what a mailbox holds, by a newer buffer, or, until the batch, by an older one.
 pub data IsPending (w : Core) (slot : ℕ) : Type 0 where
@@ -59,8 +49,3 @@ IsCovered w = Covers (sight w) (IsPending w) w.collector.counts
 -- how many sets were refused, of those that were tested
 abbrev pub refused_sets : Core → ℕ
 refused_sets w = w.collector.sets.delta + w.collector.sets.sigma
-
--- the move isn't a turn of the collector
-abbrev pub IsNoTurn : Move → Type 0
-IsNoTurn Move.Turns = ⊥
-IsNoTurn _ = Unit {0}

@@ -5,8 +5,8 @@ ghost use Rattle.rec_counts.specs.Counts.{slot_at};
 ghost use Rattle.rec_collector.specs.declared.phase.Phase.TheVariants.{Idle};
 ghost use Rattle.rec_core.specs.Config.{IsConfig};
 ghost use Rattle.rec_core.specs.Core.{Core, sight};
-ghost use Rattle.rec_core.specs.Moves.{Move, AllFit, EndsRun, Fits, after_move, after_moves};
-ghost use Rattle.rec_prompt.specs.Cover.{IsCovered, IsNoTurn, refused_sets};
+ghost use Rattle.rec_core.specs.Moves.{Move, AllFit, EndsRun, Fits, after_move, after_moves, IsNoTurn};
+ghost use Rattle.rec_prompt.specs.Cover.{IsCovered, refused_sets};
 ghost use Rattle.rec_prompt.specs.Lost.{fields_to, IsBehindNoCycle, IsLost, Leads};
 ghost use Rattle.rec_prompt.specs.Prompt.{Complete, IsFreed, IsLeft};
 

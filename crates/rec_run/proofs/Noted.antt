@@ -5,7 +5,7 @@ use Rattle.std.proofs.lemmas.Grind.{flat_map-append}
 use Rattle.rec_collector.specs.Shown.{Shown}
 use Rattle.rec_core.specs.Config.{IsConfig}
 use Rattle.rec_core.specs.Core.{Core, opened}
-use Rattle.rec_audit.specs.Logged.{works_in}
+use Rattle.rec_core.specs.Pending.{has_batched}
 use Rattle.rec_core.specs.Shown.{Shows}
 use Rattle.rec_core.specs.declared.config.Config.{Config}
 use Rattle.rec_core.proofs.Shows.{shows_then}
@@ -35,4 +35,4 @@ pub run_answered : (config : Config) (amid tried end : Core) (first later : List
 run_answered config amid tried end first later text is f g last written =
     let (one, freed, idle, many, all) = last.complete in
     subst (λ (t : List ℕ). length t ≤ MOST_BYTES → IsVerdict t (Yes (sets_passed (first ++ later)))) (sym written)
-    (of_runs config (first ++ later) end is (shows_then (opened config) amid end first later f g) (ap works_in idle))
+    (of_runs config (first ++ later) end is (shows_then (opened config) amid end first later f g) (ap has_batched idle))
