@@ -39,6 +39,10 @@ made_ended first u v from n most turn before Made.none other few = absurd (other
 made_ended first u v from n most turn before (Made.more m a b t moves makes) other few =
     subst (λ k. MakesSome first v (from + k) most turn) (omega arith) (MakesSome.ended a (omega (arith, few)) (moves_both first u a from m before moves) makes other)
 
+-- one more turn that moved
+pub moves_one : (first a b : CollectorView) (moves : ℕ) (answer : Turn) → MovesTo first moves a → MakesTurn a b answer → answer ≡ turns.Moved → MovesTo first (moves + 1) b
+moves_one first a b moves answer m t is = MovesTo.more moves a b m (subst (λ (x : Turn). MakesTurn a b x) is t)
+
 -- turns that moved
 pub some_moved : (first after : CollectorView) (moves most : ℕ) (answer : Turn) → MakesSome first after moves most answer → answer ≡ turns.Moved → MovesTo first moves after × (moves ≤ most)
 some_moved first after moves most answer (MakesSome.moved e few m) is = (m, few)

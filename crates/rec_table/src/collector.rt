@@ -461,10 +461,50 @@ impl Collector {
         ensures own { IsCollectorOf heap.now self.new }
         ensures same { T.SameTube teller.old.tube teller.new.tube }
     {
+        match self.kind() {
+            Kind::Releasing => self.turn_telling_as(heap, Kind::Releasing, teller),
+            Kind::Freeing => self.turn_telling_as(heap, Kind::Freeing, teller),
+            Kind::Trying => self.turn_telling_as(heap, Kind::Trying, teller),
+            Kind::Preparing => self.turn_telling_as(heap, Kind::Preparing, teller),
+            Kind::Sweeping => self.turn_telling_as(heap, Kind::Sweeping, teller),
+            Kind::Other => self.turn_telling_as(heap, Kind::Other, teller),
+        }
+    }
+
+    // The same of a collector in a phase of this kind.
+    #[inline(always)]
+    fn turn_telling_as<T: Tube>(
+        &mut self,
+        heap: &Heap,
+        kind: Kind,
+        teller: &mut Teller<T>,
+    ) -> Telling
+        requires own { IsCollectorOf heap.now self.old }
+        requires kind { kind ≡ kind_of (collector_now self.old).phase }
+
+        ensures turn { IfTurned result (λ turn. MakesTurn self.old self.new turn) }
+        // A label that was kept is sent by then; and what was told grows by what the turn frees.
+        ensures first { IfTurned result (λ _. IsPrefix (told T.sent teller.old) (T.sent teller.new.tube)) }
+        ensures told { IfTurned result (λ _. TellsTurn self.old self.new (told T.sent teller.old) (told T.sent teller.new)) }
+
+        // Nothing but the count of refusals changes where a label is held.
+        ensures held { IfHeld result (λ label. teller.old.kept ≡ Some label) }
+        ensures kept { IfHeld result (λ label. teller.new.kept ≡ Some label) }
+        ensures unsent { IfHeld result (λ _. T.sent teller.new.tube ≡ T.sent teller.old.tube) }
+        ensures unturned { IfHeld result (λ _. self.new ≡ self.old) }
+
+        // A label is held, or newly kept, only where one was refused in this call.
+        ensures refused { IsSome teller.new.kept → Rose (T.refusals teller.old.tube) (T.refusals teller.new.tube) }
+        ensures never_falls { T.refusals teller.old.tube ≤ T.refusals teller.new.tube }
+
+        // It stays the collector of this heap, and the teller's tube the same.
+        ensures own { IsCollectorOf heap.now self.new }
+        ensures same { T.SameTube teller.old.tube teller.new.tube }
+    {
         if let Some(label) = offer_kept(teller) {
             return Telling::Held { label };
         }
-        let (turn, freed) = self.turn_freeing(heap.board());
+        let (turn, freed) = self.turn_as(heap.board(), kind);
         if let Some(label) = freed {
             teller.tell(label);
         }
@@ -513,8 +553,7 @@ impl Collector {
         Telling::Turned(Turn::Moved)
     }
 
-    // Makes turns that tell, where so many of so many were made: as long as they are of one kind, where that kind frees no objects, else
-    // one. It tells how many were made then.
+    // Makes turns that tell, as long as they are of one kind, where so many of so many were made, and tells how many were made then.
     #[inline(always)]
     fn run_telling<T: Tube>(
         &mut self,
@@ -531,7 +570,8 @@ impl Collector {
         ensures told { TellsTurns self.old self.new (told T.sent teller.old) (told T.sent teller.new) }
         ensures first { IfTurned result.1 (λ _. IsPrefix (told T.sent teller.old) (T.sent teller.new.tube)) }
         ensures held { IfHeld result.1 (λ label. teller.new.kept ≡ Some label) }
-        ensures unturned { IfHeld result.1 (λ _. self.new ≡ self.old) }
+        ensures fewer { IfHeld result.1 (λ _. result.0 < most) }
+        ensures moved { IfHeld result.1 (λ _. (first : CollectorView) → MovesTo first from self.old → MovesTo first result.0 self.new) }
         ensures refused { IsSome teller.new.kept → Rose (T.refusals teller.old.tube) (T.refusals teller.new.tube) }
         ensures never_falls { T.refusals teller.old.tube ≤ T.refusals teller.new.tube }
         ensures own { IsCollectorOf heap.now self.new }
@@ -541,40 +581,51 @@ impl Collector {
             Kind::Freeing => self.run_unfreeing(heap, Kind::Freeing, from, most, teller),
             Kind::Trying => self.run_unfreeing(heap, Kind::Trying, from, most, teller),
             Kind::Preparing => self.run_unfreeing(heap, Kind::Preparing, from, most, teller),
-            _ => self.run_one(heap, from, most, teller),
+            Kind::Releasing => self.run_telling_as(heap, Kind::Releasing, from, most, teller),
+            Kind::Sweeping => self.run_telling_as(heap, Kind::Sweeping, from, most, teller),
+            Kind::Other => self.run_telling_as(heap, Kind::Other, from, most, teller),
         }
     }
 
-    // One turn, in place of a run.
+    // The same for turns of this kind, which tell one by one. A loop whose kind is known is straight code.
     #[inline(always)]
-    fn run_one<T: Tube>(
+    fn run_telling_as<T: Tube>(
         &mut self,
         heap: &Heap,
+        kind: Kind,
         from: u32,
         most: u32,
         teller: &mut Teller<T>,
     ) -> (u32, Telling)
         requires own { IsCollectorOf heap.now self.old }
         requires fewer { from < most }
+        requires kind { kind ≡ kind_of (collector_now self.old).phase }
 
         ensures made { IfTurned result.1 (λ turn. (first : CollectorView) → MovesTo first from self.old → MakesSome first self.new result.0 most turn) }
         ensures further { IfTurned result.1 (λ turn. turn ≡ Turn.Moved → from < result.0) }
         ensures told { TellsTurns self.old self.new (told T.sent teller.old) (told T.sent teller.new) }
         ensures first { IfTurned result.1 (λ _. IsPrefix (told T.sent teller.old) (T.sent teller.new.tube)) }
         ensures held { IfHeld result.1 (λ label. teller.new.kept ≡ Some label) }
-        ensures unturned { IfHeld result.1 (λ _. self.new ≡ self.old) }
+        ensures fewer { IfHeld result.1 (λ _. result.0 < most) }
+        ensures moved { IfHeld result.1 (λ _. (first : CollectorView) → MovesTo first from self.old → MovesTo first result.0 self.new) }
         ensures refused { IsSome teller.new.kept → Rose (T.refusals teller.old.tube) (T.refusals teller.new.tube) }
         ensures never_falls { T.refusals teller.old.tube ≤ T.refusals teller.new.tube }
         ensures own { IsCollectorOf heap.now self.new }
         ensures same { T.SameTube teller.old.tube teller.new.tube }
     {
-        match self.turn_telling(heap, teller) {
-            Telling::Held { label } => (from, Telling::Held { label }),
-            Telling::Turned(turn) => match turn {
-                Turn::Moved => (from + 1, Telling::Turned(turn)),
-                _ => (from, Telling::Turned(turn)),
-            },
+        for moves in from..most {
+            match self.turn_telling_as(heap, kind, teller) {
+                Telling::Held { label } => return (moves, Telling::Held { label }),
+                Telling::Turned(turn) => match turn {
+                    Turn::Moved => (),
+                    _ => return (moves, Telling::Turned(turn)),
+                },
+            }
+            if !self.is_of_kind(kind) {
+                return (moves + 1, Telling::Turned(Turn::Moved));
+            }
         }
+        (most, Telling::Turned(Turn::Moved))
     }
 
     // A run of turns of a kind that frees no objects. So only a label that the teller keeps is offered.
@@ -598,7 +649,8 @@ impl Collector {
         ensures told { TellsTurns self.old self.new (told T.sent teller.old) (told T.sent teller.new) }
         ensures first { IfTurned result.1 (λ _. IsPrefix (told T.sent teller.old) (T.sent teller.new.tube)) }
         ensures held { IfHeld result.1 (λ label. teller.new.kept ≡ Some label) }
-        ensures unturned { IfHeld result.1 (λ _. self.new ≡ self.old) }
+        ensures fewer { IfHeld result.1 (λ _. result.0 < most) }
+        ensures moved { IfHeld result.1 (λ _. (first : CollectorView) → MovesTo first from self.old → MovesTo first result.0 self.new) }
         ensures refused { IsSome teller.new.kept → Rose (T.refusals teller.old.tube) (T.refusals teller.new.tube) }
         ensures never_falls { T.refusals teller.old.tube ≤ T.refusals teller.new.tube }
         ensures own { IsCollectorOf heap.now self.new }

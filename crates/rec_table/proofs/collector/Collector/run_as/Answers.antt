@@ -1,14 +1,8 @@
 -- The contract of `Collector::run_as`: makes turns as long as they are of one kind.
-use Rattle.std.proofs.Common.{◌≡◌, ℕ, ◌+◌, refl, subst, arith, rules}
-use Rattle.rec_collector.specs.declared.turn.Turn.{Turn}
-use Rattle.rec_collector.specs.declared.turn.Turn.TheVariants as turns
-use Rattle.rec_table.specs.Turn.{MakesSome, MakesTurn, MovesTo}
-use Rattle.rec_table.specs.Views.{CollectorView}
+use Rattle.std.proofs.Common.{◌≡◌, refl, subst, arith, rules}
+use Rattle.rec_table.specs.Turn.{MakesSome, MovesTo}
+use Rattle.rec_table.proofs.TurnRuns.{moves_one}
 use Rattle.rec_table.proofs.collector.Collector.run_as.Goals as goal
-
--- one more turn that moved
-one_more : (first a b : CollectorView) (moves : ℕ) (answer : Turn) → MovesTo first moves a → MakesTurn a b answer → answer ≡ turns.Moved → MovesTo first (moves + 1) b
-one_more first a b moves answer m t is = MovesTo.more moves a b m (subst (λ (x : Turn). MakesTurn a b x) is t)
 
 pub loop-moves-init : goal.loop-moves-init
 loop-moves-init c = record { own = c.requires.own; moved = λ first m. m; kind = c.requires.kind }
@@ -16,7 +10,7 @@ loop-moves-init c = record { own = c.requires.own; moved = λ first m. m; kind =
 pub loop-moves-preserved : goal.loop-moves-preserved
 loop-moves-preserved c = record {
   own = c.turn_of_kind-turn.ensures.own;
-  moved = λ first m. one_more first c.loop-moves.self c.turn_of_kind-turn.new.self c.loop-moves.moves c.turn_of_kind-turn.result (c.loop-moves.invariant.moved first m) c.turn_of_kind-turn.ensures.turn c.in-Moved.is;
+  moved = λ first m. moves_one first c.loop-moves.self c.turn_of_kind-turn.new.self c.loop-moves.moves c.turn_of_kind-turn.result (c.loop-moves.invariant.moved first m) c.turn_of_kind-turn.ensures.turn c.in-Moved.is;
   kind = search rules;
 }
 
@@ -29,7 +23,7 @@ returns-in_default c = record {
 
 pub returns-then-not-is_of_kind-clause-made : goal.returns-then-not-is_of_kind-clause-made
 returns-then-not-is_of_kind-clause-made c = λ first m. MakesSome.moved refl (omega (arith, c.loop-moves-test.true))
-    (one_more first c.loop-moves.self c.turn_of_kind-turn.new.self c.loop-moves.moves c.turn_of_kind-turn.result (c.loop-moves.invariant.moved first m) c.turn_of_kind-turn.ensures.turn c.in-Moved.is)
+    (moves_one first c.loop-moves.self c.turn_of_kind-turn.new.self c.loop-moves.moves c.turn_of_kind-turn.result (c.loop-moves.invariant.moved first m) c.turn_of_kind-turn.ensures.turn c.in-Moved.is)
 
 pub returns : goal.returns
 returns c =

@@ -1,5 +1,5 @@
 -- The contract of `Collector::turns_telling`: makes turns that tell until one comes to something else than that it moved or a label is held.
-use Rattle.std.proofs.Common.{subst, arith, ◌≡◌, ℕ, refl, sym}
+use Rattle.std.proofs.Common.{subst, arith, ◌≡◌, ℕ, refl}
 use Rattle.rec_io.proofs.Faults.{rose_since}
 use Rattle.rec_notice.specs.Telling.{told}
 use Rattle.rec_table.specs.Turn.{MakesTurns, MovesTo}
@@ -73,8 +73,9 @@ returns-in-Held-clause-held g c = held _ c.run_telling-made.result.1 c.in-Held.l
 
 pub returns-in-Held-clause-fewer : goal.returns-in-Held-clause-fewer
 returns-in-Held-clause-fewer g c =
-    let stays = held _ c.run_telling-made.result.1 c.in-Held.label c.in-Held.is c.run_telling-made.ensures.unturned in
-    record { moves = c.loop-moves.moves; fewer = c.loop-moves-test.true; moved = subst (MovesTo c.args.self.now c.loop-moves.moves) (sym stays) c.loop-moves.invariant.moved }
+    let run = c.run_telling-made in
+    let moved = held _ run.result.1 c.in-Held.label c.in-Held.is run.ensures.moved in
+    record { moves = run.result.0; fewer = held _ run.result.1 c.in-Held.label c.in-Held.is run.ensures.fewer; moved = moved c.args.self.now c.loop-moves.invariant.moved }
 
 pub returns-in-Held-clause-refused : goal.returns-in-Held-clause-refused
 returns-in-Held-clause-refused g c = λ some kept. rose_since _ _ _ c.loop-moves.invariant.never_falls (c.run_telling-made.ensures.refused kept)
