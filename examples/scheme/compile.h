@@ -210,9 +210,10 @@ static int rewrite(datum **d) {
 
 typedef enum operation {
     CONSTANT, /* an object of kind `at` with the number `number` */
-    LOAD,     /* field `number` of the node that is `at` nodes outside; or where that is 0, global `at` */
+    LOAD,     /* field `number` of the node that is `at` nodes outside; or where that is 0, global `at`, or of the node in register ~`at` */
     STORE,    /* into that */
-    CLOSE,    /* a closure of `number` parameters, or ~ of that with a rest, whose body is behind this. Goes on at `at` */
+    CLOSE,    /* a closure of `number` parameters, or ~ of that with a rest, on `nodes` nodes, whose body is behind this. Goes on at `at` */
+    ENTER,    /* that body, whose operands are in `to` and behind it. No closure is made. Goes on at `at` */
     CHOOSE,   /* goes on at `at` where the value is #f */
     JUMP,     /* goes on at `at` */
     CALL,     /* the procedure behind `number` operands */
@@ -222,7 +223,7 @@ typedef enum operation {
 
 typedef struct instruction {
     operation does;
-    int to, at, number, line;
+    int to, at, number, nodes, line;
     const char *name;
 } instruction;
 
@@ -230,9 +231,9 @@ static instruction *code;
 static int code_count, global_count;
 
 static int emit(operation does, int to, int at, int number) {
-    check(reader, to < (does == CALL ? ENVIRONMENT + FIELDS : FRESH), "operations nest too deep");
+    check(reader, to < FRESH, "operations nest too deep");
     code = grown(code, code_count, sizeof *code);
-    code[code_count] = (instruction){ does, to, at, number, reader->line, NULL };
+    code[code_count] = (instruction){ does, to, at, number, 0, reader->line, NULL };
     return code_count++;
 }
 
@@ -263,23 +264,54 @@ static void compile_all(datum *forms, datum *scope, int to) {
         compile(forms->head, scope, to);
 }
 
-/* What the forms define are variables behind the parameters. The answer is how many parameters there are, or ~ of that with a rest. */
-static int compile_body(datum *parts, datum *outside) {
-    datum *scope = pair(filled(parts->head, &nothing), outside); /* a copy of the parameters, since the list grows */
-    datum **end = &scope->head, *defined = &nothing;
-    int parameters = 0, variables = 0;
-    for (; (*end)->of == PAIR; end = &(*end)->tail)
+/* The scope in a body: a node for as many names as it has room for, and nodes inside that for the others. The number is how many nodes of
+ * the same body are outside. */
+static datum *inner_scope(datum *names, datum *outside, int node) {
+    datum *scope = pair(names, outside), **end = &scope->head;
+    scope->number = node;
+    for (int item = 0; item < BRANCHES && (*end)->of == PAIR; item++)
+        end = &(*end)->tail;
+    names = *end;
+    *end = &nothing;
+    return names->of == PAIR ? inner_scope(names, scope, node + 1) : scope;
+}
+
+/* How many parameters there are, or ~ of that with a rest. */
+static int parameters_of(const datum *names) {
+    int parameters = 0;
+    for (; names->of == PAIR; names = names->tail)
         parameters++;
-    parameters = (*end)->of == SYMBOL ? ~parameters : parameters;
+    return names->of == SYMBOL ? ~parameters : parameters;
+}
+
+/* The body of CLOSE or ENTER, which is at `begun`. What its forms define are variables behind the parameters. */
+static void compile_body(datum *parts, datum *outside, int begun) {
+    datum *names = filled(parts->head, &nothing), **end = &names, *defined = &nothing; /* a copy of the parameters, since the list grows */
+    int variables = 0;
+    while ((*end)->of == PAIR)
+        end = &(*end)->tail;
+    code[begun].number = parameters_of(names);
     for (datum *forms = parts->tail; forms->of == PAIR; forms = forms->tail)
         if (rewrite(&forms->head) == DEFINE)
             defined = pair(forms->head->tail->head, defined);
     *end = (*end)->of == SYMBOL ? pair(*end, defined) : defined;
-    for (datum *names = scope->head; names->of == PAIR; names = names->tail)
-        check(reader, names->head->of == SYMBOL && ++variables < FIELDS, "a procedure has names for %d variables at most", FIELDS - 1);
-    compile_all(parts->tail, scope, STACK);
+    for (datum *each = names; each->of == PAIR; each = each->tail)
+        check(reader, each->head->of == SYMBOL && ++variables < OPERANDS, "a procedure has names for %d variables at most", OPERANDS - 1);
+    code[begun].nodes = variables == 0 ? 1 : (variables + BRANCHES - 1) / BRANCHES;
+    compile_all(parts->tail, inner_scope(names, outside, 0), STACK);
     emit(RETURN, STACK, 0, 0);
-    return parameters;
+    code[begun].at = code_count;
+}
+
+/* Behind its operands. A body that is called at once, as that of a `let`, is entered without a closure. */
+static void compile_call(datum *d, datum *scope, int to, int count) {
+    if (rewrite(&d->head) == LAMBDA && parameters_of(d->head->tail->head) == count) {
+        compile_body(d->head->tail, scope, emit(ENTER, to, 0, 0));
+        return;
+    }
+    compile(d->head, scope, to + count);
+    reader->line = d->line;
+    emit(CALL, to, 0, count);
 }
 
 static void compile(datum *d, datum *scope, int to) {
@@ -302,16 +334,14 @@ static void compile(datum *d, datum *scope, int to) {
     case DEFINE:
         compile(parts->tail->head, scope, to);
         emit_variable(STORE, parts->head, scope, to);
-        check(reader, word == SET || scope->tail->of != PAIR || code[code_count - 1].at == 0, "definitions stand at the top or in a body");
+        check(reader, word == SET || scope->tail->of != PAIR || (code[code_count - 1].number > 0 && code[code_count - 1].at <= scope->number),
+              "definitions stand at the top or in a body");
         break;
     case BEGIN:
         compile_all(parts, scope, to);
         break;
     case LAMBDA:
-        end = emit(CLOSE, to, 0, 0);
-        count = compile_body(parts, scope);
-        code[end].number = count;
-        code[end].at = code_count;
+        compile_body(parts, scope, emit(CLOSE, to, 0, 0));
         break;
     case RULE:
         rules = pair(pair(parts->head, parts->tail->head), rules);
@@ -321,9 +351,7 @@ static void compile(datum *d, datum *scope, int to) {
             compile(parts->head, scope, to + count++);
         if (d->of == PAIR) {
             check(reader, parts->of == EMPTY, "a call is no list");
-            compile(d->head, scope, to + count);
-            reader->line = d->line;
-            emit(CALL, to, 0, count);
+            compile_call(d, scope, to, count);
         } else if (d->of == SYMBOL) {
             emit_variable(LOAD, d, scope, to);
         } else {

@@ -42,11 +42,11 @@ static label label_from(uint32_t whole) {
     return (label){ whole & 15, (int)(whole >> 4 ^ 1u << 27) - (1 << 27) };
 }
 
-enum { FIELDS = 12, BRANCHES = FIELDS - 1, TOKENS = 2, MOST_NUMBER = (1 << 27) - 1, LEAST_NUMBER = -MOST_NUMBER - 1 };
+enum { FIELDS = 4, BRANCHES = FIELDS - 1, TOKENS = 2, OPERANDS = 24, MOST_NUMBER = (1 << 27) - 1, LEAST_NUMBER = -MOST_NUMBER - 1 };
 
-/* Registers. ROOT names a vector that all threads share: the globals, and behind them what threads carry out. NONE is null, and from CONSTANTS
- * on are objects of the kinds FALSE to VOID. */
-enum { ROOT, NONE, CONSTANTS, FRAMES = CONSTANTS + VOID, ENVIRONMENT, STACK, FRESH = STACK + 2 * FIELDS, WALK, SPARE, REGISTERS };
+/* Registers. ROOT names a vector that all threads share: the globals, and behind them what threads carry out. NONE is null, from CONSTANTS on are
+ * objects of the kinds FALSE to VOID, and from CELLS on the nodes of some globals. */
+enum { ROOT, NONE, CONSTANTS, CELLS = CONSTANTS + VOID, FRAMES = 64 - OPERANDS - 5, ENVIRONMENT, STACK, FRESH = STACK + OPERANDS, WALK, SPARE, REGISTERS };
 
 /* A thread of the program: what the heap knows it by, which one it is, the line that it carries out, and how many calls it made. */
 typedef struct mutator {
@@ -67,11 +67,11 @@ static void require(bool holds, const char *sentence) {
 }
 
 /* Unless something holds, what a thread carries out ends with a sentence. */
-static void check(mutator *m, bool holds, const char *format, ...) {
+#define check(m, holds, ...) ((holds) ? (void)0 : fail(m, __VA_ARGS__))
+
+static void fail(mutator *m, const char *format, ...) {
     char sentence[200];
     va_list given;
-    if (holds)
-        return;
     va_start(given, format);
     vsnprintf(sentence, sizeof sentence, format, given);
     va_end(given);

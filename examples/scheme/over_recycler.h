@@ -4,7 +4,8 @@
 static recycler heap = RECYCLER_CLOSED;
 
 static void must(uint32_t code) {
-    require(code == RECYCLER_OK, recycler_code_text(code));
+    if (code != RECYCLER_OK)
+        require(false, recycler_code_text(code));
 }
 
 /* ---- objects */

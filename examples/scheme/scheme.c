@@ -9,8 +9,18 @@
 
 enum { LESS = 1, EQUAL = 2, MORE = 4, TO_SEE = 0, TO_READ, AS_STRING, AS_FAILURE };
 
-/* Operands are in registers from `first` on, and the value is in `first` then. Operands that have to be of a kind have numbers. */
-typedef struct call { int of, first, count, numbers[2 * FIELDS]; } call;
+/* Operands are in registers from `first` on, and the value is in `first` then. Operands that have to be of a kind have numbers. Where `told` is
+ * there, a value that is #t or #f is wanted there alone. */
+typedef struct call {
+    int of, first, count, *told, numbers[OPERANDS];
+} call;
+
+static void answer(mutator *m, const call *c, bool is) {
+    if (c->told != NULL)
+        *c->told = is;
+    else
+        set(m, c->first, is ? TRUE : FALSE, 0);
+}
 
 static long long calculated(int operation, long long all, int next) {
     switch (operation) {
@@ -39,18 +49,18 @@ static void compare(mutator *m, const call *c) {
     bool all = true;
     for (int each = 1; each < c->count; each++)
         all = all && c->of & (n[each - 1] < n[each] ? LESS : n[each - 1] > n[each] ? MORE : EQUAL);
-    set(m, c->first, all ? TRUE : FALSE, 0);
+    answer(m, c, all);
 }
 
 /* Two leaves are the same where they look the same. */
 static void is_same(mutator *m, const call *c) {
     label a = label_of(m, c->first), b = label_of(m, c->first + 1);
     bool alike = a.of < PAIR && a.of == b.of && a.number == b.number;
-    set(m, c->first, alike || is_one(m, c->first, c->first + 1) ? TRUE : FALSE, 0);
+    answer(m, c, alike || is_one(m, c->first, c->first + 1));
 }
 
 static void is_of_kind(mutator *m, const call *c) {
-    set(m, c->first, c->of >> label_of(m, c->first).of & 1 ? TRUE : FALSE, 0);
+    answer(m, c, c->of >> label_of(m, c->first).of & 1);
 }
 
 static void cons(mutator *m, int to, int head, int tail) {
@@ -191,13 +201,13 @@ static const struct primitive {
 
 enum { PRIMITIVE_COUNT = sizeof PRIMITIVES / sizeof *PRIMITIVES };
 
-static void operate(mutator *m, int which, int first, int count) {
+static void operate(mutator *m, int which, int first, int count, int *told) {
     static const char LETTERS[] = ".....nys.tp.v";
     static const char *const NAMES[] = { [NUMBER] = "number", "symbol", "string", [THREAD] = "thread", "pair", [VECTOR] = "vector" };
     const struct primitive *p = &PRIMITIVES[which];
     int letters = (int)strcspn(p->operands, "*!");
     bool more = p->operands[letters] == '*';
-    call c = { .of = p->of, .first = first, .count = count };
+    call c = { .of = p->of, .first = first, .count = count, .told = told };
     check(m, more ? count >= letters - 1 : count == letters, "`%s` doesn't take %d operands", p->name, count);
     for (int each = 0; each < count; each++) {
         char wanted = p->operands[each < letters ? each : letters - 1];
@@ -214,29 +224,48 @@ static void operate(mutator *m, int which, int first, int count) {
 
 static int look_around(mutator *m, int next);
 
-/* Hangs what registers name on a new object in front of a chain. */
-static void push(mutator *m, int chain, kind of, int number, int first, int end) {
-    make(m, FRESH, of, number);
-    put(m, FRESH, 0, chain);
-    for (int reg = first; reg < end; reg++)
-        put(m, FRESH, 1 + reg - first, reg);
-    copy(m, chain, FRESH);
+/* How many objects hold what so many registers name. */
+static int pieces(int registers) {
+    return registers <= 0 ? 1 : (registers + BRANCHES - 1) / BRANCHES;
 }
 
-/* Calls the procedure behind `count` operands, and answers where the program goes on. Where only a RETURN is behind, no frame is made. */
-static int call_procedure(mutator *m, int first, int count, int next) {
-    label procedure = label_of(m, first + count);
-    if (procedure.of == PRIMITIVE) {
-        operate(m, procedure.number, first, count);
-        return next;
+/* Hangs what registers name on so many new objects in front of a chain. */
+static void push(mutator *m, int chain, kind of, int number, int first, int end, int objects) {
+    for (; objects > 0; objects--) {
+        make(m, FRESH, of, number);
+        put(m, FRESH, 0, chain);
+        for (int field = 1; field < FIELDS && first < end; field++)
+            put(m, FRESH, field, first++);
+        copy(m, chain, FRESH);
     }
-    check(m, procedure.of == CLOSURE, "what is called is no procedure");
-    int wanted = code[procedure.number].number, least = wanted < 0 ? ~wanted : wanted, behind = next;
-    check(m, count == wanted || (wanted < 0 && count >= least), "a procedure of %d parameters is called with %d", least, count);
+}
+
+/* Has a frame made that goes on at `next` with a value in `to`, unless only a RETURN is there. */
+static void wait_for(mutator *m, int to, int next) {
+    int behind = next;
     while (code[behind].does == JUMP)
         behind = code[behind].at;
     if (code[behind].does != RETURN)
-        push(m, FRAMES, FRAME, next * REGISTERS + first, ENVIRONMENT, first);
+        push(m, FRAMES, FRAME, next * REGISTERS + to, ENVIRONMENT, to, pieces(to - ENVIRONMENT));
+}
+
+/* Enters the body of a CLOSE or ENTER, with a node in front of the environment for its operands, and answers where the program goes on. */
+static int enter_body(mutator *m, int begun, int first, int count) {
+    push(m, ENVIRONMENT, NODE, 0, first, first + count, code[begun].nodes);
+    return ++m->calls % 32 == 0 ? look_around(m, begun + 1) : begun + 1;
+}
+
+/* Calls the procedure behind `count` operands, and answers where the program goes on. */
+static int call_procedure(mutator *m, int first, int count, int next) {
+    label procedure = label_of(m, first + count);
+    if (procedure.of == PRIMITIVE) {
+        operate(m, procedure.number, first, count, NULL);
+        return next;
+    }
+    check(m, procedure.of == CLOSURE, "what is called is no procedure");
+    int wanted = code[procedure.number].number, least = wanted < 0 ? ~wanted : wanted;
+    check(m, count == wanted || (wanted < 0 && count >= least), "a procedure of %d parameters is called with %d", least, count);
+    wait_for(m, first, next);
     get(m, ENVIRONMENT, first + count, 0);
     if (wanted < 0) {
         set(m, SPARE, EMPTY, 0);
@@ -244,8 +273,7 @@ static int call_procedure(mutator *m, int first, int count, int next) {
             cons(m, SPARE, first + count - 1, SPARE);
         copy(m, first + count++, SPARE);
     }
-    push(m, ENVIRONMENT, NODE, 0, first, first + count);
-    return ++m->calls % 32 == 0 ? look_around(m, procedure.number + 1) : procedure.number + 1;
+    return enter_body(m, procedure.number, first, count);
 }
 
 /* Hands the value in STACK to the frame that waits for it, and answers where the program goes on, or 0 where none waits. */
@@ -254,9 +282,11 @@ static int go_back(mutator *m) {
     if (number == 0)
         return 0;
     copy(m, to, STACK);
-    for (int reg = ENVIRONMENT; reg < to; reg++)
-        get(m, reg, FRAMES, 1 + reg - ENVIRONMENT);
-    get(m, FRAMES, FRAMES, 0);
+    for (int piece = pieces(to - ENVIRONMENT) - 1; piece >= 0; piece--) {
+        for (int reg = ENVIRONMENT + piece * BRANCHES, field = 1; reg < to && field < FIELDS; reg++, field++)
+            get(m, reg, FRAMES, field);
+        get(m, FRAMES, FRAMES, 0);
+    }
     return number / REGISTERS;
 }
 
@@ -274,26 +304,36 @@ static int look_around(mutator *m, int next) {
     return call_procedure(m, STACK, 1, next);
 }
 
+/* Has a register name the node of a variable, and answers which register that is. */
+static int find(mutator *m, const instruction *i) {
+    int from = ENVIRONMENT;
+    if (i->number == 0 && i->at < 0)
+        return ~i->at;
+    if (i->number == 0)
+        reach(m, ROOT, i->at);
+    for (int outside = i->number == 0 ? 0 : i->at; outside > 0; outside--, from = WALK)
+        get(m, WALK, from, 0);
+    return i->number == 0 ? WALK : from;
+}
+
 static void run(mutator *m, int next) {
+    int told;
     do {
         const instruction *i = &code[next++];
-        int from;
         m->line = i->line > 0 ? i->line : m->line;
         switch (i->does) {
         case CONSTANT:
             set(m, i->to, i->at, i->number);
             break;
         case LOAD:
+            check(m, get(m, i->to, find(m, i), i->number), "`%s` has no value here", i->name);
+            break;
         case STORE:
-            if (i->number == 0)
-                reach(m, ROOT, i->at);
-            from = i->number == 0 ? WALK : ENVIRONMENT;
-            for (int outside = i->number == 0 ? 0 : i->at; outside > 0; outside--, from = WALK)
-                get(m, WALK, from, 0);
-            if (i->does == STORE)
-                put(m, from, i->number, i->to);
-            else
-                check(m, get(m, i->to, from, i->number), "`%s` has no value here", i->name);
+            put(m, find(m, i), i->number, i->to);
+            break;
+        case ENTER:
+            wait_for(m, i->to, i->at);
+            next = enter_body(m, next - 1, i->to, i->number);
             break;
         case CLOSE:
             make(m, i->to, CLOSURE, next - 1);
@@ -309,9 +349,13 @@ static void run(mutator *m, int next) {
         case CALL:
             next = call_procedure(m, i->to, i->number, next);
             break;
-        case OPERATE:
-            operate(m, i->at, i->to, i->number);
+        case OPERATE: /* and CHOOSE behind the CALL, where that asks for #t or #f alone */
+            i++;
             next++;
+            told = -1;
+            operate(m, i[-1].at, i->to, i[-1].number, i[1].does == CHOOSE ? &told : NULL);
+            if (told >= 0)
+                next = told ? next + 1 : i[1].at;
             break;
         case RETURN:
             next = go_back(m);
@@ -334,7 +378,25 @@ static void know_primitives(void) {
             stores[i->at]++;
     for (instruction *i = code, *call = i + 1; call < code + code_count; i = call++)
         if (i->does == LOAD && i->number == 0 && i->at <= PRIMITIVE_COUNT && stores[i->at] == 1 && call->does == CALL)
-            *i = (instruction){ OPERATE, call->to, i->at - 1, call->number, call->line, NULL };
+            *i = (instruction){ OPERATE, call->to, i->at - 1, call->number, 0, call->line, NULL };
+}
+
+static int cells[FRAMES - CELLS], cell_count; /* the globals whose nodes are in registers */
+
+/* Lets registers name the nodes of globals, those that the program uses last first, as far as registers go. */
+static void choose_cells(void) {
+    for (instruction *i = code + code_count - 1; i >= code; i--) {
+        int cell = 0;
+        if ((i->does != LOAD && i->does != STORE) || i->number != 0)
+            continue;
+        while (cell < cell_count && cells[cell] != i->at)
+            cell++;
+        if (cell == FRAMES - CELLS)
+            continue;
+        cell_count += cell == cell_count;
+        cells[cell] = i->at;
+        i->at = ~(CELLS + cell);
+    }
 }
 
 /* Each primitive is the value of a global. */
@@ -350,6 +412,7 @@ static void compile_program(void) {
     compile_all(read_text(program, 1), scope, STACK);
     emit(RETURN, STACK, 0, 0);
     know_primitives();
+    choose_cells();
     for (int item = 1; item <= global_count + thread_count; item++)
         add_item(reader, ROOT, item, NONE);
 }
@@ -360,6 +423,10 @@ static void carry_out(mutator *m) {
         make(m, CONSTANTS + of - FALSE, of, 0);
     if (m->number == 0)
         compile_program();
+    for (int cell = 0; cell < cell_count; cell++) {
+        reach(m, ROOT, cells[cell]);
+        copy(m, CELLS + cell, WALK);
+    }
     reach(m, ROOT, global_count + 1 + m->number);
     get(m, STACK, WALK, 0);
     run(m, m->number == 0 ? 0 : call_procedure(m, STACK, 0, code_count - 1));
