@@ -6,7 +6,7 @@ use Rattle.std.proofs.lemmas.Bool.{cases_Bool, cases_lt, eqb-true, false≢true,
 use Rattle.std.proofs.lemmas.List.{get_or_past}
 use Rattle.std.proofs.lemmas.List.Sums.{sum_by-cons, sum_by-le-sum_by}
 use Rattle.rec_core.proofs.Common.{is_green, State, slot_at, one, times, times-nil, Slot, Contents, named, old_target, puts_in, node_of, epoch_of, home, one_if_same, only_if, Write, IsTaken, Opening, Returning, Core, sight, nobody, IsKeptBy, stand_at, pending, applied_at, buffer_at}
-use Rattle.rec_counts.specs.Batch.{AreAlike, IsApplied, names}
+use Rattle.rec_counts.specs.Batch.{names}
 use Rattle.rec_counts.specs.Colour.{is_purple}
 use Rattle.rec_counts.specs.Counts.{IsKept as IsKeptCounts}
 use Rattle.rec_counts.specs.Targets.{held, leaves, taken, told_buffers, written}
@@ -33,7 +33,7 @@ pub data IsLate (w : Core) (slot : ℕ) : Type 0 where
   newer : (i : ℕ) → 0 < takes slot (collectors.buffer_at w.collector.newer i) → IsLate w slot
 
 -- an element weighs no more than all of them
-at_most : {X : Type 0} (f : X → ℕ) (xs : List X) (i : ℕ) (d : X) → f d ≡ 0 → f (slice_index_or xs i d) ≤ sum_by f xs
+pub at_most : {X : Type 0} (f : X → ℕ) (xs : List X) (i : ℕ) (d : X) → f d ≡ 0 → f (slice_index_or xs i d) ≤ sum_by f xs
 at_most f [] i d none = omega (arith, none)
 at_most f (x ∷ xs) zero d none = omega (arith, sum_by-cons f x xs)
 at_most f (x ∷ xs) (suc i) d none = omega (arith, sum_by-cons f x xs, at_most f xs i d none)
@@ -46,10 +46,10 @@ module _ (u : Core) (t : ℕ) (kept : IsKeptBy true (stand_at u.collector.left O
 
   open (now_in u (Returning t) kept phase) use {rest}
 
-  abbrev told_newer : List Contents
+  abbrev pub told_newer : List Contents
   told_newer = told_buffers c.policy.steady c.newer c.older
 
-  abbrev told_older : List Contents
+  abbrev pub told_older : List Contents
   told_older = told_buffers c.policy.steady c.older c.newer
 
   lists : IsKeptCounts s

@@ -1,6 +1,7 @@
--- What follows a release, a test of a set or a trial, up to the end of a turn: each slot hangs on something still, unless a set was refused.
-use Rattle.std.proofs.Common.{◌≡◌, ◌≢◌, ◌⊎◌, inl, inr, ℕ, ◌+◌, ◌-◌, ◌<◌, ◌≤◌, Bool, None, Some, List, [], length, refl, sym, ap, subst, ◌∙◌, arith}
-use Rattle.rec_core.proofs.Common.{State, IsFreeable, Parts, put_off, prep_started, with_offers, ClearsOn, IsTested, PreparesOn, TriesOn, Begun, zeros_released, with_freeing, new_freeing, Idle, Trying, Preparing, Opening, Turn, still, IsClearing, Machine, Work, Core, Sight, sight}
+-- What follows a release, a test of a set or a trial, up to the end of a turn: each slot hangs on something still, unless a set was refused
+-- of which a member was touched.
+use Rattle.std.proofs.Common.{◌≡◌, ◌≢◌, ◌⊎◌, inl, inr, ℕ, ◌+◌, ◌-◌, ◌<◌, ◌≤◌, true, Bool, None, Some, List, [], length, refl, sym, ap, subst, ◌∙◌, arith}
+use Rattle.rec_core.proofs.Common.{State, IsApart, IsFreeable, Parts, put_off, prep_started, with_offers, ClearsOn, IsTested, PreparesOn, TriesOn, Begun, zeros_released, with_freeing, new_freeing, Idle, Trying, Preparing, Opening, Turn, still, IsClearing, Machine, Work, Core, Sight, sight}
 use Rattle.rec_counts.specs.Counts.{IsKept as IsKeptCounts}
 use Rattle.rec_release.specs.CycleFree as frees
 use Rattle.rec_release.specs.Release as releases
@@ -23,7 +24,10 @@ use Rattle.rec_core.proofs.Landed.{HasCleared}
 use Rattle.rec_core.proofs.Landings.{prep_others}
 use Rattle.rec_core.proofs.SetTests.{tested_lands}
 use Rattle.rec_prompt.specs.Cover.{Covers, IsListed}
+use Rattle.rec_prompt.proofs.Backing.{AreBacked, backed_fades}
+use Rattle.rec_prompt.proofs.Fading.{fades_tested}
 use Rattle.rec_prompt.proofs.Followed.{IsFollowed}
+use Rattle.rec_prompt.proofs.Spared.{spared_covers, spared_leaders}
 use Rattle.rec_prompt.proofs.Hanging.{leaders_from, LeadersCount}
 use Rattle.rec_prompt.proofs.Heeding.{Heeds, heeds_covers, heeds_next, heeds_on, heeds_others, heeds_postponed, heeds_same, IsSeen}
 use Rattle.rec_prompt.proofs.Lessened.{heeds_given_up}
@@ -32,6 +36,17 @@ use Rattle.rec_prompt.proofs.Tried.{heeds_offered, Tries, tries_settled}
 -- how many sets were refused, of those that were tested
 abbrev pub refused : Sets → ℕ
 refused n = n.delta + n.sigma
+
+-- and how many of them as a member was touched
+abbrev pub touched : Sets → ℕ
+touched n = n.delta
+
+-- neither falls
+abbrev pub IsGrown : Sets → Sets → Type 0
+IsGrown m n = (m.delta ≤ n.delta) × (m.sigma ≤ n.sigma)
+
+pub grown_same : (m n : Sets) → n ≡ m → IsGrown m n
+grown_same m n same = (omega (arith, ap (λ (x : Sets). x.delta) same), omega (arith, ap (λ (x : Sets). x.sigma) same))
 
 -- what leads somewhere has to hang on something, in these counts too
 pub heeds_leaders : (w : Sight) (s t : State) → Heeds s t → LeadersCount w s → LeadersCount w t
@@ -61,9 +76,9 @@ module _ (w : Core) (crossing words : List ℕ) (pending : ℕ → Type 0) (q : 
     pub covers : Covers seen pending q.counts
     pub follows : (m : Machine) → q.phase ≡ Trying m → IsFollowed seen pending q.counts m
 
-  -- or more sets were refused
+  -- or more sets were refused of which a member was touched
   abbrev pub IsOver : (r : ℕ) → Type 0
-  IsOver r = IsOn ⊎ (r < refused q.sets)
+  IsOver r = IsOn ⊎ (r < touched q.sets)
 
   -- a preparation goes on, or is over
   pub prepares_on : (p : collectors.Private) (v : Parts) (u : preps.Work) → PreparesOn p v u q turn → Covers seen pending u.counts → IsOn × (q.sets ≡ v.sets)
@@ -109,16 +124,19 @@ module _ (w : Core) (crossing words : List ℕ) (pending : ℕ → Type 0) (q : 
   tries_refused p v u (TriesOn.more some g) = ap (λ (x : collectors.Private). x.sets) g.after
   tries_refused p v u (TriesOn.prepares none on) = prepares_refused p (record v { counts = u.counts }) _ on
 
-  tested_refused : (v : Parts) (c : Begun) → IsTested v c → refused v.sets ≤ refused c.parts.sets
-  tested_refused v c (IsTested.passes orange none is) = omega (arith, ap (λ (b : Begun). refused b.parts.sets) is)
-  tested_refused v c (IsTested.fails_delta s touched last is) = omega (arith, ap (λ (b : Begun). refused b.parts.sets) is)
-  tested_refused v c (IsTested.fails_sigma s orange held last is) = omega (arith, ap (λ (b : Begun). refused b.parts.sets) is)
+  tested_grown : (v : Parts) (c : Begun) → IsTested v c → IsGrown v.sets c.parts.sets
+  tested_grown v c (IsTested.passes orange none is) = (omega (arith, ap (λ (b : Begun). b.parts.sets.delta) is), omega (arith, ap (λ (b : Begun). b.parts.sets.sigma) is))
+  tested_grown v c (IsTested.fails_delta s touched_ last is) = (omega (arith, ap (λ (b : Begun). b.parts.sets.delta) is), omega (arith, ap (λ (b : Begun). b.parts.sets.sigma) is))
+  tested_grown v c (IsTested.fails_sigma s orange held last is) = (omega (arith, ap (λ (b : Begun). b.parts.sets.delta) is), omega (arith, ap (λ (b : Begun). b.parts.sets.sigma) is))
+
+  pub clears_grown : (p : collectors.Private) {b : Begun} → ClearsOn p q turn b → IsGrown b.parts.sets q.sets
+  clears_grown p {b} (ClearsOn.works phase is g) = grown_same b.parts.sets q.sets (ap (λ (x : collectors.Private). x.sets) g.after)
+  clears_grown p {b} (ClearsOn.tests c is some tested on) = let first = tested_grown b.parts c tested in let rest = clears_grown p on in (omega (arith, first.0, rest.0), omega (arith, first.1, rest.1))
+  clears_grown p {b} (ClearsOn.tries is none due on) = grown_same b.parts.sets q.sets (tries_refused p (with_offers b.parts) _ on)
+  clears_grown p {b} (ClearsOn.waits is none off on) = grown_same b.parts.sets q.sets (prepares_refused p (put_off b.parts) _ on)
 
   pub clears_refused : (p : collectors.Private) {b : Begun} → ClearsOn p q turn b → refused b.parts.sets ≤ refused q.sets
-  clears_refused p (ClearsOn.works phase is g) = omega (arith, ap (λ (x : collectors.Private). refused x.sets) g.after)
-  clears_refused p {b} (ClearsOn.tests c is some tested on) = omega (arith, tested_refused b.parts c tested, clears_refused p on)
-  clears_refused p {b} (ClearsOn.tries is none due on) = omega (arith, ap refused (tries_refused p (with_offers b.parts) _ on))
-  clears_refused p {b} (ClearsOn.waits is none off on) = omega (arith, ap refused (prepares_refused p (put_off b.parts) _ on))
+  clears_refused p on = let grown = clears_grown p on in omega (arith, grown.0, grown.1)
 
   -- A trial begins.
   trial_on : (v : Parts) → 0 < v.fields → v.fields ≡ w.config.fields → IsReady v.counts → LeadersCount seen v.counts → Covers seen pending v.counts → TriesOn w.collector v (trials.started_of v.fields v.counts) q turn → IsOn × (q.sets ≡ v.sets)
@@ -153,12 +171,12 @@ module _ (w : Core) (crossing words : List ℕ) (pending : ℕ → Type 0) (q : 
           lists y (IsListed.marked some) = let fields : x.machine.fields ≡ v.fields = inv.kept.fields in absurd (omega (arith, some, occurs y x.counts.marked, all_of inv.marks_all y 0 (omega (arith, fields, wide))))
 
   -- Whatever follows a release, or the freeing of a set.
-  pub clears_on : {b : Begun} → HasCleared w crossing words b → Covers seen pending b.parts.counts → ClearsOn w.collector q turn b → IsOver (refused b.parts.sets)
-  clears_on {b} h c (ClearsOn.works phase is g) = inl (record { covers = subst (Covers seen pending) (sym (ap (λ (x : collectors.Private). x.counts) g.after)) c; follows = λ m at. absurd (not_trying m (subst (λ o. IsClearing (record { parts = b.parts; phase = o })) (is ∙ ap (λ p. Some p) (sym (ap (λ (x : collectors.Private). x.phase) g.after) ∙ at)) h.clears.clearing)) })
+  pub clears_on : {b : Begun} → HasCleared w crossing words b → Covers seen pending b.parts.counts → AreBacked seen pending b.parts.counts → ClearsOn w.collector q turn b → IsOver (touched b.parts.sets)
+  clears_on {b} h c backs (ClearsOn.works phase is g) = inl (record { covers = subst (Covers seen pending) (sym (ap (λ (x : collectors.Private). x.counts) g.after)) c; follows = λ m at. absurd (not_trying m (subst (λ o. IsClearing (record { parts = b.parts; phase = o })) (is ∙ ap (λ p. Some p) (sym (ap (λ (x : collectors.Private). x.phase) g.after) ∙ at)) h.clears.clearing)) })
     where
       not_trying : (m : Machine) → IsClearing (record { parts = b.parts; phase = Some (Trying m) }) → ⊥
       not_trying m none = none
-  clears_on {b} h c (ClearsOn.tests d is some tested on) = go tested (clears_refused w.collector on) (λ covers. clears_on (tested_lands w crossing words b.parts there some d tested) covers on)
+  clears_on {b} h c backs (ClearsOn.tests d is some tested on) = go tested (clears_grown w.collector on).0 (λ covers. clears_on (tested_lands w crossing words b.parts there some d tested) covers (backed_fades seen pending b.parts.counts d.parts.counts (fades_tested b.parts d tested) backs) on)
     where
       there : HasCleared w crossing words (still b.parts)
       there = subst (λ o. HasCleared w crossing words (record { parts = b.parts; phase = o })) is h
@@ -166,14 +184,18 @@ module _ (w : Core) (crossing words : List ℕ) (pending : ℕ → Type 0) (q : 
       alive : LeadersCount seen b.parts.counts
       alive = leaders_from seen b.parts.counts h.landed.sound h.landed.greens
 
-      go : IsTested b.parts d → refused d.parts.sets ≤ refused q.sets → (Covers seen pending d.parts.counts → IsOver (refused d.parts.sets)) → IsOver (refused b.parts.sets)
+      go : IsTested b.parts d → touched d.parts.sets ≤ touched q.sets → (Covers seen pending d.parts.counts → IsOver (touched d.parts.sets)) → IsOver (touched b.parts.sets)
       go (IsTested.passes orange none eq) few next =
           let freeable : IsFreeable b.parts.counts = last_freeable b.parts some (passed_verdict b.parts.counts (length b.parts.counts.sets - 1) orange none) there.landed.counts there.clears.clearing in
           let heeds : Heeds b.parts.counts d.parts.counts = subst (λ (x : Begun). Heeds b.parts.counts x.parts.counts) (sym eq) (heeds_freeing b.parts there.landed.counts freeable) in
-          subst IsOver (ap (λ (x : Begun). refused x.parts.sets) eq) (next (heeds_covers seen pending b.parts.counts d.parts.counts (heeds_leaders seen b.parts.counts d.parts.counts heeds alive) heeds c))
-      go (IsTested.fails_delta s touched last eq) few next = inr (omega (arith, few, ap (λ (x : Begun). refused x.parts.sets) eq))
-      go (IsTested.fails_sigma s orange held last eq) few next = inr (omega (arith, few, ap (λ (x : Begun). refused x.parts.sets) eq))
-  clears_on {b} h c (ClearsOn.tries is none due on) =
+          subst IsOver (ap (λ (x : Begun). touched x.parts.sets) eq) (next (heeds_covers seen pending b.parts.counts d.parts.counts (heeds_leaders seen b.parts.counts d.parts.counts heeds alive) heeds c))
+      go (IsTested.fails_delta s touched_ last eq) few next = inr (omega (arith, few, ap (λ (x : Begun). touched x.parts.sets) eq))
+      go (IsTested.fails_sigma s orange held last eq) few next =
+          let apart : IsApart b.parts.counts = there.clears.clearing.tidy.apart in
+          let zeros : Heeds s d.parts.counts = subst (λ (x : Begun). Heeds s x.parts.counts) (sym eq) (heeds_zeros true (record b.parts { counts = s })) in
+          let spared : Covers seen pending s = spared_covers seen pending b.parts.counts s apart last orange backs alive c in
+          subst IsOver (ap (λ (x : Begun). touched x.parts.sets) eq) (next (heeds_covers seen pending s d.parts.counts (heeds_leaders seen s d.parts.counts zeros (spared_leaders seen pending b.parts.counts s apart last orange alive)) zeros spared))
+  clears_on {b} h c backs (ClearsOn.tries is none due on) =
       let there : HasCleared w crossing words (still b.parts) = subst (λ o. HasCleared w crossing words (record { parts = b.parts; phase = o })) is h in
       let alive : LeadersCount seen b.parts.counts = leaders_from seen b.parts.counts h.landed.sound h.landed.greens in
       let offers : Heeds b.parts.counts (with_offers b.parts).counts = heeds_offered b.parts.offers b.parts.counts in
@@ -181,7 +203,7 @@ module _ (w : Core) (crossing words : List ℕ) (pending : ℕ → Type 0) (q : 
       let alive_then : LeadersCount seen (with_offers b.parts).counts = heeds_leaders seen b.parts.counts (with_offers b.parts).counts offers alive in
       let on_ = trial_on (with_offers b.parts) h.clears.wide h.landed.fields (where_ready b.parts.offers b.parts.counts ready) alive_then (heeds_covers seen pending b.parts.counts (with_offers b.parts).counts alive_then offers c) on in
       inl on_.0
-  clears_on {b} h c (ClearsOn.waits is none off on) =
+  clears_on {b} h c backs (ClearsOn.waits is none off on) =
       let alive : LeadersCount seen b.parts.counts = leaders_from seen b.parts.counts h.landed.sound h.landed.greens in
       let v : Parts = put_off b.parts in
       let postpones : Heeds b.parts.counts v.counts = heeds_postponed b.parts.counts in

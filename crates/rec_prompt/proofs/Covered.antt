@@ -1,12 +1,11 @@
 -- The laws of what hangs on something: of the heap's own words, by the heap of dated words behind it.
-use Rattle.std.proofs.Common.{◌≡◌, ℕ, ◌+◌, ◌≤◌, true, Some, List, [], ◌∷◌, map, slice_index_or, refl, sym, ap, subst, ◌∙◌, arith}
+use Rattle.std.proofs.Common.{◌≡◌, ℕ, ◌+◌, ◌≤◌, true, List, [], map, slice_index_or, refl, sym, ap, subst, ◌∙◌, arith}
 use Rattle.rec_core.specs.Moves.{IsNoTurn}
 use Rattle.std.proofs.Math.ListN.{get_or-map}
-use Rattle.rec_core.proofs.Common.{place_of, target_of, IsTaken, Reaches, Contents, Entry, Private, named, old_target, AllFit, Core, Fits, Idle, IsConfig, IsKept, IsStart, Move, Trying, after_move, after_moves, nobody, sight, EndsRun}
+use Rattle.rec_core.proofs.Common.{place_of, target_of, IsTaken, Reaches, Contents, Private, named, AllFit, Core, Fits, Idle, IsConfig, IsKept, IsStart, Move, Trying, after_move, after_moves, nobody, sight, EndsRun}
 use Rattle.rec_word.specs.Bare.{bare}
 use Rattle.rec_word.proofs.Bare.{target_of_bare}
-use Rattle.rec_log.specs.Words.{buffer_by, entry_by}
-use Rattle.rec_log.specs.declared.entry.Entry.TheVariants as entries
+use Rattle.rec_log.specs.Words.{buffer_by}
 use Rattle.rec_mutator.specs.Bare as mutators
 use Rattle.rec_collector.specs.Private as collectors
 use Rattle.rec_collector.proofs.Bare.{old_bare}
@@ -16,8 +15,10 @@ use Rattle.rec_core.proofs.BareSeen.{reached_too}
 use Rattle.rec_core.proofs.Dated.{Explains, end_explained, move_explained, moves_explained}
 use Rattle.rec_core.proofs.OpenedFromSeen.{seen_settled}
 use Rattle.rec_core.proofs.Runs.{config_after, move_kept}
-use Rattle.rec_prompt.specs.Cover.{Hangs, IsCovered, IsPending, refused_sets, takes}
+use Rattle.rec_prompt.specs.Cover.{Hangs, IsCovered, IsPending, takes, touched_sets}
 use Rattle.rec_prompt.specs.Cover.Hangs.{later, listed, behind}
+use Rattle.rec_prompt.proofs.Backed.{HasBacked, moves_backed}
+use Rattle.rec_prompt.proofs.Backing.{none_backed}
 use Rattle.rec_prompt.proofs.Mutators.{begun_hides, hides_covers, step_hides}
 use Rattle.rec_prompt.proofs.Turned.{IsWatched}
 use Rattle.rec_prompt.proofs.Watched.{moves_watched, offering_covers, opened_watched}
@@ -85,23 +86,36 @@ mutators_cover w m config run fits calm c =
     go {v} Move.Turns fits_ calm_ after cover kept = absurd calm_
     go {v} Move.Offers fits_ calm_ after cover kept = offering_covers v cover
 
--- From a state between two collections, as long as no set more is refused.
-pub between_covers : (w : Core) (moves : List Move) → IsConfig w.config → EndsRun w → w.collector.phase ≡ Idle → AllFit w moves → refused_sets (after_moves w moves) ≡ refused_sets w → IsCovered w → IsCovered (after_moves w moves)
+-- a heap as it is opened has no set, so behind each heap of a run stands one whose sets are backed
+pub opened_backed : {start : Core} (v : Core) → IsStart start → Explains v start → HasBacked v
+opened_backed {start} v (o, are, labels, opens) e =
+    let is : bare_core v ≡ opened_from start.config o = e.bare ∙ opens in
+    none_backed (sight v) (IsPending v) v.collector.counts (ap (λ (x : Core). x.collector.counts.sets) is)
+
+pub backed_behind : (w : Core) → IsConfig w.config → EndsRun w → (v : Core) × Explains v w × HasBacked v
+backed_behind w config (start, moves, run) =
+    let its : IsConfig start.config = subst IsConfig (ap (λ (v : Core). v.config) (sym run.ends) ∙ config_after start moves) config in
+    let (v, e) = end_explained start its (start, [], record { starts = run.starts; fit = tt; ends = refl }) in
+    let all = moves_explained v start moves e run.fit in
+    (after_moves v moves, subst (Explains (after_moves v moves)) run.ends all.1, moves_backed v moves e.kept all.0 (opened_backed v run.starts e))
+
+-- From a state between two collections, as long as no set more is refused of which a member was touched.
+pub between_covers : (w : Core) (moves : List Move) → IsConfig w.config → EndsRun w → w.collector.phase ≡ Idle → AllFit w moves → touched_sets (after_moves w moves) ≡ touched_sets w → IsCovered w → IsCovered (after_moves w moves)
 between_covers w moves config run idle fit same c =
-    let (v, e) = end_explained w config run in
+    let (v, e, b) = backed_behind w config run in
     let all = moves_explained v w moves e fit in
     let at : v.collector.phase ≡ Idle = ap (λ (x : Core). x.collector.phase) e.bare ∙ idle in
     let first : IsWatched v = record { covers = covered_behind v w e c; follows = λ m trying. (let n : Idle ≡ Trying m = sym at ∙ trying in absurd (cc)) } in
-    let few : refused_sets (after_moves v moves) ≤ refused_sets v = omega (arith, same, ap refused_sets e.bare, ap refused_sets all.1.bare) in
-    covered_here (after_moves v moves) (after_moves w moves) all.1 (moves_watched v moves e.kept all.0 first few).covers
+    let few : touched_sets (after_moves v moves) ≤ touched_sets v = omega (arith, same, ap touched_sets e.bare, ap touched_sets all.1.bare) in
+    covered_here (after_moves v moves) (after_moves w moves) all.1 (moves_watched v moves e.kept all.0 b first few).covers
 
 -- So from the opening on.
-pub run_covers : (w : Core) → IsConfig w.config → EndsRun w → refused_sets w ≡ 0 → IsCovered w
+pub run_covers : (w : Core) → IsConfig w.config → EndsRun w → touched_sets w ≡ 0 → IsCovered w
 run_covers w config (start, moves, run) none =
     let its : IsConfig start.config = subst IsConfig (ap (λ (v : Core). v.config) (sym run.ends) ∙ config_after start moves) config in
     let (v, e) = end_explained start its (start, [], record { starts = run.starts; fit = tt; ends = refl }) in
     let all = moves_explained v start moves e run.fit in
-    subst IsCovered run.ends (covered_here (after_moves v moves) (after_moves start moves) all.1 (moves_watched v moves e.kept all.0 (first v its run.starts e) (omega (arith, none, ap refused_sets run.ends, ap refused_sets all.1.bare))).covers)
+    subst IsCovered run.ends (covered_here (after_moves v moves) (after_moves start moves) all.1 (moves_watched v moves e.kept all.0 (opened_backed v run.starts e) (first v its run.starts e) (omega (arith, none, ap touched_sets run.ends, ap touched_sets all.1.bare))).covers)
   where
     first : {start : Core} (v : Core) → IsConfig start.config → IsStart start → Explains v start → IsWatched v
     first {start} v its (o, are, labels, opens) e =

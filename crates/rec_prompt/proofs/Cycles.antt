@@ -2,36 +2,35 @@
 use Rattle.std.proofs.Common.{◌≡◌, ◌⊎◌, inl, inr, ℕ, ◌+◌, ◌-◌, ◌/◌, ◌%◌, ◌<◌, ◌≤◌, true, false, Some, List, [], ◌∷◌, ◌++◌, length, slice_index_or, refl, sym, ap, subst, ◌∙◌, arith}
 use Rattle.std.proofs.Math.Nat.{mod-lt, div-add-mod, mul_comm}
 use Rattle.std.proofs.lemmas.Bool.{cases_Bool, false≢true}
-use Rattle.rec_core.proofs.Common.{place_of, target_of, is_green, slot_at, IsTaken, Reaches, AllFit, Core, EndsRun, Idle, IsConfig, IsKept, IsStart, Move, Trying, after_move, after_moves, sight}
+use Rattle.rec_core.proofs.Common.{after_move, place_of, target_of, is_green, slot_at, IsTaken, Reaches, AllFit, Core, EndsRun, Idle, IsConfig, IsKept, IsStart, Move, Trying, after_move, after_moves, sight}
 use Rattle.rec_model.specs.Reach.{is_in}
-use Rattle.rec_model.proofs.Members.{is_in-left, not_in-left}
+use Rattle.rec_model.proofs.Members.{is_in-left, is_in-right, not_in-left}
 use Rattle.rec_collector.specs.Kept.{under_way}
 use Rattle.rec_collector.proofs.Following.{none_released}
-use Rattle.rec_collector.proofs.Landing.{under_way_most}
 use Rattle.rec_core.specs.Bare.{bare_core}
 use Rattle.rec_core.specs.Core.{opened_from}
 use Rattle.rec_core.proofs.BareSeen.{reached_too}
 use Rattle.rec_core.proofs.Dated.{Explains, end_explained, moves_explained}
 use Rattle.rec_core.proofs.OpenedFromSeen.{seen_settled}
-use Rattle.rec_core.proofs.Runs.{after_both, config_after, fit_first, moves_kept, over_both}
+use Rattle.rec_core.proofs.Runs.{after_both, config_after, fit_first, moves_kept, over_both, run_more}
 use Rattle.rec_core.proofs.Steps.{taken_slot}
 use Rattle.rec_core.proofs.Turns.{now_at}
-use Rattle.rec_prompt.specs.Cover.{IsCovered, IsPending, refused_sets}
+use Rattle.rec_prompt.specs.Cover.{IsCovered, IsPending, refused_sets, touched_sets}
 use Rattle.rec_prompt.specs.Lost.{IsLost, Leads}
 use Rattle.rec_prompt.specs.Prompt.{Complete, freed_in, freed_over, IsFreed}
-use Rattle.rec_prompt.proofs.Clears.{refused}
+use Rattle.rec_prompt.proofs.Clears.{IsGrown, refused}
 use Rattle.rec_prompt.proofs.Counts.{led_to}
 use Rattle.rec_prompt.proofs.Forgets.{counted}
 use Rattle.rec_prompt.proofs.Turned.{IsWatched}
-use Rattle.rec_prompt.proofs.Covered.{covered_behind, run_covers}
+use Rattle.rec_prompt.proofs.Covered.{backed_behind, opened_backed, covered_behind, run_covers}
 use Rattle.rec_prompt.proofs.Heeding.{FoundIn}
 use Rattle.rec_prompt.proofs.Found.{before_tests, has_found, IsNear}
 use Rattle.rec_prompt.proofs.Hanging.{all_on_trails, leaders_count, Trails}
 use Rattle.rec_prompt.proofs.Moves.{forgotten, lost_over, not_second}
 use Rattle.rec_prompt.proofs.Prompt.{comes_between, freed_behind, lost_behind}
-use Rattle.rec_prompt.proofs.Stays.{still_led, still_lost}
+use Rattle.rec_prompt.proofs.Stays.{stays_lost, still_led, still_lost}
 use Rattle.rec_prompt.proofs.Third.{lost_found, moves_stand, Stands}
-use Rattle.rec_prompt.proofs.Watched.{moves_refused, opened_watched, reached_trails}
+use Rattle.rec_prompt.proofs.Watched.{moves_grown, moves_refused, opened_watched, reached_trails}
 
 -- the later ones of moves that fit
 fit_rest : (w : Core) (ms ns : List Move) → AllFit w (ms ++ ns) → AllFit (after_moves w ms) ns
@@ -126,6 +125,7 @@ module _ (v : Core) (first rest : List Move) (kept : IsKept true v) (fit : AllFi
 opened_stands : {start : Core} (since : ℕ) (v : Core) → IsConfig start.config → IsStart start → Explains v start → Stands since v
 opened_stands {start} since v its (o, are, labels, opens) e = record {
   watched = opened_watched v e.kept idle reached;
+  backed = opened_backed v (o, are, labels, opens) e;
   found = λ found. inr (λ slot taken plain. inr (all_on_trails (sight v) (IsPending v) (Trails (sight v) (λ y. IsPending v y ⊎ ((slot_at v.collector.counts y).released ≡ true))) (λ y pending. Trails.first (inl pending)) (λ m n path leads. Trails.along path leads) slot (reached_trails v e.kept slot (reached slot taken))));
 }
   where
@@ -139,17 +139,6 @@ opened_stands {start} since v its (o, are, labels, opens) e = record {
     reached slot taken =
         let there : IsTaken (sight (opened_from start.config o)) slot = subst (λ (x : Core). IsTaken (sight x) slot) is taken in
         reached_too v slot (subst (λ (x : Core). Reaches (sight x) slot) (sym is) (((seen_settled start.config o its are labels).collected slot).0 there))
-
--- behind a heap in which no set was refused stands one that does
-stands_behind : (w : Core) → IsConfig w.config → EndsRun w → refused_sets w ≡ 0 → w.config.policy.least_roots ≡ 0 → (v : Core) × Explains v w × Stands w.collector.collections v
-stands_behind w config (start, moves, run) none always =
-    let same : w.config ≡ start.config = ap (λ (x : Core). x.config) (sym run.ends) ∙ config_after start moves in
-    let its : IsConfig start.config = subst IsConfig same config in
-    let (v, e) = end_explained start its (start, [], record { starts = run.starts; fit = tt; ends = refl }) in
-    let all = moves_explained v start moves e run.fit in
-    let least : v.config.policy.least_roots ≡ 0 = ap (λ (x : Core). x.config.policy.least_roots) e.bare ∙ ap (λ k. k.policy.least_roots) (sym same) ∙ always in
-    let few : refused (after_moves v moves).collector.sets ≤ refused v.collector.sets = omega (arith, none, ap refused_sets run.ends, ap refused_sets all.1.bare) in
-    (after_moves v moves, subst (Explains (after_moves v moves)) run.ends all.1, (moves_stand w.collector.collections v moves e.kept least all.0 few (opened_stands w.collector.collections v its run.starts e)).0)
 
 -- from a state, over moves that come to one where so many collections are complete
 freed_by_third : (w : Core) (ms : List Move) (slot more : ℕ) → IsConfig w.config → EndsRun w → (v : Core) → Explains v w → Stands w.collector.collections v → w.config.policy.least_roots ≡ 0 → AllFit w ms → refused_sets (after_moves w ms) ≡ refused_sets w → under_way w.collector.phase + 3 ≤ more → w.collector.collections + more ≤ (after_moves w ms).collector.collections → IsLost (sight w) slot → IsFreed w ms slot
@@ -185,28 +174,49 @@ freed_by_third w ms slot more config run v e st always fit none enough complete 
     let there : is_in slot (freed_over w at.first) ≡ true = ap (λ (xs : List Move). is_in slot (freed_over w xs)) (sym amid.both) ∙ ap (is_in slot) (freed_behind v w (amid.first ++ amid.second) e parts) ∙ freed in
     subst (λ (xs : List Move). is_in slot (freed_over w xs) ≡ true) at.both (ap (is_in slot) (over_both freed_in w at.first at.second) ∙ is_in-left slot (freed_over w at.first) (freed_over (after_moves w at.first) at.second) there)
 
--- no set was refused before moves by whose end none was
-none_before : (w : Core) (ms : List Move) → IsConfig w.config → EndsRun w → AllFit w ms → refused_sets (after_moves w ms) ≡ 0 → refused_sets w ≡ 0
-none_before w ms config run fit none =
+-- no set that was refused is refused no more
+run_grown : (w : Core) (ms : List Move) → IsConfig w.config → EndsRun w → AllFit w ms → IsGrown w.collector.sets (after_moves w ms).collector.sets
+run_grown w ms config run fit =
     let (v, e) = end_explained w config run in
     let all = moves_explained v w ms e fit in
-    omega (arith, none, ap refused_sets e.bare, ap refused_sets all.1.bare, moves_refused v ms e.kept all.0)
+    let grown = moves_grown v ms e.kept all.0 in (
+      omega (arith, grown.0, ap (λ (x : Core). x.collector.sets.delta) e.bare, ap (λ (x : Core). x.collector.sets.delta) all.1.bare),
+      omega (arith, grown.1, ap (λ (x : Core). x.collector.sets.sigma) e.bare, ap (λ (x : Core). x.collector.sets.sigma) all.1.bare),
+    )
 
 pub cycles_idle : (w : Core) (ms : List Move) (slot : ℕ) → IsConfig w.config → EndsRun w → w.config.policy.least_roots ≡ 0 → w.collector.phase ≡ Idle → AllFit w ms → IsCovered w → refused_sets (after_moves w ms) ≡ refused_sets w → Complete 3 w ms → IsLost (sight w) slot → IsFreed w ms slot
 cycles_idle w ms slot config run always idle fit cover none complete gone =
-    let (v, e) = end_explained w config run in
+    let (v, e, b) = backed_behind w config run in
     let at : v.collector.phase ≡ Idle = ap (λ (x : Core). x.collector.phase) e.bare ∙ idle in
     let watched : IsWatched v = record { covers = covered_behind v w e cover; follows = λ m trying. (let n : Idle ≡ Trying m = sym at ∙ trying in absurd (cc)) } in
-    let st : Stands w.collector.collections v = record { watched = watched; found = λ found. inl (ap before_tests at, ap (λ (x : Core). x.collector.collections) e.bare) } in
+    let st : Stands w.collector.collections v = record { watched = watched; backed = b; found = λ found. inl (ap before_tests at, ap (λ (x : Core). x.collector.collections) e.bare) } in
     freed_by_third w ms slot 3 config run v e st always fit none (omega (arith, ap under_way idle)) complete gone
 
-pub cycles_under_way : (w : Core) (ms : List Move) (slot : ℕ) → IsConfig w.config → EndsRun w → w.config.policy.least_roots ≡ 0 → AllFit w ms → refused_sets (after_moves w ms) ≡ 0 → Complete 4 w ms → IsLost (sight w) slot → IsFreed w ms slot
-cycles_under_way w ms slot config run always fit none complete gone =
-    let none_w : refused_sets w ≡ 0 = none_before w ms config run fit none in
-    let (v, e, st) = stands_behind w config run none_w always in
-    freed_by_third w ms slot 4 config run v e st always fit (none ∙ sym none_w) (omega (arith, under_way_most w.collector.phase)) complete gone
+pub cycles_run : (w : Core) (ms : List Move) (slot : ℕ) → IsConfig w.config → EndsRun w → w.config.policy.least_roots ≡ 0 → w.collector.phase ≡ Idle → AllFit w ms → touched_sets w ≡ 0 → refused_sets (after_moves w ms) ≡ refused_sets w → Complete 3 w ms → IsLost (sight w) slot → IsFreed w ms slot
+cycles_run w ms slot config run always idle fit none same complete gone = cycles_idle w ms slot config run always idle fit (run_covers w config run none) same complete gone
 
-pub cycles_run : (w : Core) (ms : List Move) (slot : ℕ) → IsConfig w.config → EndsRun w → w.config.policy.least_roots ≡ 0 → w.collector.phase ≡ Idle → AllFit w ms → refused_sets (after_moves w ms) ≡ 0 → Complete 3 w ms → IsLost (sight w) slot → IsFreed w ms slot
-cycles_run w ms slot config run always idle fit none complete gone =
-    let none_w : refused_sets w ≡ 0 = none_before w ms config run fit none in
-    cycles_idle w ms slot config run always idle fit (run_covers w config run none_w) (none ∙ sym none_w) complete gone
+-- a run goes on
+run_on : (w : Core) (ms : List Move) → EndsRun w → AllFit w ms → EndsRun (after_moves w ms)
+run_on w [] run fit = run
+run_on w (m ∷ ms) run fit = run_on (after_move w m) ms (run_more w m run fit.0) fit.1
+
+-- a collection that is under way ends first
+pub cycles_under_way : (w : Core) (ms : List Move) (slot : ℕ) → IsConfig w.config → EndsRun w → w.config.policy.least_roots ≡ 0 → AllFit w ms → touched_sets w ≡ 0 → refused_sets (after_moves w ms) ≡ refused_sets w → Complete 4 w ms → IsLost (sight w) slot → IsFreed w ms slot
+cycles_under_way w ms slot config run always fit none same complete gone =
+    let at = comes_between w ms (w.collector.collections + 1) config run fit (omega arith) (omega (arith, complete)) in
+    let fits : AllFit w (at.first ++ at.second) = subst (AllFit w) (sym at.both) fit in
+    let fit_u : AllFit w at.first = fit_first w at.first at.second fits in
+    let u : Core = after_moves w at.first in
+    let end : after_moves w ms ≡ after_moves u at.second = ap (after_moves w) (sym at.both) ∙ after_both w at.first at.second in
+    let config_u : IsConfig u.config = subst IsConfig (sym (config_after w at.first)) config in
+    let run_u : EndsRun u = run_on w at.first run fit_u in
+    let fit_rest_ : AllFit u at.second = fit_rest w at.first at.second fits in
+    let to_u = run_grown w at.first config run fit_u in
+    let from_u = run_grown u at.second config_u run_u fit_rest_ in
+    let over_all : is_in slot (freed_over w at.first ++ freed_over u at.second) ≡ true → IsFreed w ms slot = λ freed. subst (λ (xs : List Move). is_in slot (freed_over w xs) ≡ true) at.both (ap (is_in slot) (over_both freed_in w at.first at.second) ∙ freed) in
+    elim (cases_Bool (is_in slot (freed_over w at.first))) [
+      | inl freed ↦ over_all (is_in-left slot (freed_over w at.first) (freed_over u at.second) freed)
+      | inr unfreed ↦ over_all (is_in-right slot (freed_over w at.first) (freed_over u at.second) (cycles_run u at.second slot config_u run_u (ap (λ k. k.policy.least_roots) (config_after w at.first) ∙ always) at.idle fit_rest_
+          (omega (arith, none, to_u.0, to_u.1, from_u.0, from_u.1, same, ap refused_sets end)) (omega (arith, to_u.0, to_u.1, from_u.0, from_u.1, same, ap refused_sets end))
+          (omega (arith, complete, at.complete, ap (λ (x : Core). x.collector.collections) end)) (stays_lost w at.first config run fit_u slot (record { lost = gone; unfreed = unfreed }))))
+    ]

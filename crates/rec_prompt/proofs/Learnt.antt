@@ -14,7 +14,7 @@ use Rattle.rec_prompt.proofs.Followed.{AreBlackened, AreMarked, hits}
 use Rattle.rec_prompt.proofs.Hanging.{Trails}
 
 -- a word that a trial sees leads where it leads
-seen_leads : (s : State) (word x : ℕ) → target_of (visible s word) ≡ Some x → target_of word ≡ Some x
+pub seen_leads : (s : State) (word x : ℕ) → target_of (visible s word) ≡ Some x → target_of word ≡ Some x
 seen_leads s word x leads = go (target_of word) refl leads
   where
     by : (y : ℕ) (b : Bool) → target_of (if b then 0 else word) ≡ Some x → target_of word ≡ Some x

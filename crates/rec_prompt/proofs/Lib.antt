@@ -1,12 +1,16 @@
 -- The modules of the proofs.
+pub mod Backed
+pub mod Backing
 pub mod Batch
 pub mod Begun
 pub mod Chains
 pub mod Clears
 pub mod Counts
 pub mod Covered
+pub mod Cut
 pub mod Cycles
 pub mod Ended
+pub mod Fading
 pub mod Followed
 pub mod Forgets
 pub mod Found
@@ -20,6 +24,7 @@ pub mod Passed
 pub mod Pended
 pub mod Prompt
 pub mod Sees
+pub mod Spared
 pub mod Stays
 pub mod Third
 pub mod Trialled

@@ -4,7 +4,7 @@
 use Rattle.std.proofs.Common.{◌≡◌, ◌≢◌, ◌⊎◌, inl, inr, ℕ, zero, suc, ◌+◌, ◌-◌, ◌<◌, true, false, List, [], ◌∷◌, ◌++◌, Option, None, Some, length, map, replicate, slice_index_or, slice_set, refl, sym, ap, subst, ◌∙◌, arith, ◌/◌, ◌≤◌, Bool}
 use Rattle.std.proofs.lemmas.Bool.{cases_Bool, cases_eq, cases_lt, eq-eqb, false≢true}
 use Rattle.std.proofs.lemmas.List.{get_or-set_same, get_or-set_other, get_or_past, map-append}
-use Rattle.rec_core.proofs.Common.{place_of, target_of, is_green, Op, slot_at, IsTaken, Contents, Private, is_busy, word_for, next_of, left_of, took_of, whole_made, begun_of, named, old_target, IsMutator, Core, cell, cells_of, box, mutator, nobody, sight, spare_of, IsKept, begun_from, found_by, stepped, crossing_of, with_cell, one, code, epoch_at, has_let_go, Holds, Machine, pending, register, State, is_node, one_if_same, none_if_differs, node_of, Write, buffer_at, writes_in, births_in}
+use Rattle.rec_core.proofs.Common.{place_of, target_of, is_green, Op, slot_at, IsTaken, Contents, Private, is_busy, word_for, next_of, left_of, took_of, whole_made, begun_of, named, old_target, IsMutator, Core, cell, cells_of, box, mutator, nobody, sight, spare_of, IsKept, begun_from, found_by, stepped, crossing_of, with_cell, one, code, epoch_at, has_let_go, Holds, Machine, pending, register, State, is_node, one_if_same, none_if_differs, node_of, Write, buffer_at, writes_in, births_in, offering}
 use Rattle.rec_core.specs.declared.config.Config.{Config}
 use Rattle.rec_counts.proofs.Naming.{named-append, named-cons, named-nil}
 use Rattle.rec_word.specs.Header.{header_word}
@@ -471,6 +471,20 @@ module _ (v : Core) (t : ℕ) (kept : IsKept true v) (is : IsMutator v.config t)
 
 -- ---- so each slot hangs on something still, and a trial is followed still
 
+-- all slots are to be offered
+pub offering_pends : (v : Core) (x : ℕ) → IsPending v x → IsPending (offering v) x
+offering_pends v x (IsPending.log j some) = IsPending.log j some
+offering_pends v x (IsPending.mailbox j some) = IsPending.mailbox j some
+offering_pends v x (IsPending.newer j some) = IsPending.newer j some
+offering_pends v x (IsPending.older early j some) = IsPending.older early j some
+
+-- a field leads where it led, or what it led to is pending
+pub hides_leads : (v u : Core) → Hides v u → (m n : ℕ) → Leads (sight v) m n → Leads (sight u) m n ⊎ IsPending u n
+hides_leads v u h m n (field, within, leads) = elim (h.fields (place_of m field v.config.fields) n leads) [
+  | inl still ↦ inl (field, subst (λ (k : Config). field < k.fields) (sym h.config) within, subst (λ (k : Config). target_of (slice_index_or u.words (place_of m field k.fields) 0) ≡ Some n) (sym h.config) still)
+  | inr some ↦ inr some
+]
+
 pub hides_covers : (v u : Core) → IsKept true u → Hides v u → IsCovered v → IsCovered u
 hides_covers v u after h c slot taken plain = elim (h.taken slot taken) [
   | inr born ↦ later born
@@ -482,16 +496,10 @@ hides_covers v u after h c slot taken plain = elim (h.taken slot taken) [
 ]
   where
     edges_hidden : (v u : Core) → Hides v u → (m n : ℕ) → Leads (sight v) m n → Leads (sight u) m n ⊎ IsHung (sight u) (IsPending u) u.collector.counts n
-    edges_hidden v u h m n (field, within, leads) = elim (h.fields (place_of m field v.config.fields) n leads) [
-      | inl still ↦ inl (field, subst (λ (k : Config). field < k.fields) (sym h.config) within, subst (λ (k : Config). target_of (slice_index_or u.words (place_of m field k.fields) 0) ≡ Some n) (sym h.config) still)
-      | inr some ↦ inr (λ taken_ plain_. later some)
-    ]
+    edges_hidden v u h m n leads = elim (hides_leads v u h m n leads) [ inl still ↦ inl still | inr some ↦ inr (λ taken_ plain_. later some) ]
 
 hides_trails : (v u : Core) → Hides v u → (x : ℕ) → Trails (sight v) (IsPending v) x → Trails (sight u) (IsPending u) x
-hides_trails v u h = trails_stay (sight v) (sight u) (IsPending v) (IsPending u) h.pending (λ m n (field, within, leads). elim (h.fields (place_of m field v.config.fields) n leads) [
-  | inl still ↦ inl (field, subst (λ (k : Config). field < k.fields) (sym h.config) within, subst (λ (k : Config). target_of (slice_index_or u.words (place_of m field k.fields) 0) ≡ Some n) (sym h.config) still)
-  | inr some ↦ inr some
-])
+hides_trails v u h = trails_stay (sight v) (sight u) (IsPending v) (IsPending u) h.pending (hides_leads v u h)
 
 pub hides_followed : (v u : Core) (s : State) (m : Machine) → Hides v u → IsFollowed (sight v) (IsPending v) s m → IsFollowed (sight u) (IsPending u) s m
 hides_followed v u s m h f = record {

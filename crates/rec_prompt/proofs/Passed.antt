@@ -81,7 +81,7 @@ module _ (v : Core) (op : Op) (kept : IsKept true v) (after : IsKept true (turne
   IsPassed = (IsFoundNext × StaysNear) ⊎ (refused c.sets < refused q.sets)
 
   found_to : (words : List ℕ) (pending : ℕ → Type 0) (s : State) → u.words ≡ words → u.headers ≡ v.headers → ((x : ℕ) → pending x → IsPending u x) → FoundIn (sight (record v { words = words })) pending s → FoundIn (sight u) (IsPending u) s
-  found_to words pending s is same more g = subst (λ (k : Sight). FoundIn k (IsPending u) s) (sym (sight_is v op kept after i words is same)) (found_more (sight (record v { words = words })) pending (IsPending u) s more g)
+  found_to words pending s is same more g = subst (λ (k : Sight). FoundIn k (IsPending u) s) (sym (sight_is v op kept words is same)) (found_more (sight (record v { words = words })) pending (IsPending u) s more g)
 
   -- a phase with the same counts follows
   near_same : ((before_tests c.phase ≡ true) → (before_tests q.phase ≡ true) × (q.collections ≡ c.collections)) → q.counts ≡ c.counts → StaysNear
@@ -150,7 +150,7 @@ module _ (v : Core) (op : Op) (kept : IsKept true v) (after : IsKept true (turne
           let h : Heeds c.counts (with_released m (parts_of c) word).parts.counts = heeds_released v kept place (ap has_batched at) now.clearing.tidy.apart i.covers m now.clearing.busy in
           cleared_passed (slice_set v.words place 0) v v (IsLate v) (with_released m (parts_of c) word).parts.counts refl
           (ap (λ (o : Op). (with_cell (cells_of v) o (written o its_word)).words) its) (ap (λ (o : Op). (with_cell (cells_of v) o (written o its_word)).headers) its)
-          (late_pends v op kept after i (plain_boxes v op kept after i (Releasing m) at refl) (clears_rows c q turn on_)) (heeds_owned h) h.gone (refused c.sets) refl refl
+          (late_pends v op kept (plain_boxes v op kept (Releasing m) at refl) (clears_rows c q turn on_)) (heeds_owned h) h.gone (refused c.sets) refl refl
           (clears_found v v.crossing (slice_set v.words place 0) (IsLate v) q turn always (released_lands v m a kept at is) (released_covers v kept place (ap has_batched at) now.clearing.tidy.apart i.covers m now.clearing.busy) on_)
 
   freed_passed : (turn : Turn) (m : frees.Machine) → c.phase ≡ Freeing m → ◌≡◌ {A = Option Op} (Some op) (frees.next_of m) → ClearsOn c q turn (with_freed m (parts_of c) its_word) → IsPassed
@@ -171,7 +171,7 @@ module _ (v : Core) (op : Op) (kept : IsKept true v) (after : IsKept true (turne
           let sets : refused (with_freed m (parts_of c) word).parts.sets ≡ refused c.sets = freed_cases (λ b. refused b.parts.sets ≡ refused c.sets) m (parts_of c) word now.clearing.busy (λ b e more. refl) (λ b e last more. refl) (λ b e last none. refl) in
           cleared_passed (slice_set v.words place 0) v v (IsLate v) (with_freed m (parts_of c) word).parts.counts refl
           (ap (λ (o : Op). (with_cell (cells_of v) o (written o its_word)).words) its) (ap (λ (o : Op). (with_cell (cells_of v) o (written o its_word)).headers) its)
-          (late_pends v op kept after i (plain_boxes v op kept after i (Freeing m) at refl) (clears_rows c q turn on_)) (heeds_owned h) h.gone (refused (with_freed m (parts_of c) word).parts.sets) sets refl
+          (late_pends v op kept (plain_boxes v op kept (Freeing m) at refl) (clears_rows c q turn on_)) (heeds_owned h) h.gone (refused (with_freed m (parts_of c) word).parts.sets) sets refl
           (clears_found v v.crossing (slice_set v.words place 0) (IsLate v) q turn always (freed_lands v m a kept at is) (freed_covers v kept place (ap has_batched at) now.clearing.tidy.apart i.covers m now.clearing.busy) on_)
 
   -- a field is loaded
@@ -184,7 +184,7 @@ module _ (v : Core) (op : Op) (kept : IsKept true v) (after : IsKept true (turne
       inl (
         λ next. inr (found_to v.words (IsPending v) q.counts (ap (λ (o : Op). (with_cell (cells_of v) o (written o its_word)).words) its ∙ ap (slice_set v.words place) found_is ∙ set-get_or v.words place 0)
             (ap (λ (o : Op). (with_cell (cells_of v) o (written o its_word)).headers) its)
-            (λ x is. late_pends v op kept after i (plain_boxes v op kept after i (Trying m) at refl) (tries_rows c q (parts_of c) _ turn its_on) x (late_of v (ap has_batched at) x is))
+            (λ x is. late_pends v op kept (plain_boxes v op kept (Trying m) at refl) (tries_rows c q (parts_of c) _ turn its_on) x (late_of v (ap has_batched at) x is))
             (tries_found v v.crossing v.words (IsPending v) q turn c (parts_of c) _ its_on tried.found next)),
         λ n x unfreed near. elim near [
           | inl old ↦ absurd (false≢true (sym (ap before_tests at) ∙ old.0))
@@ -203,7 +203,7 @@ module _ (v : Core) (op : Op) (kept : IsKept true v) (after : IsKept true (turne
       inl (
         λ next. inr (found_to v.words (IsPending v) q.counts (ap (λ (o : Op). (with_cell (cells_of v) o (written o its_word)).words) its ∙ ap (slice_set v.words place) found_is ∙ set-get_or v.words place 0)
             (ap (λ (o : Op). (with_cell (cells_of v) o (written o its_word)).headers) its)
-            (λ x is_. late_pends v op kept after i (plain_boxes v op kept after i (Preparing m) at refl) (prepares_rows c q (parts_of c) _ turn on) x (late_of v (ap has_batched at) x is_))
+            (λ x is_. late_pends v op kept (plain_boxes v op kept (Preparing m) at refl) (prepares_rows c q (parts_of c) _ turn on) x (late_of v (ap has_batched at) x is_))
             (subst (FoundIn (sight v) (IsPending v)) (sym same) (heeds_found (sight v) (IsPending v) c.counts s h (was_found (ap before_tests at) (ap has_found at))))),
         λ n x unfreed near. elim near [
           | inl old ↦ absurd (false≢true (sym (ap before_tests at) ∙ old.0))
@@ -214,9 +214,9 @@ module _ (v : Core) (op : Op) (kept : IsKept true v) (after : IsKept true (turne
   -- a sweep begins or ends
   sweeps_on : (phase : Phase) → c.phase ≡ phase → has_found phase ≡ true → has_batched phase ≡ true → before_tests phase ≡ false → op ≡ ops.AddFreed → q.counts ≡ c.counts → Rows c q → u.boxes ≡ v.boxes → IsPassed
   sweeps_on phase at found batched_ late its same rows boxes =
-      let calm = quiet v op kept after i ops.AddFreed its refl refl in
+      let calm = quiet v op kept ops.AddFreed its refl refl in
       inl (
-        λ next. inr (subst (FoundIn (sight u) (IsPending u)) (sym same) (found_to v.words (IsPending v) c.counts calm.0 calm.1 (λ x is. late_pends v op kept after i boxes rows x (late_of v (ap has_batched at ∙ batched_) x is)) (was_found (ap before_tests at ∙ late) (ap has_found at ∙ found)))),
+        λ next. inr (subst (FoundIn (sight u) (IsPending u)) (sym same) (found_to v.words (IsPending v) c.counts calm.0 calm.1 (λ x is. late_pends v op kept boxes rows x (late_of v (ap has_batched at ∙ batched_) x is)) (was_found (ap before_tests at ∙ late) (ap has_found at ∙ found)))),
         near_same (λ early. absurd (false≢true (sym (ap before_tests at ∙ late) ∙ early))) same,
       )
 
@@ -243,7 +243,7 @@ module _ (v : Core) (op : Op) (kept : IsKept true v) (after : IsKept true (turne
       sets = ap (λ (k : collectors.Private). k.counts.sets) is
 
       more : (y : ℕ) → IsPending v y → IsPending u y
-      more y pending = late_pends v op kept after i (plain_boxes v op kept after i (Sweeping (Some x) n) at refl) (Rows.kept_rows (ap (λ (k : collectors.Private). k.newer) is) (ap (λ (k : collectors.Private). k.older) is) (ap (λ (k : collectors.Private). k.collections) is)) y (late_of v (ap has_batched at) y pending)
+      more y pending = late_pends v op kept (plain_boxes v op kept (Sweeping (Some x) n) at refl) (Rows.kept_rows (ap (λ (k : collectors.Private). k.newer) is) (ap (λ (k : collectors.Private). k.older) is) (ap (λ (k : collectors.Private). k.collections) is)) y (late_of v (ap has_batched at) y pending)
 
       still : (m k : ℕ) → Leads (sight v) m k → Leads (sight u) m k
       still m k (field, within, leads) = (field, within, ap (λ ws. target_of (slice_index_or ws (place_of m field v.config.fields) 0)) words ∙ leads)
@@ -285,44 +285,44 @@ module _ (v : Core) (op : Op) (kept : IsKept true v) (after : IsKept true (turne
   unfolding sweeps.started_of sweeps.took_of sweeps.next_of
   passed_rule (step.Step.spent at last none is turn_is) = let n : ◌≡◌ {A = Option Op} (Some op) None = none in absurd (cc)
   passed_rule {turn} (step.Step.request next at more is n g) =
-      let calm = quiet v op kept after i (ops.StoreEpoch (c.epoch + 1)) (some_op op (ops.StoreEpoch (c.epoch + 1)) is) refl refl in
+      let calm = quiet v op kept (ops.StoreEpoch (c.epoch + 1)) (some_op op (ops.StoreEpoch (c.epoch + 1)) is) refl refl in
       let then_ : q.phase ≡ Looking next = ap (λ (x : collectors.Private). x.phase) g.after in
-      gathers Idle at refl (ap before_tests then_) (ap (λ (x : collectors.Private). x.collections) g.after) (ap (λ (x : collectors.Private). x.counts) g.after) calm.0 calm.1 (before_pends v op kept after i turn Idle (Looking next) at refl then_ refl (ap (λ (x : collectors.Private). x.newer) g.after) (ap (λ (x : collectors.Private). x.older) g.after))
+      gathers Idle at refl (ap before_tests then_) (ap (λ (x : collectors.Private). x.collections) g.after) (ap (λ (x : collectors.Private). x.counts) g.after) calm.0 calm.1 (before_pends v op kept turn Idle (Looking next) at refl then_ refl (ap (λ (x : collectors.Private). x.newer) g.after) (ap (λ (x : collectors.Private). x.older) g.after))
   passed_rule {turn} (step.Step.request_alone at more is gone on) =
-      let calm = quiet v op kept after i (ops.StoreEpoch (c.epoch + 1)) (some_op op (ops.StoreEpoch (c.epoch + 1)) is) refl refl in
+      let calm = quiet v op kept (ops.StoreEpoch (c.epoch + 1)) (some_op op (ops.StoreEpoch (c.epoch + 1)) is) refl refl in
       let b : Core = requesting v in
       let awaits : Awaits v b = Awaits.alone at (λ last. more (ap (λ n. n + 1) kept.collector.epoch ∙ last)) gone in
-      batched turn b (length c.newer) (awaits_kept v b kept awaits) refl refl refl refl refl always (covers_more (sight b) (IsPending v) (IsPending b) c.counts (awaits_more v op kept after i b refl refl refl refl refl) i.covers)
-      (λ x late. late_pends v op kept after i (plain_boxes v op kept after i Idle at refl) (rows_as refl refl refl (clears_rows (requested c) q turn on)) x (same_late v op kept after i b refl refl refl x late)) calm.0 calm.1 (clears_in b.collector.phase on)
+      batched turn b (length c.newer) (awaits_kept v b kept awaits) refl refl refl refl refl always (covers_more (sight b) (IsPending v) (IsPending b) c.counts (awaits_more v op kept b refl refl refl refl refl) i.covers)
+      (λ x late. late_pends v op kept (plain_boxes v op kept Idle at refl) (rows_as refl refl refl (clears_rows (requested c) q turn on)) x (same_late v op kept b refl refl refl x late)) calm.0 calm.1 (clears_in b.collector.phase on)
   passed_rule (step.Step.cross_for t next at crosses is n g) = absurd (crosses_none v t kept at op its_word is refl crosses)
   passed_rule (step.Step.cross_for_last t at crosses is gone on) = absurd (crosses_none v t kept at op its_word is refl crosses)
   passed_rule {turn} (step.Step.wait t at stays is same turn_is) =
       let other : its_word ≢ crossing_word c.epoch Retired = waits_other v t kept at op its_word is refl stays in
       let its : op ≡ ops.LookBox t c.epoch = some_op op (ops.LookBox t c.epoch) is in
-      let calm = quiet v op kept after i (ops.LookBox t c.epoch) its refl refl in
+      let calm = quiet v op kept (ops.LookBox t c.epoch) its refl refl in
       let then_ : q.phase ≡ Looking t = ap (λ (x : collectors.Private). x.phase) same ∙ at in
       gathers (Looking t) at refl (ap before_tests then_) (ap (λ (x : collectors.Private). x.collections) same) (ap (λ (x : collectors.Private). x.counts) same) calm.0 calm.1
-      (before_pends v op kept after i turn (Looking t) (Looking t) at (cond-false (its_word == crossing_word c.epoch Retired) (collectors.spare c) (box v t) (ne_eqb its_word (crossing_word c.epoch Retired) other)) then_ refl (ap (λ (x : collectors.Private). x.newer) same) (ap (λ (x : collectors.Private). x.older) same))
+      (before_pends v op kept turn (Looking t) (Looking t) at (cond-false (its_word == crossing_word c.epoch Retired) (collectors.spare c) (box v t) (ne_eqb its_word (crossing_word c.epoch Retired) other)) then_ refl (ap (λ (x : collectors.Private). x.newer) same) (ap (λ (x : collectors.Private). x.older) same))
   passed_rule {turn} (step.Step.gather t at crossed is g) =
-      let calm = quiet v op kept after i (ops.LookBox t c.epoch) (some_op op (ops.LookBox t c.epoch) is) refl refl in
-      gathers (Looking t) at refl (ap (λ (x : collectors.Private). before_tests x.phase) g.after) (ap (λ (x : collectors.Private). x.collections) g.after) (ap (λ (x : collectors.Private). x.counts) g.after) calm.0 calm.1 (gathered_pends v op kept after i turn t at g)
+      let calm = quiet v op kept (ops.LookBox t c.epoch) (some_op op (ops.LookBox t c.epoch) is) refl refl in
+      gathers (Looking t) at refl (ap (λ (x : collectors.Private). before_tests x.phase) g.after) (ap (λ (x : collectors.Private). x.collections) g.after) (ap (λ (x : collectors.Private). x.counts) g.after) calm.0 calm.1 (gathered_pends v op kept turn t at g)
   passed_rule {turn} (step.Step.give_back t next at is n g) =
-      let calm = quiet v op kept after i (ops.ReturnBox t c.epoch) (some_op op (ops.ReturnBox t c.epoch) is) refl refl in
+      let calm = quiet v op kept (ops.ReturnBox t c.epoch) (some_op op (ops.ReturnBox t c.epoch) is) refl refl in
       let then_ : q.phase ≡ Looking next = ap (λ (x : collectors.Private). x.phase) g.after in
-      gathers (Returning t) at refl (ap before_tests then_) (ap (λ (x : collectors.Private). x.collections) g.after) (ap (λ (x : collectors.Private). x.counts) g.after) calm.0 calm.1 (before_pends v op kept after i turn (Returning t) (Looking next) at refl then_ refl (ap (λ (x : collectors.Private). x.newer) g.after) (ap (λ (x : collectors.Private). x.older) g.after))
+      gathers (Returning t) at refl (ap before_tests then_) (ap (λ (x : collectors.Private). x.collections) g.after) (ap (λ (x : collectors.Private). x.counts) g.after) calm.0 calm.1 (before_pends v op kept turn (Returning t) (Looking next) at refl then_ refl (ap (λ (x : collectors.Private). x.newer) g.after) (ap (λ (x : collectors.Private). x.older) g.after))
   passed_rule {turn} (step.Step.apply t at is gone on) =
-      let calm = quiet v op kept after i (ops.ReturnBox t c.epoch) (some_op op (ops.ReturnBox t c.epoch) is) refl refl in
+      let calm = quiet v op kept (ops.ReturnBox t c.epoch) (some_op op (ops.ReturnBox t c.epoch) is) refl refl in
       let b : Core = giving_back v t in
       let now = now_at v (Returning t) kept at in
       let awaits : Awaits v b = Awaits.last t (mutator_at v t (Returning t) kept at (now.first, now.there)) at gone in
-      batched turn b (length c.newer) (awaits_kept v b kept awaits) refl refl refl refl refl always (covers_more (sight b) (IsPending v) (IsPending b) c.counts (awaits_more v op kept after i b refl refl refl refl refl) i.covers)
-      (λ x late. late_pends v op kept after i (plain_boxes v op kept after i (Returning t) at refl) (rows_as refl refl refl (clears_rows (noted c t) q turn on)) x (same_late v op kept after i b refl refl refl x late)) calm.0 calm.1 (clears_in b.collector.phase on)
+      batched turn b (length c.newer) (awaits_kept v b kept awaits) refl refl refl refl refl always (covers_more (sight b) (IsPending v) (IsPending b) c.counts (awaits_more v op kept b refl refl refl refl refl) i.covers)
+      (λ x late. late_pends v op kept (plain_boxes v op kept (Returning t) at refl) (rows_as refl refl refl (clears_rows (noted c t) q turn on)) x (same_late v op kept b refl refl refl x late)) calm.0 calm.1 (clears_in b.collector.phase on)
   passed_rule {turn} (step.Step.release m at is on) = released_passed turn m at is on
   passed_rule {turn} (step.Step.freeing m at is on) = freed_passed turn m at is on
   passed_rule {turn} (step.Step.trial m at is on) = trial_passed turn m at is on
   passed_rule {turn} (step.Step.preparation m at is on) = preparation_passed turn m at is on
-  passed_rule {turn} (step.Step.begin_sweep at is g) = sweeps_on Opening at refl refl refl (some_op op ops.AddFreed is) (ap (λ (x : collectors.Private). x.counts) g.after) (Rows.kept_rows (ap (λ (x : collectors.Private). x.newer) g.after) (ap (λ (x : collectors.Private). x.older) g.after) (ap (λ (x : collectors.Private). x.collections) g.after)) (plain_boxes v op kept after i Opening at refl)
+  passed_rule {turn} (step.Step.begin_sweep at is g) = sweeps_on Opening at refl refl refl (some_op op ops.AddFreed is) (ap (λ (x : collectors.Private). x.counts) g.after) (Rows.kept_rows (ap (λ (x : collectors.Private). x.newer) g.after) (ap (λ (x : collectors.Private). x.older) g.after) (ap (λ (x : collectors.Private). x.collections) g.after)) (plain_boxes v op kept Opening at refl)
   passed_rule (step.Step.sweep None swept_ w next at is took follows g) = let n : ◌≡◌ {A = Option Op} (Some op) None = is in absurd (cc)
   passed_rule {turn} (step.Step.sweep (Some x) swept_ w next at is took follows g) =
       swept_passed x swept_ next at (some_op op (ops.FreeHeader x) is) (g.after ∙ ap (λ (k : sweeps.Work). record c { counts = k.counts; freed = c.freed + 1; phase = next; turns = c.turns + 1 }) took)
-  passed_rule {turn} (step.Step.end_sweep swept_ at is e) = sweeps_on (Closing swept_) at refl refl refl (some_op op ops.AddFreed is) (ap (λ (x : collectors.Private). x.counts) e.after) (Rows.turned_rows (ap (λ (x : collectors.Private). x.newer) e.after) (ap (λ (x : collectors.Private). x.older) e.after) (ap (λ (x : collectors.Private). x.collections) e.after) (ap (λ (x : collectors.Private). x.phase) e.after)) (plain_boxes v op kept after i (Closing swept_) at refl)
+  passed_rule {turn} (step.Step.end_sweep swept_ at is e) = sweeps_on (Closing swept_) at refl refl refl (some_op op ops.AddFreed is) (ap (λ (x : collectors.Private). x.counts) e.after) (Rows.turned_rows (ap (λ (x : collectors.Private). x.newer) e.after) (ap (λ (x : collectors.Private). x.older) e.after) (ap (λ (x : collectors.Private). x.collections) e.after) (ap (λ (x : collectors.Private). x.phase) e.after)) (plain_boxes v op kept (Closing swept_) at refl)

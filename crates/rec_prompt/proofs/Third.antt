@@ -21,6 +21,7 @@ use Rattle.rec_core.proofs.Turning.{turn_case}
 use Rattle.rec_core.proofs.Turns.{now_at}
 use Rattle.rec_prompt.specs.Cover.{IsPending, takes}
 use Rattle.rec_prompt.specs.Prompt.{freed_by, freed_in, freed_over}
+use Rattle.rec_prompt.proofs.Backed.{HasBacked, move_backed}
 use Rattle.rec_prompt.proofs.Clears.{refused}
 use Rattle.rec_prompt.proofs.Counts.{AreClean, clean}
 use Rattle.rec_prompt.proofs.Forgets.{counted, Forgets, IsClean}
@@ -28,14 +29,15 @@ use Rattle.rec_prompt.proofs.Found.{has_found, IsNear}
 use Rattle.rec_prompt.proofs.Hanging.{all_on_trails, Trails}
 use Rattle.rec_prompt.proofs.Heeding.{FoundIn, IsOwned}
 use Rattle.rec_prompt.proofs.Moves.{not_second}
-use Rattle.rec_prompt.proofs.Mutators.{begun_hides, Hides, hides_trails_too, step_hides}
+use Rattle.rec_prompt.proofs.Mutators.{begun_hides, Hides, hides_trails_too, offering_pends, step_hides}
 use Rattle.rec_prompt.proofs.Passed.{found_more, IsSoon, passed_rule}
 use Rattle.rec_prompt.proofs.Turned.{IsWatched}
-use Rattle.rec_prompt.proofs.Watched.{move_refused, move_watched, moves_refused, offering_pends}
+use Rattle.rec_prompt.proofs.Watched.{move_grown, move_refused, move_watched, moves_refused}
 
 -- Each slot hangs on something, and is found while no trial or test is at work; or it is before the tests of the collection after so many.
 pub record Stands (since : ℕ) (v : Core) : Type 0 where
   pub watched : IsWatched v
+  pub backed : HasBacked v
   pub found : has_found v.collector.phase ≡ true → IsSoon since v.collector ⊎ FoundIn (sight v) (IsPending v) v.collector.counts
 
 -- what mutators do leaves what is found
@@ -58,23 +60,23 @@ hides_next {since} v u same h st found = elim (st.found found) [ inl soon ↦ in
 
 move_stands : (since : ℕ) (v : Core) (m : Move) → IsKept true v → v.config.policy.least_roots ≡ 0 → Fits v m → Stands since v → Next since v m
 unfolding Next
-move_stands since v (Move.Begins t work from) kept always fits st = elim (move_watched v (Move.Begins t work from) kept fits st.watched) [
-  | inl there ↦ inl (record { watched = there; found = hides_next v (after_move v (Move.Begins t work from)) refl (begun_hides v t work from fits.0 kept) st }, λ n x unfreed near. near)
+move_stands since v (Move.Begins t work from) kept always fits st = elim (move_watched v (Move.Begins t work from) kept fits st.backed st.watched) [
+  | inl there ↦ inl (record { watched = there; backed = move_backed v (Move.Begins t work from) kept fits st.backed; found = hides_next v (after_move v (Move.Begins t work from)) refl (begun_hides v t work from fits.0 kept) st }, λ n x unfreed near. near)
   | inr more ↦ absurd (omega (arith, more))
 ]
-move_stands since v (Move.Steps t) kept always fits st = elim (move_watched v (Move.Steps t) kept fits st.watched) [
-  | inl there ↦ inl (record { watched = there; found = hides_next v (after_move v (Move.Steps t)) refl (step_hides v t kept fits.0 fits.1) st }, λ n x unfreed near. near)
+move_stands since v (Move.Steps t) kept always fits st = elim (move_watched v (Move.Steps t) kept fits st.backed st.watched) [
+  | inl there ↦ inl (record { watched = there; backed = move_backed v (Move.Steps t) kept fits st.backed; found = hides_next v (after_move v (Move.Steps t)) refl (step_hides v t kept fits.0 fits.1) st }, λ n x unfreed near. near)
   | inr more ↦ absurd (omega (arith, more))
 ]
-move_stands since v Move.Offers kept always fits st = elim (move_watched v Move.Offers kept fits st.watched) [
-  | inl there ↦ inl (record { watched = there; found = λ found. elim (st.found found) [ inl soon ↦ inl soon | inr was ↦ inr (found_more (sight v) (IsPending v) (IsPending (after_move v Move.Offers)) v.collector.counts (offering_pends v) was) ] }, λ n x unfreed near. near)
+move_stands since v Move.Offers kept always fits st = elim (move_watched v Move.Offers kept fits st.backed st.watched) [
+  | inl there ↦ inl (record { watched = there; backed = move_backed v Move.Offers kept fits st.backed; found = λ found. elim (st.found found) [ inl soon ↦ inl soon | inr was ↦ inr (found_more (sight v) (IsPending v) (IsPending (after_move v Move.Offers)) v.collector.counts (offering_pends v) was) ] }, λ n x unfreed near. near)
   | inr more ↦ absurd (omega (arith, more))
 ]
-move_stands since v Move.Turns kept always fits st = elim (move_watched v Move.Turns kept fits st.watched) [
-  | inr more ↦ inr more
+move_stands since v Move.Turns kept always fits st = elim (move_watched v Move.Turns kept fits st.backed st.watched) [
+  | inr more ↦ inr (let grown = move_grown v Move.Turns kept fits in omega (arith, more, grown.0, grown.1))
   | inl there ↦ elim (turn_case v (λ o u. IsKept true u → ((has_found u.collector.phase ≡ true → IsSoon since u.collector ⊎ FoundIn (sight u) (IsPending u) u.collector.counts) × ((n x : ℕ) → is_in x (freed_by o) ≡ false → IsNear n v.collector x → IsNear n u.collector x)) ⊎ (refused v.collector.sets < refused u.collector.sets))
       (λ none after. inl (st.found, λ n x unfreed near. near)) (λ op named after. passed_rule v op kept after st.watched always since st.found (rule_of v op kept named)) (turned_kept v kept)) [
-        | inl both ↦ inl (record { watched = there; found = both.0 }, both.1)
+        | inl both ↦ inl (record { watched = there; backed = move_backed v Move.Turns kept fits st.backed; found = both.0 }, both.1)
         | inr more ↦ inr more
       ]
 ]

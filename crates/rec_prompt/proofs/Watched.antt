@@ -1,4 +1,4 @@
--- Each slot hangs on something in every state of every run, as long as no set is refused.
+-- Each slot hangs on something in every state of every run, as long as no set is refused of which a member was touched.
 use Rattle.std.proofs.Common.{◌≡◌, ◌⊎◌, inl, inr, ℕ, ◌+◌, ◌<◌, ◌≤◌, true, List, [], ◌∷◌, slice_index_or, sym, ap, subst, ◌∙◌, arith}
 use Rattle.rec_core.proofs.Common.{place_of, IsTaken, Reaches, Trying, Idle, AllFit, Core, Fits, IsKept, Move, after_move, after_moves, sight, offering, pending}
 use Rattle.rec_model.specs.Heap.{roots}
@@ -12,13 +12,14 @@ use Rattle.rec_core.proofs.Reach.{sight_is}
 use Rattle.rec_core.proofs.Runs.{move_kept, rule_of, turned_kept}
 use Rattle.rec_core.proofs.Turning.{turn_case}
 use Rattle.rec_prompt.specs.Cover.{IsCovered, IsPending}
-use Rattle.rec_prompt.proofs.Clears.{refused}
+use Rattle.rec_prompt.proofs.Backed.{HasBacked, move_backed}
+use Rattle.rec_prompt.proofs.Clears.{IsGrown, refused, touched}
 use Rattle.rec_prompt.proofs.Followed.{IsFollowed}
 use Rattle.rec_prompt.proofs.Forgets.{node_leads}
 use Rattle.rec_prompt.proofs.Hanging.{Trails, trails_hang}
-use Rattle.rec_prompt.proofs.Mutators.{begun_hides, hides_covers, hides_followed, Hides, step_hides}
+use Rattle.rec_prompt.proofs.Mutators.{begun_hides, hides_covers, hides_followed, Hides, offering_pends, step_hides}
 use Rattle.rec_prompt.proofs.Pended.{reach_trails}
-use Rattle.rec_prompt.proofs.Turned.{by_rule, covers_more, followed_more, IsWatched, rule_refused}
+use Rattle.rec_prompt.proofs.Turned.{by_rule, covers_more, followed_more, IsWatched, rule_grown}
 
 -- What registers reach is on a path of fields from what is pending.
 pub reached_trails : (v : Core) → IsKept true v → (slot : ℕ) → Reaches (sight v) slot → Trails (sight v) (IsPending v) slot
@@ -44,13 +45,6 @@ hides_watched v u after h i = record {
   follows = λ m at. subst (λ (k : collectors.Private). IsFollowed (sight u) (IsPending u) k.counts m) (sym h.collector) (hides_followed v u v.collector.counts m h (i.follows m (sym (ap (λ (k : collectors.Private). k.phase) h.collector) ∙ at)));
 }
 
--- all slots are to be offered
-pub offering_pends : (v : Core) (x : ℕ) → IsPending v x → IsPending (offering v) x
-offering_pends v x (IsPending.log j some) = IsPending.log j some
-offering_pends v x (IsPending.mailbox j some) = IsPending.mailbox j some
-offering_pends v x (IsPending.newer j some) = IsPending.newer j some
-offering_pends v x (IsPending.older early j some) = IsPending.older early j some
-
 pub offering_covers : (v : Core) → IsCovered v → IsCovered (offering v)
 offering_covers v c = covers_more (sight v) (IsPending v) (IsPending (offering v)) v.collector.counts (offering_pends v) c
 
@@ -61,28 +55,34 @@ offering_watched v i = record {
 }
 
 -- a move leaves each slot on something, or refuses a set
-pub move_watched : (v : Core) (m : Move) → IsKept true v → Fits v m → IsWatched v → IsWatched (after_move v m) ⊎ (refused v.collector.sets < refused (after_move v m).collector.sets)
-move_watched v (Move.Begins t work from) kept fits i = inl (hides_watched v (after_move v (Move.Begins t work from)) (move_kept v (Move.Begins t work from) kept fits) (begun_hides v t work from fits.0 kept) i)
-move_watched v (Move.Steps t) kept fits i = inl (hides_watched v (after_move v (Move.Steps t)) (move_kept v (Move.Steps t) kept fits) (step_hides v t kept fits.0 fits.1) i)
-move_watched v Move.Offers kept fits i = inl (offering_watched v i)
-move_watched v Move.Turns kept fits i = turn_case v (λ o u. IsKept true u → IsWatched u ⊎ (refused v.collector.sets < refused u.collector.sets)) (λ none after. inl i) (λ op named after. by_rule v op kept after i (rule_of v op kept named)) (turned_kept v kept)
+pub move_watched : (v : Core) (m : Move) → IsKept true v → Fits v m → HasBacked v → IsWatched v → IsWatched (after_move v m) ⊎ (touched v.collector.sets < touched (after_move v m).collector.sets)
+move_watched v (Move.Begins t work from) kept fits b i = inl (hides_watched v (after_move v (Move.Begins t work from)) (move_kept v (Move.Begins t work from) kept fits) (begun_hides v t work from fits.0 kept) i)
+move_watched v (Move.Steps t) kept fits b i = inl (hides_watched v (after_move v (Move.Steps t)) (move_kept v (Move.Steps t) kept fits) (step_hides v t kept fits.0 fits.1) i)
+move_watched v Move.Offers kept fits b i = inl (offering_watched v i)
+move_watched v Move.Turns kept fits b i = turn_case v (λ o u. IsKept true u → IsWatched u ⊎ (touched v.collector.sets < touched u.collector.sets)) (λ none after. inl i) (λ op named after. by_rule v op kept after i b (rule_of v op kept named)) (turned_kept v kept)
 
 -- and no set that was refused is refused no more
+pub move_grown : (v : Core) (m : Move) → IsKept true v → Fits v m → IsGrown v.collector.sets (after_move v m).collector.sets
+move_grown v (Move.Begins t work from) kept fits = (omega arith, omega arith)
+move_grown v (Move.Steps t) kept fits = (omega arith, omega arith)
+move_grown v Move.Offers kept fits = (omega arith, omega arith)
+move_grown v Move.Turns kept fits = turn_case v (λ o u. IsGrown v.collector.sets u.collector.sets) (λ none. (omega arith, omega arith)) (λ op named. rule_grown v op (rule_of v op kept named))
+
+pub moves_grown : (v : Core) (ms : List Move) → IsKept true v → AllFit v ms → IsGrown v.collector.sets (after_moves v ms).collector.sets
+moves_grown v [] kept fit = (omega arith, omega arith)
+moves_grown v (m ∷ ms) kept fit = let first = move_grown v m kept fit.0 in let rest = moves_grown (after_move v m) ms (move_kept v m kept fit.0) fit.1 in (omega (arith, first.0, rest.0), omega (arith, first.1, rest.1))
+
 pub move_refused : (v : Core) (m : Move) → IsKept true v → Fits v m → refused v.collector.sets ≤ refused (after_move v m).collector.sets
-move_refused v (Move.Begins t work from) kept fits = omega arith
-move_refused v (Move.Steps t) kept fits = omega arith
-move_refused v Move.Offers kept fits = omega arith
-move_refused v Move.Turns kept fits = turn_case v (λ o u. refused v.collector.sets ≤ refused u.collector.sets) (λ none. omega arith) (λ op named. rule_refused v op (rule_of v op kept named))
+move_refused v m kept fit = let grown = move_grown v m kept fit in omega (arith, grown.0, grown.1)
 
 pub moves_refused : (v : Core) (ms : List Move) → IsKept true v → AllFit v ms → refused v.collector.sets ≤ refused (after_moves v ms).collector.sets
-moves_refused v [] kept fit = omega arith
-moves_refused v (m ∷ ms) kept fit = omega (arith, move_refused v m kept fit.0, moves_refused (after_move v m) ms (move_kept v m kept fit.0) fit.1)
+moves_refused v ms kept fit = let grown = moves_grown v ms kept fit in omega (arith, grown.0, grown.1)
 
-pub moves_watched : (v : Core) (ms : List Move) → IsKept true v → AllFit v ms → IsWatched v → refused (after_moves v ms).collector.sets ≤ refused v.collector.sets → IsWatched (after_moves v ms)
-moves_watched v [] kept fit i few = i
-moves_watched v (m ∷ ms) kept fit i few =
+pub moves_watched : (v : Core) (ms : List Move) → IsKept true v → AllFit v ms → HasBacked v → IsWatched v → touched (after_moves v ms).collector.sets ≤ touched v.collector.sets → IsWatched (after_moves v ms)
+moves_watched v [] kept fit b i few = i
+moves_watched v (m ∷ ms) kept fit b i few =
     let after : IsKept true (after_move v m) = move_kept v m kept fit.0 in
-    elim (move_watched v m kept fit.0 i) [
-      | inl there ↦ moves_watched (after_move v m) ms after fit.1 there (omega (arith, few, move_refused v m kept fit.0))
-      | inr more ↦ absurd (omega (arith, few, more, moves_refused (after_move v m) ms after fit.1))
+    elim (move_watched v m kept fit.0 b i) [
+      | inl there ↦ moves_watched (after_move v m) ms after fit.1 (move_backed v m kept fit.0 b) there (omega (arith, few, (move_grown v m kept fit.0).0))
+      | inr more ↦ absurd (omega (arith, few, more, (moves_grown (after_move v m) ms after fit.1).0))
     ]

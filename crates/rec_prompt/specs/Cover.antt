@@ -1,5 +1,5 @@
 -- What the collector still has to look at, and what hangs on that.
-use Rattle.std.specs.Prelude.{◌≡◌, ℕ, ◌+◌, ◌<◌, Bool, true, false, map, slice_index_or}
+use Rattle.std.specs.Prelude.{◌≡◌, ℕ, ◌+◌, ◌<◌, true, false, map, slice_index_or}
 use Rattle.rec_core.specs.Pending.{has_batched}
 use Rattle.std.specs.List.{concat}
 use Rattle.rec_model.specs.Sight.{Sight, IsTaken}
@@ -45,6 +45,10 @@ Covers w pending s = (slot : ℕ) → IsTaken w slot → is_green (slot_at s slo
 -- the same of a heap with its collector
 abbrev pub IsCovered : Core → Type 0
 IsCovered w = Covers (sight w) (IsPending w) w.collector.counts
+
+-- how many sets were refused as one of their members was touched: the batch before the test had added to it or taken off it
+abbrev pub touched_sets : Core → ℕ
+touched_sets w = w.collector.sets.delta
 
 -- how many sets were refused, of those that were tested
 abbrev pub refused_sets : Core → ℕ

@@ -6,7 +6,7 @@ ghost use Rattle.rec_collector.specs.declared.phase.Phase.TheVariants.{Idle};
 ghost use Rattle.rec_core.specs.Config.{IsConfig};
 ghost use Rattle.rec_core.specs.Core.{Core, sight};
 ghost use Rattle.rec_core.specs.Moves.{Move, AllFit, EndsRun, Fits, after_move, after_moves, IsNoTurn};
-ghost use Rattle.rec_prompt.specs.Cover.{IsCovered, refused_sets};
+ghost use Rattle.rec_prompt.specs.Cover.{IsCovered, refused_sets, touched_sets};
 ghost use Rattle.rec_prompt.specs.Lost.{fields_to, IsBehindNoCycle, IsLost, Leads};
 ghost use Rattle.rec_prompt.specs.Prompt.{Complete, IsFreed, IsLeft};
 
@@ -30,23 +30,26 @@ pub fn lost_slots_stay_lost()
 
 /// Every lost slot is freed by the end of the third collection, as long as no set is refused, garbage cycles too. Take any state of any run
 /// of a heap that makes a trial in each collection, in which no collection is under way, and any moves from there over which three
-/// collections become complete. If by their end no set of the run was refused, a turn among these moves frees each slot that held an object in
-/// that state and that no register reached there. From a state in which a collection is under way, four collections are enough. What was
-/// refused before that state doesn't matter if each slot hangs there on something (`nothing_is_forgotten`).
+/// collections become complete. If no set was refused before of which a member was touched, and over these moves none is at all, a turn among
+/// them frees each slot that held an object in that state and that no register reached there. From a state in which a collection is under
+/// way, four collections are enough. What was refused before that state doesn't matter if each slot hangs there on something
+/// (`nothing_is_forgotten`).
 pub fn lost_slots_are_freed_while_no_set_is_refused()
-    ensures idle { (w : Core) (moves : List Move) (slot : ℕ) → IsConfig w.config → EndsRun w → w.config.policy.least_roots ≡ 0 → w.collector.phase ≡ Idle → AllFit w moves → refused_sets (after_moves w moves) ≡ 0 → Complete 3 w moves → IsLost (sight w) slot → IsFreed w moves slot }
-    ensures under_way { (w : Core) (moves : List Move) (slot : ℕ) → IsConfig w.config → EndsRun w → w.config.policy.least_roots ≡ 0 → AllFit w moves → refused_sets (after_moves w moves) ≡ 0 → Complete 4 w moves → IsLost (sight w) slot → IsFreed w moves slot }
+    ensures idle { (w : Core) (moves : List Move) (slot : ℕ) → IsConfig w.config → EndsRun w → w.config.policy.least_roots ≡ 0 → w.collector.phase ≡ Idle → AllFit w moves → touched_sets w ≡ 0 → refused_sets (after_moves w moves) ≡ refused_sets w → Complete 3 w moves → IsLost (sight w) slot → IsFreed w moves slot }
+    ensures under_way { (w : Core) (moves : List Move) (slot : ℕ) → IsConfig w.config → EndsRun w → w.config.policy.least_roots ≡ 0 → AllFit w moves → touched_sets w ≡ 0 → refused_sets (after_moves w moves) ≡ refused_sets w → Complete 4 w moves → IsLost (sight w) slot → IsFreed w moves slot }
     ensures covered { (w : Core) (moves : List Move) (slot : ℕ) → IsConfig w.config → EndsRun w → w.config.policy.least_roots ≡ 0 → w.collector.phase ≡ Idle → AllFit w moves → IsCovered w → refused_sets (after_moves w moves) ≡ refused_sets w → Complete 3 w moves → IsLost (sight w) slot → IsFreed w moves slot }
 {}
 
-/// Nothing is forgotten, as long as no set is refused. A slot hangs on something that the collector still has to look at if it is pending
-/// or listed itself, or if fields lead to it from such a slot. It is pending while a batch to come takes something off it: by a log, by a
-/// mailbox or by one of the collector's buffers. It is listed while it is released, a zero, a Purple candidate root or a member of a set, or
-/// marked by the trial at work. In every state of a run in which no set was refused yet, each slot that holds an object hangs on
-/// something, unless it is Green. If that is so in a state between two collections, it stays so until one more set is refused. No move
-/// of a mutator takes it away, in any phase of a collection and whatever was refused.
+/// Nothing is forgotten, as long as no set is refused of which a member was touched. A slot hangs on something that the collector still has
+/// to look at if it is pending or listed itself, or if fields lead to it from such a slot. It is pending while a batch to come takes
+/// something off it: by a log, by a mailbox or by one of the collector's buffers. It is listed while it is released, a zero, a Purple
+/// candidate root or a member of a set, or marked by the trial at work. In every state of a run in which no set was refused yet as a batch
+/// had touched a member of it, each slot that holds an object hangs on something, unless it is Green. Sets that were refused since
+/// something else holds a member, each of them untouched, hide nothing. If each slot hangs on something in a state between two
+/// collections, it stays so until one more set is refused of which a member was touched. No move of a mutator takes it away, in any
+/// phase of a collection and whatever was refused.
 pub fn nothing_is_forgotten()
-    ensures run { (w : Core) → IsConfig w.config → EndsRun w → refused_sets w ≡ 0 → IsCovered w }
-    ensures between { (w : Core) (moves : List Move) → IsConfig w.config → EndsRun w → w.collector.phase ≡ Idle → AllFit w moves → refused_sets (after_moves w moves) ≡ refused_sets w → IsCovered w → IsCovered (after_moves w moves) }
+    ensures run { (w : Core) → IsConfig w.config → EndsRun w → touched_sets w ≡ 0 → IsCovered w }
+    ensures between { (w : Core) (moves : List Move) → IsConfig w.config → EndsRun w → w.collector.phase ≡ Idle → AllFit w moves → touched_sets (after_moves w moves) ≡ touched_sets w → IsCovered w → IsCovered (after_moves w moves) }
     ensures mutators { (w : Core) (m : Move) → IsConfig w.config → EndsRun w → Fits w m → IsNoTurn m → IsCovered w → IsCovered (after_move w m) }
 {}
