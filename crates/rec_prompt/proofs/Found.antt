@@ -1,9 +1,9 @@
 -- A trial ends with each slot found: released, a member of a set, or on a path of fields from what is pending or released. That stays so up
 -- to the next batch. And what is released or a member before the tests is released after them, where no set is refused.
-use Rattle.std.proofs.Common.{◌≡◌, ◌⊎◌, inl, inr, ℕ, ◌-◌, ◌<◌, ◌≤◌, true, false, Bool, None, Some, List, [], length, refl, sym, ap, subst, ◌∙◌, arith}
+use Rattle.std.proofs.Common.{◌≡◌, ◌⊎◌, inl, inr, ℕ, ◌-◌, ◌<◌, true, false, Bool, None, Some, List, [], length, refl, sym, ap, subst, ◌∙◌, arith}
 use Rattle.std.specs.List.{concat}
 use Rattle.std.proofs.lemmas.Bool.{false≢true}
-use Rattle.rec_core.proofs.Common.{State, slot_at, times, times-nil, IsFreeable, Parts, prep_started, with_offers, ClearsOn, IsTested, PreparesOn, TriesOn, Begun, Phase, Idle, Looking, Swapping, Returning, Trying, Releasing, Freeing, Turn, still, IsClearing, Work, Core, Sight, sight}
+use Rattle.rec_core.proofs.Common.{IsApart, State, slot_at, times, times-nil, IsFreeable, Parts, prep_started, with_offers, ClearsOn, IsTested, PreparesOn, TriesOn, Begun, Phase, Idle, Looking, Swapping, Returning, Trying, Releasing, Freeing, Turn, still, IsClearing, Work, Core, Sight, sight}
 use Rattle.rec_trial.specs.Moves.{cleared}
 use Rattle.rec_trial.specs.Rules.{IsReady}
 use Rattle.rec_trial.specs.Trial as trials
@@ -22,7 +22,10 @@ use Rattle.rec_core.proofs.Landings.{prep_others}
 use Rattle.rec_core.proofs.SetTests.{tested_lands}
 use Rattle.rec_prompt.specs.Cover.{Covers, Hangs, IsListed}
 use Rattle.rec_prompt.specs.Cover.Hangs.{later, listed, behind}
-use Rattle.rec_prompt.proofs.Clears.{clears_refused, heeds_freeing, heeds_leaders, refused}
+use Rattle.rec_prompt.proofs.Clears.{clears_grown, heeds_freeing, heeds_leaders, heeds_zeros, IsGrown, refused, touched}
+use Rattle.rec_prompt.proofs.Backing.{AreBacked, backed_fades}
+use Rattle.rec_prompt.proofs.Fading.{fades_tested}
+use Rattle.rec_prompt.proofs.Spared.{spared_covers, spared_gone, spared_leaders}
 use Rattle.rec_prompt.proofs.Hanging.{leaders_from, LeadersCount, Trails}
 use Rattle.rec_prompt.proofs.Heeding.{FoundIn, Heeds, heeds_covers, heeds_found, heeds_others, heeds_owned, heeds_same, IsOwned}
 use Rattle.rec_prompt.proofs.Trialled.{none_idle}
@@ -109,12 +112,15 @@ module _ (w : Core) (crossing words : List ℕ) (pending : ℕ → Type 0) (q : 
           found : FoundIn seen pending (cleared x.counts)
           found y taken plain = inr (trails y (heeds_covers seen pending v.counts x.counts (heeds_leaders seen v.counts x.counts h alive) h c y taken plain))
 
+  -- What was found then, and what was a member or released is near, or a set was refused; or one of which a member was touched.
+  abbrev pub IsFoundAfter : Begun → Type 0
+  IsFoundAfter b = (IsFoundThen × (((x : ℕ) → IsOwned b.parts.counts x → IsNear w.collector.collections q x) ⊎ (refused b.parts.sets < refused q.sets)) × Keeps b.parts.counts) ⊎ (touched b.parts.sets < touched q.sets)
+
   -- Whatever follows a release, or the freeing of a set.
-  pub clears_found : {b : Begun} → w.config.policy.least_roots ≡ 0 → HasCleared w crossing words b → Covers seen pending b.parts.counts → ClearsOn w.collector q turn b
-      → (IsFoundThen × ((x : ℕ) → IsOwned b.parts.counts x → IsNear w.collector.collections q x) × Keeps b.parts.counts) ⊎ (refused b.parts.sets < refused q.sets)
-  clears_found {b} always h c (ClearsOn.works phase is g) = inl (
+  pub clears_found : {b : Begun} → w.config.policy.least_roots ≡ 0 → HasCleared w crossing words b → Covers seen pending b.parts.counts → AreBacked seen pending b.parts.counts → ClearsOn w.collector q turn b → IsFoundAfter b
+  clears_found {b} always h c backs (ClearsOn.works phase is g) = inl (
     λ found. absurd (not_found phase found_of (sym (ap (λ (x : collectors.Private). has_found x.phase) g.after) ∙ found)),
-    λ x own. inl (ap (λ (k : collectors.Private). before_tests k.phase) g.after ∙ clearing_before phase found_of, ap (λ (k : collectors.Private). k.collections) g.after, subst (λ (k : collectors.Private). IsOwned k.counts x) (sym g.after) own),
+    inl (λ x own. inl (ap (λ (k : collectors.Private). before_tests k.phase) g.after ∙ clearing_before phase found_of, ap (λ (k : collectors.Private). k.collections) g.after, subst (λ (k : collectors.Private). IsOwned k.counts x) (sym g.after) own)),
     λ x gone. ap (λ (k : collectors.Private). (slot_at k.counts x).released) g.after ∙ gone,
   )
     where
@@ -130,7 +136,7 @@ module _ (w : Core) (crossing words : List ℕ) (pending : ℕ → Type 0) (q : 
       clearing_before (Releasing m) clearing = refl
       clearing_before (Freeing m) clearing = refl
       clearing_before _ clearing = absurd clearing
-  clears_found {b} always h c (ClearsOn.tests d is some tested on) = go tested (clears_refused w crossing words pending q turn w.collector on) (λ covers. clears_found always (tested_lands w crossing words b.parts there some d tested) covers on)
+  clears_found {b} always h c backs (ClearsOn.tests d is some tested on) = go tested (clears_grown w crossing words pending q turn w.collector on) (λ covers. clears_found always (tested_lands w crossing words b.parts there some d tested) covers (backed_fades seen pending b.parts.counts d.parts.counts (fades_tested b.parts d tested) backs) on)
     where
       there : HasCleared w crossing words (still b.parts)
       there = subst (λ o. HasCleared w crossing words (record { parts = b.parts; phase = o })) is h
@@ -138,19 +144,25 @@ module _ (w : Core) (crossing words : List ℕ) (pending : ℕ → Type 0) (q : 
       alive : LeadersCount seen b.parts.counts
       alive = leaders_from seen b.parts.counts h.landed.sound h.landed.greens
 
-      go : IsTested b.parts d → refused d.parts.sets ≤ refused q.sets
-          → (Covers seen pending d.parts.counts → (IsFoundThen × ((x : ℕ) → IsOwned d.parts.counts x → IsNear w.collector.collections q x) × Keeps d.parts.counts) ⊎ (refused d.parts.sets < refused q.sets))
-          → (IsFoundThen × ((x : ℕ) → IsOwned b.parts.counts x → IsNear w.collector.collections q x) × Keeps b.parts.counts) ⊎ (refused b.parts.sets < refused q.sets)
+      go : IsTested b.parts d → IsGrown d.parts.sets q.sets → (Covers seen pending d.parts.counts → IsFoundAfter d) → IsFoundAfter b
       go (IsTested.passes orange none eq) few next =
           let freeable : IsFreeable b.parts.counts = last_freeable b.parts some (passed_verdict b.parts.counts (length b.parts.counts.sets - 1) orange none) there.landed.counts there.clears.clearing in
           let heeds : Heeds b.parts.counts d.parts.counts = subst (λ (x : Begun). Heeds b.parts.counts x.parts.counts) (sym eq) (heeds_freeing b.parts there.landed.counts freeable) in
           elim (next (heeds_covers seen pending b.parts.counts d.parts.counts (heeds_leaders seen b.parts.counts d.parts.counts heeds alive) heeds c)) [
-            | inl both ↦ inl (both.0, λ x own. both.1 x (heeds_owned heeds x own), λ x gone. both.2 x (heeds.gone x gone))
-            | inr more ↦ inr (omega (arith, more, ap (λ (x : Begun). refused x.parts.sets) eq))
+            | inl all ↦ inl (all.0, elim all.1 [ inl near ↦ inl (λ x own. near x (heeds_owned heeds x own)) | inr more ↦ inr (omega (arith, more, ap (λ (x : Begun). refused x.parts.sets) eq)) ], λ x gone. all.2 x (heeds.gone x gone))
+            | inr more ↦ inr (omega (arith, more, ap (λ (x : Begun). touched x.parts.sets) eq))
           ]
-      go (IsTested.fails_delta s touched last eq) few next = inr (omega (arith, few, ap (λ (x : Begun). refused x.parts.sets) eq))
-      go (IsTested.fails_sigma s orange held last eq) few next = inr (omega (arith, few, ap (λ (x : Begun). refused x.parts.sets) eq))
-  clears_found {b} always h c (ClearsOn.tries is none due on) =
+      go (IsTested.fails_delta s touched_ last eq) few next = inr (omega (arith, few.0, ap (λ (x : Begun). touched x.parts.sets) eq))
+      go (IsTested.fails_sigma s orange held last eq) few next =
+          let apart : IsApart b.parts.counts = there.clears.clearing.tidy.apart in
+          let zeros : Heeds s d.parts.counts = subst (λ (x : Begun). Heeds s x.parts.counts) (sym eq) (heeds_zeros true (record b.parts { counts = s })) in
+          let spared : Covers seen pending s = spared_covers seen pending b.parts.counts s apart last orange backs alive c in
+          let more : refused b.parts.sets < refused q.sets = omega (arith, few.0, few.1, ap (λ (x : Begun). refused x.parts.sets) eq) in
+          elim (next (heeds_covers seen pending s d.parts.counts (heeds_leaders seen s d.parts.counts zeros (spared_leaders seen pending b.parts.counts s apart last orange alive)) zeros spared)) [
+            | inl all ↦ inl (all.0, inr more, λ x gone. all.2 x (zeros.gone x (spared_gone b.parts.counts s last x gone)))
+            | inr touched_ ↦ inr (omega (arith, touched_, ap (λ (x : Begun). touched x.parts.sets) eq))
+          ]
+  clears_found {b} always h c backs (ClearsOn.tries is none due on) =
       let there : HasCleared w crossing words (still b.parts) = subst (λ o. HasCleared w crossing words (record { parts = b.parts; phase = o })) is h in
       let alive : LeadersCount seen b.parts.counts = leaders_from seen b.parts.counts h.landed.sound h.landed.greens in
       let offers : Heeds b.parts.counts (with_offers b.parts).counts = heeds_offered b.parts.offers b.parts.counts in
@@ -160,10 +172,10 @@ module _ (w : Core) (crossing words : List ℕ) (pending : ℕ → Type 0) (q : 
       let both = trial_found (with_offers b.parts) h.clears.wide (where_ready b.parts.offers b.parts.counts ready) zeros alive_then (heeds_covers seen pending b.parts.counts (with_offers b.parts).counts alive_then offers c) on in
       inl (
         both.0,
-        λ x own. inr (both.1 x (elim own [
+        inl (λ x own. inr (both.1 x (elim own [
           | inl gone ↦ offers.gone x gone
           | inr member ↦ absurd (omega (arith, member, ap (λ (xss : List (List ℕ)). times x (concat xss)) none, times-nil x))
-        ])),
+        ]))),
         λ x gone. both.1 x (offers.gone x gone),
       )
-  clears_found {b} always h c (ClearsOn.waits is none off on) = absurd (false≢true (sym off ∙ always_tries b.parts (ap (λ k. k.least_roots) h.landed.policy ∙ always)))
+  clears_found {b} always h c backs (ClearsOn.waits is none off on) = absurd (false≢true (sym off ∙ always_tries b.parts (ap (λ k. k.least_roots) h.landed.policy ∙ always)))

@@ -1,11 +1,11 @@
--- A turn of the collector, where no set is refused: what the last trial found stays found up to the next batch, and what is released or a
--- member before the tests is released after them.
-use Rattle.std.proofs.Common.{◌≡◌, ◌≢◌, ◌⊎◌, inl, inr, ℕ, ◌+◌, ◌<◌, ◌==◌, true, false, Option, None, Some, List, [], ◌∷◌, length, slice_index_or, slice_set, refl, sym, ap, subst, ◌∙◌, arith}
+-- A turn of the collector, where no set is refused of which a member was touched: what the last trial found stays found up to the next
+-- batch. And where no set is refused, what is released or a member before the tests is released after them.
+use Rattle.std.proofs.Common.{IfSome, ◌≡◌, ◌≢◌, ◌⊎◌, inl, inr, ℕ, ◌+◌, ◌<◌, ◌==◌, true, false, Option, None, Some, List, [], ◌∷◌, length, slice_index_or, slice_set, refl, sym, ap, subst, ◌∙◌, arith}
 use Rattle.rec_core.specs.Pending.{has_batched}
 use Rattle.std.specs.List.{concat}
 use Rattle.std.proofs.lemmas.Bool.{cases_eq, cond-false, false≢true, ne_eqb}
 use Rattle.std.proofs.lemmas.List.{get_or-set_other, set-get_or}
-use Rattle.rec_core.proofs.Common.{crossing_word, Retired, place_of, target_of, Op, is_green, State, slot_at, times, absent, Slot, Sight, IsTaken, Contents, Parts, parts_of, with_released, with_freed, zeros_released, ClearsOn, Phase, Idle, Looking, Returning, Releasing, Freeing, Trying, Preparing, Opening, Sweeping, Closing, Turn, Machine, cell, with_cell, Core, cells_of, box, sight, IsKept, IsKeptBy, stand_at, looked_at, step_of, turned_by, At, Member, swept, swept_clean, visible, requested, noted, freed_by as freed_cases}
+use Rattle.rec_core.proofs.Common.{Begun, crossing_word, Retired, place_of, target_of, Op, is_green, State, slot_at, times, absent, Slot, Sight, IsTaken, Contents, Parts, parts_of, with_released, with_freed, zeros_released, ClearsOn, Phase, Idle, Looking, Returning, Releasing, Freeing, Trying, Preparing, Opening, Sweeping, Closing, Turn, Machine, cell, with_cell, Core, cells_of, box, sight, IsKept, IsKeptBy, stand_at, looked_at, step_of, turned_by, At, Member, swept, swept_clean, visible, requested, noted, freed_by as freed_cases}
 use Rattle.rec_word.specs.Op.{written}
 use Rattle.rec_word.specs.declared.op.Op.TheVariants as ops
 use Rattle.rec_model.specs.Reach.{is_in}
@@ -36,7 +36,12 @@ use Rattle.rec_prompt.specs.Cover.{Covers, IsPending}
 use Rattle.rec_prompt.specs.Lost.{Leads}
 use Rattle.rec_prompt.specs.Prompt.{freed_by}
 use Rattle.rec_prompt.proofs.Batch.{batch_covers, batch_gone, batch_owned, IsLate}
-use Rattle.rec_prompt.proofs.Clears.{heeds_zeros, refused}
+use Rattle.rec_prompt.proofs.Clears.{heeds_zeros, refused, touched}
+use Rattle.rec_counts.proofs.Times.{times_at}
+use Rattle.rec_word.specs.Walk.{IsOf}
+use Rattle.rec_prompt.proofs.Backing.{AreBacked, backed_fades, backed_more}
+use Rattle.rec_prompt.proofs.Cut.{backed_counted, backed_cut}
+use Rattle.rec_prompt.proofs.Fading.{fades_freed, fades_released, fades_same, fades_zeros}
 use Rattle.rec_prompt.proofs.Found.{before_tests, clears_found, has_found, IsNear, prepares_counts, tries_found, tries_keeps}
 use Rattle.rec_prompt.proofs.Hanging.{all_on_trails, leaders_count, leaders_from, LeadersCount, Trails}
 use Rattle.rec_prompt.proofs.Heeding.{FoundIn, Heeds, heeds_covers, heeds_found, heeds_others, heeds_owned, IsOwned}
@@ -55,7 +60,7 @@ found_more w before after s more f slot taken plain = elim (f slot taken plain) 
 abbrev pub IsSoon : (since : ℕ) → collectors.Private → Type 0
 IsSoon since p = (before_tests p.phase ≡ true) × (p.collections ≡ since)
 
-module _ (v : Core) (op : Op) (kept : IsKept true v) (after : IsKept true (turned_by v op (cell (cells_of v) op))) (i : IsWatched v) (always : v.config.policy.least_roots ≡ 0) (since : ℕ) (f : has_found v.collector.phase ≡ true → IsSoon since v.collector ⊎ FoundIn (sight v) (IsPending v) v.collector.counts) where
+module _ (v : Core) (op : Op) (kept : IsKept true v) (after : IsKept true (turned_by v op (cell (cells_of v) op))) (i : IsWatched v) (backs : AreBacked (sight v) (IsPending v) v.collector.counts) (always : v.config.policy.least_roots ≡ 0) (since : ℕ) (f : has_found v.collector.phase ≡ true → IsSoon since v.collector ⊎ FoundIn (sight v) (IsPending v) v.collector.counts) where
   open v use {collector as c}
 
   abbrev its_word : ℕ
@@ -76,9 +81,9 @@ module _ (v : Core) (op : Op) (kept : IsKept true v) (after : IsKept true (turne
   abbrev StaysNear : Type 0
   StaysNear = (n x : ℕ) → is_in x (freed_by (Some op)) ≡ false → IsNear n c x → IsNear n q x
 
-  -- so it is after the turn, or more sets were refused
+  -- so it is after the turn, but that a set was refused; or one of which a member was touched
   abbrev IsPassed : Type 0
-  IsPassed = (IsFoundNext × StaysNear) ⊎ (refused c.sets < refused q.sets)
+  IsPassed = (IsFoundNext × (StaysNear ⊎ (refused c.sets < refused q.sets))) ⊎ (touched c.sets < touched q.sets)
 
   found_to : (words : List ℕ) (pending : ℕ → Type 0) (s : State) → u.words ≡ words → u.headers ≡ v.headers → ((x : ℕ) → pending x → IsPending u x) → FoundIn (sight (record v { words = words })) pending s → FoundIn (sight u) (IsPending u) s
   found_to words pending s is same more g = subst (λ (k : Sight). FoundIn k (IsPending u) s) (sym (sight_is v op kept words is same)) (found_more (sight (record v { words = words })) pending (IsPending u) s more g)
@@ -99,29 +104,29 @@ module _ (v : Core) (op : Op) (kept : IsKept true v) (after : IsKept true (turne
       | inl soon ↦ inl (early, many ∙ soon.1)
       | inr was ↦ inr (subst (FoundIn (sight u) (IsPending u)) (sym same) (found_to v.words (IsPending v) c.counts words headers more was))
     ],
-    near_same (λ _. (early, many)) same,
+    inl (near_same (λ _. (early, many)) same),
   )
 
   -- what follows a release or a batch
   cleared_passed : (words : List ℕ) (w crossing_of : Core) (pending : ℕ → Type 0) (s : State) → sight (record w { words = words }) ≡ sight (record v { words = words }) → u.words ≡ words → u.headers ≡ v.headers → ((x : ℕ) → pending x → IsPending u x)
       → ((x : ℕ) → IsOwned c.counts x → IsOwned s x) → ((x : ℕ) → (slot_at c.counts x).released ≡ true → (slot_at s x).released ≡ true)
-      → (r : ℕ) → r ≡ refused c.sets → w.collector.collections ≡ c.collections
-      → ((has_found q.phase ≡ true → FoundIn (sight (record w { words = words })) pending q.counts) × ((x : ℕ) → IsOwned s x → IsNear w.collector.collections q x) × ((x : ℕ) → (slot_at s x).released ≡ true → (slot_at q.counts x).released ≡ true)) ⊎ (r < refused q.sets) → IsPassed
-  cleared_passed words w crossing_of pending s same_sight is headers more own gone r same_sets many (inr less) = inr (omega (arith, less, same_sets))
-  cleared_passed words w crossing_of pending s same_sight is headers more own gone r same_sets many (inl all) = inl (
+      → (before : Begun) → before.parts.counts ≡ s → before.parts.sets ≡ c.sets → w.collector.collections ≡ c.collections
+      → ((has_found q.phase ≡ true → FoundIn (sight (record w { words = words })) pending q.counts) × (((x : ℕ) → IsOwned s x → IsNear w.collector.collections q x) ⊎ (refused before.parts.sets < refused q.sets)) × ((x : ℕ) → (slot_at s x).released ≡ true → (slot_at q.counts x).released ≡ true)) ⊎ (touched before.parts.sets < touched q.sets) → IsPassed
+  cleared_passed words w crossing_of pending s same_sight is headers more own gone before counts same_sets many (inr less) = inr (omega (arith, less, ap touched same_sets))
+  cleared_passed words w crossing_of pending s same_sight is headers more own gone before counts same_sets many (inl all) = inl (
     λ next. inr (found_to words pending q.counts is headers more (subst (λ (k : Sight). FoundIn k pending q.counts) same_sight (all.0 next))),
-    near,
+    elim all.1 [ inl kept_ ↦ inl (near kept_) | inr less ↦ inr (omega (arith, less, ap refused same_sets)) ],
   )
     where
-      near : StaysNear
-      near n x unfreed (inl (early, same, own_)) = subst (λ k. IsNear k q x) (many ∙ same) (all.1 x (own x own_))
-      near n x unfreed (inr was) = inr (all.2 x (gone x was))
+      near : ((x : ℕ) → IsOwned s x → IsNear w.collector.collections q x) → StaysNear
+      near kept_ n x unfreed (inl (early, same, own_)) = subst (λ k. IsNear k q x) (many ∙ same) (kept_ x (own x own_))
+      near kept_ n x unfreed (inr was) = inr (all.2 x (gone x was))
 
   -- a batch
   batched : (turn : Turn) (b : Core) (t : ℕ) (home : IsKeptBy true (stand_at b.collector.left Opening) b) (at : b.collector.phase ≡ Returning t) → sight (record b { words = b.words }) ≡ sight (record v { words = b.words }) → b.collector.sets ≡ c.sets → b.collector.counts ≡ c.counts → b.collector.collections ≡ c.collections → b.config.policy.least_roots ≡ 0
-      → Covers (sight b) (IsPending b) b.collector.counts → ((x : ℕ) → IsLate b x → IsPending u x) → u.words ≡ b.words → u.headers ≡ v.headers
+      → Covers (sight b) (IsPending b) b.collector.counts → AreBacked (sight b) (IsPending b) b.collector.counts → ((x : ℕ) → IsLate b x → IsPending u x) → u.words ≡ b.words → u.headers ≡ v.headers
       → ClearsOn b.collector q turn (zeros_released false (record (parts_of b.collector) { counts = counted b t home at })) → IsPassed
-  batched turn b t home at same_sight sets counts many its_policy cover more words headers on =
+  batched turn b t home at same_sight sets counts many its_policy cover backed more words headers on =
       let parts : Parts = record (parts_of b.collector) { counts = counted b t home at } in
       let h : HasCleared b b.crossing b.words (zeros_released false parts) = applied_lands b t home at in
       let zeros : Heeds (counted b t home at) (zeros_released false parts).parts.counts = heeds_zeros false parts in
@@ -130,8 +135,8 @@ module _ (v : Core) (op : Op) (kept : IsKept true v) (after : IsKept true (turne
       cleared_passed b.words b b (IsLate b) (zeros_released false parts).parts.counts same_sight words headers more
       (λ x own. heeds_owned zeros x (batch_owned b t home at x (subst (λ (s : State). IsOwned s x) (sym counts) own)))
       (λ x gone. zeros.gone x (batch_gone b t home at x (ap (λ (s : State). (slot_at s x).released) counts ∙ gone)))
-      (refused b.collector.sets) (ap refused sets) many
-      (clears_found b b.crossing b.words (IsLate b) q turn its_policy h (heeds_covers (sight b) (IsLate b) (counted b t home at) (zeros_released false parts).parts.counts alive_zeros zeros (batch_covers b t home at alive cover)) on)
+      (zeros_released false parts) refl sets many
+      (clears_found b b.crossing b.words (IsLate b) q turn its_policy h (heeds_covers (sight b) (IsLate b) (counted b t home at) (zeros_released false parts).parts.counts alive_zeros zeros (batch_covers b t home at alive cover)) (backed_fades (sight b) (IsLate b) (counted b t home at) (zeros_released false parts).parts.counts (fades_zeros false parts) (backed_counted b t home at backed)) on)
 
   released_passed : (turn : Turn) (m : releases.Machine) → c.phase ≡ Releasing m → ◌≡◌ {A = Option Op} (Some op) (releases.next_of m) → ClearsOn c q turn (with_released m (parts_of c) its_word) → IsPassed
   unfolding releases.next_of
@@ -147,11 +152,14 @@ module _ (v : Core) (op : Op) (kept : IsKept true v) (after : IsKept true (turne
           let found_is : its_word ≡ slice_index_or v.words place 0 = ap (cell (cells_of v)) its in
           let word : ℕ = slice_index_or v.words place 0 in
           let on_ : ClearsOn c q turn (with_released m (parts_of c) word) = subst (λ n. ClearsOn c q turn (with_released m (parts_of c) n)) found_is on in
+          let within : a.field < m.fields = subst (λ o. IfSome o (λ (x : At). x.field < m.fields)) is now.clearing.release.field in
+          let held : releases.IsHeld c.counts a = subst (λ o. IfSome o (releases.IsHeld c.counts)) is now.clearing.release.held in
+          let backed = backed_cut v a.slot a.field (omega (arith, within, fields)) held.released now.clearing.tidy.apart (late_of v (ap has_batched at)) (with_released m (parts_of c) word).parts.counts (fades_released m (parts_of c) word now.clearing.busy) backs in
           let h : Heeds c.counts (with_released m (parts_of c) word).parts.counts = heeds_released v kept place (ap has_batched at) now.clearing.tidy.apart i.covers m now.clearing.busy in
           cleared_passed (slice_set v.words place 0) v v (IsLate v) (with_released m (parts_of c) word).parts.counts refl
           (ap (λ (o : Op). (with_cell (cells_of v) o (written o its_word)).words) its) (ap (λ (o : Op). (with_cell (cells_of v) o (written o its_word)).headers) its)
-          (late_pends v op kept (plain_boxes v op kept (Releasing m) at refl) (clears_rows c q turn on_)) (heeds_owned h) h.gone (refused c.sets) refl refl
-          (clears_found v v.crossing (slice_set v.words place 0) (IsLate v) q turn always (released_lands v m a kept at is) (released_covers v kept place (ap has_batched at) now.clearing.tidy.apart i.covers m now.clearing.busy) on_)
+          (late_pends v op kept (plain_boxes v op kept (Releasing m) at refl) (clears_rows c q turn on_)) (heeds_owned h) h.gone (with_released m (parts_of c) word) refl refl refl
+          (clears_found v v.crossing (slice_set v.words place 0) (IsLate v) q turn always (released_lands v m a kept at is) (released_covers v kept place (ap has_batched at) now.clearing.tidy.apart i.covers m now.clearing.busy) backed on_)
 
   freed_passed : (turn : Turn) (m : frees.Machine) → c.phase ≡ Freeing m → ◌≡◌ {A = Option Op} (Some op) (frees.next_of m) → ClearsOn c q turn (with_freed m (parts_of c) its_word) → IsPassed
   unfolding frees.next_of
@@ -167,12 +175,16 @@ module _ (v : Core) (op : Op) (kept : IsKept true v) (after : IsKept true (turne
           let found_is : its_word ≡ slice_index_or v.words place 0 = ap (cell (cells_of v)) its in
           let word : ℕ = slice_index_or v.words place 0 in
           let on_ : ClearsOn c q turn (with_freed m (parts_of c) word) = subst (λ n. ClearsOn c q turn (with_freed m (parts_of c) n)) found_is on in
+          let within : a.field < m.fields = subst (λ o. IfSome o (λ (x : Member). x.field < m.fields)) is now.clearing.freeing.field in
+          let held : IsOf c.counts.work a = subst (λ o. IfSome o (IsOf c.counts.work)) is now.clearing.freeing.held in
+          let there : 0 < times a.slot c.counts.work = omega (arith, times_at c.counts.work a.index held.index, ap (λ n. times n c.counts.work) held.slot) in
+          let backed = backed_cut v a.slot a.field (omega (arith, within, fields)) (now.clearing.freeing.released a.slot there) now.clearing.tidy.apart (late_of v (ap has_batched at)) (with_freed m (parts_of c) word).parts.counts (fades_freed m (parts_of c) word now.clearing.busy) backs in
           let h : Heeds c.counts (with_freed m (parts_of c) word).parts.counts = heeds_freed v kept place (ap has_batched at) now.clearing.tidy.apart i.covers m now.clearing.busy in
-          let sets : refused (with_freed m (parts_of c) word).parts.sets ≡ refused c.sets = freed_cases (λ b. refused b.parts.sets ≡ refused c.sets) m (parts_of c) word now.clearing.busy (λ b e more. refl) (λ b e last more. refl) (λ b e last none. refl) in
+          let sets : (with_freed m (parts_of c) word).parts.sets ≡ c.sets = freed_cases (λ b. b.parts.sets ≡ c.sets) m (parts_of c) word now.clearing.busy (λ b e more. refl) (λ b e last more. refl) (λ b e last none. refl) in
           cleared_passed (slice_set v.words place 0) v v (IsLate v) (with_freed m (parts_of c) word).parts.counts refl
           (ap (λ (o : Op). (with_cell (cells_of v) o (written o its_word)).words) its) (ap (λ (o : Op). (with_cell (cells_of v) o (written o its_word)).headers) its)
-          (late_pends v op kept (plain_boxes v op kept (Freeing m) at refl) (clears_rows c q turn on_)) (heeds_owned h) h.gone (refused (with_freed m (parts_of c) word).parts.sets) sets refl
-          (clears_found v v.crossing (slice_set v.words place 0) (IsLate v) q turn always (freed_lands v m a kept at is) (freed_covers v kept place (ap has_batched at) now.clearing.tidy.apart i.covers m now.clearing.busy) on_)
+          (late_pends v op kept (plain_boxes v op kept (Freeing m) at refl) (clears_rows c q turn on_)) (heeds_owned h) h.gone (with_freed m (parts_of c) word) refl sets refl
+          (clears_found v v.crossing (slice_set v.words place 0) (IsLate v) q turn always (freed_lands v m a kept at is) (freed_covers v kept place (ap has_batched at) now.clearing.tidy.apart i.covers m now.clearing.busy) backed on_)
 
   -- a field is loaded
   trial_passed : (turn : Turn) (m : Machine) → c.phase ≡ Trying m → ◌≡◌ {A = Option Op} (Some op) (trials.next_of m) → step.TriesOn c (parts_of c) (trials.took_of (record { machine = m; counts = c.counts }) (visible c.counts its_word)) q turn → IsPassed
@@ -186,10 +198,10 @@ module _ (v : Core) (op : Op) (kept : IsKept true v) (after : IsKept true (turne
             (ap (λ (o : Op). (with_cell (cells_of v) o (written o its_word)).headers) its)
             (λ x is. late_pends v op kept (plain_boxes v op kept (Trying m) at refl) (tries_rows c q (parts_of c) _ turn its_on) x (late_of v (ap has_batched at) x is))
             (tries_found v v.crossing v.words (IsPending v) q turn c (parts_of c) _ its_on tried.found next)),
-        λ n x unfreed near. elim near [
+        inl (λ n x unfreed near. elim near [
           | inl old ↦ absurd (false≢true (sym (ap before_tests at) ∙ old.0))
           | inr gone ↦ inr (tries_keeps v v.crossing v.words (IsPending v) q turn c (parts_of c) _ its_on x (tried.gone x gone))
-        ],
+        ]),
       )
 
   preparation_passed : (turn : Turn) (m : preps.Machine) → c.phase ≡ Preparing m → ◌≡◌ {A = Option Op} (Some op) (preps.next_of m) → step.PreparesOn c (parts_of c) (preps.took_of (record { machine = m; counts = c.counts }) its_word) q turn → IsPassed
@@ -205,10 +217,10 @@ module _ (v : Core) (op : Op) (kept : IsKept true v) (after : IsKept true (turne
             (ap (λ (o : Op). (with_cell (cells_of v) o (written o its_word)).headers) its)
             (λ x is_. late_pends v op kept (plain_boxes v op kept (Preparing m) at refl) (prepares_rows c q (parts_of c) _ turn on) x (late_of v (ap has_batched at) x is_))
             (subst (FoundIn (sight v) (IsPending v)) (sym same) (heeds_found (sight v) (IsPending v) c.counts s h (was_found (ap before_tests at) (ap has_found at))))),
-        λ n x unfreed near. elim near [
+        inl (λ n x unfreed near. elim near [
           | inl old ↦ absurd (false≢true (sym (ap before_tests at) ∙ old.0))
           | inr gone ↦ inr (ap (λ (k : State). (slot_at k x).released) same ∙ h.gone x gone)
-        ],
+        ]),
       )
 
   -- a sweep begins or ends
@@ -217,12 +229,12 @@ module _ (v : Core) (op : Op) (kept : IsKept true v) (after : IsKept true (turne
       let calm = quiet v op kept ops.AddFreed its refl refl in
       inl (
         λ next. inr (subst (FoundIn (sight u) (IsPending u)) (sym same) (found_to v.words (IsPending v) c.counts calm.0 calm.1 (λ x is. late_pends v op kept boxes rows x (late_of v (ap has_batched at ∙ batched_) x is)) (was_found (ap before_tests at ∙ late) (ap has_found at ∙ found)))),
-        near_same (λ early. absurd (false≢true (sym (ap before_tests at ∙ late) ∙ early))) same,
+        inl (near_same (λ early. absurd (false≢true (sym (ap before_tests at ∙ late) ∙ early))) same),
       )
 
   -- a slot is swept
   swept_passed : (x n : ℕ) (next : Phase) → c.phase ≡ Sweeping (Some x) n → op ≡ ops.FreeHeader x → q ≡ record c { counts = swept c.counts x; freed = c.freed + 1; phase = next; turns = c.turns + 1 } → IsPassed
-  swept_passed x n next at its is = inl (λ found. inr found_then, near)
+  swept_passed x n next at its is = inl (λ found. inr found_then, inl near)
     where
       words : u.words ≡ v.words
       words = ap (λ (o : Op). (with_cell (cells_of v) o (written o its_word)).words) its
@@ -292,7 +304,7 @@ module _ (v : Core) (op : Op) (kept : IsKept true v) (after : IsKept true (turne
       let calm = quiet v op kept (ops.StoreEpoch (c.epoch + 1)) (some_op op (ops.StoreEpoch (c.epoch + 1)) is) refl refl in
       let b : Core = requesting v in
       let awaits : Awaits v b = Awaits.alone at (λ last. more (ap (λ n. n + 1) kept.collector.epoch ∙ last)) gone in
-      batched turn b (length c.newer) (awaits_kept v b kept awaits) refl refl refl refl refl always (covers_more (sight b) (IsPending v) (IsPending b) c.counts (awaits_more v op kept b refl refl refl refl refl) i.covers)
+      batched turn b (length c.newer) (awaits_kept v b kept awaits) refl refl refl refl refl always (covers_more (sight b) (IsPending v) (IsPending b) c.counts (awaits_more v op kept b refl refl refl refl refl) i.covers) (backed_more (sight b) (IsPending v) (IsPending b) c.counts c.counts (fades_same c.counts) (awaits_more v op kept b refl refl refl refl refl) backs)
       (λ x late. late_pends v op kept (plain_boxes v op kept Idle at refl) (rows_as refl refl refl (clears_rows (requested c) q turn on)) x (same_late v op kept b refl refl refl x late)) calm.0 calm.1 (clears_in b.collector.phase on)
   passed_rule (step.Step.cross_for t next at crosses is n g) = absurd (crosses_none v t kept at op its_word is refl crosses)
   passed_rule (step.Step.cross_for_last t at crosses is gone on) = absurd (crosses_none v t kept at op its_word is refl crosses)
@@ -315,7 +327,7 @@ module _ (v : Core) (op : Op) (kept : IsKept true v) (after : IsKept true (turne
       let b : Core = giving_back v t in
       let now = now_at v (Returning t) kept at in
       let awaits : Awaits v b = Awaits.last t (mutator_at v t (Returning t) kept at (now.first, now.there)) at gone in
-      batched turn b (length c.newer) (awaits_kept v b kept awaits) refl refl refl refl refl always (covers_more (sight b) (IsPending v) (IsPending b) c.counts (awaits_more v op kept b refl refl refl refl refl) i.covers)
+      batched turn b (length c.newer) (awaits_kept v b kept awaits) refl refl refl refl refl always (covers_more (sight b) (IsPending v) (IsPending b) c.counts (awaits_more v op kept b refl refl refl refl refl) i.covers) (backed_more (sight b) (IsPending v) (IsPending b) c.counts c.counts (fades_same c.counts) (awaits_more v op kept b refl refl refl refl refl) backs)
       (λ x late. late_pends v op kept (plain_boxes v op kept (Returning t) at refl) (rows_as refl refl refl (clears_rows (noted c t) q turn on)) x (same_late v op kept b refl refl refl x late)) calm.0 calm.1 (clears_in b.collector.phase on)
   passed_rule {turn} (step.Step.release m at is on) = released_passed turn m at is on
   passed_rule {turn} (step.Step.freeing m at is on) = freed_passed turn m at is on

@@ -20,6 +20,19 @@ use Rattle.rec_prompt.specs.Cover.Hangs.{later, listed, behind}
 use Rattle.rec_prompt.proofs.Backing.{AreBacked, Within}
 use Rattle.rec_prompt.proofs.Hanging.{carried, IsHung, LeadersCount}
 
+-- what is released stays so
+pub spared_gone : (s t : State) → LastRefurbished s t → (x : ℕ) → (slot_at s x).released ≡ true → (slot_at t x).released ≡ true
+spared_gone s t r x gone = elim (cases_lt 0 (times x (last_set s.sets))) [
+  | inr none ↦ ap (λ (v : Slot). v.released) (r.others x (omega (arith, none))) ∙ gone
+  | inl member ↦ ap (λ (v : Slot). v.released) (r.inside x member) ∙ kept (fate_at s (slice_get (last_set s.sets) 0) x) (slot_at s x) ∙ gone
+]
+  where
+    kept : (f : Fate) (v : Slot) → (refurbished f v).released ≡ v.released
+    kept fates.Free v = refl
+    kept fates.Zero v = refl
+    kept fates.Root v = refl
+    kept fates.Plain v = refl
+
 module _ (w : Sight) (pending : ℕ → Type 0) (s t : State) (apart : IsApart s) (r : LastRefurbished s t) (orange : AreOrange s (length s.sets - 1)) where
   abbrev members : List ℕ
   members = last_set s.sets

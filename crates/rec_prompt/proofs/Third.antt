@@ -22,7 +22,7 @@ use Rattle.rec_core.proofs.Turns.{now_at}
 use Rattle.rec_prompt.specs.Cover.{IsPending, takes}
 use Rattle.rec_prompt.specs.Prompt.{freed_by, freed_in, freed_over}
 use Rattle.rec_prompt.proofs.Backed.{HasBacked, move_backed}
-use Rattle.rec_prompt.proofs.Clears.{refused}
+use Rattle.rec_prompt.proofs.Clears.{refused, touched}
 use Rattle.rec_prompt.proofs.Counts.{AreClean, clean}
 use Rattle.rec_prompt.proofs.Forgets.{counted, Forgets, IsClean}
 use Rattle.rec_prompt.proofs.Found.{has_found, IsNear}
@@ -32,7 +32,7 @@ use Rattle.rec_prompt.proofs.Moves.{not_second}
 use Rattle.rec_prompt.proofs.Mutators.{begun_hides, Hides, hides_trails_too, offering_pends, step_hides}
 use Rattle.rec_prompt.proofs.Passed.{found_more, IsSoon, passed_rule}
 use Rattle.rec_prompt.proofs.Turned.{IsWatched}
-use Rattle.rec_prompt.proofs.Watched.{move_grown, move_refused, move_watched, moves_refused}
+use Rattle.rec_prompt.proofs.Watched.{move_grown, move_refused, move_watched, moves_grown, moves_refused}
 
 -- Each slot hangs on something, and is found while no trial or test is at work; or it is before the tests of the collection after so many.
 pub record Stands (since : ℕ) (v : Core) : Type 0 where
@@ -53,7 +53,7 @@ hides_found v u h f slot taken plain = elim (h.taken slot taken) [
 
 -- one move
 Next : (since : ℕ) (v : Core) (m : Move) → Type 0
-Next since v m = (Stands since (after_move v m) × ((n x : ℕ) → is_in x (freed_in v m) ≡ false → IsNear n v.collector x → IsNear n (after_move v m).collector x)) ⊎ (refused v.collector.sets < refused (after_move v m).collector.sets)
+Next since v m = (Stands since (after_move v m) × (((n x : ℕ) → is_in x (freed_in v m) ≡ false → IsNear n v.collector x → IsNear n (after_move v m).collector x) ⊎ (refused v.collector.sets < refused (after_move v m).collector.sets))) ⊎ (touched v.collector.sets < touched (after_move v m).collector.sets)
 
 hides_next : {since : ℕ} (v u : Core) → u.collector ≡ v.collector → Hides v u → Stands since v → (has_found v.collector.phase ≡ true → IsSoon since u.collector ⊎ FoundIn (sight u) (IsPending u) u.collector.counts)
 hides_next {since} v u same h st found = elim (st.found found) [ inl soon ↦ inl (subst (IsSoon since) (sym same) soon) | inr was ↦ inr (hides_found v u h was) ]
@@ -61,38 +61,46 @@ hides_next {since} v u same h st found = elim (st.found found) [ inl soon ↦ in
 move_stands : (since : ℕ) (v : Core) (m : Move) → IsKept true v → v.config.policy.least_roots ≡ 0 → Fits v m → Stands since v → Next since v m
 unfolding Next
 move_stands since v (Move.Begins t work from) kept always fits st = elim (move_watched v (Move.Begins t work from) kept fits st.backed st.watched) [
-  | inl there ↦ inl (record { watched = there; backed = move_backed v (Move.Begins t work from) kept fits st.backed; found = hides_next v (after_move v (Move.Begins t work from)) refl (begun_hides v t work from fits.0 kept) st }, λ n x unfreed near. near)
+  | inl there ↦ inl (record { watched = there; backed = move_backed v (Move.Begins t work from) kept fits st.backed; found = hides_next v (after_move v (Move.Begins t work from)) refl (begun_hides v t work from fits.0 kept) st }, inl (λ n x unfreed near. near))
   | inr more ↦ absurd (omega (arith, more))
 ]
 move_stands since v (Move.Steps t) kept always fits st = elim (move_watched v (Move.Steps t) kept fits st.backed st.watched) [
-  | inl there ↦ inl (record { watched = there; backed = move_backed v (Move.Steps t) kept fits st.backed; found = hides_next v (after_move v (Move.Steps t)) refl (step_hides v t kept fits.0 fits.1) st }, λ n x unfreed near. near)
+  | inl there ↦ inl (record { watched = there; backed = move_backed v (Move.Steps t) kept fits st.backed; found = hides_next v (after_move v (Move.Steps t)) refl (step_hides v t kept fits.0 fits.1) st }, inl (λ n x unfreed near. near))
   | inr more ↦ absurd (omega (arith, more))
 ]
 move_stands since v Move.Offers kept always fits st = elim (move_watched v Move.Offers kept fits st.backed st.watched) [
-  | inl there ↦ inl (record { watched = there; backed = move_backed v Move.Offers kept fits st.backed; found = λ found. elim (st.found found) [ inl soon ↦ inl soon | inr was ↦ inr (found_more (sight v) (IsPending v) (IsPending (after_move v Move.Offers)) v.collector.counts (offering_pends v) was) ] }, λ n x unfreed near. near)
+  | inl there ↦ inl (record { watched = there; backed = move_backed v Move.Offers kept fits st.backed; found = λ found. elim (st.found found) [ inl soon ↦ inl soon | inr was ↦ inr (found_more (sight v) (IsPending v) (IsPending (after_move v Move.Offers)) v.collector.counts (offering_pends v) was) ] }, inl (λ n x unfreed near. near))
   | inr more ↦ absurd (omega (arith, more))
 ]
 move_stands since v Move.Turns kept always fits st = elim (move_watched v Move.Turns kept fits st.backed st.watched) [
-  | inr more ↦ inr (let grown = move_grown v Move.Turns kept fits in omega (arith, more, grown.0, grown.1))
-  | inl there ↦ elim (turn_case v (λ o u. IsKept true u → ((has_found u.collector.phase ≡ true → IsSoon since u.collector ⊎ FoundIn (sight u) (IsPending u) u.collector.counts) × ((n x : ℕ) → is_in x (freed_by o) ≡ false → IsNear n v.collector x → IsNear n u.collector x)) ⊎ (refused v.collector.sets < refused u.collector.sets))
-      (λ none after. inl (st.found, λ n x unfreed near. near)) (λ op named after. passed_rule v op kept after st.watched always since st.found (rule_of v op kept named)) (turned_kept v kept)) [
+  | inr more ↦ inr more
+  | inl there ↦ elim (turn_case v (λ o u. IsKept true u → ((has_found u.collector.phase ≡ true → IsSoon since u.collector ⊎ FoundIn (sight u) (IsPending u) u.collector.counts) × (((n x : ℕ) → is_in x (freed_by o) ≡ false → IsNear n v.collector x → IsNear n u.collector x) ⊎ (refused v.collector.sets < refused u.collector.sets))) ⊎ (touched v.collector.sets < touched u.collector.sets))
+      (λ none after. inl (st.found, inl (λ n x unfreed near. near))) (λ op named after. passed_rule v op kept after st.watched st.backed always since st.found (rule_of v op kept named)) (turned_kept v kept)) [
         | inl both ↦ inl (record { watched = there; backed = move_backed v Move.Turns kept fits st.backed; found = both.0 }, both.1)
         | inr more ↦ inr more
       ]
 ]
 
--- some moves over which no set is refused
-pub moves_stand : (since : ℕ) (v : Core) (ms : List Move) → IsKept true v → v.config.policy.least_roots ≡ 0 → AllFit v ms → refused (after_moves v ms).collector.sets ≤ refused v.collector.sets → Stands since v
-    → Stands since (after_moves v ms) × ((n x : ℕ) → is_in x (freed_over v ms) ≡ false → IsNear n v.collector x → IsNear n (after_moves v ms).collector x)
+-- some moves over which no set is refused of which a member was touched
+pub moves_stand : (since : ℕ) (v : Core) (ms : List Move) → IsKept true v → v.config.policy.least_roots ≡ 0 → AllFit v ms → touched (after_moves v ms).collector.sets ≤ touched v.collector.sets → Stands since v
+    → Stands since (after_moves v ms) × (((n x : ℕ) → is_in x (freed_over v ms) ≡ false → IsNear n v.collector x → IsNear n (after_moves v ms).collector x) ⊎ (refused v.collector.sets < refused (after_moves v ms).collector.sets))
 unfolding Next
-moves_stand since v [] kept always fit few st = (st, λ n x unfreed near. near)
+moves_stand since v [] kept always fit few st = (st, inl (λ n x unfreed near. near))
 moves_stand since v (m ∷ ms) kept always fit few st =
     let after : IsKept true (after_move v m) = move_kept v m kept fit.0 in
     elim (move_stands since v m kept always fit.0 st) [
-      | inr more ↦ absurd (omega (arith, few, more, moves_refused (after_move v m) ms after fit.1))
+      | inr more ↦ absurd (omega (arith, few, more, (moves_grown (after_move v m) ms after fit.1).0))
       | inl one_ ↦
-          let rest = moves_stand since (after_move v m) ms after (ap (λ k. k.policy.least_roots) (config_after v (m ∷ [])) ∙ always) fit.1 (omega (arith, few, move_refused v m kept fit.0)) one_.0 in
-          (rest.0, λ n x unfreed near. rest.1 n x (not_second x (freed_in v m) (freed_over (after_move v m) ms) unfreed) (one_.1 n x (not_in-left x (freed_in v m) (freed_over (after_move v m) ms) unfreed) near))
+          let rest = moves_stand since (after_move v m) ms after (ap (λ k. k.policy.least_roots) (config_after v (m ∷ [])) ∙ always) fit.1 (omega (arith, few, (move_grown v m kept fit.0).0)) one_.0 in (
+            rest.0,
+            elim one_.1 [
+              | inr more ↦ inr (omega (arith, more, moves_refused (after_move v m) ms after fit.1))
+              | inl first ↦ elim rest.1 [
+                | inr more ↦ inr (omega (arith, more, move_refused v m kept fit.0))
+                | inl later ↦ inl (λ n x unfreed near. later n x (not_second x (freed_in v m) (freed_over (after_move v m) ms) unfreed) (first n x (not_in-left x (freed_in v m) (freed_over (after_move v m) ms) unfreed) near))
+              ]
+            ],
+          )
     ]
 
 -- ---- lost slots

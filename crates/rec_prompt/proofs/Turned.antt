@@ -1,4 +1,4 @@
--- A turn of the collector leaves each slot on something, unless it refuses a set.
+-- A turn of the collector leaves each slot on something, unless it refuses a set of which a member was touched.
 use Rattle.std.proofs.Common.{◌≡◌, ◌≢◌, ◌⊎◌, inl, inr, ℕ, ◌+◌, ◌-◌, ◌*◌, ◌<◌, ◌==◌, true, false, Bool, Option, None, Some, IfSome, IsSome, List, [], ◌∷◌, length, map, slice_index_or, slice_set, refl, sym, ap, subst, ◌∙◌, arith}
 use Rattle.rec_core.specs.Pending.{has_batched}
 use Rattle.std.proofs.lemmas.Bool.{cases_eq, false≢true, cond-false, ne_eqb}

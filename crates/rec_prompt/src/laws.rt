@@ -1,6 +1,6 @@
 //! What holds of every run, each law as the contract of a function that does nothing.
 
-ghost use Rattle.std.specs.Prelude.{◌≡◌, ℕ, ◌+◌, ◌≤◌, List};
+ghost use Rattle.std.specs.Prelude.{◌≡◌, ℕ, ◌+◌, ◌≤◌, List, ◌++◌};
 ghost use Rattle.rec_counts.specs.Counts.{slot_at};
 ghost use Rattle.rec_collector.specs.declared.phase.Phase.TheVariants.{Idle};
 ghost use Rattle.rec_core.specs.Config.{IsConfig};
@@ -32,11 +32,13 @@ pub fn lost_slots_stay_lost()
 /// of a heap that makes a trial in each collection, in which no collection is under way, and any moves from there over which three
 /// collections become complete. If no set was refused before of which a member was touched, and over these moves none is at all, a turn among
 /// them frees each slot that held an object in that state and that no register reached there. From a state in which a collection is under
-/// way, four collections are enough. What was refused before that state doesn't matter if each slot hangs there on something
+/// way, four collections are enough. And behind two collections, whatever these refuse whose members are untouched, any collection that
+/// refuses no set frees it. What was refused before that state doesn't matter if each slot hangs there on something
 /// (`nothing_is_forgotten`).
 pub fn lost_slots_are_freed_while_no_set_is_refused()
     ensures idle { (w : Core) (moves : List Move) (slot : ℕ) → IsConfig w.config → EndsRun w → w.config.policy.least_roots ≡ 0 → w.collector.phase ≡ Idle → AllFit w moves → touched_sets w ≡ 0 → refused_sets (after_moves w moves) ≡ refused_sets w → Complete 3 w moves → IsLost (sight w) slot → IsFreed w moves slot }
     ensures under_way { (w : Core) (moves : List Move) (slot : ℕ) → IsConfig w.config → EndsRun w → w.config.policy.least_roots ≡ 0 → AllFit w moves → touched_sets w ≡ 0 → refused_sets (after_moves w moves) ≡ refused_sets w → Complete 4 w moves → IsLost (sight w) slot → IsFreed w moves slot }
+    ensures last { (w : Core) (first rest : List Move) (slot : ℕ) → IsConfig w.config → EndsRun w → w.config.policy.least_roots ≡ 0 → w.collector.phase ≡ Idle → AllFit w (first ++ rest) → Complete 2 w first → (after_moves w first).collector.phase ≡ Idle → touched_sets (after_moves (after_moves w first) rest) ≡ 0 → refused_sets (after_moves (after_moves w first) rest) ≡ refused_sets (after_moves w first) → Complete 1 (after_moves w first) rest → IsLost (sight w) slot → IsFreed w (first ++ rest) slot }
     ensures covered { (w : Core) (moves : List Move) (slot : ℕ) → IsConfig w.config → EndsRun w → w.config.policy.least_roots ≡ 0 → w.collector.phase ≡ Idle → AllFit w moves → IsCovered w → refused_sets (after_moves w moves) ≡ refused_sets w → Complete 3 w moves → IsLost (sight w) slot → IsFreed w moves slot }
 {}
 
