@@ -139,7 +139,7 @@ module _ (w : Core) (crossing words : List ℕ) (pending : ℕ → Type 0) (q : 
   clears_refused p on = let grown = clears_grown p on in omega (arith, grown.0, grown.1)
 
   -- A trial begins.
-  trial_on : (v : Parts) → 0 < v.fields → v.fields ≡ w.config.fields → IsReady v.counts → LeadersCount seen v.counts → Covers seen pending v.counts → TriesOn w.collector v (trials.started_of v.fields v.counts) q turn → IsOn × (q.sets ≡ v.sets)
+  pub trial_on : (v : Parts) → 0 < v.fields → v.fields ≡ w.config.fields → IsReady v.counts → LeadersCount seen v.counts → Covers seen pending v.counts → TriesOn w.collector v (trials.started_of v.fields v.counts) q turn → IsOn × (q.sets ≡ v.sets)
   unfolding trials.started_of
   trial_on v wide same ready alive c on =
       let first : Work = record { machine = trials.opened_of v.fields; counts = v.counts } in

@@ -67,7 +67,7 @@ covered_from : (v : Core) → IsCovered (bare_core v) → IsCovered v
 covered_from v c slot taken plain = hangs_from v slot (c slot taken plain)
 
 -- of a heap, and of the one behind it
-covered_here : (v w : Core) → Explains v w → IsCovered v → IsCovered w
+pub covered_here : (v w : Core) → Explains v w → IsCovered v → IsCovered w
 covered_here v w e c = subst IsCovered e.bare (covered_to v c)
 
 pub covered_behind : (v w : Core) → Explains v w → IsCovered w → IsCovered v

@@ -20,6 +20,7 @@ pub mod Learnt
 pub mod Lessened
 pub mod Moves
 pub mod Mutators
+pub mod Offered
 pub mod Passed
 pub mod Pended
 pub mod Prompt

@@ -263,19 +263,20 @@ module _ (v : Core) (op : Op) (kept : IsKept true v) where
         ]
         more x (IsPending.older early j some) = IsPending.older (ap has_batched then_) j (subst (λ (bs : List Contents). 0 < takes x (buffer_at bs j)) (sym older) some)
 
+  -- what follows over these words is so over those of the turn
+  pub finish : (words crossing : List ℕ) (w : Core) (pending : ℕ → Type 0) (turn : Turn) → sight (record w { words = words }) ≡ sight (record v { words = words }) → u.words ≡ words → u.headers ≡ v.headers → ((x : ℕ) → pending x → IsPending u x) → IsOn w crossing words pending q turn → IsWatched u
+  finish words crossing w pending turn same_sight is same more on =
+      let same : sight (record w { words = words }) ≡ sight u = same_sight ∙ sym (sight_is words is same) in
+      record {
+        covers = subst (λ (s : Sight). Covers s (IsPending u) q.counts) same (covers_more (sight (record w { words = words })) pending (IsPending u) q.counts more on.covers);
+        follows = λ m at. subst (λ (s : Sight). IsFollowed s (IsPending u) q.counts m) same (followed_more (sight (record w { words = words })) pending (IsPending u) q.counts m more (on.follows m at));
+      }
+
   -- where each slot hangs on something, and sets that wait are backed
   module _ (after : IsKept true (turned_by v op (cell (cells_of v) op))) (i : IsWatched v) (backs : AreBacked (sight v) (IsPending v) v.collector.counts) where
     -- each slot hangs on something then, or more sets were refused
     abbrev IsTurned : Type 0
     IsTurned = IsWatched u ⊎ (touched c.sets < touched q.sets)
-
-    finish : (words crossing : List ℕ) (w : Core) (pending : ℕ → Type 0) (turn : Turn) → sight (record w { words = words }) ≡ sight (record v { words = words }) → u.words ≡ words → u.headers ≡ v.headers → ((x : ℕ) → pending x → IsPending u x) → IsOn w crossing words pending q turn → IsWatched u
-    finish words crossing w pending turn same_sight is same more on =
-        let same : sight (record w { words = words }) ≡ sight u = same_sight ∙ sym (sight_is words is same) in
-        record {
-          covers = subst (λ (s : Sight). Covers s (IsPending u) q.counts) same (covers_more (sight (record w { words = words })) pending (IsPending u) q.counts more on.covers);
-          follows = λ m at. subst (λ (s : Sight). IsFollowed s (IsPending u) q.counts m) same (followed_more (sight (record w { words = words })) pending (IsPending u) q.counts m more (on.follows m at));
-        }
 
     -- the rules, with this answer
     module _ (turn : Turn) where

@@ -1,6 +1,6 @@
 //! What holds of every run, each law as the contract of a function that does nothing.
 
-ghost use Rattle.std.specs.Prelude.{◌≡◌, ℕ, ◌+◌, ◌≤◌, List, ◌++◌};
+ghost use Rattle.std.specs.Prelude.{◌≡◌, ℕ, ◌+◌, ◌≤◌, true, false, List, ◌∷◌, ◌++◌};
 ghost use Rattle.rec_counts.specs.Counts.{slot_at};
 ghost use Rattle.rec_collector.specs.declared.phase.Phase.TheVariants.{Idle};
 ghost use Rattle.rec_core.specs.Config.{IsConfig};
@@ -48,10 +48,12 @@ pub fn lost_slots_are_freed_while_no_set_is_refused()
 /// candidate root or a member of a set, or marked by the trial at work. In every state of a run in which no set was refused yet as a batch
 /// had touched a member of it, each slot that holds an object hangs on something, unless it is Green. Sets that were refused since
 /// something else holds a member, each of them untouched, hide nothing. If each slot hangs on something in a state between two
-/// collections, it stays so until one more set is refused of which a member was touched. No move of a mutator takes it away, in any
-/// phase of a collection and whatever was refused.
+/// collections, it stays so until one more set is refused of which a member was touched. And whatever was refused, it is so again once
+/// all slots were offered to a trial, from the turn on with which the trial begins. No move of a mutator takes it away, in any phase of a
+/// collection and whatever was refused.
 pub fn nothing_is_forgotten()
     ensures run { (w : Core) → IsConfig w.config → EndsRun w → touched_sets w ≡ 0 → IsCovered w }
     ensures between { (w : Core) (moves : List Move) → IsConfig w.config → EndsRun w → w.collector.phase ≡ Idle → AllFit w moves → touched_sets (after_moves w moves) ≡ touched_sets w → IsCovered w → IsCovered (after_moves w moves) }
+    ensures offered { (w : Core) (m : Move) (moves : List Move) → IsConfig w.config → EndsRun w → AllFit w (m ∷ moves) → w.collector.offers ≡ true → (after_move w m).collector.offers ≡ false → touched_sets (after_moves (after_move w m) moves) ≡ touched_sets (after_move w m) → IsCovered (after_moves (after_move w m) moves) }
     ensures mutators { (w : Core) (m : Move) → IsConfig w.config → EndsRun w → Fits w m → IsNoTurn m → IsCovered w → IsCovered (after_move w m) }
 {}
