@@ -3,7 +3,7 @@ use Rattle.std.proofs.Common.{◌≡◌, ◌≢◌, inl, ℕ, ◌+◌, ◌<◌, 
 use Rattle.std.proofs.lemmas.Bool.{cond-false, ne_eqb}
 use Rattle.std.proofs.lemmas.List.{set-get_or}
 use Rattle.rec_core.specs.Pending.{has_batched}
-use Rattle.rec_core.proofs.Common.{AllFit, crossing_word, IsApart, times, Fits, Move, Retired, place_of, target_of, visible, LeadsToVisible, Op, State, slot_at, Sight, Parts, parts_of, prep_started, put_off, with_offers, with_released, with_freed, zeros_released, ClearsOn, TriesOn, PreparesOn, Begun, still, noted, requested, Phase, Idle, Looking, Returning, Releasing, Freeing, Trying, Preparing, Opening, Sweeping, Closing, Turn, Machine, Work, cell, with_cell, Core, cells_of, box, sight, stand_at, IsKept, IsKeptBy, left_by, looked_at, turned_by, At, Member, swept, swept_clean, after_move, after_moves}
+use Rattle.rec_core.proofs.Common.{Contents, AllFit, crossing_word, IsApart, times, Fits, Move, Retired, place_of, target_of, visible, LeadsToVisible, Op, State, slot_at, Sight, Parts, parts_of, prep_started, put_off, with_offers, with_released, with_freed, zeros_released, ClearsOn, TriesOn, PreparesOn, Begun, still, noted, requested, Phase, Idle, Looking, Returning, Releasing, Freeing, Trying, Preparing, Opening, Sweeping, Closing, Turn, Machine, Work, cell, with_cell, Core, cells_of, box, sight, stand_at, IsKept, IsKeptBy, left_by, looked_at, turned_by, At, Member, swept, swept_clean, after_move, after_moves}
 use Rattle.rec_word.specs.Op.{written}
 use Rattle.rec_word.specs.declared.op.Op.TheVariants as ops
 use Rattle.rec_release.specs.CycleFree as frees
@@ -101,8 +101,11 @@ module _ (v : Core) (op : Op) (kept : IsKept true v) (backs : AreBacked (sight v
   abbrev its_word : ℕ
   its_word = cell (cells_of v) op
 
+  abbrev its_box : Contents
+  its_box = box v (looked_at c.phase)
+
   abbrev q : collectors.Private
-  q = step_of c its_word (box v (looked_at c.phase))
+  q = step_of c its_word its_box
 
   abbrev u : Core
   u = turned_by v op its_word
@@ -218,7 +221,7 @@ module _ (v : Core) (op : Op) (kept : IsKept true v) (backs : AreBacked (sight v
       (subst (Fades c.counts) (sym (prepares_counts v v.crossing v.words (IsPending v) q turn c (parts_of c) _ on)) (fades_others c.counts (preps.took_of (record { machine = m; counts = c.counts }) its_word).counts (took_others (record { machine = m; counts = c.counts }) its_word)))
 
   -- A turn, rule by rule.
-  pub backed_rule : {turn : Turn} → step.Step c its_word (box v (looked_at c.phase)) (Some op) q turn → IsBackedThen
+  pub backed_rule : {turn : Turn} → step.Step c its_word its_box (Some op) q turn → IsBackedThen
   unfolding sweeps.started_of sweeps.took_of sweeps.next_of
   backed_rule (step.Step.spent at last none is turn_is) = let n : ◌≡◌ {A = Option Op} (Some op) None = none in absurd (cc)
   backed_rule {turn} (step.Step.request next at more is n g) =

@@ -2,7 +2,7 @@
 use Rattle.std.proofs.Common.{◌||◌, if◌then◌else◌, nat_le, length, ◌≡◌, ◌⊎◌, inl, inr, ℕ, ◌+◌, true, false, Bool, Option, None, Some, List, [], ◌∷◌, slice_index_or, slice_set, refl, sym, ap, subst, ◌∙◌, arith}
 use Rattle.std.specs.List.{concat}
 use Rattle.std.proofs.lemmas.Bool.{cases_Bool, false≢true}
-use Rattle.rec_core.proofs.Common.{place_of, is_green, State, slot_at, one, times, times-nil, Slot, stays, Sight, Op, At, Member, AllFit, Fits, Move, Core, IsKept, IsKeptBy, Opening, Returning, Releasing, Freeing, Parts, parts_of, with_offers, with_released, with_freed, zeros_released, ClearsOn, TriesOn, PreparesOn, IsTested, Begun, still, noted, requested, Turn, Work, cell, with_cell, cells_of, box, sight, stand_at, looked_at, turned_by, freed_by, after_move, after_moves}
+use Rattle.rec_core.proofs.Common.{Contents, place_of, is_green, State, slot_at, one, times, times-nil, Slot, stays, Sight, Op, At, Member, AllFit, Fits, Move, Core, IsKept, IsKeptBy, Opening, Returning, Releasing, Freeing, Parts, parts_of, with_offers, with_released, with_freed, zeros_released, ClearsOn, TriesOn, PreparesOn, IsTested, Begun, still, noted, requested, Turn, Work, cell, with_cell, cells_of, box, sight, stand_at, looked_at, turned_by, freed_by, after_move, after_moves}
 use Rattle.rec_word.specs.Op.{written}
 use Rattle.rec_word.specs.declared.op.Op.TheVariants as ops
 use Rattle.rec_counts.specs.Colour.{is_purple}
@@ -110,8 +110,11 @@ module _ (v : Core) (op : Op) (kept : IsKept true v) (offers : v.collector.offer
   abbrev its_word : ℕ
   its_word = cell (cells_of v) op
 
+  abbrev its_box : Contents
+  its_box = box v (looked_at c.phase)
+
   abbrev q : collectors.Private
-  q = step_of c its_word (box v (looked_at c.phase))
+  q = step_of c its_word its_box
 
   abbrev u : Core
   u = turned_by v op its_word
@@ -173,7 +176,7 @@ module _ (v : Core) (op : Op) (kept : IsKept true v) (offers : v.collector.offer
   tries_offers turn p k (TriesOn.more some g) = ap (λ (x : collectors.Private). x.offers) g.after
   tries_offers turn p k (TriesOn.prepares none on) = prepares_offers turn (record p { counts = k.counts }) _ on
 
-  pub regains_rule : {turn : Turn} → step.Step c its_word (box v (looked_at c.phase)) (Some op) q turn → IsRegained
+  pub regains_rule : {turn : Turn} → step.Step c its_word its_box (Some op) q turn → IsRegained
   unfolding sweeps.started_of sweeps.took_of sweeps.next_of
   regains_rule (step.Step.spent at last none is turn_is) = let n : ◌≡◌ {A = Option Op} (Some op) None = none in absurd (cc)
   regains_rule {turn} (step.Step.request next at more is n g) = inl (ap (λ (x : collectors.Private). x.offers) g.after ∙ offers)
