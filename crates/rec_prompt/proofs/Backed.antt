@@ -67,7 +67,7 @@ module _ (w : Core) (crossing words : List ℕ) (pending : ℕ → Type 0) (q : 
   prepares_backed : (p : collectors.Private) (v : Parts) (u : preps.Work) → PreparesOn p v u q turn → AreBacked at_words pending u.counts → AreBacked at_words pending q.counts
   prepares_backed p v u on = subst (AreBacked at_words pending) (sym (prepares_counts w crossing words pending q turn p v u on))
 
-  pub tries_backed : (p : collectors.Private) (v : Parts) (u : Work) → TriesOn p v u q turn → AreBacked at_words pending u.counts → AreBacked at_words pending q.counts
+  tries_backed : (p : collectors.Private) (v : Parts) (u : Work) → TriesOn p v u q turn → AreBacked at_words pending u.counts → AreBacked at_words pending q.counts
   tries_backed p v u (TriesOn.more some g) b = subst (AreBacked at_words pending) (sym (ap (λ (x : collectors.Private). x.counts) g.after)) b
   tries_backed p v u (TriesOn.prepares none on) b =
       let its : Parts = record v { counts = u.counts } in
@@ -80,7 +80,7 @@ module _ (w : Core) (crossing words : List ℕ) (pending : ℕ → Type 0) (q : 
       tries_backed w.collector v (trials.pointed (trials.settled first)) on
       (backed_settled v.fields v.counts (record { marks = []; blacks = []; finds = [] }) at_words pending first (opened_course v.fields v.counts wide ready) (none_backed at_words pending v.counts ready.sets))
 
-  pub clears_backed : {b : Begun} → HasCleared w crossing words b → AreBacked at_words pending b.parts.counts → ClearsOn w.collector q turn b → AreBacked at_words pending q.counts
+  clears_backed : {b : Begun} → HasCleared w crossing words b → AreBacked at_words pending b.parts.counts → ClearsOn w.collector q turn b → AreBacked at_words pending q.counts
   clears_backed {b} h backed (ClearsOn.works phase is g) = subst (AreBacked at_words pending) (sym (ap (λ (x : collectors.Private). x.counts) g.after)) backed
   clears_backed {b} h backed (ClearsOn.tests c is some tested on) =
       let there : HasCleared w crossing words (still b.parts) = subst (λ o. HasCleared w crossing words (record { parts = b.parts; phase = o })) is h in
@@ -221,7 +221,7 @@ module _ (v : Core) (op : Op) (kept : IsKept true v) (backs : AreBacked (sight v
       (subst (Fades c.counts) (sym (prepares_counts v v.crossing v.words (IsPending v) q turn c (parts_of c) _ on)) (fades_others c.counts (preps.took_of (record { machine = m; counts = c.counts }) its_word).counts (took_others (record { machine = m; counts = c.counts }) its_word)))
 
   -- A turn, rule by rule.
-  pub backed_rule : {turn : Turn} → step.Step c its_word its_box (Some op) q turn → IsBackedThen
+  backed_rule : {turn : Turn} → step.Step c its_word its_box (Some op) q turn → IsBackedThen
   unfolding sweeps.started_of sweeps.took_of sweeps.next_of
   backed_rule (step.Step.spent at last none is turn_is) = let n : ◌≡◌ {A = Option Op} (Some op) None = none in absurd (cc)
   backed_rule {turn} (step.Step.request next at more is n g) =

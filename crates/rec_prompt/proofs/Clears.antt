@@ -135,9 +135,6 @@ module _ (w : Core) (crossing words : List ℕ) (pending : ℕ → Type 0) (q : 
   clears_grown p {b} (ClearsOn.tries is none due on) = grown_same b.parts.sets q.sets (tries_refused p (with_offers b.parts) _ on)
   clears_grown p {b} (ClearsOn.waits is none off on) = grown_same b.parts.sets q.sets (prepares_refused p (put_off b.parts) _ on)
 
-  pub clears_refused : (p : collectors.Private) {b : Begun} → ClearsOn p q turn b → refused b.parts.sets ≤ refused q.sets
-  clears_refused p on = let grown = clears_grown p on in omega (arith, grown.0, grown.1)
-
   -- A trial begins.
   pub trial_on : (v : Parts) → 0 < v.fields → v.fields ≡ w.config.fields → IsReady v.counts → LeadersCount seen v.counts → Covers seen pending v.counts → TriesOn w.collector v (trials.started_of v.fields v.counts) q turn → IsOn × (q.sets ≡ v.sets)
   unfolding trials.started_of

@@ -1,18 +1,15 @@
 -- The law of garbage cycles: what is lost is freed by the end of the first collection, from the third on, that refuses no set.
-use Rattle.std.proofs.Common.{◌≡◌, ◌⊎◌, inl, inr, ℕ, ◌+◌, ◌/◌, ◌%◌, ◌<◌, ◌≤◌, true, false, Some, List, [], ◌∷◌, ◌++◌, length, slice_index_or, refl, sym, ap, subst, ◌∙◌, arith}
+use Rattle.std.proofs.Common.{◌≡◌, inl, inr, ℕ, ◌+◌, ◌/◌, ◌%◌, ◌<◌, ◌≤◌, true, false, Some, List, [], ◌∷◌, ◌++◌, length, slice_index_or, refl, sym, ap, subst, ◌∙◌, arith}
 use Rattle.std.proofs.Math.Nat.{mod-lt, div-add-mod, mul_comm}
 use Rattle.std.proofs.lemmas.Bool.{cases_Bool, false≢true}
 use Rattle.std.proofs.lemmas.List.{append_assoc}
-use Rattle.rec_core.proofs.Common.{after_move, place_of, target_of, is_green, slot_at, IsTaken, Reaches, AllFit, Core, EndsRun, Idle, IsConfig, IsKept, IsStart, Move, Trying, after_move, after_moves, sight}
+use Rattle.rec_core.proofs.Common.{after_move, place_of, target_of, is_green, slot_at, AllFit, Core, EndsRun, Idle, IsConfig, IsKept, Move, Trying, after_move, after_moves, sight}
 use Rattle.rec_model.specs.Reach.{is_in}
 use Rattle.rec_model.proofs.Members.{is_in-left, is_in-right, not_in-left}
 use Rattle.rec_collector.specs.Kept.{under_way}
 use Rattle.rec_collector.proofs.Following.{none_released}
 use Rattle.rec_core.specs.Bare.{bare_core}
-use Rattle.rec_core.specs.Core.{opened_from}
-use Rattle.rec_core.proofs.BareSeen.{reached_too}
 use Rattle.rec_core.proofs.Dated.{Explains, end_explained, moves_explained}
-use Rattle.rec_core.proofs.OpenedFromSeen.{seen_settled}
 use Rattle.rec_core.proofs.Runs.{after_both, config_after, fit_first, moves_kept, over_both, run_more}
 use Rattle.rec_core.proofs.Steps.{taken_slot}
 use Rattle.rec_core.proofs.Turns.{now_at}
@@ -23,15 +20,15 @@ use Rattle.rec_prompt.proofs.Clears.{IsGrown, refused, touched}
 use Rattle.rec_prompt.proofs.Counts.{led_to}
 use Rattle.rec_prompt.proofs.Forgets.{counted}
 use Rattle.rec_prompt.proofs.Turned.{IsWatched}
-use Rattle.rec_prompt.proofs.Covered.{backed_behind, opened_backed, covered_behind, run_covers}
+use Rattle.rec_prompt.proofs.Covered.{backed_behind, covered_behind, run_covers}
 use Rattle.rec_prompt.proofs.Heeding.{FoundIn}
 use Rattle.rec_prompt.proofs.Found.{before_tests, has_found, IsNear}
-use Rattle.rec_prompt.proofs.Hanging.{all_on_trails, leaders_count, Trails}
+use Rattle.rec_prompt.proofs.Hanging.{leaders_count}
 use Rattle.rec_prompt.proofs.Moves.{forgotten, lost_over, not_second}
 use Rattle.rec_prompt.proofs.Prompt.{comes_between, freed_behind, lost_behind}
 use Rattle.rec_prompt.proofs.Stays.{stays_lost, still_led, still_lost}
 use Rattle.rec_prompt.proofs.Third.{lost_found, moves_stand, Stands}
-use Rattle.rec_prompt.proofs.Watched.{moves_grown, opened_watched, reached_trails}
+use Rattle.rec_prompt.proofs.Watched.{moves_grown}
 
 -- the later ones of moves that fit
 fit_rest : (w : Core) (ms ns : List Move) → AllFit w (ms ++ ns) → AllFit (after_moves w ms) ns
@@ -123,25 +120,6 @@ module _ (v : Core) (first rest : List Move) (kept : IsKept true v) (fit : AllFi
 
 -- ---- the heap itself
 
--- a heap as it is opened stands so
-opened_stands : {start : Core} (since : ℕ) (v : Core) → IsConfig start.config → IsStart start → Explains v start → Stands since v
-opened_stands {start} since v its (o, are, labels, opens) e = record {
-  watched = opened_watched v e.kept idle reached;
-  backed = opened_backed v (o, are, labels, opens) e;
-  found = λ found. inr (λ slot taken plain. inr (all_on_trails (sight v) (IsPending v) (Trails (sight v) (λ y. IsPending v y ⊎ ((slot_at v.collector.counts y).released ≡ true))) (λ y pending. Trails.first (inl pending)) (λ m n path leads. Trails.along path leads) slot (reached_trails v e.kept slot (reached slot taken))));
-}
-  where
-    is : bare_core v ≡ opened_from start.config o
-    is = e.bare ∙ opens
-
-    idle : v.collector.phase ≡ Idle
-    idle = ap (λ (x : Core). x.collector.phase) is
-
-    reached : (slot : ℕ) → IsTaken (sight v) slot → Reaches (sight v) slot
-    reached slot taken =
-        let there : IsTaken (sight (opened_from start.config o)) slot = subst (λ (x : Core). IsTaken (sight x) slot) is taken in
-        reached_too v slot (subst (λ (x : Core). Reaches (sight x) slot) (sym is) (((seen_settled start.config o its are labels).collected slot).0 there))
-
 -- no set that was refused is refused no more
 run_grown : (w : Core) (ms : List Move) → IsConfig w.config → EndsRun w → AllFit w ms → IsGrown w.collector.sets (after_moves w ms).collector.sets
 run_grown w ms config run fit =
@@ -202,6 +180,7 @@ covered_stands w config run idle cover =
     let watched : IsWatched v = record { covers = covered_behind v w e cover; follows = λ m trying. (let n : Idle ≡ Trying m = sym at ∙ trying in absurd (cc)) } in
     (v, e, record { watched = watched; backed = b; found = λ found. inl (ap before_tests at, ap (λ (x : Core). x.collector.collections) e.bare) })
 
+-- Behind two collections any one that refuses no set frees it.
 pub cycles_last : (w : Core) (first rest : List Move) (slot : ℕ) → IsConfig w.config → EndsRun w → w.config.policy.least_roots ≡ 0 → w.collector.phase ≡ Idle → AllFit w (first ++ rest) → IsCovered w → Complete 2 w first → (after_moves w first).collector.phase ≡ Idle → touched_sets (after_moves (after_moves w first) rest) ≡ touched_sets w → refused_sets (after_moves (after_moves w first) rest) ≡ refused_sets (after_moves w first) → Complete 1 (after_moves w first) rest → IsLost (sight w) slot → IsFreed w (first ++ rest) slot
 cycles_last w first rest slot config run always idle fit cover enough amid calm none complete gone =
     let (v, e, st) = covered_stands w config run idle cover in
@@ -243,12 +222,3 @@ cycles_under_way w ms slot config run always fit none same complete gone =
           (omega (arith, none, to_u.0, to_u.1, from_u.0, from_u.1, same, ap refused_sets end)) (omega (arith, to_u.0, to_u.1, from_u.0, from_u.1, same, ap refused_sets end))
           (omega (arith, complete, at.complete, ap (λ (x : Core). x.collector.collections) end)) (stays_lost w at.first config run fit_u slot (record { lost = gone; unfreed = unfreed }))))
     ]
-
--- Behind two collections any one that refuses no set frees it.
-pub cycles_first : (w : Core) (first rest : List Move) (slot : ℕ) → IsConfig w.config → EndsRun w → w.config.policy.least_roots ≡ 0 → w.collector.phase ≡ Idle → AllFit w (first ++ rest) → Complete 2 w first → (after_moves w first).collector.phase ≡ Idle → touched_sets (after_moves (after_moves w first) rest) ≡ 0 → refused_sets (after_moves (after_moves w first) rest) ≡ refused_sets (after_moves w first) → Complete 1 (after_moves w first) rest → IsLost (sight w) slot → IsFreed w (first ++ rest) slot
-cycles_first w first rest slot config run always idle fit enough amid none same complete gone =
-    let fit_x : AllFit w first = fit_first w first rest fit in
-    let to_x = run_grown w first config run fit_x in
-    let from_x = run_grown (after_moves w first) rest (subst IsConfig (sym (config_after w first)) config) (run_on w first run fit_x) (fit_rest w first rest fit) in
-    let none_w : touched_sets w ≡ 0 = omega (arith, to_x.0, from_x.0, none) in
-    cycles_last w first rest slot config run always idle fit (run_covers w config run none_w) enough amid (none ∙ sym none_w) same complete gone

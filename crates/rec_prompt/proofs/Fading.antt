@@ -58,7 +58,7 @@ earlier_or sets k = elim (cases_lt k (length sets - 1)) [
 
 -- ---- releases
 
-pub fades_emptied : (s : State) (z : ℕ) → Fades s (emptied s z)
+fades_emptied : (s : State) (z : ℕ) → Fades s (emptied s z)
 fades_emptied s z = go (slot_at s z).buffered
   where
     go : (b : Bool) → Fades s (listed_if b s z)
@@ -68,7 +68,7 @@ fades_emptied s z = go (slot_at s z).buffered
 fades_first : (s : State) (z : ℕ) (zs : List ℕ) → Fades s (without_first (z ∷ zs) s)
 fades_first s z zs = fades_written s (without_first (z ∷ zs) s) z (record (slot_at s z) { released = true }) refl refl (λ is. is)
 
-pub fades_next : (zs : List ℕ) (s : State) → Fades s (next_from zs s).counts
+fades_next : (zs : List ℕ) (s : State) → Fades s (next_from zs s).counts
 fades_next [] s = fades_same s
 fades_next (z ∷ zs) s = go (is_green (slot_at s z).colour) (fades_next zs (emptied (without_first (z ∷ zs) s) z))
   where
@@ -89,7 +89,7 @@ less_orange v = go (stays v) (v.count == 1)
     go false true is = absurd (cc)
     go false false is = absurd (cc)
 
-pub fades_taken_off : (lowers : Bool) (s : State) (target : Option ℕ) → Fades s (taken_off lowers s target)
+fades_taken_off : (lowers : Bool) (s : State) (target : Option ℕ) → Fades s (taken_off lowers s target)
 fades_taken_off lowers s None = fades_same s
 fades_taken_off lowers s (Some y) = go (is_lowered lowers (slot_at s y).colour)
   where
@@ -102,19 +102,19 @@ fades_taken_off lowers s (Some y) = go (is_lowered lowers (slot_at s y).colour)
 
 -- ---- sets
 
-pub fades_given_up : (s : State) → Fades s (given_up s)
+fades_given_up : (s : State) → Fades s (given_up s)
 fades_given_up s = record { sets = earlier_or s.sets; oranges = λ x is. go (is_in (length s.sets - 1) (slot_at s x).set) (slot_at s x) (sym (ap (λ (u : Slot). u.colour) (given_slot s x)) ∙ is) }
   where
     go : (b : Bool) (v : Slot) → (dead_if b (unbuffered_if b v)).colour ≡ Orange → v.colour ≡ Orange
     go true v is = absurd (cc)
     go false v is = is
 
-pub fades_freeing : (v : Parts) → Fades v.counts (with_freeing v (frees.started_of (new_freeing v.fields) v.counts)).parts.counts
+fades_freeing : (v : Parts) → Fades v.counts (with_freeing v (frees.started_of (new_freeing v.fields) v.counts)).parts.counts
 unfolding frees.started_of
 fades_freeing v = fades_given_up v.counts
 
 -- a set is refused
-pub fades_refurbished : (s t : State) → LastRefurbished s t → Fades s t
+fades_refurbished : (s t : State) → LastRefurbished s t → Fades s t
 fades_refurbished s t r = record {
   sets = λ k. elim (earlier_or s.sets k) [
     | inl same ↦ inl (ap (λ (xss : List (List ℕ)). slice_index_or xss k []) r.sets ∙ same)

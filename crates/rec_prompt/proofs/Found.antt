@@ -113,7 +113,7 @@ module _ (w : Core) (crossing words : List ℕ) (pending : ℕ → Type 0) (q : 
           found y taken plain = inr (trails y (heeds_covers seen pending v.counts x.counts (heeds_leaders seen v.counts x.counts h alive) h c y taken plain))
 
   -- What was found then, and what was a member or released is near, or a set was refused; or one of which a member was touched.
-  abbrev pub IsFoundAfter : Begun → Type 0
+  abbrev IsFoundAfter : Begun → Type 0
   IsFoundAfter b = (IsFoundThen × (((x : ℕ) → IsOwned b.parts.counts x → IsNear w.collector.collections q x) ⊎ (refused b.parts.sets < refused q.sets)) × Keeps b.parts.counts) ⊎ (touched b.parts.sets < touched q.sets)
 
   -- Whatever follows a release, or the freeing of a set.

@@ -50,7 +50,7 @@ use Rattle.rec_prompt.proofs.Hanging.{leaders_from, LeadersCount}
 use Rattle.rec_prompt.proofs.Tried.{heeds_offered}
 
 -- each slot that isn't Green is released, or a candidate root
-pub offered_covers : (w : Sight) (pending : ℕ → Type 0) (s : State) → IsKeptCounts s → s.sets ≡ [] → Covers w pending (offered_where true s)
+offered_covers : (w : Sight) (pending : ℕ → Type 0) (s : State) → IsKeptCounts s → s.sets ≡ [] → Covers w pending (offered_where true s)
 unfolding offered
 offered_covers w pending s kept none slot taken plain = listed (go (stays (slot_at s slot)) refl)
   where
@@ -85,7 +85,7 @@ module _ (w : Core) (crossing words : List ℕ) (pending : ℕ → Type 0) (q : 
   tested_offers v c (IsTested.fails_delta s touched last is) = ap (λ (b : Begun). b.parts.offers) is
   tested_offers v c (IsTested.fails_sigma s orange held last is) = ap (λ (b : Begun). b.parts.offers) is
 
-  pub clears_regains : {b : Begun} → HasCleared w crossing words b → b.parts.offers ≡ true → ClearsOn w.collector q turn b → Regains
+  clears_regains : {b : Begun} → HasCleared w crossing words b → b.parts.offers ≡ true → ClearsOn w.collector q turn b → Regains
   clears_regains {b} h offers (ClearsOn.works phase is g) = inl (ap (λ (x : collectors.Private). x.offers) g.after ∙ offers)
   clears_regains {b} h offers (ClearsOn.tests c is some tested on) =
       let there : HasCleared w crossing words (still b.parts) = subst (λ o. HasCleared w crossing words (record { parts = b.parts; phase = o })) is h in
@@ -176,7 +176,7 @@ module _ (v : Core) (op : Op) (kept : IsKept true v) (offers : v.collector.offer
   tries_offers turn p k (TriesOn.more some g) = ap (λ (x : collectors.Private). x.offers) g.after
   tries_offers turn p k (TriesOn.prepares none on) = prepares_offers turn (record p { counts = k.counts }) _ on
 
-  pub regains_rule : {turn : Turn} → step.Step c its_word its_box (Some op) q turn → IsRegained
+  regains_rule : {turn : Turn} → step.Step c its_word its_box (Some op) q turn → IsRegained
   unfolding sweeps.started_of sweeps.took_of sweeps.next_of
   regains_rule (step.Step.spent at last none is turn_is) = let n : ◌≡◌ {A = Option Op} (Some op) None = none in absurd (cc)
   regains_rule {turn} (step.Step.request next at more is n g) = inl (ap (λ (x : collectors.Private). x.offers) g.after ∙ offers)

@@ -41,7 +41,7 @@ module _ (w : Sight) (pending : ℕ → Type 0) (s t : State) (apart : IsApart s
   fate = fate_at s (slice_get members 0)
 
   -- which are Green stays
-  pub spared_greens : (x : ℕ) → is_green (slot_at t x).colour ≡ is_green (slot_at s x).colour
+  spared_greens : (x : ℕ) → is_green (slot_at t x).colour ≡ is_green (slot_at s x).colour
   spared_greens x = elim (cases_lt 0 (times x members)) [
     | inr none ↦ ap (λ (v : Slot). is_green v.colour) (r.others x (omega (arith, none)))
     | inl member ↦ ap (λ (v : Slot). is_green v.colour) (r.inside x member) ∙ plain (fate x) (slot_at s x) (orange x member)

@@ -32,13 +32,13 @@ pub fn lost_slots_stay_lost()
 /// of a heap that makes a trial in each collection, in which no collection is under way, and any moves from there over which three
 /// collections become complete. If no set was refused before of which a member was touched, and over these moves none is at all, a turn among
 /// them frees each slot that held an object in that state and that no register reached there. From a state in which a collection is under
-/// way, four collections are enough. And behind two collections, whatever these refuse whose members are untouched, any collection that
-/// refuses no set frees it. What was refused before that state doesn't matter if each slot hangs there on something
-/// (`nothing_is_forgotten`).
+/// way, four collections are enough. What was refused before that state doesn't matter if each slot hangs there on something
+/// (`nothing_is_forgotten`). Then, behind two collections that refuse only sets with untouched members, any collection that refuses no set
+/// frees it: the first such one, from the third on.
 pub fn lost_slots_are_freed_while_no_set_is_refused()
     ensures idle { (w : Core) (moves : List Move) (slot : ℕ) → IsConfig w.config → EndsRun w → w.config.policy.least_roots ≡ 0 → w.collector.phase ≡ Idle → AllFit w moves → touched_sets w ≡ 0 → refused_sets (after_moves w moves) ≡ refused_sets w → Complete 3 w moves → IsLost (sight w) slot → IsFreed w moves slot }
     ensures under_way { (w : Core) (moves : List Move) (slot : ℕ) → IsConfig w.config → EndsRun w → w.config.policy.least_roots ≡ 0 → AllFit w moves → touched_sets w ≡ 0 → refused_sets (after_moves w moves) ≡ refused_sets w → Complete 4 w moves → IsLost (sight w) slot → IsFreed w moves slot }
-    ensures last { (w : Core) (first rest : List Move) (slot : ℕ) → IsConfig w.config → EndsRun w → w.config.policy.least_roots ≡ 0 → w.collector.phase ≡ Idle → AllFit w (first ++ rest) → Complete 2 w first → (after_moves w first).collector.phase ≡ Idle → touched_sets (after_moves (after_moves w first) rest) ≡ 0 → refused_sets (after_moves (after_moves w first) rest) ≡ refused_sets (after_moves w first) → Complete 1 (after_moves w first) rest → IsLost (sight w) slot → IsFreed w (first ++ rest) slot }
+    ensures last { (w : Core) (first rest : List Move) (slot : ℕ) → IsConfig w.config → EndsRun w → w.config.policy.least_roots ≡ 0 → w.collector.phase ≡ Idle → AllFit w (first ++ rest) → IsCovered w → Complete 2 w first → (after_moves w first).collector.phase ≡ Idle → touched_sets (after_moves (after_moves w first) rest) ≡ touched_sets w → refused_sets (after_moves (after_moves w first) rest) ≡ refused_sets (after_moves w first) → Complete 1 (after_moves w first) rest → IsLost (sight w) slot → IsFreed w (first ++ rest) slot }
     ensures covered { (w : Core) (moves : List Move) (slot : ℕ) → IsConfig w.config → EndsRun w → w.config.policy.least_roots ≡ 0 → w.collector.phase ≡ Idle → AllFit w moves → IsCovered w → refused_sets (after_moves w moves) ≡ refused_sets w → Complete 3 w moves → IsLost (sight w) slot → IsFreed w moves slot }
 {}
 
@@ -46,11 +46,10 @@ pub fn lost_slots_are_freed_while_no_set_is_refused()
 /// to look at if it is pending or listed itself, or if fields lead to it from such a slot. It is pending while a batch to come takes
 /// something off it: by a log, by a mailbox or by one of the collector's buffers. It is listed while it is released, a zero, a Purple
 /// candidate root or a member of a set, or marked by the trial at work. In every state of a run in which no set was refused yet as a batch
-/// had touched a member of it, each slot that holds an object hangs on something, unless it is Green. Sets that were refused since
-/// something else holds a member, each of them untouched, hide nothing. If each slot hangs on something in a state between two
-/// collections, it stays so until one more set is refused of which a member was touched. And whatever was refused, it is so again once
-/// all slots were offered to a trial, from the turn on with which the trial begins. No move of a mutator takes it away, in any phase of a
-/// collection and whatever was refused.
+/// had touched a member of it, each slot that holds an object hangs on something, unless it is Green. A refused set with untouched members
+/// alone hides nothing. If each slot hangs on something in a state between two collections, it stays so until one more set is refused of
+/// which a member was touched. And whatever was refused, it is so again once all slots were offered to a trial, from the turn on with
+/// which the trial begins. No move of a mutator takes it away, in any phase of a collection and whatever was refused.
 pub fn nothing_is_forgotten()
     ensures run { (w : Core) → IsConfig w.config → EndsRun w → touched_sets w ≡ 0 → IsCovered w }
     ensures between { (w : Core) (moves : List Move) → IsConfig w.config → EndsRun w → w.collector.phase ≡ Idle → AllFit w moves → touched_sets (after_moves w moves) ≡ touched_sets w → IsCovered w → IsCovered (after_moves w moves) }

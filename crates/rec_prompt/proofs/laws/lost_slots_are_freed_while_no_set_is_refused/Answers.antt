@@ -1,5 +1,5 @@
--- As long as no set is refused, what is lost is freed by the end of the third collection, or of the fourth.
-use Rattle.rec_prompt.proofs.Cycles.{cycles_first, cycles_idle, cycles_run, cycles_under_way}
+-- What is lost is freed by the end of the first collection, from the third on, that refuses no set.
+use Rattle.rec_prompt.proofs.Cycles.{cycles_idle, cycles_last, cycles_run, cycles_under_way}
 use Rattle.rec_prompt.proofs.laws.lost_slots_are_freed_while_no_set_is_refused.Goals as goal
 
 pub returns-clause-idle : goal.returns-clause-idle
@@ -9,7 +9,7 @@ pub returns-clause-under_way : goal.returns-clause-under_way
 returns-clause-under_way c = cycles_under_way
 
 pub returns-clause-last : goal.returns-clause-last
-returns-clause-last c = cycles_first
+returns-clause-last c = cycles_last
 
 pub returns-clause-covered : goal.returns-clause-covered
 returns-clause-covered c = cycles_idle
